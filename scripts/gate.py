@@ -1,11 +1,11 @@
 #!/usr/bin/env python3
 """Proves everything from nothing, once, tries the edits that must fail over that work, and runs the tests and the program.
 
-It is the toolchain's `rt ci`, with all that this refuses, but for two things: each check takes what this run has proved
-already, and keeps what it proves; and the edits are tried many in one check. The work is kept afterwards. Where the toolchain
-is another one, whose `rt` can't have its parts replaced like this, it is `rt ci` itself.
+It is the toolchain's `rt ci`, with all that this refuses, but for three things: each check takes what this run has proved
+already, and keeps what it proves; the edits are tried many in one check; and gate_tasks chooses what runs side by side. The work
+is kept afterwards. Where the toolchain is another one, whose `rt` can't have its parts replaced like this, it is `rt ci` itself.
 
-usage: gate
+usage: gate.py
 """
 import dataclasses
 import os
@@ -35,7 +35,7 @@ MEMORY_OF_EDITS = 3_000_000_000
 SHARE_OF_MEMORY = 0.5
 # About how many seconds of a processor an edit takes, and the most that a part of a crate's edits is to take: each part reads all that
 # is below the crate first, in some 10 seconds.
-SECONDS_OF_EDIT = {"rice_bits": 4, "rice_samples": 2, "rice_code": 7, "rice_stream": 10, "rice_c": 4, "aec_tool": 9, "rice_tests": 3}
+SECONDS_OF_EDIT = {"rice_bits": 2, "rice_samples": 2, "rice_code": 5, "rice_stream": 8, "rice_c": 3, "aec_tool": 10, "rice_tests": 3}
 SECONDS_OF_PART = 450
 
 
