@@ -7,7 +7,7 @@ in one of them, and nothing else may. The laws are functions that do nothing, so
 
 An edit of one function's body has that function's name before the hyphen of its own, behind its type or its file where there is more.
 
-usage: clauses
+usage: clauses.py
 """
 import collections
 import glob

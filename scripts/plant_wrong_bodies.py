@@ -5,7 +5,7 @@ That page has a table of the crates with the numbers of plants, and one of the p
 none that gives up was judged, each with its reason. What is found and stands in no row fails. The laws and the examples that are
 proved are functions that do nothing, so there is nothing to turn in them, and they have no rows.
 
-usage: plant [CRATE ..]
+usage: plant_wrong_bodies.py [CRATE ..]
 """
 import os
 import re

@@ -1,4 +1,4 @@
-//! The entries of the parsed command line.
+//! The entries of the parsed command line, and the plan that they make.
 ghost use Rattle.std.specs.Prelude.{◌≡◌, ◌^◌, codes, option_map};
 ghost use Rattle.clap.specs.Words.{first_value, found_of};
 ghost use Rattle.aec_tool.specs.Plan.{answer_view, decodes, is_flagged, number_in, plan_by_entries, plan_in, samples_in, setting_in};

@@ -1,4 +1,4 @@
-//! Whether a name is that of the file that is read.
+//! Whether a name is that of the file that is read, and the permissions that a new file takes from it.
 ghost use Rattle.std.specs.Prelude.{◌≡◌, ◌↔◌, IsTrue};
 ghost use Rattle.std.specs.Fs.{IsFile, file_type};
 ghost use Rattle.aec_tool.specs.Outside.{AreOneFile, IsOneFile, new_mode};

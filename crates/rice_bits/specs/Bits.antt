@@ -1,4 +1,4 @@
--- Lists of bits, and the numbers and bytes that they spell.
+-- Lists of bits, the numbers and bytes that they spell, and what contracts see of the sink.
 use Rattle.std.specs.Prelude.{◌≡◌, ℕ, zero, suc, ◌+◌, ◌-◌, ◌*◌, ◌/◌, ◌%◌, ◌^◌, ◌<◌, ◌≤◌, Bool, true, false, ◌⊎◌, List, [], ◌∷◌, ◌++◌, drop, length, replicate, take, ◌==◌, if◌then◌else◌}
 use Rattle.std.specs.List.{flat_map}
 

@@ -1,4 +1,4 @@
-//! Sixteen fundamental sequences or words at a time, in the lanes of a vector.
+//! Up to sixteen fundamental sequences or words at a time, in the lanes of a vector.
 
 mod ends;
 pub mod gaps;

@@ -1,4 +1,4 @@
-//! Reading bits: the bits of the bytes that an intake gives, taken one word or one fundamental sequence at a time.
+//! Reading bits: the bits of the bytes that an intake gives, taken as words and fundamental sequences, one or many at a time.
 
 mod eight_words;
 mod ends_and_gaps;

@@ -31,7 +31,7 @@ pub fn decodes_nothing_that_is_not_asked_for()
 {}
 
 /// Another split than the coder takes.
-pub fn decodes_a_longer_split_than_the_coder_takes()
+pub fn decodes_a_greater_split_than_the_coder_takes()
     ensures { Decoded defaults (bits_of (0x40 ∷ 0x15 ∷ 0x55 ∷ 0x80 ∷
         [])) None (numbers_from 0 8) Ended 32 }
 {}

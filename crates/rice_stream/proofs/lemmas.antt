@@ -8,7 +8,7 @@ pub mod EncodingLemmas
 pub mod FedPieces
 pub mod SamplesByLevels
 pub mod CallsDecodeAsDefined
-pub mod SamplesTakenInTurn
+pub mod SamplesOfFirstBytes
 pub mod OnePulledPiece
 pub mod PulledPieces
 pub mod PullingLemmas

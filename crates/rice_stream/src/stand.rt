@@ -1,4 +1,4 @@
-//! Where decoding stands between two calls.
+//! Where decoding stands between two calls, and why a call ended there.
 ghost use Rattle.std.specs.Prelude.{◌≡◌, ◌%◌, ◌≤◌, [], true};
 ghost use Rattle.rice_bits.specs.Limits.{most_bits_read};
 ghost use Rattle.rice_samples.specs.Limits.{most_samples_counted};

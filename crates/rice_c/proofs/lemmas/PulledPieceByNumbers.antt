@@ -1,4 +1,4 @@
--- What a piece of code gives, by its numbers.
+-- How many bytes a pull writes, by the numbers of samples at the stands before and after it.
 use Rattle.std.proofs.Common.{◌≡◌, ℕ, ◌+◌, ◌-◌, ◌*◌, ◌≤◌, Bool, List, length, length-append, ap, arith, ◌∙◌, ℤ}
 use Rattle.rice_samples.specs.Parameters.{Parameters, width}
 use Rattle.rice_stream.specs.Pulling.{Origin, IsStand, DecodesMore, PausesAt}

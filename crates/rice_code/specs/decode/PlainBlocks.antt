@@ -1,4 +1,4 @@
--- Blocks without compression that have the bytes of their samples as they are.
+-- Blocks without compression that have the bytes of their samples as they are. Rows of blocks of any kind that were given: GivesRow.
 use Rattle.std.specs.Prelude.{◌≡◌, ◌⊎◌, ℕ, zero, suc, ◌+◌, ◌-◌, ◌*◌, ◌^◌, ◌<◌, ◌≤◌, Bool, false, List, All, length, take, drop, flat_map}
 use Rattle.rice_bits.specs.Bits.{word}
 use Rattle.rice_bits.specs.read.Reader.{Reader}

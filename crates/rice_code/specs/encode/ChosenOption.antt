@@ -1,4 +1,4 @@
--- The option that the code names.
+-- The coded data set that a choice stands for, and the length of a block's head.
 use Rattle.std.specs.Prelude.{ℕ, ◌+◌, ◌≤◌, ⊤}
 use Rattle.rice_samples.specs.Parameters.{Parameters, id_len}
 use Rattle.rice_code.specs.code.Blocks.{BlockData}

@@ -1,4 +1,4 @@
-//! Decodes coded data sets, a block a call.
+//! Decodes coded data sets, a block a call or several.
 ghost use Rattle.std.specs.Prelude.{◌≡◌, ◌≢◌, ℕ, ◌+◌, ◌-◌, ◌*◌, ◌%◌, ◌^◌, ◌<◌, ◌≤◌, ◌↔◌, IsTrue, true, false, All, [], length, take, None, Option, Some, IfSome, IfNone, Ok, pos};
 ghost use Rattle.rice_bits.specs.Limits.{step_limit, most_bits_read};
 ghost use Rattle.rice_samples.specs.Parameters.{id_len, value_at, value_count, values_at};
@@ -134,7 +134,7 @@ fn write_values(setting: &Setting, levels: &[u32], values: &mut ArrayVec<i64, 64
     }
 }
 
-/// Decodes coded data sets, a block a call.
+/// Decodes coded data sets, a block a call or several.
 ///
 /// It takes 568 bytes of memory. In contracts its value is its state: the setting, the place of the next block, the
 /// sample before it, the zero blocks of a run that are still to come, and what it answers once it has stopped.

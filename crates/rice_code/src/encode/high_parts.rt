@@ -1,4 +1,4 @@
-//! Writing the fundamental sequences of 8 or 16 residuals at once, where they fit one put.
+//! Writing the high parts of residuals as fundamental sequences, of 8 or 16 at once where they fit one put.
 ghost use Rattle.std.specs.Prelude.{◌≡◌, ◌+◌, ◌-◌, ◌/◌, ◌%◌, ◌^◌, ◌<◌, ◌≤◌, ◌++◌, Bool, List, length, drop, slice_index, slice_range, sum_by};
 ghost use Rattle.rice_bits.specs.Limits.{step_limit};
 ghost use Rattle.rice_code.specs.encode.BitBuffer.{HasRoomFor, HasRoomForBits, AddsBits};

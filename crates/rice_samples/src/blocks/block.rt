@@ -1,4 +1,4 @@
-//! Blocks of residuals, which are read only by calls that count their steps.
+//! A block of residuals, which is read only by calls that count their steps.
 ghost use Rattle.std.specs.Prelude.{◌≡◌, All, ℕ, ◌+◌, ◌-◌, ◌*◌, ◌/◌, ◌%◌, ◌^◌, ◌==◌, ◌<◌, ◌≤◌, ◌++◌, drop, flat_map, min, length, slice_index, sum_by};
 ghost use Rattle.std.specs.List.{list_all};
 ghost use Rattle.rice_bits.specs.Limits.{step_limit};

@@ -23,7 +23,7 @@ use Rattle.rice_stream.proofs.lemmas.EncodingBounds.{Settles, early_bounded, all
 use Rattle.rice_stream.proofs.lemmas.EncodingLemmas.{Follows-all, fails_among, settled_by}
 use Rattle.rice_samples.proofs.lemmas.bytes.GivenSamples.{reads_then, reads_before}
 use Rattle.rice_samples.proofs.lemmas.bytes.SpellingLengths.{length-spellings, some_width, narrow_width}
-use Rattle.rice_stream.proofs.lemmas.SamplesTakenInTurn.{few_more}
+use Rattle.rice_stream.proofs.lemmas.SamplesOfFirstBytes.{few_more}
 
 -- a call that stops early is within the bounds
 pub within_early : (s : Parameters) (r : Report) (xs : List ℤ) → Settles s xs → ReportsTaken s r xs → EncodesWithin s r

@@ -26,7 +26,7 @@ use Rattle.rice_stream.specs.declared.outcome.Fault.TheVariants.{Read, Write, To
 use Rattle.rice_stream.specs.declared.outcome.Report.{Report}
 use Rattle.rice_stream.specs.declared.seam.Seam.{Seam}
 use Rattle.rice_stream.proofs.lemmas.EncodingLemmas.{counts_small}
-use Rattle.rice_stream.proofs.lemmas.SamplesTakenInTurn.{stops_before, none_left, few_more}
+use Rattle.rice_stream.proofs.lemmas.SamplesOfFirstBytes.{stops_before, none_left, few_more}
 use Rattle.rice_samples.proofs.lemmas.bytes.SpellingLengths.{some_width, length-spellings}
 
 pub no_bits : (bits : List Bool) → length bits ≡ 0 → word (length bits) 0 ≡ bits

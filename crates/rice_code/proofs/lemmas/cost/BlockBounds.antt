@@ -1,4 +1,4 @@
--- Blocks cost no more bits than sent as they are.
+-- Blocks cost no more bits than sent as they are, or a bit more each where two samples of one bit make a block.
 use Rattle.std.proofs.Common.{◌≡◌, ℕ, zero, suc, ◌+◌, ◌-◌, ◌*◌, ◌<◌, ◌≤◌, Bool, true, false, cond, not, ◌&&◌, nat_lt, map, List, [], ◌∷◌, length, refl, ap, arith, sym, ◌∙◌, inl, inr, subst, Option, Some, None}
 use Rattle.std.specs.Prelude.{sum_by}
 use Rattle.std.specs.List.{best_of, range_with_len, AllByRecursion}

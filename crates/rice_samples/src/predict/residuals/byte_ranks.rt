@@ -27,7 +27,7 @@ pub(crate) fn write_ranks_by_sixteens(
     let greatest = (setting.number_of_values() - 1) as u8;
     let mut before = u8x16::splat(p as u8);
     for i in 0..levels.len() / 16 {
-        let sixteen = sixteen_in_narrow_lanes(&levels[16 * i..16 * i + 16]);
+        let sixteen = sixteen_narrowed(&levels[16 * i..16 * i + 16]);
         sixteen_ranks(greatest, numbers_before_each(before, sixteen), sixteen)
             .cast::<u32>()
             .copy_to_slice(&mut residuals[16 * i..]);
@@ -37,7 +37,7 @@ pub(crate) fn write_ranks_by_sixteens(
 
 /// Returns sixteen numbers below 2^8 in narrow lanes.
 #[inline(always)]
-fn sixteen_in_narrow_lanes(numbers: &[u32]) -> u8x16
+fn sixteen_narrowed(numbers: &[u32]) -> u8x16
     requires narrow { All (λ x. x < 2 ^ 8) numbers.now }
     requires sixteen { length numbers.now ≡ 16 }
     ensures { result ≡ numbers.now }

@@ -10,7 +10,7 @@ use Rattle.rice_samples.specs.bytes.Spelling.{Reads, IsNoSpelling}
 use Rattle.rice_samples.proofs.lemmas.bytes.GivenSamples.{reads_then}
 use Rattle.rice_stream.specs.EncodingState.{IsEncodingOf, FailsIn}
 use Rattle.rice_stream.proofs.lemmas.EncodingLemmas.{fails_among, fails_behind}
-use Rattle.rice_stream.proofs.lemmas.SamplesTakenInTurn.{few_more}
+use Rattle.rice_stream.proofs.lemmas.SamplesOfFirstBytes.{few_more}
 use Rattle.rice_stream.proofs.encoding.Encoding.push_samples_of_bytes.Goals as goal
 
 -- the bytes from a place on

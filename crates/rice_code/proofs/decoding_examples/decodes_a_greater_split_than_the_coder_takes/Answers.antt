@@ -6,7 +6,7 @@ use Rattle.rice_code.specs.code.Blocks.{BlockData}
 use Rattle.rice_code.specs.code.CodedDataSets.{Split}
 use Rattle.rice_code.specs.code.Decoded.{Ended}
 use Rattle.rice_code.proofs.lemmas.meaning.DecodingWitnesses.{Gives, all_below, unsigned_samples, zeros_end, decoded_by_one}
-use Rattle.rice_code.proofs.decoding_examples.decodes_a_longer_split_than_the_coder_takes.Goals as goal
+use Rattle.rice_code.proofs.decoding_examples.decodes_a_greater_split_than_the_coder_takes.Goals as goal
 
 abbrev block : BlockData
 block = record { reference = Some 0; residuals = 0 ∷ 1 ∷ replicate 6 2 }

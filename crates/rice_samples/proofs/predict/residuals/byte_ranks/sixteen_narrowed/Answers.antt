@@ -2,7 +2,7 @@ use Rattle.std.proofs.Common.{arith, ◌∙◌, take}
 use Rattle.std.proofs.lemmas.List.{take_all}
 use Rattle.rice_samples.proofs.lemmas.blocks.EightsInLanes.{map_same}
 use Rattle.rice_samples.proofs.lemmas.predict.ByteRanks.{bytes_fit}
-use Rattle.rice_samples.proofs.predict.residuals.byte_ranks.sixteen_in_narrow_lanes.Goals as goal
+use Rattle.rice_samples.proofs.predict.residuals.byte_ranks.sixteen_narrowed.Goals as goal
 
 pub overflow_cast-result : goal.overflow_cast-result
 overflow_cast-result c = bytes_fit c.args.numbers.now c.requires.sixteen c.requires.narrow

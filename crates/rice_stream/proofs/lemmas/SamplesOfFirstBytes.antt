@@ -1,4 +1,4 @@
--- Samples are taken from one part of the bytes after another.
+-- Samples of the first bytes are the same whatever bytes follow, and whole samples leave no byte.
 use Rattle.std.proofs.Common.{◌≡◌, ℕ, ◌+◌, ◌*◌, ◌<◌, ◌≤◌, List, [], ◌∷◌, ◌++◌, length, Option, Err, refl, ap, arith, sym, ◌∙◌, append-nil, length-append, inl, inr, ℤ}
 use Rattle.std.proofs.Math.Nat.{mul-le-mul_left}
 use Rattle.std.proofs.lemmas.Bool.{cases_lt}
