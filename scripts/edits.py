@@ -11,8 +11,9 @@ constant, is tried alone. A check is of the functions that have to be judged, an
 must-fail/clauses.md names the clauses that an edit turns, a goal of each has to be open.
 
 Where goals of its function have written answers, and goals of each clause that it turns, an edit is first judged by these alone:
-its twin asks for no tactic, and a goal without an answer counts for nothing. Where the answers fit, it is tried again, with all
-its goals searched for.
+its twin asks for no tactic, and a goal without an answer counts for nothing. So is one that adds a statement with `#[tactic(auto)]`
+before it, by the goals of this statement, which are searched for. Where all of these are proved, it is tried again, with all its goals
+searched for.
 
 usage: edits [NAME ..]         the edits of these names, or of the crates of these names; all, if none is named
        edits --since COMMIT    the edits of functions whose text, definitions or proofs that commit, or one after it, changed
@@ -34,13 +35,15 @@ try:
 except ImportError as why:
     sys.exit(f"edits.py: {why}: rt must-fail tries the edits one by one")
 
-HEADER = re.compile(r"^(?:\./)?(\S+?):(\d+):\d+: (error|note|warning)\b|^note: (\S+?):(\d+):\d+: |^\S")
+HEADER = re.compile(r"^(?:\./)?(\S+?):(\d+):\d+: (error|note|warning)\b|^note: (\S+?):(\d+):(\d+): |^\S")
 ANSWERS = "Answers.antt"
 PROOF_FILES = (ANSWERS, "Invariants.antt", "Proof.antt")
 ANSWERED = re.compile(r"(?m)^pub (\S+) : goal\.\1$")
 # What stands in a twin's answers for a goal that there is not. For the open goals of a function whose answers have such a fault the
 # check prints no file to begin with, which takes it as long as all the rest.
 NO_GOAL = "no-goal"
+# What an edit has before a statement that it adds, and by whose goals it is judged first.
+SEARCHED = "#[tactic(auto)] "
 # How the names of twins end, which no other function's does.
 TWIN = "_twin"
 # Why a goal is open, first what says most of the edit.
@@ -55,12 +58,14 @@ MOST = 3
 
 @dataclasses.dataclass
 class Goal:
-    """A goal that is open, the function that it is of, why it is, and whether it is a written answer of it that fails."""
+    """A goal that is open, the function that it is of, why it is, whether it is a written answer of it that fails, and else the place in
+    the sources of what it is of: a file, and the number of a character."""
 
     function: str
     name: str
     why: str
     has_answer: bool = False
+    place: tuple | None = None
 
 
 @dataclasses.dataclass
@@ -75,7 +80,7 @@ class Edit:
     change: tuple = ()
     # The number of the twin of its function that it stands in, or 0 for the function itself.
     twin: int = 0
-    # Whether the twin is still to be judged by its function's written answers alone.
+    # Whether the twin is still to be judged by its function's written answers, and the goals of the statement that it adds, alone.
     by_answers: bool = False
     # Whether it is known to be right: the check that judges it by the answers searches for its goals too, in another twin.
     is_control: bool = False
@@ -111,6 +116,11 @@ class Edit:
         """Whether its function has answers which are written, some for each clause that the edit turns."""
         have = {(self.function.name, clause_of(it)) for it in self.answered}
         return bool(have) and {*self.clauses} <= have
+
+    @property
+    def adds_statement(self):
+        """Whether it adds a statement by whose goals it is judged first."""
+        return bool(self.function) and self.change[3].startswith(SEARCHED)
 
     @property
     def clauses(self):
@@ -263,8 +273,24 @@ def goals_in(crate, texts, said):
             name = re.search(r"\(`(\S+)`\)", block)
             owner = [it for it in functions if it.file == at[4] and it.first <= int(at[5]) <= it.last]
             if name and owner:
-                found.append(Goal(max(owner, key=lambda it: it.first).name, name[1], why_open(block)))
+                place = (at[4], place_of(texts[at[4]], int(at[5]), int(at[6])))
+                found.append(Goal(max(owner, key=lambda it: it.first).name, name[1], why_open(block), place=place))
     return found
+
+
+def place_of(text, line, column):
+    """Returns the number of the character at this place of a text, both counted from 1."""
+    return sum(len(it) + 1 for it in text.split("\n")[: line - 1]) + column - 1
+
+
+def is_of_added_statement(edit, texts, goal):
+    """Returns whether a goal is of the statement that an edit adds."""
+    if not edit.adds_statement or not goal.place:
+        return False
+    file, place = goal.place
+    twin = next(it for it in edit_places.functions_in(edit.crate.name, file, texts[file]) if it.name == edit.judged_name)
+    first = texts[file].index(edit.change[3], twin.start)
+    return first <= place < first + len(edit.change[3])
 
 
 def lines_of_functions(said):
@@ -284,7 +310,9 @@ def clause_of(goal):
 def refused(edit, goals):
     """Returns the verdict on an edit for which these goals are open: it tells them, first those that say most."""
     own = {edit.judged_name: edit.function.name} if edit.function else {}
-    goals = [dataclasses.replace(it, function=own.get(it.function, it.function)) for it in goals]
+    goals = [dataclasses.replace(it, function=own.get(it.function, it.function)) for it in goals if it.why != GONE]
+    if not goals:
+        return Verdict(False, "NOT REFUSED: its proofs name what is gone, and no other goal is open")
     is_open = {(it.function, clause_of(it.name)) for it in goals}
     lost = [f"{function} {clause}" for function, clause in edit.clauses if (function, clause) not in is_open]
     if lost:
@@ -299,7 +327,7 @@ def judged(edit, texts, said):
     line = lines_of_functions(said).get(edit.judged_name, "")
     goals = [it for it in goals_in(edit.crate, texts, said) if it.function == edit.judged_name]
     if edit.by_answers:
-        return judged_by_answers(edit, goals)
+        return judged_by_answers(edit, texts, goals)
     if re.match(r"not proved|no proof", line) and goals:
         return refused(edit, goals)
     if re.search(r"it calls|it passes|a call of", line):
@@ -309,11 +337,12 @@ def judged(edit, texts, said):
     return Verdict(False, f"NOT JUDGED: {edit.function.name}: {line or 'the check has no line on it'}")
 
 
-def judged_by_answers(edit, goals):
-    """Returns that an edit is refused by the written answers of these goals, or None where all that it turns has to be searched for."""
-    answered = [it for it in goals if it.has_answer and it.name in edit.answered and it.why != GONE]
-    found = refused(edit, answered) if answered else None
-    return found if found and found.refused else None
+def judged_by_answers(edit, texts, goals):
+    """Returns that an edit is refused by the written answers of these goals, or by those of the statement that it adds, or None where
+    all that it turns has to be searched for."""
+    answered = [it for it in goals if it.has_answer and it.name in edit.answered or is_of_added_statement(edit, texts, it)]
+    found = refused(edit, answered)
+    return found if found.refused else None
 
 
 def tried_alone(edit):
@@ -372,7 +401,7 @@ def tried(edits):
     found = {it.path: tried_alone(it) for it in edits if it.why or not it.function}
     left = [it for it in edits if it.path not in found]
     for it in left:
-        it.by_answers = it.has_twin and it.has_answers
+        it.by_answers = it.has_twin and (it.has_answers or it.adds_statement)
     while left:
         now = with_twins(left)
         verdicts = tried_together(now)

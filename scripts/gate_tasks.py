@@ -29,7 +29,7 @@ class Lanes:
             while left or self.running:
                 for key in self.now(left):
                     left.remove(key)
-                    self.running[pool.submit(self.timed, key)] = key
+                    self.running[pool.submit(self.timed, key, self.jobs_of(key))] = key
                 for it in concurrent.futures.wait(self.running, return_when=concurrent.futures.FIRST_COMPLETED).done:
                     self.given[self.running.pop(it)] = it.result()
         return self.given
@@ -58,13 +58,15 @@ class Lanes:
                 return
 
     def jobs_of(self, key):
-        """Returns among how many processors a task shares its check. By four a crate's ends little sooner than by two, and costs a
-        third more; tests, for which nothing waits, have one, and so has each where there are two."""
-        return 2 if key[1] == "proof" and self.processors > 3 else 1
+        """Returns among how many processors a task that begins now shares its check: a crate's proof, for which others wait, among
+        those that are idle, but two at least. More would end it little sooner, and cost much more of a processor."""
+        if key[1] != "proof" or self.processors < 4:
+            return 1
+        return max(2, self.processors - len(self.running))
 
-    def timed(self, key):
+    def timed(self, key, jobs):
         start = time.monotonic()
         try:
-            return self.tasks[key][3](self.given, self.jobs_of(key))
+            return self.tasks[key][3](self.given, jobs)
         finally:
             self.times[key] = start, time.monotonic()

@@ -23,5 +23,6 @@ returns-clause-reads g c none run = rw (told g c) (c.next_levels-answer.ensures.
 pub returns-clause-waiting : goal.returns-clause-waiting
 returns-clause-waiting g c =
     let levels = c.next_levels-answer in
-    let count : length c.write_values.new.values.items ≡ length levels.new.levels.items = ap length (told g c) ∙ length-values c.args.self.now.setting levels.new.levels.items in
+    let count : length c.write_values.new.values.items ≡ length levels.new.levels.items
+        = ap length c.write_values.ensures ∙ length-values c.self.inside.setting _ ∙ ap length c.as_slice.ensures.value in
     rw count levels.ensures.waiting
