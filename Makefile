@@ -86,14 +86,14 @@ LIBRARIES := rice_bits rice_samples rice_code rice_stream
 sources = $(shell find $(foreach crate,$(1),$(wildcard $(addprefix crates/$(crate)/,src specs proofs))) -type f) crates.txt
 # The processes that share a check. Each takes a gigabyte or more.
 JOBS ?= $(shell n=$$(nproc); echo $$((n < 4 ? n : 4)))
-PROVE_LIBRARIES = for crate in $(LIBRARIES); do (cd crates/$$crate && rt lib --jobs $(JOBS) > /dev/null) || exit 1; done
+prove = for crate in $(1); do (cd crates/$$crate && rt lib --jobs $(JOBS) > /dev/null) || exit 1; done
 
 aec: crates/aec_tool/out/aec_tool
 	cp $< $@
 
 # The libraries first, one after the other: `rt run` alone would begin with a pass over all sources, which takes minutes.
-crates/aec_tool/out/aec_tool: $(call sources,$(LIBRARIES) aec_tool)
-	$(PROVE_LIBRARIES)
+crates/aec_tool/out/aec_tool: $(call sources,$(LIBRARIES) aec_command aec_tool)
+	$(call prove,$(LIBRARIES) aec_command)
 	cd crates/aec_tool && rt run --jobs $(JOBS) -- --help > /dev/null
 	touch $@
 
@@ -124,7 +124,7 @@ $(COMPAT)/libsz.so.2: compat/szlib.c compat/szlib.h $(COMPAT)/libaec.so.0
 	ln -sf libsz.so.2 $(COMPAT)/libsz.so
 
 crates/rice_c/out/librice_c.a: $(call sources,$(LIBRARIES) rice_c)
-	$(PROVE_LIBRARIES)
+	$(call prove,$(LIBRARIES))
 	cd crates/rice_c && rt lib --jobs $(JOBS) > /dev/null
 	touch $@
 
@@ -132,7 +132,7 @@ crates/rice_c/out/librice_c.a: $(call sources,$(LIBRARIES) rice_c)
 ifneq ($(TARGET),)
 $(LIBRARY)librice.a: $(call sources,$(LIBRARIES) rice_c)
 	mkdir -p $(@D)
-	$(PROVE_LIBRARIES)
+	$(call prove,$(LIBRARIES))
 	mv crates/rice_c/out/librice_c.a $(@D)/here.a || true
 	cd crates/rice_c && rt lib --jobs $(JOBS) --target $(TARGET) > /dev/null
 	mv crates/rice_c/out/librice_c.a $@

@@ -107,7 +107,7 @@ def wrong_messages():
     explained = {numbered(text) for text in re.findall(r'(?m)^\.It "(.*)"$', read(MANUAL))}
     table = read("docs/COMMAND.md").partition("| status | when |")[2].partition("\n\n")[0]
     messages = {text for row in table.splitlines() for text in re.findall(r"`([^`]+)`", row.rpartition("|")[0].rpartition("|")[2])}
-    for crate in ("aec_tool", "rice_stream"):
+    for crate in ("aec_command", "aec_tool", "rice_stream"):
         for path in glob.glob(f"crates/{crate}/src/**/*.rt", recursive=True):
             messages |= set(re.findall(r'#\[error\("([^"]+)"\)\]', read(path)))
     for message in sorted(messages):

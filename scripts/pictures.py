@@ -163,10 +163,13 @@ def house():
         box(axes, 15 + 160 * i, 60, 120, 64, f"{name}\n{text}", fill=fills.get(name, "white"), size=9)
         if i:
             arrow(axes, (15 + 160 * i, 92), (135 + 160 * (i - 1), 92))
+    box(axes, 335, 136, 280, 26, "aec_command: options, and their plan", fill="white", size=9)
+    arrow(axes, (335, 149), (280, 125))
+    arrow(axes, (660, 140), (616, 150))
     for y, name, text in ((100, "aec_tool", "the command"), (36, "rice_c", "librice, for C: compat and\nPython stand on it")):
         box(axes, 660, y, 225, 52, f"{name}\n{text}", fill="white", size=9)
         arrow(axes, (660, y + 26), (615, 92))
-    label(axes, 15, 20, "An arrow goes to what is used. Each crate may use those to its left.", size=9, style="italic")
+    label(axes, 15, 20, "An arrow goes to what is used; what that stands on may be used too.", size=9, style="italic")
 
 
 def memory():

@@ -12,7 +12,7 @@ import re
 import subprocess
 import sys
 
-CRATES = ["rice_bits", "rice_samples", "rice_code", "rice_stream", "rice_c", "aec_tool"]
+CRATES = ["rice_bits", "rice_samples", "rice_code", "rice_stream", "rice_c", "aec_command", "aec_tool"]
 PAGE = "docs/PLANTS.md"
 FOUND = re.compile(r"(?m)^(proves|no-ensures|untested) +(\S+?):\d+ (.+?)(?:: (\{.*?\})(?:  \(.*\))?|\(\))?$")
 

@@ -7,7 +7,7 @@ use Rattle.rice_stream.specs.DevicesInCalls.{Call, Happens, Fails}
 use Rattle.rice_stream.specs.Encodes.{EncodesBetween}
 use Rattle.rice_stream.specs.Decodes.{DecodesBetween}
 use Rattle.rice_stream.specs.declared.outcome.Outcome.{Outcome}
-use Rattle.aec_tool.specs.Plan.{PlanView}
+use Rattle.aec_command.specs.Plan.{PlanView}
 use Rattle.aec_tool.specs.Outside.{Outside, Said, Holds, HasTakenNothing, Finishes, begun, holding, new_mode, source_bytes, source_id, place_of, is_creatable}
 use Rattle.aec_tool.specs.Performs.{EngineOf, Arrives, EmptiesSource, Runs, last_words, status_with}
 

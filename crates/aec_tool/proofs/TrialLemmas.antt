@@ -7,7 +7,7 @@ use Rattle.rice_stream.specs.declared.outcome.Outcome.{Outcome}
 use Rattle.rice_stream.specs.declared.outcome.Fault.{Fault}
 use Rattle.rice_stream.specs.declared.outcome.Fault.TheVariants.{Read, TooLong}
 use Rattle.aec_tool.specs.OneBehind.{Looks, LooksBehind}
-use Rattle.aec_tool.specs.Plan.{PlanView}
+use Rattle.aec_command.specs.Plan.{PlanView}
 use Rattle.aec_tool.specs.Outside.{Outside, source_bytes}
 use Rattle.aec_tool.specs.Performs.{EngineOf, Judges, Tests, test_status, tested}
 

@@ -1,7 +1,5 @@
 -- What contracts of the command cite: its words, its plan, what it does, and the system outside.
 pub mod OneBehind
-pub mod CommandLine
 pub mod Outside
 pub mod Performs
-pub mod Plan
 pub mod WholeCommand

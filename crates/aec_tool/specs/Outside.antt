@@ -6,7 +6,7 @@ use Rattle.clap.specs.declared.error.kind.ErrorKind.{ErrorKind}
 use Rattle.rice_bits.specs.device.OutletRoom.{Room}
 use Rattle.rice_stream.specs.declared.outcome.Fault.{Fault}
 use Rattle.aec_tool.specs.declared.finding.Finding.{Finding}
-use Rattle.aec_tool.specs.declared.plan.PlanFault.{PlanFault}
+use Rattle.aec_command.specs.declared.plan.PlanFault.{PlanFault}
 use Rattle.aec_tool.specs.declared.same_file.FileId.{FileId}
 use Rattle.aec_tool.specs.declared.message.Message.{Message}
 use Rattle.aec_tool.specs.declared.message.Message.TheVariants as message

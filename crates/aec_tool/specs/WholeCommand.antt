@@ -5,10 +5,10 @@ use Rattle.clap.specs.declared.parser.matches.ArgMatches.{ArgMatches}
 use Rattle.clap.specs.declared.error.kind.ErrorKind.{ErrorKind}
 use Rattle.clap.specs.declared.error.kind.ErrorKind.TheVariants as kind
 use Rattle.rice_bits.specs.device.OutletRoom.{Room}
-use Rattle.aec_tool.specs.declared.plan.PlanFault.{PlanFault}
-use Rattle.aec_tool.specs.CommandLine.{AreParsedTo, AreRefusedFor}
+use Rattle.aec_command.specs.declared.plan.PlanFault.{PlanFault}
+use Rattle.aec_command.specs.CommandLine.{AreParsedTo, AreRefusedFor}
 use Rattle.aec_tool.specs.Outside.{Outside, LacksMemory, Refused, saying, showing}
-use Rattle.aec_tool.specs.Plan.{PlanView, plan_in}
+use Rattle.aec_command.specs.Plan.{PlanView, plan_in}
 use Rattle.aec_tool.specs.Performs.{OnlySays, Performs}
 
 -- What the parser has to say is passed on: help and version with status 0, and a mistake with status 2. Want of memory is told.

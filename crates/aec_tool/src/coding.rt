@@ -4,7 +4,7 @@ ghost use Rattle.rice_stream.specs.DevicesInCalls.{Fails};
 ghost use Rattle.rice_stream.specs.Decodes.{DecodesBetween, DecodesWithin};
 ghost use Rattle.rice_stream.specs.Encodes.{EncodesBetween, EncodesWithin};
 
-use crate::plan::Plan;
+use aec_command::Plan;
 use rice_bits::{Intake, Outlet};
 use rice_stream::{Outcome, decode, encode};
 

@@ -2,10 +2,8 @@
 #![tactic(auto)]
 
 mod coding;
-mod command_line;
 mod counted;
 mod destination;
-mod entries;
 mod exit_status;
 mod finding;
 mod host;
@@ -13,7 +11,6 @@ mod message;
 mod nowhere;
 mod one_behind;
 mod perform;
-mod plan;
 mod progress;
 mod same_file;
 mod source;

@@ -1,6 +1,6 @@
 //! What the command says on standard error.
 
-use crate::plan::PlanFault;
+use aec_command::PlanFault;
 use rice_stream::Fault;
 use thiserror::Error;
 

@@ -1,16 +1,16 @@
 //! From a plan to the exit status.
 ghost use Rattle.std.specs.Prelude.{◌≡◌, ℕ, ◌↔◌, true, false, List, Some, None, IfOk, IsTrue};
-ghost use Rattle.aec_tool.specs.Plan.{plan_view};
+ghost use Rattle.aec_command.specs.Plan.{plan_view};
 ghost use Rattle.aec_tool.specs.Outside.{Outside, Untouched, IsFresh, GivesAll, HasTakenNothing, Opens, Creates, begun, closing, new_mode, saying, said_of, is_standard, source_bytes, source_id, place_of, is_creatable, AreOneFile};
 ghost use Rattle.aec_tool.specs.Performs.{Performs, Ends, Runs, EmptiesSource};
 
 use crate::coding::run;
 use crate::exit_status::{FAILURE, exit_status};
 use crate::message::Message;
-use crate::plan::Plan;
 use crate::same_file::{FileId, are_one_file, mode_for};
 use crate::system::{CreateFault, OpenFault, System};
 use crate::trial::test;
+use aec_command::Plan;
 use rice_stream::Fault;
 
 /// The name of a standard stream.

@@ -1,84 +1,25 @@
 //! From the words of the command line to the exit status.
-ghost use Rattle.std.specs.Prelude.{◌≡◌, Some, IfOk, IfErr};
-ghost use Rattle.clap.specs.Words.{kind_of, fault_of, IsAmong};
-ghost use Rattle.clap.specs.declared.error.kind.ErrorKind.TheVariants as kinds;
+ghost use Rattle.std.specs.Prelude.{◌≡◌, Some};
+ghost use Rattle.clap.specs.Words.{kind_of};
 ghost use Rattle.clap.specs.Walk.{texts};
-ghost use Rattle.aec_tool.specs.CommandLine.{aec, aec_test, AreParsedBy, AreParsedTo, AreRefusedFor, IsRefusedBy};
 ghost use Rattle.aec_tool.specs.Outside.{Outside, IsFresh};
 ghost use Rattle.aec_tool.specs.WholeCommand.{Starts, Explains};
 
-use crate::command_line::{command, command_with_one_name};
-use crate::entries::{is_used, plan_of};
 use crate::exit_status::SUCCESS;
 use crate::host::Host;
 use crate::message::Message;
 use crate::perform::{fail, perform};
 use crate::progress::Progress;
 use crate::system::System;
+use aec_command::{matches_of, plan_of};
+use clap::Error;
 use clap::error::ErrorKind;
-use clap::{ArgMatches, Error};
 use std::alloc::{AllocGlobal, Global};
 use std::rt::Runtime;
 use std::{env, io};
 
 /// The status of a command line that is refused.
 const USAGE: u8 = 2;
-
-/// Parses the words of the command line. Where a name is missing they may be those of a test, which has one.
-fn matches_of<'a>(alloc: Global, words: &'a [&'a str]) -> Result<ArgMatches<'a>, Error>
-    ensures ok { IfOk result (AreParsedTo (texts words.entry.now)) }
-    ensures err { IfErr result (λ e. AreRefusedFor (texts words.entry.now) (kind_of e)) }
-{
-    let error = match matches_of_both_names(alloc, words) {
-        Ok(matches) => return Ok(matches),
-        Err(error) => error,
-    };
-    match error.kind() {
-        ErrorKind::MissingRequiredArgument => matches_of_test(alloc, words, error),
-        _ => Err(error),
-    }
-}
-
-/// Parses words that have both names.
-fn matches_of_both_names<'a>(alloc: Global, words: &'a [&'a str]) -> Result<ArgMatches<'a>, Error>
-    ensures ok { IfOk result (AreParsedBy aec (texts words.entry.now)) }
-    ensures err { IfErr result (λ e. IsRefusedBy aec (texts words.entry.now) (kind_of e)) }
-{
-    command(alloc)?.try_get_matches_from(words)
-}
-
-/// Parses words that have one name.
-fn matches_of_one_name<'a>(alloc: Global, words: &'a [&'a str]) -> Result<ArgMatches<'a>, Error>
-    ensures ok { IfOk result (AreParsedBy aec_test (texts words.entry.now)) }
-    ensures err { IfErr result (λ e. IsRefusedBy aec_test (texts words.entry.now) (kind_of e)) }
-{
-    command_with_one_name(alloc)?.try_get_matches_from(words)
-}
-
-/// Parses words as those of a test, or says by `error` why they are not in order.
-fn matches_of_test<'a>(
-    alloc: Global,
-    words: &'a [&'a str],
-    error: Error,
-) -> Result<ArgMatches<'a>, Error>
-    requires lack { IsAmong kinds.MissingRequiredArgument (fault_of aec (texts words.now)) }
-    requires kind { kind_of error ≡ kinds.MissingRequiredArgument }
-    ensures ok { IfOk result (AreParsedTo (texts words.entry.now)) }
-    ensures err { IfErr result (λ e. AreRefusedFor (texts words.entry.now) (kind_of e)) }
-{
-    match matches_of_one_name(alloc, words) {
-        Ok(matches) => {
-            if is_used(&matches, "test") {
-                return Ok(matches);
-            }
-            Err(error)
-        }
-        Err(refused) => match refused.kind() {
-            ErrorKind::OutOfMemory => Err(refused),
-            _ => Err(error),
-        },
-    }
-}
 
 /// Runs the command with the given words, and returns its exit status.
 pub fn start<'a, S: System<'a>>(system: &mut S, alloc: Global, words: &'a [&'a str]) -> u8

@@ -1,7 +1,7 @@
 //! The test of a code: it is decoded, and nothing is written.
 ghost use Rattle.std.specs.Prelude.{◌≡◌, ℕ, ◌⊎◌, ◌&&◌, true, List, Some, is_some};
 ghost use Rattle.aec_tool.specs.OneBehind.{Looks};
-ghost use Rattle.aec_tool.specs.Plan.{plan_view};
+ghost use Rattle.aec_command.specs.Plan.{plan_view};
 ghost use Rattle.aec_tool.specs.Outside.{Outside, IsFresh, GivesAll, Stopped, finding, losing, is_read_again, said_of, saying, source_bytes, source_id};
 ghost use Rattle.aec_tool.specs.Performs.{Tests, Judges, faulty};
 ghost use Rattle.rice_stream.specs.declared.outcome.Fault.TheVariants as faults;
@@ -12,9 +12,9 @@ use crate::message::Message;
 use crate::nowhere::Nowhere;
 use crate::one_behind::look_behind;
 use crate::perform::{Done, STANDARD, fail, open};
-use crate::plan::Plan;
 use crate::same_file::FileId;
 use crate::system::System;
+use aec_command::Plan;
 use rice_samples::Setting;
 use rice_stream::{Fault, Outcome, Report, decode};
 

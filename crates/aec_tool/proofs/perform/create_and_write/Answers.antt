@@ -1,6 +1,6 @@
 use Rattle.std.proofs.Common.{◌≡◌, ◌∙◌, false, None, Some, ap, refl, inr, subst, sym}
 use Rattle.std.specs.Prelude.{IsTrue}
-use Rattle.aec_tool.specs.Plan.{plan_view}
+use Rattle.aec_command.specs.Plan.{plan_view}
 use Rattle.aec_tool.specs.Outside.{HasTakenNothing, begun, closing, new_mode, refusing, place_of, source_id, AreOneFile}
 use Rattle.aec_tool.specs.Performs.{EmptiesSource, Runs}
 use Rattle.aec_tool.proofs.OutsideLemmas.{holds_after}

@@ -1,6 +1,6 @@
 use Rattle.std.proofs.Common.{ℕ, List, Option, ap, inr, refl, subst, sym}
 use Rattle.std.specs.Prelude.{option_map}
-use Rattle.aec_tool.specs.Plan.{plan_view}
+use Rattle.aec_command.specs.Plan.{plan_view}
 use Rattle.aec_tool.specs.Outside.{closing}
 use Rattle.aec_tool.specs.Performs.{Ends, Tests}
 use Rattle.aec_tool.proofs.perform.perform.Goals as goal

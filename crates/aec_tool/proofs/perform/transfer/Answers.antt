@@ -1,7 +1,7 @@
 use Rattle.std.proofs.Common.{◌≡◌, ◌∙◌, true, false, not, Option, Some, None, refl, ap}
 use Rattle.std.specs.Prelude.{is_ok}
 use Rattle.rice_stream.specs.declared.outcome.Fault.TheVariants.{Write}
-use Rattle.aec_tool.specs.Plan.{plan_view}
+use Rattle.aec_command.specs.Plan.{plan_view}
 use Rattle.aec_tool.specs.Outside.{Holds, Said, Stopped, begun, holding, new_mode, place_of, source_id}
 use Rattle.aec_tool.specs.Performs.{last_words}
 use Rattle.aec_tool.proofs.OutsideLemmas.{holds_after, engine_of, arrives_of, runs_of}

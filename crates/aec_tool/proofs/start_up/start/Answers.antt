@@ -1,9 +1,9 @@
 use Rattle.std.proofs.Common.{ap, inl, inr, refl, subst}
 use Rattle.std.specs.Prelude.{option_map}
 use Rattle.clap.specs.Words.{found_of, kind_of}
-use Rattle.aec_tool.specs.Plan.{plan_view}
+use Rattle.aec_command.specs.Plan.{plan_view}
 use Rattle.aec_tool.specs.WholeCommand.{Follows}
-use Rattle.aec_tool.proofs.EntryLemmas.{decodes_without_dest}
+use Rattle.aec_command.proofs.EntryLemmas.{decodes_without_dest}
 use Rattle.aec_tool.proofs.start_up.start.Goals as goal
 
 -- a plan without a destination decodes

@@ -1,5 +1,5 @@
 use Rattle.std.proofs.Common.{Some, ◌∙◌, true, false, Ok, Err, refl, ap, inl, inr}
-use Rattle.aec_tool.specs.Plan.{plan_view}
+use Rattle.aec_command.specs.Plan.{plan_view}
 use Rattle.aec_tool.specs.Outside.{saying}
 use Rattle.aec_tool.specs.Performs.{faulty, tested}
 use Rattle.aec_tool.proofs.TrialLemmas.{decoded, tests_of}
