@@ -193,11 +193,11 @@ class Rows:
         for line in case.lines["aec"]:
             words, name = line.split(), f"{case.name}: aec {line}"
             self.compare(name, self.run(words, given, given), case.wanted(), begins)
-            if words[-2:] != ["-", "-"] or case.has("prints"):
+            if words[-2:] != ["-", "-"] or words.count("-") > 2 or case.has("prints"):
                 continue
             files = self.run([*words[:-2], "in.bin", "out.bin"], b"", given)
             self.compare(f"{name} (files)", files, case.wanted_of_files(), begins)
-            if not begins:
+            if not begins and "--test" not in words:
                 self.check_bytes(name, case, words, given)
 
     def check_bytes(self, name, case, words, given):
