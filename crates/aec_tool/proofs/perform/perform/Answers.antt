@@ -1,4 +1,5 @@
-use Rattle.std.proofs.Common.{ℕ, List, Option, ap, inr, refl, subst, sym}
+use Rattle.std.proofs.lemmas.Grind.{common_steps}
+use Rattle.std.proofs.Common.{ℕ, List, Option, ap, arith, inr, refl, subst, sym}
 use Rattle.std.specs.Prelude.{option_map}
 use Rattle.aec_command.specs.Plan.{plan_view}
 use Rattle.aec_tool.specs.Outside.{closing}
@@ -20,3 +21,6 @@ returns-in-None g c = λ o told.
           (sym (ap (option_map (λ name. name.now)) c.in-None.is)) (ran.0, done.samples, tests, refl)
           ),
     )
+
+pub returns-in-Err : goal.returns-in-Err
+returns-in-Err g c = grind (arith, common_steps)

@@ -1,4 +1,5 @@
-use Rattle.std.proofs.Common.{ap, inl, inr, refl, subst}
+use Rattle.std.proofs.lemmas.Grind.{common_steps}
+use Rattle.std.proofs.Common.{ap, arith, inl, inr, refl, subst}
 use Rattle.std.specs.Prelude.{option_map}
 use Rattle.clap.specs.Words.{found_of, kind_of}
 use Rattle.aec_command.specs.Plan.{plan_view}
@@ -35,3 +36,7 @@ pub returns-in-Err : goal.returns-in-Err
 returns-in-Err g c = λ o told.
     let did = c.refuse.ensures o told in
     (did.0, did.1, inr (kind_of c.in-Err.error, c.in-Err.ensures.err, did.2))
+
+-- there is no plan, and why was told
+pub returns : goal.returns
+returns g c = grind (arith, common_steps)

@@ -1,4 +1,5 @@
-use Rattle.std.proofs.Common.{◌≡◌, None, refl}
+use Rattle.std.proofs.lemmas.Grind.{common_steps}
+use Rattle.std.proofs.Common.{◌≡◌, None, arith, refl}
 use Rattle.aec_tool.specs.Outside.{losing}
 use Rattle.aec_tool.proofs.OutsideLemmas.{holds_after}
 use Rattle.aec_tool.proofs.trial.tell_finding.Goals as goal
@@ -9,3 +10,9 @@ fail-requires g c κs = (
   λ x e. holds_after (λ o. o.said ≡ None) _ _ c.report.ensures.silent
       (λ o told. (losing o, c.in-Err.ensures.tells o told, (c.requires.fresh o told).said)) x e,
 )
+
+pub returns-in-Ok : goal.returns-in-Ok
+returns-in-Ok g c = grind (arith, common_steps)
+
+pub returns-in-Err : goal.returns-in-Err
+returns-in-Err g c = grind (arith, common_steps)
