@@ -35,7 +35,9 @@ MEMORY_OF_EDITS = 3_000_000_000
 SHARE_OF_MEMORY = 0.5
 # About how many seconds of a processor an edit takes, and the most that a part of a crate's edits is to take: each part reads all that
 # is below the crate first, in some 10 seconds.
-SECONDS_OF_EDIT = {"rice_bits": 2, "rice_samples": 2, "rice_code": 5, "rice_stream": 8, "rice_c": 3, "rice_tests": 3, "aec_command": 7, "aec_tool": 10}
+SECONDS_OF_EDIT = {
+    "rice_bits": 2, "rice_samples": 2, "rice_base_tests": 3, "rice_code": 4, "rice_stream": 8, "rice_c": 3, "aec_command": 7, "aec_tool": 10,
+}
 SECONDS_OF_PART = 450
 
 

@@ -57,12 +57,12 @@ FLUSH_UNSEEN = "        let _ = dest.into_inner().flush();\n        Ok(())\n"
 # The bodies that are wrong in one copy, with the crate of the tests: of each what is wrong, the file, the body as it stands, the wrong
 # one, and a test that refuses it. Each of these tests refuses one of them alone.
 WRONG = [
-    ("rice_tests", [
+    ("rice_base_tests", [
         ("FromReader never reads", WRAP, READ, FAIL_READ, "bits::devices_over_readers"),
         ("FromWriter never writes", WRAP, WRITE, FAIL_WRITE, "bits::devices_over_writers"),
         ("FromBufWriter never writes", BUFFERED, WRITE, FAIL_WRITE, "bits::devices_over_buffers"),
     ]),
-    ("rice_tests", [("FromReader tries again", WRAP, READ, READ_TWICE, "bits::devices_over_readers")]),
+    ("rice_base_tests", [("FromReader tries again", WRAP, READ, READ_TWICE, "bits::devices_over_readers")]),
     ("aec_tool", [("Host opens the root", HOST, "File::open(self.rt, name)", 'File::open(self.rt, "/")', "tests::commands::reads_and_writes_files")]),
     ("aec_tool", [("Host creates no file", HOST, "options.open(self.rt, name)", "File::open(self.rt, name)", "tests::commands::reads_and_writes_files")]),
     ("aec_tool", [("Host passes over a failed flush", HOST, FLUSH, FLUSH_UNSEEN, "tests::commands::tells_that_the_flush_failed")]),

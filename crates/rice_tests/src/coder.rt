@@ -1,8 +1,8 @@
 ghost use Rattle.std.specs.Prelude.{◌≡◌, ◌<◌, ◌≤◌, true, All, length};
 ghost use Rattle.rice_samples.specs.Parameters.{value_count};
 
-use crate::case_table::{Columns, bytes_of, number_of, samples_of, setting_of};
-use crate::cases::Cases;
+use rice_base_tests::case_table::{Columns, bytes_of, number_of, samples_of, setting_of};
+use rice_base_tests::cases::Cases;
 use rice_bits::{BitSink, Meter};
 use rice_code::{Coder, SegmentSink, bit_bound, padded_bound, step_bound};
 use rice_samples::Setting;
@@ -194,8 +194,7 @@ fn samples_are_coded(rt: HostRuntime) -> Result<(), Fail> {
         cases.check(at_once.bytes.as_slice() == bytes.as_slice());
         cases.check((at_once.bits, at_once.steps) == (coded.bits, coded.steps));
     }
-    cases.end(&rt);
-    Ok(())
+    cases.end()
 }
 
 #[test]
@@ -211,8 +210,7 @@ fn pending_samples(rt: HostRuntime) -> Result<(), Fail> {
         push(&rt, &setting, &mut coder, 5, &mut sink, &mut meter);
     }
     cases.check((coder.pending(), sink.len()) == (0, 14));
-    cases.end(&rt);
-    Ok(())
+    cases.end()
 }
 
 #[test]
@@ -235,12 +233,11 @@ fn steps(rt: HostRuntime) -> Result<(), Fail> {
     cases.check(coded.bits == 131392);
     cases.check(266496 <= coded.steps && coded.steps <= 274752);
     cases.check(step_bound(&widest, 4096) == 274752);
-    cases.end(&rt);
-    Ok(())
+    cases.end()
 }
 
 #[test]
-fn bounds(rt: HostRuntime) -> Result<(), Fail> {
+fn bounds() -> Result<(), Fail> {
     let mut cases = Cases::new();
     let small = setting_of("r1")?;
     cases.check((bit_bound(&small, 0), step_bound(&small, 0)) == (0, 0));
@@ -250,6 +247,5 @@ fn bounds(rt: HostRuntime) -> Result<(), Fail> {
     cases.check(padded_bound(&setting_of("p r1")?, 16) == 148);
     let wide = setting_of("n32 j64")?;
     cases.check((bit_bound(&wide, 64), step_bound(&wide, 64)) == (2053, 4293));
-    cases.end(&rt);
-    Ok(())
+    cases.end()
 }

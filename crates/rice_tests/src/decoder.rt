@@ -1,10 +1,10 @@
 ghost use Rattle.std.specs.Prelude.{◌≡◌, ◌+◌, ◌^◌, ◌<◌, true};
 ghost use Rattle.rice_code.specs.decode.BlocksInOnePass.{HasLanes};
 
-use crate::case_table::{Columns, bytes_of, number_of, samples_of, setting_of};
-use crate::cases::Cases;
-use crate::devices::MemoryIn;
 use arrayvec::ArrayVec;
+use rice_base_tests::case_table::{Columns, bytes_of, number_of, samples_of, setting_of};
+use rice_base_tests::cases::Cases;
+use rice_base_tests::devices::MemoryIn;
 use rice_bits::{BitReader, Intake, Meter};
 use rice_code::{CodeFault, Decoder, NextBlock};
 use rice_samples::Setting;
@@ -138,13 +138,12 @@ fn codes_are_decoded(rt: HostRuntime) -> Result<(), Fail> {
         cases.of_line(line);
         decodes_line(&mut cases, rt.alloc(), line)?;
     }
-    cases.end(&rt);
-    Ok(())
+    cases.end()
 }
 
 /// A run is held as a number: the samples of it that are still to come.
 #[test]
-fn waiting_samples(rt: HostRuntime) -> Result<(), Fail> {
+fn waiting_samples() -> Result<(), Fail> {
     let mut cases = Cases::new();
     let mut reader = BitReader::new(MemoryIn::new(&[0x00, 0x00, 0x80], 4096, None));
     let mut decoder = Decoder::new(setting_of("")?);
@@ -158,13 +157,12 @@ fn waiting_samples(rt: HostRuntime) -> Result<(), Fail> {
     cases.check(decoder.waiting() == 0);
     cases.check(!decoder.is_in_run());
     cases.check(meter.steps() == 17);
-    cases.end(&rt);
-    Ok(())
+    cases.end()
 }
 
 /// A run's next block is passed over where its samples are known.
 #[test]
-fn repeated_samples(rt: HostRuntime) -> Result<(), Fail> {
+fn repeated_samples() -> Result<(), Fail> {
     let mut cases = Cases::new();
     let mut reader = BitReader::new(MemoryIn::new(&[0x00, 0x00, 0x80], 4096, None));
     let mut decoder = Decoder::new(setting_of("")?);
@@ -179,8 +177,7 @@ fn repeated_samples(rt: HostRuntime) -> Result<(), Fail> {
     cases.check(decoder.waiting() == 0);
     cases.check(!decoder.repeats());
     cases.check(meter.steps() == 17);
-    cases.end(&rt);
-    Ok(())
+    cases.end()
 }
 
 /// Returns whether blocks are of 8 samples that may be given as bytes.
@@ -193,7 +190,7 @@ fn has_eights(setting: &Setting) -> bool
 
 /// A block of which all bits wait is given as bytes, with the number of its bits.
 #[test]
-fn bytes_of_a_block(rt: HostRuntime) -> Result<(), Fail> {
+fn bytes_of_a_block() -> Result<(), Fail> {
     let mut cases = Cases::new();
     let code = [
         0x20, 0x09, 0x24, 0x92, 0x49, 0x24, 0x92, 0x40, 0, 0, 0, 0, 0, 0, 0, 0, 0, 0, 0, 0, 0, 0,
@@ -226,13 +223,12 @@ fn bytes_of_a_block(rt: HostRuntime) -> Result<(), Fail> {
     cases.check(bytes[..8] == [8, 9, 10, 11, 12, 13, 14, 15]);
     cases.check(reader.taken() == 58);
     cases.check(meter.steps() == 58);
-    cases.end(&rt);
-    Ok(())
+    cases.end()
 }
 
 /// Of the search for the sum of a pair each turn is a step.
 #[test]
-fn steps_of_second_extension(rt: HostRuntime) -> Result<(), Fail> {
+fn steps_of_second_extension() -> Result<(), Fail> {
     let mut cases = Cases::new();
     let mut reader = BitReader::new(MemoryIn::new(&[0x1E, 0x40], 4096, None));
     let mut decoder = Decoder::new(setting_of("N")?);
@@ -241,6 +237,5 @@ fn steps_of_second_extension(rt: HostRuntime) -> Result<(), Fail> {
     cases.check(decoder.next_block(&mut reader, &mut meter, &mut block) == Ok(NextBlock::Block));
     cases.check(reader.taken() == 10);
     cases.check(meter.steps() == 11);
-    cases.end(&rt);
-    Ok(())
+    cases.end()
 }

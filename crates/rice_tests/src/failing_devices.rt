@@ -1,7 +1,7 @@
 //! Devices that fail, and samples that are none.
-use crate::case_table::{Columns, bytes_of, fault_of, number_of, setting_of};
-use crate::cases::Cases;
-use crate::devices::{MemoryIn, MemoryOut};
+use rice_base_tests::case_table::{Columns, bytes_of, number_of, setting_of};
+use rice_base_tests::cases::Cases;
+use rice_base_tests::devices::{MemoryIn, MemoryOut};
 use rice_stream::{Fault, decode, encode};
 use std::alloc::Global;
 use std::test::Fail;
@@ -37,6 +37,27 @@ fn stops<'a>(cases: &mut Cases<'a>, alloc: Global, table: &'a str) -> Result<(),
 /// Returns the place of a column, or `None` where it is empty.
 fn place_of(text: &str) -> Result<Option<usize>, Fail> {
     Ok(number_of(text)?.map(|place| place as usize))
+}
+
+/// Returns the fault of a column such as `cut 8`, or `None` where it is empty.
+fn fault_of(text: &str) -> Result<Option<Fault>, Fail> {
+    if text.is_empty() {
+        return Ok(None);
+    }
+    let (name, number) = match text.split_once(' ') {
+        Some((name, number)) => (name, number.parse::<u64>()?),
+        None => (text, 0),
+    };
+    match name {
+        "read" => Ok(Some(Fault::Read)),
+        "write" => Ok(Some(Fault::Write)),
+        "range" => Ok(Some(Fault::SampleOutOfRange { index: number })),
+        "inside" => Ok(Some(Fault::SampleCut { index: number })),
+        "ends" => Ok(Some(Fault::CodeEnds { samples: number })),
+        "run" => Ok(Some(Fault::RunPastSegment { block: number })),
+        "residual" => Ok(Some(Fault::ResidualTooLarge { block: number })),
+        _ => Err(Fail::new("no fault")),
+    }
 }
 
 // Bytes that spell no sample, an intake that fails at each place of sixteen samples, and an outlet that fails at each place of
@@ -75,8 +96,7 @@ const STOPS: &str = "n4      | 10         |    |   |          | range 0  | 0  | 
 fn encoding_stops(rt: HostRuntime) -> Result<(), Fail> {
     let mut cases = Cases::new();
     stops(&mut cases, rt.alloc(), STOPS)?;
-    cases.end(&rt);
-    Ok(())
+    cases.end()
 }
 
 #[test]
@@ -94,12 +114,11 @@ fn encoding_stops_where_its_end_is_not_written(rt: HostRuntime) -> Result<(), Fa
         cases.check(outlet.written() == &[0x00, 0x00, 0x47, 0x90u8][..place]);
         cases.check((outcome.report.samples, outcome.report.bits) == (48, 28));
     }
-    cases.end(&rt);
-    Ok(())
+    cases.end()
 }
 
 #[test]
-fn decoding_stops_where_its_intake_fails(rt: HostRuntime) -> Result<(), Fail> {
+fn decoding_stops_where_its_intake_fails() -> Result<(), Fail> {
     let mut cases = Cases::new();
     // Where it fails, and the samples and bits by then.
     let places = [(0, 0, 0), (1, 0, 8), (2, 8, 16), (3, 8, 24), (4, 16, 32)];
@@ -119,12 +138,11 @@ fn decoding_stops_where_its_intake_fails(rt: HostRuntime) -> Result<(), Fail> {
     let intake = MemoryIn::new(&code, 1, Some(4));
     let (outcome, _) = decode(&setting, Some(16), intake, &mut outlet);
     cases.check((outcome.fault, outcome.report.bits) == (None, 26));
-    cases.end(&rt);
-    Ok(())
+    cases.end()
 }
 
 #[test]
-fn decoding_stops_where_its_outlet_fails(rt: HostRuntime) -> Result<(), Fail> {
+fn decoding_stops_where_its_outlet_fails() -> Result<(), Fail> {
     let mut cases = Cases::new();
     let mut room = [0u8; 16];
     let mut outlet = MemoryOut::new(&mut room, 8, Some(3));
@@ -133,6 +151,5 @@ fn decoding_stops_where_its_outlet_fails(rt: HostRuntime) -> Result<(), Fail> {
     cases.check(outcome.fault == Some(Fault::Write));
     cases.check(outlet.written() == [5, 5, 5].as_slice());
     cases.check((outcome.report.samples, outcome.report.bits) == (0, 13));
-    cases.end(&rt);
-    Ok(())
+    cases.end()
 }

@@ -1,24 +1,14 @@
-//! Tests of the libraries over their public calls: worked bytes, bits and steps, pieces of several sizes, devices that fail.
+//! Tests of the coder, of the decoder, and of the calls from bytes to bytes, over their public calls: worked bytes, bits and steps,
+//! pieces of several sizes, devices that fail.
 //!
-//! The devices that fail, in [`devices`], are proved as all else is.
-//!
-//! They are a crate of their own, since a crate with tests is proved twice: with them and without.
+//! The devices, and what takes tables of cases apart, are in `rice_base_tests`, with the tests of the crates below.
 #![tactic(auto)]
 
-#[cfg(test)]
-mod bits;
-#[cfg(test)]
-mod case_table;
-#[cfg(test)]
-mod cases;
 #[cfg(test)]
 mod coder;
 #[cfg(test)]
 mod decoder;
-pub mod devices;
 #[cfg(test)]
 mod failing_devices;
 #[cfg(test)]
 mod pulling;
-#[cfg(test)]
-mod samples;

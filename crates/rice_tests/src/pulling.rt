@@ -1,10 +1,10 @@
 ghost use Rattle.std.specs.Prelude.{Bool, List, ℤ};
 ghost use Rattle.rice_stream.specs.Pulling.{Origin, IsStand};
 
-use crate::case_table::setting_of;
-use crate::cases::Cases;
-use crate::devices::MemoryIn;
 use arrayvec::ArrayVec;
+use rice_base_tests::case_table::setting_of;
+use rice_base_tests::cases::Cases;
+use rice_base_tests::devices::MemoryIn;
 use rice_bits::{BitReader, Meter};
 use rice_code::{Decoder, NextBlock};
 use rice_samples::Setting;
@@ -37,7 +37,7 @@ fn stands_at(stand: Stand, samples: u64, bits: u64, block: u32, run: u32) -> boo
 
 /// Fifteen samples 5 and a 4, a piece after the other, each from the byte with the next bit.
 #[test]
-fn pieces_of_a_code(rt: HostRuntime) -> Result<(), Fail> {
+fn pieces_of_a_code() -> Result<(), Fail> {
     let mut cases = Cases::new();
     let setting = setting_of("")?;
     let first = Stand::new(&setting);
@@ -77,13 +77,12 @@ fn pieces_of_a_code(rt: HostRuntime) -> Result<(), Fail> {
         Pause::Full,
     );
     cases.check(stands_at(last, 16, 23, 0, 0));
-    cases.end(&rt);
-    Ok(())
+    cases.end()
 }
 
 /// Of a run of two blocks the second needs no more of the code.
 #[test]
-fn a_run_over_two_pieces(rt: HostRuntime) -> Result<(), Fail> {
+fn a_run_over_two_pieces() -> Result<(), Fail> {
     let mut cases = Cases::new();
     let setting = setting_of("")?;
     let next = pull_and_check_piece(
@@ -97,13 +96,12 @@ fn a_run_over_two_pieces(rt: HostRuntime) -> Result<(), Fail> {
     cases.check(stands_at(next, 8, 14, 1, 1));
     let last = pull_and_check_piece(&mut cases, &setting, &next, &[], &[5; 8], Pause::Full);
     cases.check(stands_at(last, 16, 14, 0, 0));
-    cases.end(&rt);
-    Ok(())
+    cases.end()
 }
 
 /// The second interval of a padded code, from its first bit on.
 #[test]
-fn an_interval_from_its_place(rt: HostRuntime) -> Result<(), Fail> {
+fn an_interval_from_its_place() -> Result<(), Fail> {
     let mut cases = Cases::new();
     let setting = setting_of("r1 p")?;
     let second = Stand::at(&setting, 8, 16);
@@ -117,8 +115,7 @@ fn an_interval_from_its_place(rt: HostRuntime) -> Result<(), Fail> {
         Pause::Full,
     );
     cases.check(stands_at(last, 16, 32, 0, 0));
-    cases.end(&rt);
-    Ok(())
+    cases.end()
 }
 
 /// Returns a decoder at the second block of an interval, after this sample, if there can be one.
@@ -131,7 +128,7 @@ fn at_second_block(setting: Setting, before: i64) -> Option<Decoder> {
 
 /// The second block of an interval, after a sample 5.
 #[test]
-fn a_block_from_its_place(rt: HostRuntime) -> Result<(), Fail> {
+fn a_block_from_its_place() -> Result<(), Fail> {
     let mut cases = Cases::new();
     let mut reader = BitReader::new(MemoryIn::new(&[0x1E, 0x40], 4096, None));
     let Some(mut decoder) = at_second_block(setting_of("")?, 5) else {
@@ -142,6 +139,5 @@ fn a_block_from_its_place(rt: HostRuntime) -> Result<(), Fail> {
     cases.check(decoder.next_block(&mut reader, &mut meter, &mut block) == Ok(NextBlock::Block));
     cases.check(block.as_slice() == [5, 5, 5, 5, 5, 5, 5, 4].as_slice());
     cases.check((decoder.block(), decoder.before(), decoder.run()) == (0, 4, 0));
-    cases.end(&rt);
-    Ok(())
+    cases.end()
 }

@@ -14,24 +14,24 @@ use std::test::Fail;
 const PIECES: [usize; 4] = [1, 3, 7, 4096];
 
 #[test]
-fn digits_are_joined(rt: HostRuntime) {
+fn digits_are_joined() -> Result<(), Fail> {
     let mut cases = Cases::new();
     cases.check(join(0b101, 4, 0b0011) == 0b101_0011);
     cases.check(join(0, 8, 7) == 7);
-    cases.end(&rt);
+    cases.end()
 }
 
 #[test]
-fn digits_are_taken(rt: HostRuntime) {
+fn digits_are_taken() -> Result<(), Fail> {
     let mut cases = Cases::new();
     cases.check(low_digits(0b1011_0110, 5) == 0b1_0110);
     cases.check(low_digits(0xFFFF_FFFF, 32) == 0xFFFF_FFFF);
     cases.check(low_digits(7, 0) == 0);
-    cases.end(&rt);
+    cases.end()
 }
 
 #[test]
-fn put_and_pad(rt: HostRuntime) -> Result<(), Fail> {
+fn put_and_pad() -> Result<(), Fail> {
     let mut cases = Cases::new();
     let mut sink = BitSink::<8>::new();
     let mut meter = Meter::new();
@@ -49,12 +49,11 @@ fn put_and_pad(rt: HostRuntime) -> Result<(), Fail> {
     cases.check(meter.steps() == 13);
     sink.drop_whole();
     cases.check(sink.len() == 0);
-    cases.end(&rt);
-    Ok(())
+    cases.end()
 }
 
 #[test]
-fn put_long_words(rt: HostRuntime) -> Result<(), Fail> {
+fn put_long_words() -> Result<(), Fail> {
     let mut cases = Cases::new();
     let mut sink = BitSink::<8>::new();
     let mut meter = Meter::new();
@@ -73,8 +72,7 @@ fn put_long_words(rt: HostRuntime) -> Result<(), Fail> {
     sink.pad();
     let expected = [0xAB, 0, 0, 0, 0, 0, 0, 2];
     cases.check(sink.whole() == expected.as_slice());
-    cases.end(&rt);
-    Ok(())
+    cases.end()
 }
 
 /// How many of the lowest digits of three words are put after 1010, and the bytes of all.
@@ -103,8 +101,7 @@ fn put_all_words(rt: HostRuntime) -> Result<(), Fail> {
         sink.pad();
         cases.check(sink.whole() == expected.as_slice());
     }
-    cases.end(&rt);
-    Ok(())
+    cases.end()
 }
 
 /// How many of the lowest digits of eight words are put after 1010 and 101, and the bytes of all.
@@ -140,12 +137,11 @@ fn put_eight_whole_words(rt: HostRuntime) -> Result<(), Fail> {
         sink.pad();
         cases.check(sink.whole() == expected.as_slice());
     }
-    cases.end(&rt);
-    Ok(())
+    cases.end()
 }
 
 #[test]
-fn put_sequences(rt: HostRuntime) -> Result<(), Fail> {
+fn put_sequences() -> Result<(), Fail> {
     let mut cases = Cases::new();
     let mut sink = BitSink::<2>::new();
     let mut meter = Meter::new();
@@ -163,19 +159,17 @@ fn put_sequences(rt: HostRuntime) -> Result<(), Fail> {
     expected[16] = 0x20;
     cases.check(sink.whole() == expected.as_slice());
     cases.check(meter.steps() == 131);
-    cases.end(&rt);
-    Ok(())
+    cases.end()
 }
 
 #[test]
-fn read_words_and_sequences(rt: HostRuntime) -> Result<(), Fail> {
+fn read_words_and_sequences() -> Result<(), Fail> {
     let mut cases = Cases::new();
     for piece in PIECES.iter().copied().filter(|piece| *piece > 0) {
         read_words_and_a_sequence(&mut cases, piece);
         read_a_long_sequence_and_a_word(&mut cases, piece);
     }
-    cases.end(&rt);
-    Ok(())
+    cases.end()
 }
 
 fn read_words_and_a_sequence(cases: &mut Cases<'_>, piece: usize)
@@ -206,7 +200,7 @@ fn read_a_long_sequence_and_a_word(cases: &mut Cases<'_>, piece: usize)
 }
 
 #[test]
-fn read_to_the_end(rt: HostRuntime) -> Result<(), Fail> {
+fn read_to_the_end() -> Result<(), Fail> {
     let mut cases = Cases::new();
     for piece in PIECES.iter().copied().filter(|piece| *piece > 0) {
         read_where_zeros_are_left(&mut cases, piece);
@@ -214,8 +208,7 @@ fn read_to_the_end(rt: HostRuntime) -> Result<(), Fail> {
         read_where_the_intake_fails(&mut cases, piece);
         read_to_the_end_of_a_byte(&mut cases, piece);
     }
-    cases.end(&rt);
-    Ok(())
+    cases.end()
 }
 
 fn read_where_zeros_are_left(cases: &mut Cases<'_>, piece: usize)
@@ -272,8 +265,7 @@ fn take_words_that_wait(rt: HostRuntime) -> Result<(), Fail> {
     cases.check(reader.take_waiting(4, &mut words, &mut meter) == 3);
     cases.check(words == [3, 4, 5]);
     cases.check((reader.taken(), meter.steps()) == (20, 20));
-    cases.end(&rt);
-    Ok(())
+    cases.end()
 }
 
 #[test]
@@ -290,8 +282,7 @@ fn take_sequences_that_wait(rt: HostRuntime) -> Result<(), Fail> {
     cases.check(zeros == [10, 0, 77, 77]);
     cases.check((reader.taken(), meter.steps()) == (13, 13));
     cases.check(reader.take_fs(&mut meter) == Ok(66));
-    cases.end(&rt);
-    Ok(())
+    cases.end()
 }
 
 #[test]
@@ -307,12 +298,11 @@ fn take_parts_that_wait(rt: HostRuntime) -> Result<(), Fail> {
     cases.check(reader.take_waiting_parts(3, &mut numbers, &mut meter));
     cases.check(numbers == [5, 10, 7, 16, 1, 6, 11, 4]);
     cases.check((reader.taken(), meter.steps()) == (40, 40));
-    cases.end(&rt);
-    Ok(())
+    cases.end()
 }
 
 #[test]
-fn align_passes_ones(rt: HostRuntime) -> Result<(), Fail> {
+fn align_passes_ones() -> Result<(), Fail> {
     let mut cases = Cases::new();
     let mut meter = Meter::new();
     let mut reader = BitReader::new(MemoryIn::new(&[0x1F, 0], 4096, None));
@@ -320,12 +310,11 @@ fn align_passes_ones(rt: HostRuntime) -> Result<(), Fail> {
     reader.align(&mut meter);
     cases.check(meter.steps() == 8);
     cases.check(reader.take_fs(&mut meter) == Err(BitFault::End { blank: true }));
-    cases.end(&rt);
-    Ok(())
+    cases.end()
 }
 
 #[test]
-fn devices_over_memory(rt: HostRuntime) -> Result<(), Fail> {
+fn devices_over_memory() -> Result<(), Fail> {
     let mut cases = Cases::new();
     let mut buffer = [0xAA; 4];
     let mut intake = MemoryIn::new(&[1, 2, 3], 2, Some(3));
@@ -349,12 +338,11 @@ fn devices_over_memory(rt: HostRuntime) -> Result<(), Fail> {
     cases.check(outlet.put(&[10]) == Err(WriteFault));
     cases.check(outlet.failures() == 1);
     cases.check(outlet.written() == [7, 8, 9].as_slice());
-    cases.end(&rt);
-    Ok(())
+    cases.end()
 }
 
 #[test]
-fn devices_over_slices(rt: HostRuntime) -> Result<(), Fail> {
+fn devices_over_slices() -> Result<(), Fail> {
     let mut cases = Cases::new();
     let mut buffer = [0xAA; 4];
     let mut intake = SliceIn::new(&[1, 2, 3, 4, 5, 6]);
@@ -374,8 +362,7 @@ fn devices_over_slices(rt: HostRuntime) -> Result<(), Fail> {
     cases.check(outlet.failures() == 1);
     drop(outlet);
     cases.check(room == [7, 8, 9, 10]);
-    cases.end(&rt);
-    Ok(())
+    cases.end()
 }
 
 /// Gives one byte a call, and fails at one call, after so many bytes.
@@ -421,7 +408,7 @@ impl Write for FailingWriter {
 }
 
 #[test]
-fn devices_over_readers(rt: HostRuntime) -> Result<(), Fail> {
+fn devices_over_readers() -> Result<(), Fail> {
     let mut cases = Cases::new();
     let bytes: &[u8] = &[0, 0x58];
     let mut meter = Meter::new();
@@ -437,12 +424,11 @@ fn devices_over_readers(rt: HostRuntime) -> Result<(), Fail> {
     cases.check(meter.steps() == 16);
     cases.check(reader.take_fs(&mut meter) == Err(BitFault::Read));
     cases.check(reader.into_inner().failures() == 1);
-    cases.end(&rt);
-    Ok(())
+    cases.end()
 }
 
 #[test]
-fn devices_over_writers(rt: HostRuntime) -> Result<(), Fail> {
+fn devices_over_writers() -> Result<(), Fail> {
     let mut cases = Cases::new();
     let mut outlet = FromWriter::new(FailingWriter { bytes_before: 2 });
     cases.check(outlet.put(&[1, 2, 3]) == Ok(1));
@@ -460,8 +446,7 @@ fn devices_over_writers(rt: HostRuntime) -> Result<(), Fail> {
     cases.check(outlet.failures() == 1);
     drop(outlet);
     cases.check(room == [1, 2]);
-    cases.end(&rt);
-    Ok(())
+    cases.end()
 }
 
 #[test]
@@ -475,8 +460,7 @@ fn devices_over_buffers(rt: HostRuntime) -> Result<(), Fail> {
     cases.check(outlet.failures() == 0);
     let waiting = outlet.into_inner();
     cases.check(waiting.buffer() == [3, 4, 5, 6].as_slice());
-    cases.end(&rt);
-    Ok(())
+    cases.end()
 }
 
 #[test]
@@ -486,6 +470,5 @@ fn fault_texts(rt: HostRuntime) -> Result<(), Fail> {
     cases.check(WriteFault.to_string(rt.alloc())?.as_str() == "write failed");
     cases.check(BitFault::Read.to_string(rt.alloc())?.as_str() == "read failed");
     cases.check(BitFault::TooLong.to_string(rt.alloc())?.as_str() == "input is too long");
-    cases.end(&rt);
-    Ok(())
+    cases.end()
 }

@@ -1,6 +1,5 @@
 //! Tables of cases as texts: a line for each case, with `|` between its columns.
 use rice_samples::{Setting, SettingFault};
-use rice_stream::Fault;
 use std::alloc::Global;
 use std::test::Fail;
 
@@ -138,25 +137,4 @@ fn push_word(digits: &str, bytes: &mut Vec<u8>) -> Result<(), Fail> {
         }
     }
     Ok(())
-}
-
-/// Returns the fault of a column such as `cut 8`, or `None` where it is empty.
-pub fn fault_of(text: &str) -> Result<Option<Fault>, Fail> {
-    if text.is_empty() {
-        return Ok(None);
-    }
-    let (name, number) = match text.split_once(' ') {
-        Some((name, number)) => (name, number.parse::<u64>()?),
-        None => (text, 0),
-    };
-    match name {
-        "read" => Ok(Some(Fault::Read)),
-        "write" => Ok(Some(Fault::Write)),
-        "range" => Ok(Some(Fault::SampleOutOfRange { index: number })),
-        "inside" => Ok(Some(Fault::SampleCut { index: number })),
-        "ends" => Ok(Some(Fault::CodeEnds { samples: number })),
-        "run" => Ok(Some(Fault::RunPastSegment { block: number })),
-        "residual" => Ok(Some(Fault::ResidualTooLarge { block: number })),
-        _ => Err(Fail::new("no fault")),
-    }
 }

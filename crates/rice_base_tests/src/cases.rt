@@ -1,5 +1,5 @@
 //! The cases of a test, of which the first that is wrong is told.
-use std::process::Abort;
+use std::test::Fail;
 
 /// The number of cases that were tried, and the first that was wrong: its number, from 1, and the line of its table.
 #[derive(Drop)]
@@ -34,12 +34,12 @@ impl<'a> Cases<'a> {
         }
     }
 
-    /// Stops the test where no case was tried, or one was wrong.
-    pub fn end(&self, rt: &impl Abort) {
+    /// Returns the failure of a test where no case was tried, or one was wrong.
+    pub fn end(&self) -> Result<(), Fail> {
         let (tried, wrong, line) = (self.tried, self.wrong, self.wrong_line);
-        assert!(rt;
-            tried > 0 && wrong == 0,
-            "case {wrong} of {tried} is wrong: {line}"
-        );
+        if tried > 0 && wrong == 0 {
+            return Ok(());
+        }
+        Err(Fail::new(format_args!("case {wrong} of {tried} is wrong: {line}")))
     }
 }

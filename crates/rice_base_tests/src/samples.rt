@@ -35,8 +35,7 @@ fn settings_are_refused_in_order(rt: HostRuntime) -> Result<(), Fail> {
         let printed = format!(in rt.alloc(); "{fault}")?;
         cases.check(printed.as_str() == columns.next());
     }
-    cases.end(&rt);
-    Ok(())
+    cases.end()
 }
 
 /// The size of a block, where any even one is taken, and the refusal.
@@ -56,8 +55,7 @@ fn block_sizes_are_refused(rt: HostRuntime) -> Result<(), Fail> {
         let printed = format!(in rt.alloc(); "{fault}")?;
         cases.check(printed.as_str() == columns.next());
     }
-    cases.end(&rt);
-    Ok(())
+    cases.end()
 }
 
 /// The bits of a sample, the length of an identifier, the greatest k, and the width of a sample.
@@ -71,7 +69,7 @@ const GETTERS: &str = "1  | 3 | 5  | 1
     32 | 5 | 29 | 4";
 
 #[test]
-fn getters(rt: HostRuntime) -> Result<(), Fail> {
+fn getters() -> Result<(), Fail> {
     let mut cases = Cases::new();
     for line in GETTERS.lines() {
         cases.of_line(line);
@@ -86,12 +84,11 @@ fn getters(rt: HostRuntime) -> Result<(), Fail> {
         cases.check(setting.width() == columns.next_u32()?);
         cases.check(setting.preprocess() && setting.pads());
     }
-    cases.end(&rt);
-    Ok(())
+    cases.end()
 }
 
 #[test]
-fn places(rt: HostRuntime) {
+fn places(rt: HostRuntime) -> Result<(), Fail> {
     let mut cases = Cases::new();
     let setting = Setting::new(8, 8, 130, false, false, false, true, false).expect(
         &rt,
@@ -115,7 +112,7 @@ fn places(rt: HostRuntime) {
         "a legal setting",
     );
     cases.check(!plain.is_reference(0) && !plain.preprocess() && !plain.pads());
-    cases.end(&rt);
+    cases.end()
 }
 
 /// The options, the bytes of a sample, and the sample, where there is one.
@@ -147,8 +144,7 @@ fn samples_are_spelled(rt: HostRuntime) -> Result<(), Fail> {
         let sample = sample_in(columns.next())?;
         sample_is_read_and_spelled(&mut cases, &setting, bytes.as_slice(), sample);
     }
-    cases.end(&rt);
-    Ok(())
+    cases.end()
 }
 
 fn sample_is_read_and_spelled(
@@ -209,8 +205,7 @@ fn patterns(rt: HostRuntime) -> Result<(), Fail> {
         cases.check(setting.value_at(level as u64) == x);
         cases.check(pattern_of_level(&setting, level) == word);
     }
-    cases.end(&rt);
-    Ok(())
+    cases.end()
 }
 
 /// The options, the sample before, a sample, and its residual.
@@ -257,13 +252,12 @@ fn residuals(rt: HostRuntime) -> Result<(), Fail> {
         cases.check(d == expected);
         cases.check(restore(&setting, p, d) == x);
     }
-    cases.end(&rt);
-    Ok(())
+    cases.end()
 }
 
 /// Both ways between samples and residuals, and the patterns of 8 bits stand for all residuals.
 #[test]
-fn all_pairs(rt: HostRuntime) {
+fn all_pairs(rt: HostRuntime) -> Result<(), Fail> {
     let mut cases = Cases::new();
     for signed in [false, true] {
         let setting = of_bits(8, signed).expect(&rt, "a legal setting");
@@ -282,7 +276,7 @@ fn all_pairs(rt: HostRuntime) {
         }
         cases.check(pairs == 65536);
     }
-    cases.end(&rt);
+    cases.end()
 }
 
 /// Returns a segment of up to 64 residuals of one value.
@@ -323,8 +317,7 @@ fn sums_of_blocks(rt: HostRuntime) -> Result<(), Fail> {
         cases.check(block.sum_shifted(k, &mut meter) == sum);
         cases.check(meter.steps() == size as u64);
     }
-    cases.end(&rt);
-    Ok(())
+    cases.end()
 }
 
 /// Blocks of one value that stop at the limit or before it: their length, the value, the limit, k and the sum where the
@@ -358,12 +351,11 @@ fn stops(rt: HostRuntime) -> Result<(), Fail> {
         cases.check(stop == (k, sum));
         cases.check(meter.steps() == steps);
     }
-    cases.end(&rt);
-    Ok(())
+    cases.end()
 }
 
 #[test]
-fn pair_sums(rt: HostRuntime) {
+fn pair_sums(rt: HostRuntime) -> Result<(), Fail> {
     let mut cases = Cases::new();
     for (value, sum) in [(4294967295, (1u128 << 67) - (1 << 35) + 4), (0, 4), (1, 20)] {
         let mut meter = Meter::new();
@@ -372,12 +364,12 @@ fn pair_sums(rt: HostRuntime) {
         cases.check(segment.block(0, 8).pair_sum(&mut meter) == sum);
         cases.check(meter.steps() == 8);
     }
-    cases.end(&rt);
+    cases.end()
 }
 
 /// A single 1 at each place of each block, and none.
 #[test]
-fn zero_blocks(rt: HostRuntime) {
+fn zero_blocks() -> Result<(), Fail> {
     let mut cases = Cases::new();
     for size in [8usize, 16, 32, 64] {
         for place in 0..=size {
@@ -400,11 +392,11 @@ fn zero_blocks(rt: HostRuntime) {
             }
         }
     }
-    cases.end(&rt);
+    cases.end()
 }
 
 #[test]
-fn blocks_of_a_segment(rt: HostRuntime) {
+fn blocks_of_a_segment() -> Result<(), Fail> {
     let mut cases = Cases::new();
     let mut segment = Segment::new();
     for i in 0..24 {
@@ -423,11 +415,11 @@ fn blocks_of_a_segment(rt: HostRuntime) {
     }
     segment.clear();
     cases.check(segment.len() == 0);
-    cases.end(&rt);
+    cases.end()
 }
 
 #[test]
-fn digits_of_a_block(rt: HostRuntime) {
+fn digits_of_a_block(rt: HostRuntime) -> Result<(), Fail> {
     let mut cases = Cases::new();
     let mut segment = Segment::new();
     for i in 0..16 {
@@ -465,7 +457,7 @@ fn digits_of_a_block(rt: HostRuntime) {
         0xB3, 0xF8,
     ];
     cases.check(sink.whole() == digits.as_slice());
-    cases.end(&rt);
+    cases.end()
 }
 
 fn are_below(count: u64, items: &[u32]) -> bool
@@ -502,8 +494,7 @@ fn samples_in_a_row(rt: HostRuntime) -> Result<(), Fail> {
         cases.check(segment.block(0, 8).at(i, &mut meter) == residuals[i]);
         cases.check(segment.block(1, 8).at(i, &mut meter) == patterns[i]);
     }
-    cases.end(&rt);
-    Ok(())
+    cases.end()
 }
 
 #[test]
@@ -521,8 +512,7 @@ fn samples_restored_in_a_row(rt: HostRuntime) -> Result<(), Fail> {
     cases.check(levels == [6, 5, 5, 4, 0, 255, 0, 255]);
     levels_of_patterns(&signed, &patterns, &mut levels);
     cases.check(levels == [127, 0, 255, 128, 129, 130, 126, 1]);
-    cases.end(&rt);
-    Ok(())
+    cases.end()
 }
 
 /// A setting of predicted samples in three bytes where these are enough.
@@ -567,8 +557,7 @@ fn levels_of_bytes(rt: HostRuntime) -> Result<(), Fail> {
             samples.as_slice(),
         );
     }
-    cases.end(&rt);
-    Ok(())
+    cases.end()
 }
 
 /// Reads `len` samples of the bytes, of which those given are samples, and writes these.
@@ -629,7 +618,7 @@ fn row_is_written(
 
 /// Of 10 bits 1,024 is no sample, and a byte alone is none.
 #[test]
-fn samples_of_an_intake(rt: HostRuntime) -> Result<(), Fail> {
+fn samples_of_an_intake() -> Result<(), Fail> {
     let mut cases = Cases::new();
     let setting = of_bits(10, false)?;
     let mut levels = [0; 4];
@@ -639,13 +628,12 @@ fn samples_of_an_intake(rt: HostRuntime) -> Result<(), Fail> {
     cases.check(levels[..2] == [513, 1023]);
     cases.check(samples.next(&mut intake, &mut levels) == Err(SampleFault::OutOfRange));
     cases.check(first_levels(&setting, &[255, 3, 0, 4], &mut levels) == 1);
-    cases.end(&rt);
-    Ok(())
+    cases.end()
 }
 
 /// A sample is cut, and an input ends behind one.
 #[test]
-fn the_end_of_an_intake(rt: HostRuntime) -> Result<(), Fail> {
+fn the_end_of_an_intake() -> Result<(), Fail> {
     let mut cases = Cases::new();
     let setting = of_bits(10, false)?;
     let mut levels = [0; 4];
@@ -658,8 +646,7 @@ fn the_end_of_an_intake(rt: HostRuntime) -> Result<(), Fail> {
     let mut samples = SampleReader::new(setting);
     cases.check(samples.next(&mut intake, &mut levels) == Ok(1));
     cases.check(samples.next(&mut intake, &mut levels) == Ok(0));
-    cases.end(&rt);
-    Ok(())
+    cases.end()
 }
 
 const FAULTS: [(SampleFault, &str); 4] = [
@@ -677,19 +664,17 @@ fn texts_of_faults(rt: HostRuntime) -> Result<(), Fail> {
         let printed = format!(in rt.alloc(); "{fault}")?;
         cases.check(printed.as_str() == text);
     }
-    cases.end(&rt);
-    Ok(())
+    cases.end()
 }
 
 /// Of words of 16 bits the lowest 12 stay, and the others become the sign; a byte at the end stays.
 #[test]
-fn unused_bits(rt: HostRuntime) -> Result<(), Fail> {
+fn unused_bits() -> Result<(), Fail> {
     let mut cases = Cases::new();
     let mut bytes = [0x23, 0xA1, 0xFF, 0x5F, 0x77];
     set_unused_bits(&setting_of("n12 s")?, &mut bytes);
     cases.check(bytes == [0x23, 0x01, 0xFF, 0xFF, 0x77]);
     set_unused_bits(&setting_of("n12")?, &mut bytes);
     cases.check(bytes == [0x23, 0x01, 0xFF, 0x0F, 0x77]);
-    cases.end(&rt);
-    Ok(())
+    cases.end()
 }
