@@ -78,10 +78,10 @@ next_byte : (n : ℕ) → bits_in_bytes (suc (suc (suc (suc (suc (suc (suc (suc 
 next_byte n = omega arith
 
 -- bits of whole bytes are their front, eight bits at a time
-byte_again : (a b c d e f g h : Bool) (bits : List Bool) → bits_of (whole_bytes bits) ≡ take (bits_in_bytes (length bits)) bits
+byte_again : {a b c d e f g h : Bool} (bits : List Bool) → bits_of (whole_bytes bits) ≡ take (bits_in_bytes (length bits)) bits
     → bits_of (whole_bytes (a ∷ b ∷ c ∷ d ∷ e ∷ f ∷ g ∷ h ∷ bits)) ≡ a ∷ b ∷ c ∷ d ∷ e ∷ f ∷ g ∷ h ∷ take (bits_in_bytes (length bits)) bits
 unfolding bits_of whole_bytes
-byte_again a b c d e f g h bits rest = (let first = word-number_of (a ∷ b ∷ c ∷ d ∷ e ∷ f ∷ g ∷ h ∷ []) in λ i. first i ++ rest i)
+byte_again {a} {b} {c} {d} {e} {f} {g} {h} bits rest = (let first = word-number_of (a ∷ b ∷ c ∷ d ∷ e ∷ f ∷ g ∷ h ∷ []) in λ i. first i ++ rest i)
 
 -- fewer than eight bits have no whole byte
 short_bytes : (bits : List Bool) → length bits < 8 → bits_of (whole_bytes bits) ≡ take (bits_in_bytes (length bits)) bits
@@ -92,7 +92,7 @@ short_bytes bits h =
 -- the whole bytes have the bits that they were made of
 pub bits_of-whole_bytes : (bits : List Bool) → bits_of (whole_bytes bits) ≡ take (bits_in_bytes (length bits)) bits
 bits_of-whole_bytes (a ∷ b ∷ c ∷ d ∷ e ∷ f ∷ g ∷ h ∷ bits) =
-    byte_again a b c d e f g h bits (bits_of-whole_bytes bits)
+    byte_again {a = a} {b = b} {c = c} {d = d} {e = e} {f = f} {g = g} {h = h} bits (bits_of-whole_bytes bits)
     ∙ ap (λ n. take n (a ∷ b ∷ c ∷ d ∷ e ∷ f ∷ g ∷ h ∷ bits)) (sym (next_byte (length bits)))
 bits_of-whole_bytes [] = short_bytes [] (omega arith)
 bits_of-whole_bytes (a ∷ []) = short_bytes (a ∷ []) (omega arith)

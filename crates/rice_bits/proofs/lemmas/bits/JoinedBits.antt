@@ -8,8 +8,8 @@ use Rattle.rice_bits.proofs.lemmas.bits.EightBytes.{word-mod}
 use Rattle.rice_bits.proofs.lemmas.bits.WordsAndNumbers.{word-cat, join_below}
 
 -- bits, and more bits
-pub join-more : (a b both : List Bool) (k l m n p q : ℕ) (old mid new : List ℕ) → Joins a k n p old mid → Joins b l p q mid new → both ≡ a ++ b → m ≡ k + l → Joins both m n q old new
-join-more a b both k l m n p q old mid new f g e s = record {
+pub join-more : {a b both : List Bool} {k l m n p q : ℕ} {old mid new : List ℕ} → Joins a k n p old mid → Joins b l p q mid new → both ≡ a ++ b → m ≡ k + l → Joins both m n q old new
+join-more {a} {b} {n} {old} f g e s = record {
   all_bits = omega (arith, f.all_bits, g.all_bits, s);
   same_len = g.same_len ∙ f.same_len;
   gathered = g.gathered;
@@ -45,8 +45,8 @@ pair_fits w h l all p q e =
     subst (λ n. all < 2 ^ n) size (rw e (join_below w w h l p q))
 
 -- two numbers in one word are two words
-pub pair_word : (w c d h l all : ℕ) → h ≡ c % 2 ^ w → l ≡ d % 2 ^ w → l < 2 ^ w → all ≡ h * 2 ^ w + l → word (2 * w) all ≡ word w c ++ word w d
-pair_word w c d h l all f g q e =
+pub pair_word : (w c d : ℕ) {h l all : ℕ} → h ≡ c % 2 ^ w → l ≡ d % 2 ^ w → l < 2 ^ w → all ≡ h * 2 ^ w + l → word (2 * w) all ≡ word w c ++ word w d
+pair_word w c d {h} {l} {all} f g q e =
     let size : 2 * w ≡ w + w = omega arith in
     ap (λ n. word n all) size ∙ (ap (word (w + w)) e ∙ (word-cat w w h l q ∙ (λ i. low_word w c h f i ++ low_word w d l g i)))
 
@@ -62,10 +62,10 @@ pub up_to_end : (first : ℕ) (xs : List ℕ) → take (length xs - first) (drop
 up_to_end first xs = take_all (length xs - first) (drop first xs) (omega (arith, length-drop first xs))
 
 -- bits that are joined are put
-pub joined-puts : (count n all before after : ℕ) (more bits : List Bool) (old new : List ℕ) → take n (bits_of old) ≡ bits → Joins more count n all old new
+pub joined-puts : {count n all before after : ℕ} {more bits : List Bool} {old new : List ℕ} → take n (bits_of old) ≡ bits → Joins more count n all old new
     → length more ≡ count → after ≡ before + count
     → Puts more count bits (take all (bits_of new)) before after
-joined-puts count n all before after more bits old new view h size steps =
+joined-puts {all} {more} {bits} {new} view h size steps =
     let put : take all (bits_of new) ≡ bits ++ more = h.joined ∙ ap (λ d. d ++ more) view in
     record {
       bits = put;

@@ -163,11 +163,11 @@ append_five a b c d e =
     ap (λ z. a ++ z) (append_assoc (b ++ c) d e ∙ append_assoc b c (d ++ e)) ∙ (sym (append_assoc a b (c ++ (d ++ e))) ∙ sym (append_assoc (a ++ b) c (d ++ e)))
 
 -- digits that are written in the byte in which bits end, and zeros after them
-digits_written : (old : List ℕ) (n count s : ℕ) (digits piece : List Bool) → n ≤ 8 * length old → n ≤ 8 * (n / 8 + count) → drop n (bits_of old) ≡ replicate (8 * length old - n) false
+digits_written : (old : List ℕ) (n count s : ℕ) (digits : List Bool) {piece : List Bool} → n ≤ 8 * length old → n ≤ 8 * (n / 8 + count) → drop n (bits_of old) ≡ replicate (8 * length old - n) false
     → piece ≡ (word (n % 8) (slice_index old (n / 8) / 2 ^ (8 - n % 8)) ++ digits) ++ replicate s false
     → bits_of (take (n / 8) old) ++ (piece ++ bits_of (drop (n / 8 + count) old))
     ≡ (take n (bits_of old) ++ digits) ++ replicate (s + (8 * length old - 8 * (n / 8 + count))) false
-digits_written old n count s digits piece room past zeros e =
+digits_written old n count s digits room past zeros e =
     let front : List Bool = bits_of (take (n / 8) old) in
     let first : List Bool = word (n % 8) (slice_index old (n / 8) / 2 ^ (8 - n % 8)) in
     let back : List Bool = bits_of (drop (n / 8 + count) old) in
@@ -206,10 +206,10 @@ joined_below b g width value byte zeros short narrow below =
     (shift_fits (g + width) (64 - (g + width)) (b / 2 ^ (8 - g) * 2 ^ width + value) (join_below g width (b / 2 ^ (8 - g)) value h below) (omega arith))
 
 -- digits that come after the bits
-pub gathered-put : (old new : List ℕ) (n width value : ℕ) → n + width ≤ 8 * length old → n % 8 + width ≤ 64 → value < 2 ^ width → drop n (bits_of old) ≡ replicate (8 * length old - n) false
+pub gathered-put : (old : List ℕ) {new : List ℕ} (n width value : ℕ) → n + width ≤ 8 * length old → n % 8 + width ≤ 64 → value < 2 ^ width → drop n (bits_of old) ≡ replicate (8 * length old - n) false
     → new ≡ take (length old) (take (n / 8) old ++ (to_be_bytes w64 (slice_index old (n / 8) * 2 ^ 56 + value * 2 ^ (64 - (n % 8 + width))) ++ drop (n / 8 + 8) old))
     → (take (n + width) (bits_of new) ≡ take n (bits_of old) ++ word width value) × (drop (n + width) (bits_of new) ≡ replicate (8 * length old - (n + width)) false)
-gathered-put old new n width value room narrow below zeros e =
+gathered-put old {new} n width value room narrow below zeros e =
     let at : ℕ = n / 8 in
     let g : ℕ = n % 8 in
     let b : ℕ = slice_index old at in
@@ -224,7 +224,7 @@ gathered-put old new n width value room narrow below zeros e =
     let all : bits_of (take at old ++ (to_be_bytes w64 x ++ drop (at + 8) old)) ≡ bits ++ replicate (s + (8 * length old - 8 * (at + 8))) false =
     bits_of-append (take at old) (to_be_bytes w64 x ++ drop (at + 8) old)
     ∙ (ap (λ d. bits_of (take at old) ++ d) (bits_of-append (to_be_bytes w64 x) (drop (at + 8) old))
-    ∙ digits_written old n 8 s (word width value) (bits_of (to_be_bytes w64 x)) (omega arith) (omega arith) zeros eight) in
+    ∙ digits_written old n 8 s (word width value) (omega arith) (omega arith) zeros eight) in
     let size : length bits ≡ n + width =
     omega (arith, length-append (take n (bits_of old)) (word width value), length-take-le n (bits_of old) (omega (arith, length-bits_of old)), length-word width value) in
     zeros_behind (bits_of new) bits (n + width) (8 * length old - (n + width))
@@ -284,7 +284,7 @@ gathered-one old new n m room zeros e =
     zeros_behind (bits_of new) bits (n + (m + 1)) (8 * length old - (n + (m + 1)))
     (ap bits_of e
     ∙ (set_apart old at (bit_or x (2 ^ (7 - g))) (omega arith)
-    ∙ (digits_written old p 1 s (word 1 1) (word 8 (bit_or x (2 ^ (7 - g)))) (omega arith) (omega arith) far.1 byte ∙ ((λ j. sequence j ++ replicate (left j) false)))))
+    ∙ (digits_written old p 1 s (word 1 1) (omega arith) (omega arith) far.1 byte ∙ ((λ j. sequence j ++ replicate (left j) false)))))
     size
 
 -- a byte, and zeros in front of others

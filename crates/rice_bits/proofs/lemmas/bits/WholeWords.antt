@@ -30,20 +30,20 @@ two_words ws at v room fit e =
     ap (word 64) e ∙ (word-cat 32 32 a b fit ∙ (ap (λ d. word 32 a ++ d) (sym (append-nil (word 32 b))) ∙ sym (rw (count, two) refl)))
 
 -- four words of 16 digits
-pub four_words : (ws : List ℕ) (at a b c d first last v : ℕ) → at + 4 ≤ length ws
+pub four_words : (ws : List ℕ) (at : ℕ) {a b c d first last v : ℕ} → at + 4 ≤ length ws
     → a ≡ get_or ws at 0 % 2 ^ 16 → b ≡ get_or ws (at + 1) 0 % 2 ^ 16 → c ≡ get_or ws (at + 2) 0 % 2 ^ 16 → d ≡ get_or ws (at + 3) 0 % 2 ^ 16
     → a < 2 ^ 16 → b < 2 ^ 16 → c < 2 ^ 16 → d < 2 ^ 16
     → first ≡ a * 2 ^ 16 + b → last ≡ c * 2 ^ 16 + d → v ≡ first * 2 ^ 32 + last
     → word 64 v ≡ flat_map (word 16) (take (at + 4 - at) (drop at ws))
-four_words ws at a b c d first last v room ea eb ec ed fa fb fc fd ef el e =
+four_words ws at {a} {b} {c} {d} {first} {last} room ea eb ec ed fa fb fc fd ef el e =
     let count : at + 4 - at ≡ 4 = omega arith in
     let x = get_or ws at 0 in
     let y = get_or ws (at + 1) 0 in
     let z = get_or ws (at + 2) 0 in
     let u = get_or ws (at + 3) 0 in
     let four = first_four ws at room in
-    let front : word 32 first ≡ word 16 x ++ word 16 y = pair_word 16 x y a b first ea eb fb ef in
-    let back : word 32 last ≡ word 16 z ++ word 16 u = pair_word 16 z u c d last ec ed fd el in
+    let front : word 32 first ≡ word 16 x ++ word 16 y = pair_word 16 x y ea eb fb ef in
+    let back : word 32 last ≡ word 16 z ++ word 16 u = pair_word 16 z u ec ed fd el in
     ap (word 64) e ∙ (word-cat 32 32 first last (omega (arith, el, fc, fd)) ∙ ((λ i. front i ++ back i)
     ∙ (append_assoc (word 16 x) (word 16 y) (word 16 z ++ word 16 u) ∙ (ap (λ d. word 16 x ++ (word 16 y ++ (word 16 z ++ d))) (sym (append-nil (word 16 u))) ∙ sym (rw (count, four) refl)))))
 
@@ -54,11 +54,11 @@ masked (w ∷ ws) zero h = absurd (omega (arith, h))
 masked (w ∷ ws) (suc n) h = λ i. and_mask w 8 i ∷ masked ws n (omega (arith, h)) i
 
 -- the number of eight bytes
-eight_bytes : (b0 b1 b2 b3 b4 b5 b6 b7 n r : ℕ)
+eight_bytes : {b0 b1 b2 b3 b4 b5 b6 b7 n r : ℕ}
     → b0 < 256 → b1 < 256 → b2 < 256 → b3 < 256 → b4 < 256 → b5 < 256 → b6 < 256 → b7 < 256
     → n ≡ number_l 256 (b0 ∷ b1 ∷ b2 ∷ b3 ∷ b4 ∷ b5 ∷ b6 ∷ b7 ∷ []) % 18446744073709551616 → r ≡ swap_bytes w64 n
     → to_be_bytes w64 r ≡ b0 ∷ b1 ∷ b2 ∷ b3 ∷ b4 ∷ b5 ∷ b6 ∷ b7 ∷ []
-eight_bytes b0 b1 b2 b3 b4 b5 b6 b7 n r h0 h1 h2 h3 h4 h5 h6 h7 e f =
+eight_bytes {b0} {b1} {b2} {b3} {b4} {b5} {b6} {b7} {n} {r} h0 h1 h2 h3 h4 h5 h6 h7 e f =
     be_bytes_8 (to_le_bytes w64 n) r refl (each_byte (to_le_bytes w64 n) (eight-fit n)) f
     ∙ le_bytes_8 (b0 ∷ b1 ∷ b2 ∷ b3 ∷ b4 ∷ b5 ∷ b6 ∷ b7 ∷ []) n refl each (omega (arith, e, h0, h1, h2, h3, h4, h5, h6, h7))
   where
@@ -79,7 +79,7 @@ eight_spelled : (xs bytes : List ℕ) (n r : ℕ) → length xs ≡ 8 → bytes 
 unfolding bits_of
 eight_spelled (x0 ∷ x1 ∷ x2 ∷ x3 ∷ x4 ∷ x5 ∷ x6 ∷ x7 ∷ []) bytes n r h e f g =
     let bytes_are : to_be_bytes w64 r ≡ map (λ d. d % 2 ^ 8) (x0 ∷ x1 ∷ x2 ∷ x3 ∷ x4 ∷ x5 ∷ x6 ∷ x7 ∷ []) =
-    eight_bytes (x0 % 2 ^ 8) (x1 % 2 ^ 8) (x2 % 2 ^ 8) (x3 % 2 ^ 8) (x4 % 2 ^ 8) (x5 % 2 ^ 8) (x6 % 2 ^ 8) (x7 % 2 ^ 8) n r (omega arith) (omega arith) (omega arith) (omega arith) (omega arith) (omega arith) (omega arith) (omega arith) (f ∙ ap (λ b. number_l 256 b % 18446744073709551616) e) g in
+    eight_bytes (omega arith) (omega arith) (omega arith) (omega arith) (omega arith) (omega arith) (omega arith) (omega arith) (f ∙ ap (λ b. number_l 256 b % 18446744073709551616) e) g in
     sym (bits_of-eight r) ∙ (ap (flat_map (word 8)) bytes_are
     ∙ (λ i. word-mod 8 8 x0 (omega arith) i ++ (word-mod 8 8 x1 (omega arith) i ++ (word-mod 8 8 x2 (omega arith) i ++ (word-mod 8 8 x3 (omega arith) i ++ (word-mod 8 8 x4 (omega arith) i ++ (word-mod 8 8 x5 (omega arith) i ++ (word-mod 8 8 x6 (omega arith) i ++ (word-mod 8 8 x7 (omega arith) i ++ [])))))))))
 eight_spelled [] bytes n r h e f g = absurd (omega (arith, h))
@@ -136,10 +136,10 @@ first_and_last left next most =
     ap (λ w. word w next) (sym size) ∙ (word-split (64 - left) left next ∙ ap (λ d. word (64 - left) (next / 2 ^ left) ++ d) (word-mod left left next (omega arith)))
 
 -- 64 digits that are stored behind whole bytes
-pub whole-put : (old new : List ℕ) (n value : ℕ) → n % 8 ≡ 0 → n + 64 ≤ 8 * length old → value < 2 ^ 64 → slice_index old (n / 8) < 256 → drop n (bits_of old) ≡ replicate (8 * length old - n) false
+pub whole-put : (old : List ℕ) {new : List ℕ} (n value : ℕ) → n % 8 ≡ 0 → n + 64 ≤ 8 * length old → value < 2 ^ 64 → slice_index old (n / 8) < 256 → drop n (bits_of old) ≡ replicate (8 * length old - n) false
     → new ≡ take (n / 8) old ++ (to_be_bytes w64 value ++ drop (n / 8 + 8) old)
     → (take (n + 64) (bits_of new) ≡ take n (bits_of old) ++ word 64 value) × (drop (n + 64) (bits_of new) ≡ replicate (8 * length old - (n + 64)) false)
-whole-put old new n value whole room fit byte zeros e =
+whole-put old {new} n value whole room fit byte zeros e =
     let b = slice_index old (n / 8) in
     let low : b % 2 ^ (8 - 0) ≡ 0 = ap (λ g. b % 2 ^ (8 - g)) (sym whole) ∙ last_zeros old n (omega arith) zeros in
     let none : b ≡ 0 = omega (arith, low, byte) in
@@ -148,7 +148,7 @@ whole-put old new n value whole room fit byte zeros e =
     let all = take (n / 8) old ++ (to_be_bytes w64 value ++ drop (n / 8 + 8) old) in
     let size : length all ≡ length old =
     omega (arith, length-append (take (n / 8) old) (to_be_bytes w64 value ++ drop (n / 8 + 8) old), length-append (to_be_bytes w64 value) (drop (n / 8 + 8) old), length-take-le (n / 8) old (omega arith), length-drop (n / 8 + 8) old) in
-    gathered-put old new n 64 value room (omega arith) fit zeros
+    gathered-put old n 64 value room (omega arith) fit zeros
     (e ∙ (sym (take_all (length old) all (omega (arith, size))) ∙ ap (λ v. take (length old) (take (n / 8) old ++ (to_be_bytes w64 v ++ drop (n / 8 + 8) old))) (sym value_is)))
 
 -- a value in front of the first digits of a number
@@ -156,9 +156,9 @@ pub value_fits : (g count value : ℕ) → g < 8 → 1 ≤ count → count ≤ 4
 value_fits g count value short some few below = shift_fits count (64 - (g + count)) value below (omega arith)
 
 -- and with the digits of a byte in front of it
-pub first_below : (b g count value first all : ℕ) → b < 256 → b % 2 ^ (8 - g) ≡ 0 → g < 8 → 1 ≤ count → count ≤ 48 → value < 2 ^ count → first < 2 ^ 64
+pub first_below : {b g count : ℕ} (value first : ℕ) {all : ℕ} → b < 256 → b % 2 ^ (8 - g) ≡ 0 → g < 8 → 1 ≤ count → count ≤ 48 → value < 2 ^ count → first < 2 ^ 64
     → all ≡ value * 2 ^ (64 - (g + count)) + first / 2 ^ (g + count) → b * 72057594037927936 + all < 18446744073709551616
-first_below b g count value first all byte zeros short some few below fit e =
+first_below {b} {g} {count} value first {all} byte zeros short some few below fit e =
     let size : count + (64 - (g + count)) ≡ 64 - g = omega arith in
     let shift : 64 - (g + (64 - g)) ≡ 0 = omega arith in
     let small : all < 2 ^ (64 - g) = rw (e, ← size) (join_below count (64 - (g + count)) value (first / 2 ^ (g + count)) below (front_fits (g + count) first fit (omega arith))) in
@@ -167,13 +167,13 @@ first_below b g count value first all byte zeros short some few below fit e =
     omega (arith, h2)
 
 -- the digits of a value, and then the first of a number, up to a whole byte
-pub first-put : (old new : List ℕ) (n count value first all : ℕ) → 1 ≤ count → count ≤ 48 → value < 2 ^ count → first < 2 ^ 64 → n + (count + 64) ≤ 8 * length old
+pub first-put : (old : List ℕ) {new : List ℕ} (n : ℕ) {count : ℕ} (value first : ℕ) {all : ℕ} → 1 ≤ count → count ≤ 48 → value < 2 ^ count → first < 2 ^ 64 → n + (count + 64) ≤ 8 * length old
     → drop n (bits_of old) ≡ replicate (8 * length old - n) false
     → all ≡ value * 2 ^ (64 - (n % 8 + count)) + first / 2 ^ (n % 8 + count)
     → new ≡ take (length old) (take (n / 8) old ++ (to_be_bytes w64 (slice_index old (n / 8) * 2 ^ 56 + all) ++ drop (n / 8 + 8) old))
     → (take (n + (64 - n % 8)) (bits_of new) ≡ take n (bits_of old) ++ (word count value ++ word (64 - (n % 8 + count)) (first / 2 ^ (n % 8 + count))))
     × (drop (n + (64 - n % 8)) (bits_of new) ≡ replicate (8 * length old - (n + (64 - n % 8))) false)
-first-put old new n count value first all some few below fit room zeros e f =
+first-put old {new} n {count} value first {all} some few below fit room zeros e f =
     let left = n % 8 + count in
     let rest = 64 - left in
     let size : count + rest ≡ 64 - n % 8 = omega arith in
@@ -183,20 +183,20 @@ first-put old new n count value first all some few below fit room zeros e f =
     let small : all < 2 ^ (64 - n % 8) = rw (e, ← size) (join_below count rest value (first / 2 ^ left) below low) in
     let spelled : word (64 - n % 8) all ≡ word count value ++ word rest (first / 2 ^ left) =
     ap (λ w. word w all) (sym size) ∙ (ap (word (count + rest)) e ∙ word-cat count rest value (first / 2 ^ left) low) in
-    let put = gathered-put old new n (64 - n % 8) all (omega arith) (omega arith) small zeros
+    let put = gathered-put old n (64 - n % 8) all (omega arith) (omega arith) small zeros
     (f ∙ ap (λ v. take (length old) (take (n / 8) old ++ (to_be_bytes w64 (slice_index old (n / 8) * 2 ^ 56 + v) ++ drop (n / 8 + 8) old))) moved) in
     (put.0 ∙ ap (λ d. take n (bits_of old) ++ d) spelled, put.1)
 
 -- one more of the numbers that words spell
-next-joins : (left last next sew count bits all now : ℕ) (more : List Bool) (old mid new : List ℕ) → left ≤ count → left ≤ 64
+next-joins : {left last : ℕ} (next sew : ℕ) {count bits all now : ℕ} {more : List Bool} {old mid new : List ℕ} → left ≤ count → left ≤ 64
     → JoinsAllBut left last more count bits all old mid → Joins (word 64 sew) 64 all now mid new
     → word 64 sew ≡ word left last ++ word (64 - left) (next / 2 ^ left) → now % 8 ≡ 0
     → JoinsAllBut left next (more ++ word 64 next) (count + 64) bits now old new
-next-joins left last next sew count bits all now more old mid new least most f g e whole =
+next-joins {left} {last} next sew least most f g e whole =
     let split = first_and_last left next most in
     record {
       front = f.front ++ word 64 sew;
-      joins = join-more _ _ _ _ _ _ _ _ _ _ _ _ f.joins g refl (omega (arith, least));
+      joins = join-more f.joins g refl (omega (arith, least));
       spelled = (λ i. f.spelled i ++ split i)
           ∙ (append_assoc f.front (word left last) (word (64 - left) (next / 2 ^ left) ++ word left next)
           ∙ (ap (λ d. f.front ++ d) (sym (append_assoc (word left last) (word (64 - left) (next / 2 ^ left)) (word left next)))
@@ -205,11 +205,11 @@ next-joins left last next sew count bits all now more old mid new least most f g
     }
 
 -- the first of the numbers that words spell, behind a value
-pub value-joins : (g count value first width per bits all : ℕ) (words old new : List ℕ) → g < 8 → count ≤ 48 → width * per ≡ 64 → all % 8 ≡ 0
+pub value-joins : {g count : ℕ} (value : ℕ) {first : ℕ} (width per : ℕ) {bits all : ℕ} (words : List ℕ) {old new : List ℕ} → g < 8 → count ≤ 48 → width * per ≡ 64 → all % 8 ≡ 0
     → word 64 first ≡ flat_map (word width) (take (0 + per - 0) (drop 0 words))
     → Joins (word count value ++ word (64 - (g + count)) (first / 2 ^ (g + count))) (64 - g) bits all old new
     → JoinsAllBut (g + count) first (word count value ++ flat_map (word width) (take (per * 1) words)) (count + width * (per * 1)) bits all old new
-value-joins g count value first width per bits all words old new short few sixty whole e f =
+value-joins {g} {count} value {first} width per words short few sixty whole e f =
     let left = g + count in
     let one : per * 1 ≡ per = omega arith in
     let plain : 0 + per - 0 ≡ per = omega arith in
@@ -227,12 +227,12 @@ product : (w p i : ℕ) → w * (p * i) ≡ w * p * i
 product w p i = omega arith
 
 -- and one more of them
-pub words-joins : (left last next sew count value width per i bits all now : ℕ) (words old mid new : List ℕ) → 1 ≤ i → left ≤ 64 → width * per ≡ 64
+pub words-joins : {left last next : ℕ} (sew count value width per : ℕ) {i bits all now : ℕ} (words : List ℕ) {old mid new : List ℕ} → 1 ≤ i → left ≤ 64 → width * per ≡ 64
     → JoinsAllBut left last (word count value ++ flat_map (word width) (take (per * i) words)) (count + width * (per * i)) bits all old mid
     → Joins (word 64 sew) 64 all now mid new → word 64 sew ≡ word left last ++ word (64 - left) (next / 2 ^ left) → now % 8 ≡ 0
     → word 64 next ≡ flat_map (word width) (take (per * i + per - per * i) (drop (per * i) words))
     → JoinsAllBut left next (word count value ++ flat_map (word width) (take (per * (i + 1)) words)) (count + width * (per * (i + 1))) bits now old new
-words-joins left last next sew count value width per i bits all now words old mid new some most sixty f g e whole spelled =
+words-joins {left} {last} {next} sew count value width per {i} {bits} {all} {now} words {old} {mid} {new} some most sixty f g e whole spelled =
     let at = per * i in
     let far : per * (i + 1) ≡ at + per = omega arith in
     let plain : at + per - at ≡ per = omega arith in
@@ -245,7 +245,7 @@ words-joins left last next sew count value width per i bits all now words old mi
     ∙ (ap (λ d. word count value ++ d) (flat_map-append (word width) (take at words) (take per (drop at words)))
     ∙ (ap (λ d. word count value ++ (flat_map (word width) (take at words) ++ d)) (ap (λ k. flat_map (word width) (take k (drop at words))) (sym plain) ∙ sym spelled)
     ∙ sym (append_assoc (word count value) (flat_map (word width) (take at words)) (word 64 next))))) in
-    rw (more, ← count_is) (next-joins left last next sew (count + width * at) bits all now _ old mid new (omega (arith, before, most, some)) most f g e whole)
+    rw (more, ← count_is) (next-joins next sew (omega (arith, before, most, some)) most f g e whole)
 
 -- eight whole words have as many digits
 many_digits : (width n : ℕ) → IsWholeWidth width → 8 ≤ n → 64 ≤ width * n
@@ -254,9 +254,9 @@ many_digits width n (inr (inl e)) h = rw e (omega (arith, h))
 many_digits width n (inr (inr e)) h = rw e (omega (arith, h))
 
 -- and the last digits
-pub last-joins : (left last count width n bits all now : ℕ) (more : List Bool) (old mid new : List ℕ) → IsWholeWidth width → 8 ≤ n → left ≤ 7 + count
+pub last-joins : {left last : ℕ} (count width : ℕ) {n bits all now : ℕ} {more : List Bool} {old mid new : List ℕ} → IsWholeWidth width → 8 ≤ n → left ≤ 7 + count
     → left < 64 → JoinsAllBut left last more (count + width * n) bits all old mid → Joins (word left (last % (1 * 2 ^ left % 18446744073709551616))) left all now mid new
     → Joins more (count + width * n) bits now old new
-last-joins left last count width n bits all now more old mid new whole some few short f g =
+last-joins {left} {last} count width {n} whole some few short f g =
     let low : last % (1 * 2 ^ left % 18446744073709551616) ≡ last % 2 ^ left = ap (λ p. last % p) (one_shl left 64 short) in
-    join-more _ _ _ _ _ _ _ _ _ _ _ _ f.joins g (f.spelled ∙ ap (λ d. f.front ++ d) (sym (ap (word left) low ∙ word-mod left left last (omega arith)))) (omega (arith, few, many_digits width n whole some))
+    join-more f.joins g (f.spelled ∙ ap (λ d. f.front ++ d) (sym (ap (word left) low ∙ word-mod left left last (omega arith)))) (omega (arith, few, many_digits width n whole some))

@@ -70,7 +70,7 @@ pairs_spelled ws low pairs at w room e f =
     let fy = mod_below y (2 ^ w) (pow_pos w) in
     let fz = mod_below z (2 ^ w) (pow_pos w) in
     let fu = mod_below u (2 ^ w) (pow_pos w) in
-    (pair_fits w _ _ _ fx fy one, pair_fits w _ _ _ fz fu two, pair_word w x y _ _ _ refl refl fy one, pair_word w z u _ _ _ refl refl fu two)
+    (pair_fits w _ _ _ fx fy one, pair_fits w _ _ _ fz fu two, pair_word w x y refl refl fy one, pair_word w z u refl refl fu two)
 
 -- four words more
 pub four_words_more : (f : ℕ → List Bool) (xs : List ℕ) (i : ℕ) → 4 * i + 3 < length xs

@@ -39,10 +39,10 @@ known_keeps (Some x) None p = absurd p
 known_keeps (Some x) (Some y) p = ap (λ l. record { borrow = 0; bytes = l; rest = [] }) p
 
 -- The front of some bytes, put over as many bytes of a memory at a place, is taken by an outlet that stands there.
-pub put_fills : (borrow at m k : ℕ) (memory new bytes : List ℕ) → at ≤ length memory → new ≡ take m bytes → m ≤ length bytes → k ≡ m →
+pub put_fills : (borrow at m : ℕ) {k : ℕ} (memory : List ℕ) {new : List ℕ} (bytes : List ℕ) → at ≤ length memory → new ≡ take m bytes → m ≤ length bytes → k ≡ m →
     Fills (record { borrow = borrow; bytes = take at memory; rest = drop at memory })
     (record { borrow = borrow; bytes = take (at + m) (put_mid at k memory new); rest = drop (at + m) (put_mid at k memory new) }) (take m bytes)
-put_fills borrow at m k memory new bytes fits is few same =
+put_fills borrow at m {k} memory {new} bytes fits is few same =
     let len : length new ≡ m = ap length is ∙ length-take-le m bytes few in
     record {
       borrow = refl;

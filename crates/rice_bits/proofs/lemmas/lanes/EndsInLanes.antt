@@ -241,11 +241,11 @@ pub byte-of : (front place : ℕ) (bytes : List ℕ) → place < 8 → bytes ≡
 byte-of front place bytes h e =
     sym (byte_at place bytes (omega (arith, h, ap length e))) ∙ ap (λ b. take 8 (drop (8 * place) b)) (ap bits_of e ∙ bits_of-eight front)
 
-pub byte-joined : (front place byte : ℕ) (before more shifted : List ℕ) (count : ℕ) → place < 7
+pub byte-joined : (front : ℕ) {place : ℕ} (byte : ℕ) {before more shifted : List ℕ} (count : ℕ) → place < 7
     → before ≡ in_lanes (ends_after 0 (take (8 * place) (word 64 front))) → word 8 byte ≡ take 8 (drop (8 * place) (word 64 front))
     → more ≡ in_lanes (ends_after (8 * place) (word 8 byte)) → count ≡ length (ends_after 0 (take (8 * place) (word 64 front)))
     → shifted ≡ take 16 (replicate count 0 ++ more) → zip2 bit_or before shifted ≡ in_lanes (ends_after 0 (take (8 * (place + 1)) (word 64 front)))
-byte-joined front place byte before more shifted count h old byte_is new counted moved =
+byte-joined front {place} byte {more} count h old byte_is new counted moved =
     let bits = word 64 front in
     let first = take (8 * place) bits in
     let behind = take 8 (drop (8 * place) bits) in

@@ -99,8 +99,8 @@ whole_lanes bytes n fit =
 abbrev pub wide_lane : List ℕ → ℕ → ℕ → ℕ → ℕ
 wide_lane bytes w r j = quad_number bytes ((r + j * w) / 8) * 2 ^ ((r + j * w) % 8) % 4294967296 / 2 ^ (32 - w)
 
-lane_of : (bytes : List ℕ) (w r j at : ℕ) → length bytes ≡ 16 → ((i : ℕ) → get_or bytes i 0 < 256) → w ≤ 24 → at ≡ r + j * w → at < 80 → word w (wide_lane bytes w r j) ≡ take w (drop at (bits_of bytes))
-lane_of bytes w r j at n fit few place inside =
+lane_of : (bytes : List ℕ) {w : ℕ} (r j at : ℕ) → length bytes ≡ 16 → ((i : ℕ) → get_or bytes i 0 < 256) → w ≤ 24 → at ≡ r + j * w → at < 80 → word w (wide_lane bytes w r j) ≡ take w (drop at (bits_of bytes))
+lane_of bytes {w} r j at n fit few place inside =
     let bits = bits_of bytes in
     let q = (r + j * w) / 8 in
     let s = (r + j * w) % 8 in
@@ -115,10 +115,10 @@ lane_of bytes w r j at n fit few place inside =
 pub wide_lanes : (bytes : List ℕ) (w r : ℕ) → length bytes ≡ 16 → ((i : ℕ) → get_or bytes i 0 < 256) → w ≤ 24 → r < 8
     → flat_map (word w) (map (wide_lane bytes w r) four) ≡ take (4 * w) (drop r (bits_of bytes))
 wide_lanes bytes w r n fit few before =
-    let a0 = lane_of bytes w r 0 r n fit few (omega arith) (omega (arith, few, before)) in
-    let a1 = lane_of bytes w r 1 (r + w) n fit few (omega arith) (omega (arith, few, before)) in
-    let a2 = lane_of bytes w r 2 (r + w + w) n fit few (omega arith) (omega (arith, few, before)) in
-    let a3 = lane_of bytes w r 3 (r + w + w + w) n fit few (omega arith) (omega (arith, few, before)) in
+    let a0 = lane_of bytes r 0 r n fit few (omega arith) (omega (arith, few, before)) in
+    let a1 = lane_of bytes r 1 (r + w) n fit few (omega arith) (omega (arith, few, before)) in
+    let a2 = lane_of bytes r 2 (r + w + w) n fit few (omega arith) (omega (arith, few, before)) in
+    let a3 = lane_of bytes r 3 (r + w + w + w) n fit few (omega arith) (omega (arith, few, before)) in
     (λ i. a0 i ++ (a1 i ++ (a2 i ++ (a3 i ++ [])))) ∙ pieces-joined w (bits_of bytes) r 4
 
 pub wide_lanes_fit : (bytes : List ℕ) (w r : ℕ) → w ≤ 24 → All (λ v. v < 2 ^ w) (map (wide_lane bytes w r) four)
@@ -184,7 +184,7 @@ wide-loaded bytes at w h few =
 -- eight words, four from each of two vectors
 pub eight-words : (w at : ℕ) (bits : List Bool) (first second : List ℕ) → flat_map (word w) first ≡ take (4 * w) (drop at bits) → flat_map (word w) second ≡ take (4 * w) (drop (at + 4 * w) bits)
     → flat_map (word w) (first ++ second) ≡ take (8 * w) (drop at bits)
-eight-words w at bits first second e f = words-joined w bits at (at + 4 * w) 4 4 first second refl e f
+eight-words w at bits first second e f = words-joined w bits at {at = at + 4 * w} 4 4 first second refl e f
 
 pub eight-lanes : (first second : List ℕ) → length first ≡ 4 → length second ≡ 4 → pick_l 0 (first ++ second) (range_with_len 0 8) ≡ first ++ second
 eight-lanes first second e f = pick_l_whole 0 (first ++ second) 8 (omega (arith, e, f, length-append first second))

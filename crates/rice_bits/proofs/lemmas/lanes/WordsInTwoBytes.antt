@@ -111,8 +111,8 @@ pieces-joined w bits at (suc n) =
 abbrev pub lane : List ℕ → ℕ → ℕ → ℕ → ℕ
 lane bytes w r j = pair_number bytes ((r + j * w) / 8) * 2 ^ ((r + j * w) % 8) % 65536 / 2 ^ (16 - w)
 
-lane_of : (bytes : List ℕ) (w r j at : ℕ) → length bytes ≡ 16 → ((i : ℕ) → get_or bytes i 0 < 256) → w ≤ 9 → at ≡ r + j * w → at < 80 → word w (lane bytes w r j) ≡ take w (drop at (bits_of bytes))
-lane_of bytes w r j at n fit few place inside =
+lane_of : (bytes : List ℕ) {w : ℕ} (r j at : ℕ) → length bytes ≡ 16 → ((i : ℕ) → get_or bytes i 0 < 256) → w ≤ 9 → at ≡ r + j * w → at < 80 → word w (lane bytes w r j) ≡ take w (drop at (bits_of bytes))
+lane_of bytes {w} r j at n fit few place inside =
     let bits = bits_of bytes in
     let q = (r + j * w) / 8 in
     let s = (r + j * w) % 8 in
@@ -127,14 +127,14 @@ lane_of bytes w r j at n fit few place inside =
 lanes-whole : (bytes : List ℕ) (w r : ℕ) → length bytes ≡ 16 → ((i : ℕ) → get_or bytes i 0 < 256) → w ≤ 9 → r < 8
     → flat_map (word w) (map (lane bytes w r) eight) ≡ take (8 * w) (drop r (bits_of bytes))
 lanes-whole bytes w r n fit few before =
-    let a0 = lane_of bytes w r 0 r n fit few (omega arith) (omega (arith, few, before)) in
-    let a1 = lane_of bytes w r 1 (r + w) n fit few (omega arith) (omega (arith, few, before)) in
-    let a2 = lane_of bytes w r 2 (r + w + w) n fit few (omega arith) (omega (arith, few, before)) in
-    let a3 = lane_of bytes w r 3 (r + w + w + w) n fit few (omega arith) (omega (arith, few, before)) in
-    let a4 = lane_of bytes w r 4 (r + w + w + w + w) n fit few (omega arith) (omega (arith, few, before)) in
-    let a5 = lane_of bytes w r 5 (r + w + w + w + w + w) n fit few (omega arith) (omega (arith, few, before)) in
-    let a6 = lane_of bytes w r 6 (r + w + w + w + w + w + w) n fit few (omega arith) (omega (arith, few, before)) in
-    let a7 = lane_of bytes w r 7 (r + w + w + w + w + w + w + w) n fit few (omega arith) (omega (arith, few, before)) in
+    let a0 = lane_of bytes r 0 r n fit few (omega arith) (omega (arith, few, before)) in
+    let a1 = lane_of bytes r 1 (r + w) n fit few (omega arith) (omega (arith, few, before)) in
+    let a2 = lane_of bytes r 2 (r + w + w) n fit few (omega arith) (omega (arith, few, before)) in
+    let a3 = lane_of bytes r 3 (r + w + w + w) n fit few (omega arith) (omega (arith, few, before)) in
+    let a4 = lane_of bytes r 4 (r + w + w + w + w) n fit few (omega arith) (omega (arith, few, before)) in
+    let a5 = lane_of bytes r 5 (r + w + w + w + w + w) n fit few (omega arith) (omega (arith, few, before)) in
+    let a6 = lane_of bytes r 6 (r + w + w + w + w + w + w) n fit few (omega arith) (omega (arith, few, before)) in
+    let a7 = lane_of bytes r 7 (r + w + w + w + w + w + w + w) n fit few (omega arith) (omega (arith, few, before)) in
     (λ i. a0 i ++ (a1 i ++ (a2 i ++ (a3 i ++ (a4 i ++ (a5 i ++ (a6 i ++ (a7 i ++ [])))))))) ∙ pieces-joined w (bits_of bytes) r 8
 
 lanes-fit : (bytes : List ℕ) (w r : ℕ) → w ≤ 9 → All (λ v. v < 2 ^ w) (map (lane bytes w r) eight)

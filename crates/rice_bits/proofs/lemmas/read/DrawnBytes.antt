@@ -26,21 +26,21 @@ consumes-append (Some u) (Some v) None xs ys p q = absurd q
 consumes-append (Some u) (Some v) (Some w) xs ys p q = p ∙ ap (λ z. xs ++ z) q ∙ sym (append_assoc xs ys w)
 
 -- what is needed for the bits of the second part alone is needed for both
-needed-append : (old mid a b ab xs ys xys : ℕ) → ab ≡ a + b → xys ≡ xs + ys → old + 8 * a ≡ xs + mid
+needed-append : (old mid a b : ℕ) {ab : ℕ} (xs ys : ℕ) {xys : ℕ} → ab ≡ a + b → xys ≡ xs + ys → old + 8 * a ≡ xs + mid
     → (0 < a → old + 8 * (a - most_at_once) < xs) → (0 < b → mid + 8 * (b - most_at_once) < ys) → 0 < ab → old + 8 * (ab - most_at_once) < xys
-needed-append old mid a b ab xs ys xys e f n p q some = elim (cases_lt 0 b) [
+needed-append old mid a b xs ys e f n p q some = elim (cases_lt 0 b) [
   | inl more ↦ (let second = q more in omega (arith, second, e, f, n))
   | inr none ↦ (let first = p (omega (arith, e, some, none)) in omega (arith, first, e, f, none))
 ]
 
-pub draws-append : (a b c : Option (List ℕ)) (old mid new xs ys : List Bool) → Draws a b old mid xs → Draws b c mid new ys → Draws a c old new (xs ++ ys)
-draws-append a b c old mid new xs ys p q =
+pub draws-append : {a b c : Option (List ℕ)} {old mid new xs ys : List Bool} → Draws a b old mid xs → Draws b c mid new ys → Draws a c old new (xs ++ ys)
+draws-append {a} {b} {c} {old} {mid} {new} {xs} {ys} p q =
     let lengths : length old + 8 * length p.given ≡ length xs + length mid =
     omega (arith, ap length p.split, length-append old (bits_of p.given), length-append xs mid, length-bits_of p.given) in
     record {
       given = p.given ++ q.given;
       consumed = consumes-append a b c p.given q.given p.consumed q.consumed;
-      needed = λ some. needed-append _ _ _ _ _ _ _ _ (length-append p.given q.given) (length-append xs ys) lengths p.needed q.needed some;
+      needed = λ some. needed-append _ _ _ _ _ _ (length-append p.given q.given) (length-append xs ys) lengths p.needed q.needed some;
       split =
           rw (
             bits_of-append p.given q.given,

@@ -162,22 +162,22 @@ get_or-gaps (a ∷ b ∷ told) (suc i) h =
     get_or-gaps (b ∷ told) i (omega (arith, h)) ∙ ap (λ k. get_or (a ∷ b ∷ told) k 0 - get_or (b ∷ told) i 0 - 1) n
 
 -- more numbers are written after those before them
-pub chunk-more : (n : ℕ) (now all lanes : List ℕ) (from at : ℕ) → at ≤ from → at + n ≤ length now → length lanes ≡ n → lanes ≡ take n (drop at all)
+pub chunk-more : {n : ℕ} (now all : List ℕ) {lanes : List ℕ} (from at : ℕ) → at ≤ from → at + n ≤ length now → length lanes ≡ n → lanes ≡ take n (drop at all)
     → take from now ≡ take from all → take (at + n) (put_chunk at now lanes) ≡ take (at + n) all
-chunk-more n now all lanes from at le room long e before =
+chunk-more {n} now all {lanes} from at le room long e before =
     let front : take at now ≡ take at all = sym (take-take at from now le) ∙ (ap (take at) before ∙ take-take at from all le) in
     take_more_put_chunk at now lanes (at + n) (omega (arith, long)) room ∙ ((λ j. front j ++ e j) ∙ sym (take-add at n all))
 
 -- the last of them, of which some may be written again
-pub chunk-last : (n : ℕ) (now all lanes : List ℕ) (from count : ℕ) → length now ≡ count → n ≤ count → count ≤ from + n → length lanes ≡ n
+pub chunk-last : {n : ℕ} (now all : List ℕ) {lanes : List ℕ} (from : ℕ) {count : ℕ} → length now ≡ count → n ≤ count → count ≤ from + n → length lanes ≡ n
     → lanes ≡ take n (drop (count - n) all) → take from now ≡ take from all → put_chunk (count - n) now lanes ≡ take count all
-chunk-last n now all lanes from count len few reach long e before =
+chunk-last {n} now all {lanes} from {count} len few reach long e before =
     let at = count - n in
     let m : at + n ≡ count = omega (arith, few) in
     let written = put_chunk at now lanes in
     let whole : length written ≤ count = omega (arith, length-put_chunk at now lanes, len) in
     sym (take_all count written whole) ∙ (ap (λ k. take k written) (sym m)
-    ∙ (chunk-more n now all lanes from at (omega (arith, reach)) (omega (arith, m, len)) long e before ∙ ap (λ k. take k all) m))
+    ∙ (chunk-more now all from at (omega (arith, reach)) (omega (arith, m, len)) long e before ∙ ap (λ k. take k all) m))
 
 pub gap-more : (now told : List ℕ) (i : ℕ) → i < length now → i + 1 < length told → take i now ≡ take i (gaps told)
     → take (i + 1) (set now i (get_or told (i + 1) 0 - get_or told i 0 - 1)) ≡ take (i + 1) (gaps told)
@@ -258,11 +258,11 @@ searched-four front bytes old told found b first count e =
       ends = e ∙ (λ j. first j ++ ends_after 0 (bits j));
     }
 
-pub searched-seven : (front : ℕ) (bytes old middle told : List ℕ) (found all : ℕ) → bytes ≡ to_be_bytes w64 front → take 1 old ≡ 0 ∷ [] → found ≡ 0 + length (ends_after 0 (bits_of (take 4 bytes)))
+pub searched-seven : {front : ℕ} {bytes : List ℕ} (old middle : List ℕ) {told : List ℕ} {found all : ℕ} → bytes ≡ to_be_bytes w64 front → take 1 old ≡ 0 ∷ [] → found ≡ 0 + length (ends_after 0 (bits_of (take 4 bytes)))
     → take (found + 1) middle ≡ take 1 old ++ ends_after 0 (bits_of (take 4 bytes))
     → all ≡ found + length (ends_after 32 (bits_of (take 3 (drop 4 bytes))))
     → take (all + 1) told ≡ take (found + 1) middle ++ ends_after 32 (bits_of (take 3 (drop 4 bytes))) → IsSearched front told all
-searched-seven front bytes old middle told found all b first count e more f =
+searched-seven {front} {bytes} old middle b first count e more f =
     let four = bits_of (take 4 bytes) in
     let three = bits_of (take 3 (drop 4 bytes)) in
     let len : length four ≡ 32 = ap length (first-bytes front 4 bytes (omega arith) b) ∙ length-take-le 32 (word 64 front) (omega (arith, length-word 64 front)) in
@@ -278,9 +278,9 @@ searched-seven front bytes old middle told found all b first count e more f =
     }
 
 -- some of the ends are taken as fundamental sequences
-pub ends-parted : (front : ℕ) (told old new : List ℕ) (found taken : ℕ) → IsSearched front told found → taken ≤ found → taken ≤ length new
+pub ends-parted : {front : ℕ} {told old new : List ℕ} {found taken : ℕ} → IsSearched front told found → taken ≤ found → taken ≤ length new
     → take taken new ≡ take taken (gaps told) → drop taken new ≡ drop taken old → AreParted front old new (get_or told taken 0) taken
-ends-parted front told old new found taken s few within written rest =
+ends-parted {front} {told} {new} {found} {taken} s few within written rest =
     let bits = take s.seen (word 64 front) in
     let es = ends_after 0 bits in
     let all = 0 ∷ es in

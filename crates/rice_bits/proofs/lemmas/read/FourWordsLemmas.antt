@@ -84,10 +84,10 @@ four-words x y w h p q =
     ∙ (flat_map-append (word w) (even x w ∷ odd x w ∷ []) (even y w ∷ odd y w ∷ []) ∙ (λ j. first j ++ second j))
 
 -- four words, two from each of two places
-pub four-ahead : (w at x y : ℕ) (bits : List Bool) (four : List ℕ) → w ≤ 28 → word 64 x ≡ take (64 - at % 8) (drop at bits) ++ replicate (at % 8) false
+pub four-ahead : {w : ℕ} (at x y : ℕ) (bits : List Bool) (four : List ℕ) → w ≤ 28 → word 64 x ≡ take (64 - at % 8) (drop at bits) ++ replicate (at % 8) false
     → word 64 y ≡ take (64 - (at + 2 * w) % 8) (drop (at + 2 * w) bits) ++ replicate ((at + 2 * w) % 8) false
     → flat_map (word w) four ≡ take (2 * w) (word 64 x) ++ take (2 * w) (word 64 y) → flat_map (word w) four ≡ take (4 * w) (drop at bits)
-four-ahead w at x y bits four h before behind e =
+four-ahead {w} at x y bits four h before behind e =
     let two = 2 * w in
     let all : two + two ≡ 4 * w = omega arith in
     let first : take two (word 64 x) ≡ take two (drop at bits) = front-ahead (drop at bits) two (64 - at % 8) (at % 8) x (omega (arith, h)) (omega arith) before in

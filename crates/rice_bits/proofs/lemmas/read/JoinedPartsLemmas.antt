@@ -54,18 +54,18 @@ joined-lanes (suc n) k (m ∷ ms) (l ∷ ls) h p q few low =
     λ j. first j ∷ rest j
 
 -- some numbers are written after those before them
-pub written-more : (bytes : List ℕ) (at w : ℕ) (ends : List ℕ) (done n : ℕ) (old new words lanes : List ℕ) → AreWritten bytes at w ends done old
+pub written-more : {bytes : List ℕ} {at w : ℕ} {ends : List ℕ} {done n : ℕ} {old new : List ℕ} (words : List ℕ) {lanes : List ℕ} → AreWritten bytes at w ends done old
     → length words ≡ n → All (λ v. v < 2 ^ w) words → flat_map (word w) words ≡ take (n * w) (drop (at + done * w) (bits_of bytes))
     → lanes ≡ joined_parts w (take n (drop done (gaps ends))) words → take (done + n) new ≡ take done old ++ lanes → done < length ends
     → AreWritten bytes at w ends (done + n) new
-written-more bytes at w ends done n old new words lanes h len fit bits e now room =
+written-more {bytes} {at} {w} {ends} {done} {n} words h len fit bits e now room =
     let before = take done (gaps ends) in
     let long : length before ≡ done = length-take-le done (gaps ends) (omega (arith, room, length-gaps ends (omega (arith, room)))) in
     record {
       words = h.words ++ words;
       len = omega (arith, length-append h.words words, h.len, len);
       fit = All-append (λ v. v < 2 ^ w) h.words words h.fit fit;
-      bits = words-joined w (bits_of bytes) at (at + done * w) done n h.words words refl h.bits bits;
+      bits = words-joined w (bits_of bytes) at {at = at + done * w} done n h.words words refl h.bits bits;
       joined = now ∙ ((λ j. h.joined j ++ e j) ∙ (sym (joined-append w before (take n (drop done (gaps ends))) h.words words (h.len ∙ sym long))
           ∙ ap (λ ms. joined_parts w ms (h.words ++ words)) (sym (take-add done n (gaps ends)))));
     }

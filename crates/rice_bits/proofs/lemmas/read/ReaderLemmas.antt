@@ -12,12 +12,12 @@ use Rattle.rice_bits.proofs.lemmas.read.BlankBits.{and-assoc, and-true, blank-ap
 use Rattle.rice_bits.proofs.lemmas.read.DrawnBytes.{draws-append, draws-waiting}
 
 -- bits are taken of those that a window has
-pub takes_passed : {I : Type 0} (old : Reader I) (intake : I) (left : Option (List ℕ)) (failed : ℕ) (mid new : Window) (before : Bool) (refusal : Option BitFault) (bits : List Bool)
+pub takes_passed : {I : Type 0} {old : Reader I} (intake : I) {left : Option (List ℕ)} {failed : ℕ} {mid new : Window} (before : Bool) {refusal : Option BitFault} {bits : List Bool}
     → Draws old.left left old.waiting (window_bits new) bits → window_taken mid ≡ old.taken
     → (before && is_blank (window_passed mid)) ≡ old.blank → refusal ≡ None → failed ≡ old.failed → Passes mid new bits
     → Takes old
     (record { waiting = window_bits new; taken = window_taken new; blank = before && is_blank (window_passed new); refusal = refusal; intake = intake; left = left; failed = failed }) bits
-takes_passed old intake left failed mid new before refusal bits draws taken blank going same passes = record {
+takes_passed intake {mid} before {bits} draws taken blank going same passes = record {
   draws = draws;
   taken = passes.taken ∙ ap (λ n. n + length bits) taken;
   blank =
@@ -39,7 +39,7 @@ takes-none r h = record {
 pub takes-append : {I : Type 0} (old mid new : Reader I) (xs ys : List Bool)
     → Takes old mid xs → Takes mid new ys → Takes old new (xs ++ ys)
 takes-append old mid new xs ys p q = record {
-  draws = draws-append old.left mid.left new.left old.waiting mid.waiting new.waiting xs ys p.draws q.draws;
+  draws = draws-append p.draws q.draws;
   taken = omega (arith, p.taken, q.taken, length-append xs ys);
   blank = blank_joined old.blank mid.blank new.blank xs ys p.blank q.blank;
   going = q.going;
@@ -50,7 +50,7 @@ pub stops-append : {I : Type 0} (old mid new : Reader I) (xs ys : List Bool) (f 
     → Takes old mid xs → Stops mid new ys f → Stops old new (xs ++ ys) f
 stops-append old mid new xs ys f p q = record {
   middle = q.middle;
-  draws = draws-append old.left mid.left q.middle old.waiting mid.waiting [] xs ys p.draws q.draws;
+  draws = draws-append p.draws q.draws;
   refuses = subst (λ n. Refuses f q.middle new.left n new.failed new.taken new.blank) p.failures q.refuses;
   taken = omega (arith, p.taken, q.taken, length-append xs ys);
   blank = blank_joined old.blank mid.blank new.blank xs ys p.blank q.blank;

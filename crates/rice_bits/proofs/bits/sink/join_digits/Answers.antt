@@ -16,7 +16,7 @@ join_bytes-requires-clause-digits c =
 
 pub returns : goal.returns
 returns c =
-    let put = gathered-put c.args.bytes.now c.join_bytes.new.bytes c.args.bits c.args.width c.args.value c.requires.room (omega (arith, c.requires.width)) c.requires.value c.requires.bits.zeros
+    let put = gathered-put c.args.bytes.now c.args.bits c.args.width c.args.value c.requires.room (omega (arith, c.requires.width)) c.requires.value c.requires.bits.zeros
     (rw c.to_front.ensures at c.join_bytes.ensures) in
     let len : length c.join_bytes.new.bytes ≡ length c.args.bytes.now = omega arith in
     record {

@@ -16,7 +16,7 @@ loop-i-preserved c =
     let i = c.loop-i.i in
     let front = c.two_pairs-first.ensures.first in
     let back = c.two_pairs-first.ensures.last in
-    join-more _ _ _ _ _ _ _ _ _ _ _ _ c.loop-i.invariant c.join_two_words-bits.ensures
+    join-more c.loop-i.invariant c.join_two_words-bits.ensures
     (four_words_more (word w) ws i (omega (arith, c.loop-i-test.true)) ∙ ap (λ d. flat_map (word w) (take (4 * i) ws) ++ d) (sym (λ j. front j ++ back j))) (omega arith)
 
 pub returns : goal.returns
@@ -25,4 +25,4 @@ returns c =
     let ws = c.args.words.now in
     let first = 4 * c.loop-i.i in
     let fours : c.loop-i.i ≡ length ws / 4 = omega (arith, c.loop-i-test.false, c.loop-i.auto) in
-    join-more _ _ _ _ _ _ _ _ _ _ _ _ c.loop-i.invariant (rw (← fours, up_to_end first ws) at c.join_each_word.ensures) (words_before (word w) ws first) (digits_before w first ws (omega (arith, fours)))
+    join-more c.loop-i.invariant (rw (← fours, up_to_end first ws) at c.join_each_word.ensures) (words_before (word w) ws first) (digits_before w first ws (omega (arith, fours)))

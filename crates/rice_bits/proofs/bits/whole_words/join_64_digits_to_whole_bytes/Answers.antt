@@ -6,7 +6,7 @@ use Rattle.rice_bits.proofs.bits.whole_words.join_64_digits_to_whole_bytes.Goals
 pub returns-clause-joins : goal.returns-clause-joins
 returns-clause-joins c =
     let byte : slice_index c.args.bytes.now (c.args.bits / 8) < 256 = search rules in
-    let put = whole-put c.args.bytes.now c.store_word.new.bytes c.args.bits c.args.digits c.requires.whole c.requires.room c.ranges.digits.fits byte c.requires.bits.zeros c.store_word.ensures in
+    let put = whole-put c.args.bytes.now c.args.bits c.args.digits c.requires.whole c.requires.room c.ranges.digits.fits byte c.requires.bits.zeros c.store_word.ensures in
     let len : length c.store_word.new.bytes ≡ length c.args.bytes.now = omega arith in
     record {
       all_bits = omega arith;

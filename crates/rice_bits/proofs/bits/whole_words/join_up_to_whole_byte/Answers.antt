@@ -14,11 +14,11 @@ pub join_bytes-requires-clause-digits : goal.join_bytes-requires-clause-digits
 join_bytes-requires-clause-digits c =
     let byte : slice_index c.args.bytes.now (c.args.bits / 8) < 256 = search rules in
     let zeros = last_zeros c.args.bytes.now c.args.bits c.requires.bits.room c.requires.bits.zeros in
-    first_below _ (c.args.bits % 8) c.args.count c.args.value c.args.first c.join.result byte zeros (omega arith) c.requires.count.0 c.requires.count.1 c.requires.value c.ranges.first.fits c.join.ensures
+    first_below {g = c.args.bits % 8} c.args.value c.args.first byte zeros (omega arith) c.requires.count.0 c.requires.count.1 c.requires.value c.ranges.first.fits c.join.ensures
 
 pub returns-clause-joins : goal.returns-clause-joins
 returns-clause-joins c =
-    let put = first-put c.args.bytes.now c.join_bytes.new.bytes c.args.bits c.args.count c.args.value c.args.first c.join.result c.requires.count.0 c.requires.count.1 c.requires.value c.ranges.first.fits c.requires.room
+    let put = first-put c.args.bytes.now c.args.bits c.args.value c.args.first c.requires.count.0 c.requires.count.1 c.requires.value c.ranges.first.fits c.requires.room
     c.requires.bits.zeros c.join.ensures c.join_bytes.ensures in
     let len : length c.join_bytes.new.bytes ≡ length c.args.bytes.now = omega arith in
     let all : c.args.bits - c.args.bits % 8 + 64 ≡ c.args.bits + (64 - c.args.bits % 8) = omega arith in

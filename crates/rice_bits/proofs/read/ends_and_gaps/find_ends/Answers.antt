@@ -10,5 +10,5 @@ pub returns : goal.returns
 returns c =
     let four = c.write_ends_of_bytes-found in
     let three = c.write_ends_of_bytes in
-    searched-seven c.args.front c.to_be_bytes-bytes.result c.args.ends.now four.new.ends three.new.ends four.result three.result c.to_be_bytes-bytes.ensures
+    searched-seven c.args.ends.now four.new.ends c.to_be_bytes-bytes.ensures
     c.requires.first four.ensures.found four.ensures.ends three.ensures.found three.ensures.ends

@@ -11,12 +11,12 @@ loop-i-preserved c =
     let n : 8 * (l.i + 1) ≡ at + 8 = omega arith in
     record {
       len = length-put_chunk at l.zeros c.eight_wide_gaps.result ∙ l.invariant.len;
-      value = rw n (chunk-more 8 l.zeros (gaps c.args.ends.now) c.eight_wide_gaps.result at at (omega arith) (omega (arith, c.loop-i-test.true, l.invariant.len, c.requires.some))
+      value = rw n (chunk-more l.zeros (gaps c.args.ends.now) at at (omega arith) (omega (arith, c.loop-i-test.true, l.invariant.len, c.requires.some))
           c.eight_wide_gaps.ensures.len c.eight_wide_gaps.ensures.value l.invariant.value);
     }
 
 pub returns : goal.returns
 returns c =
     let l = c.loop-i in
-    chunk-last 8 l.zeros (gaps c.args.ends.now) c.eight_wide_gaps-2.result (8 * l.i) (length c.args.zeros.now) l.invariant.len c.requires.some (omega (arith, c.loop-i-test.false, l.auto))
+    chunk-last l.zeros (gaps c.args.ends.now) (8 * l.i) l.invariant.len c.requires.some (omega (arith, c.loop-i-test.false, l.auto))
     c.eight_wide_gaps-2.ensures.len c.eight_wide_gaps-2.ensures.value l.invariant.value

@@ -10,6 +10,6 @@ returns c =
     let old = c.args.zeros.now in
     let all = gaps c.args.ends.now in
     let first : take (0 + 4) (put_chunk 0 old c.four_gaps.result) ≡ take (0 + 4) all =
-    chunk-more 4 old all c.four_gaps.result 0 0 (omega arith) (omega (arith, c.requires.some)) c.four_gaps.ensures.len c.four_gaps.ensures.value refl in
-    chunk-last 4 (put_chunk 0 old c.four_gaps.result) all c.four_gaps-2.result 4 (length old) (length-put_chunk 0 old c.four_gaps.result) c.requires.some.0 (omega (arith, c.requires.some))
+    chunk-more old all 0 0 (omega arith) (omega (arith, c.requires.some)) c.four_gaps.ensures.len c.four_gaps.ensures.value refl in
+    chunk-last (put_chunk 0 old c.four_gaps.result) all 4 (length-put_chunk 0 old c.four_gaps.result) c.requires.some.0 (omega (arith, c.requires.some))
     c.four_gaps-2.ensures.len c.four_gaps-2.ensures.value first

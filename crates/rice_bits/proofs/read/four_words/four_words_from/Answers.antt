@@ -4,5 +4,5 @@ use Rattle.rice_bits.proofs.read.four_words.four_words_from.Goals as goal
 
 pub returns-clause-bits : goal.returns-clause-bits
 returns-clause-bits c =
-    four-ahead c.args.width c.args.at c.at_least_57_bits_from-first.result c.at_least_57_bits_from-second.result (bits_of c.args.bytes.now) c.first_two_words_of_both.result c.requires.width.1
+    four-ahead c.args.at c.at_least_57_bits_from-first.result c.at_least_57_bits_from-second.result (bits_of c.args.bytes.now) c.first_two_words_of_both.result c.requires.width.1
     c.at_least_57_bits_from-first.ensures c.at_least_57_bits_from-second.ensures c.first_two_words_of_both.ensures.bits

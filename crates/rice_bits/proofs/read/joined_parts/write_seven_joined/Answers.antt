@@ -17,7 +17,7 @@ returns c =
     let behind = drop (c.args.at + done * w) (bits_of c.args.bytes.now) in
     let few : 7 * w ≤ 8 * w = omega arith in
     let split = seven-of eight.result eight.ensures.len in
-    written-more c.args.bytes.now c.args.at w c.args.ends.now done 7 c.args.numbers.now _ (take 7 words.result) (take 7 eight.result) c.requires.written
+    written-more (take 7 words.result) c.requires.written
     (length-take-le 7 words.result (omega (arith, words.ensures.len))) (All-take (λ v. v < 2 ^ w) 7 words.result words.ensures.fit)
     (words-front w 7 words.result (omega (arith, words.ensures.len)) ∙ (ap (take (7 * w)) words.ensures.bits ∙ take-take (7 * w) (8 * w) behind few))
     (ap (take 7) eight.ensures.value ∙ (take-joined w 7 c.eight_narrow_gaps.result words.result

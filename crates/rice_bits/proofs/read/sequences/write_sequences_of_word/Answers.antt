@@ -12,7 +12,7 @@ returns-then-found-zeros c =
     let written = c.write_gaps.new.zeros in
     let taken = length written in
     let same : taken ≡ length old = c.write_gaps.auto.zeros in
-    ends-parted c.args.front told old written c.find_ends-found.result taken c.find_ends-found.ensures (omega (arith, same, c.if-found-zeros.true)) (omega arith)
+    ends-parted c.find_ends-found.ensures (omega (arith, same, c.if-found-zeros.true)) (omega arith)
     (take_all taken written (omega arith) ∙ (c.write_gaps.ensures ∙ ap (λ n. take n (gaps told)) (sym same)))
     (drop_all taken written (omega arith) ∙ sym (drop_all taken old (omega (arith, same))))
 
@@ -25,5 +25,5 @@ returns c =
     let rest = drop taken old in
     let few = length-take-le taken old (omega (arith, c.if-found-zeros.false)) in
     let len : length written ≡ taken = c.write_gaps-2.auto.zeros ∙ few in
-    ends-parted c.args.front told old _ taken taken c.find_ends-found.ensures (omega arith) (omega arith)
+    ends-parted c.find_ends-found.ensures (omega arith) (omega arith)
     (take_at written rest taken len ∙ (c.write_gaps-2.ensures ∙ ap (λ n. take n (gaps told)) few)) (drop-seam written rest taken len)

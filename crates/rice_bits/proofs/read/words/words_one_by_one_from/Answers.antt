@@ -27,6 +27,6 @@ loop-i-preserved c =
     record {
       place = omega (arith, c.loop-i.invariant.place);
       fit = each-more (λ x. x < 2 ^ c.args.width) c.loop-i.words done v lt c.loop-i.invariant.fit below;
-      bits = words-more c.args.width (bits_of c.args.bytes.now) c.args.at c.loop-i.at c.loop-i.words done v c.loop-i.invariant.place lt c.loop-i.invariant.bits
+      bits = words-more c.args.width (bits_of c.args.bytes.now) c.args.at c.loop-i.words v c.loop-i.invariant.place lt c.loop-i.invariant.bits
           c.number_from-number.ensures.bits;
     }

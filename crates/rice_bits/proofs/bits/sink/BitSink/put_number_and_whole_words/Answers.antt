@@ -16,4 +16,4 @@ returns g c =
     let ws = c.args.words.now in
     let size : length (word c.args.count c.args.value ++ flat_map (word w) ws) ≡ c.args.count + w * length ws =
     omega (arith, length-append (word c.args.count c.args.value) (flat_map (word w) ws), length-word c.args.count c.args.value, length-words w ws) in
-    joined-puts _ _ _ _ _ _ _ _ _ c.self.view_is c.join_number_and_whole_words-self-inside.ensures size c.tick.ensures
+    joined-puts c.self.view_is c.join_number_and_whole_words-self-inside.ensures size c.tick.ensures

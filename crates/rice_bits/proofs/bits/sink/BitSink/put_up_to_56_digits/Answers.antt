@@ -8,4 +8,4 @@ pub join_digits-self-inside-requires-clause-room : goal.join_digits-self-inside-
 join_digits-self-inside-requires-clause-room g c = omega (arith, length_viewed _ _ _ _ c.self.invariant c.self.told c.self.view_is, c.requires.room, c.self.told)
 
 pub returns : goal.returns
-returns g c = joined-puts _ _ _ _ _ _ _ _ _ c.self.view_is c.join_digits-self-inside.ensures (length-word c.args.width c.args.value) c.tick.ensures
+returns g c = joined-puts c.self.view_is c.join_digits-self-inside.ensures (length-word c.args.width c.args.value) c.tick.ensures

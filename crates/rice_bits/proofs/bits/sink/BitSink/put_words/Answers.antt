@@ -8,4 +8,4 @@ pub join_words-self-inside-requires-clause-room : goal.join_words-self-inside-re
 join_words-self-inside-requires-clause-room g c = omega (arith, length_viewed _ _ _ _ c.self.invariant c.self.told c.self.view_is, c.requires.room, c.self.told)
 
 pub returns : goal.returns
-returns g c = joined-puts _ _ _ _ _ _ _ _ _ c.self.view_is c.join_words-self-inside.ensures (omega (arith, length-words c.args.width c.args.words.now)) c.tick.ensures
+returns g c = joined-puts c.self.view_is c.join_words-self-inside.ensures (omega (arith, length-words c.args.width c.args.words.now)) c.tick.ensures

@@ -5,5 +5,5 @@ use Rattle.rice_bits.proofs.device.slice.SliceOutOutlet.put.Goals as goal
 pub returns-clause-bytes : goal.returns-clause-bytes
 returns-clause-bytes c =
     let self = c.args.self.now in
-    put_fills self.room.ghost_name self.at c.min-count.result _ self.room.now c.copy_from_slice.new.self c.args.bytes.now
+    put_fills self.room.ghost_name self.at c.min-count.result self.room.now c.args.bytes.now
     (omega (arith, self.within)) c.copy_from_slice.ensures.after (omega (arith, c.min-count.ensures)) (omega arith)

@@ -8,7 +8,7 @@ pub returns-clause-takes : goal.returns-clause-takes
 returns-clause-takes g c =
     let none : c.self.inside.refusal ≡ None = ap (λ r. r.refusal) c.self.view_is ∙ c.requires.going in
     let passes = c.pass.ensures.passes in
-    rw (← c.self.view_is) (takes_passed _ _ _ _ c.self.inside.window _ _ _ _ (draws-waiting _ _ _ _ passes.split) refl refl none refl passes)
+    rw (← c.self.view_is) (takes_passed _ _ (draws-waiting _ _ _ _ passes.split) refl refl none refl passes)
 
 pub returns-clause-idle : goal.returns-clause-idle
 returns-clause-idle g c = grind (arith, common_steps)

@@ -22,4 +22,4 @@ returns-clause-some g c =
     let some : 0 < length (window_bits c.self.inside.window) = omega (arith, c.in_ok-count.ensures.some.0, c.in_ok-count.ensures.some.1) in
     let none : c.self.inside.refusal ≡ None = not_refused _ _ some c.self.invariant.stopped in
     let passes = rw c.in_ok-count.ensures.some.2 at c.pass.ensures.passes in
-    rw (← c.self.view_is) (takes_passed _ _ _ _ c.self.inside.window _ _ _ _ (draws-waiting _ _ _ _ passes.split) refl refl none refl passes)
+    rw (← c.self.view_is) (takes_passed _ _ (draws-waiting _ _ _ _ passes.split) refl refl none refl passes)

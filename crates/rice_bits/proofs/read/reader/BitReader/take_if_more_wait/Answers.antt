@@ -9,7 +9,7 @@ returns-clause-some g c =
     let some = c.in_ok-number.ensures.some in
     let none = not_refused _ _ some.2 c.self.invariant.stopped in (
       some.0,
-      rw (← c.self.view_is) (takes_passed _ _ _ _ c.self.inside.window _ _ _ _ (draws-waiting _ _ _ _ some.1.split) refl refl none refl some.1),
+      rw (← c.self.view_is) (takes_passed _ _ (draws-waiting _ _ _ _ some.1.split) refl refl none refl some.1),
     )
 
 pub returns-clause-going : goal.returns-clause-going

@@ -23,7 +23,7 @@ returns-clause-ok g c =
     let passes = c.take_first_bits-digits.ensures.passes in
     let some : 0 < length (word c.min-count.result c.take_first_bits-digits.result) = omega
     (arith, length-word c.min-count.result c.take_first_bits-digits.result, c.min-count.ensures, c.waiting.ensures.value, c.in_default.ensures.some, c.requires.some) in
-    rw (← c.self.view_is) (takes_passed _ _ _ _ c.draw_if_empty.new.window _ _ _ _ (draws-supplied _ _ _ _ _ _ some c.in_default.ensures.ok passes.split)
+    rw (← c.self.view_is) (takes_passed _ _ (draws-supplied _ _ _ _ _ _ some c.in_default.ensures.ok passes.split)
     c.in_default.ensures.taken c.in_default.ensures.blank none
     c.in_default.ensures.failures passes)
 

@@ -12,7 +12,7 @@ returns-clause-takes g c e =
       highs = p.highs;
       lows = p.lows;
       parts = p.parts;
-      takes = rw (← c.self.view_is) (takes_passed _ _ _ _ c.self.inside.window _ _ _ _ (draws-waiting _ _ _ _ p.passes.split) refl refl none refl p.passes);
+      takes = rw (← c.self.view_is) (takes_passed _ _ (draws-waiting _ _ _ _ p.passes.split) refl refl none refl p.passes);
     }
 
 pub returns-clause-idle : goal.returns-clause-idle

@@ -54,6 +54,6 @@ returns-clause-zeros g c _ =
     let passes = subst (λ bits. Passes c.draw_if_empty.new.window c.pass-2.new.self bits) zeros c.pass-2.ensures.passes in
     let none : c.self.inside.refusal ≡ None = ap (λ r. r.refusal) c.self.view_is ∙ c.requires.going in (
       some,
-      rw (← c.self.view_is) (takes_passed _ _ _ _ c.draw_if_empty.new.window _ _ _ _
+      rw (← c.self.view_is) (takes_passed _ _
           (draws-supplied _ _ _ _ _ _ (omega (arith, some, length-replicate c.min-zeros.result false)) supply.ok passes.split) supply.taken supply.blank none supply.failures passes),
     )

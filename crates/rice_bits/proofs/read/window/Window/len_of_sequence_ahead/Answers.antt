@@ -47,7 +47,7 @@ returns-clause-some c =
     let short = run-within z _ _ _ (sym front.2 ∙ c.next_bits-behind_zero.ensures) in
     let len = length-fundamental_sequence z in
     let there = near-there w (fundamental_sequence z) c.requires (omega (arith, short, len)) in
-    let split = (window-front w (w.at + (z + 1)) r (fundamental_sequence z) _ c.requires c.next_bits-behind_zero.ensures front.2 (omega (arith, short, len)) (omega (arith, len))).split in (
+    let split = (window-front (w.at + (z + 1)) r (fundamental_sequence z) _ c.requires c.next_bits-behind_zero.ensures front.2 (omega (arith, short, len)) (omega (arith, len))).split in (
       omega (arith, front.0),
       omega (arith, front.0, len, there, length-window w c.requires),
       rw same (ap (take (count_leading_zeros 64 (r / 2))) split ∙ take_at (fundamental_sequence z) _ (count_leading_zeros 64 (r / 2)) (len ∙ sym front.0)),

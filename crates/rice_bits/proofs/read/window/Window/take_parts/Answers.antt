@@ -26,13 +26,13 @@ returns-clause-passes c e =
     let same : highs ≡ some = take-take n n (gaps told) (omega arith) in
     let len : length some ≡ n = length-take-le n (gaps told) (omega (arith, c.requires.few, c.find_ends-found.auto.ends, length-gaps told (omega (arith, c.find_ends-found.auto.ends)))) in
     let many : length c.write_joined.new.numbers ≡ n = c.write_joined.auto.numbers in
-    let parted = ends-parted front told some some c.find_ends-found.result n c.find_ends-found.ensures (omega (arith, c.if-found-numbers.false)) (omega (arith, len)) same refl in
+    let parted = ends-parted {old = some} {new = some} {taken = n} c.find_ends-found.ensures (omega (arith, c.if-found-numbers.false)) (omega (arith, len)) same refl in
     let split = parted-bits front some some used n parted in
     let short = sequences-within highs _ _ _ (sym split ∙ c.next_bits.ensures) in
     let long : length fs ≡ used = length-parted front some some used n parted in
     let there = near-there w fs c.requires.window short in
     let mid = record w { at = w.at + used } in
-    let first = window-front w (w.at + used) front fs _ c.requires.window c.next_bits.ensures split short (omega (arith, long)) in
+    let first = window-front (w.at + used) front fs _ c.requires.window c.next_bits.ensures split short (omega (arith, long)) in
     let window = window-moved w (w.at + used) c.requires.window (omega arith) (omega (arith, there, long)) in
     let second = window-passes mid next (n * width) ws window refl (omega (arith, c.if-next-self.false)) written.bits in
     record {

@@ -17,4 +17,4 @@ returns-clause-passes c =
     let parted = c.write_sequences_of_word-parted.ensures in
     let split = parted-bits _ _ _ _ _ parted in
     let short = sequences-within _ _ _ _ (sym split ∙ c.next_bits.ensures) in
-    window-front _ _ c.next_bits.result _ _ c.requires.window c.next_bits.ensures split short (omega (arith, length-parted _ _ _ _ _ parted))
+    window-front _ c.next_bits.result _ _ c.requires.window c.next_bits.ensures split short (omega (arith, length-parted _ _ _ _ _ parted))
