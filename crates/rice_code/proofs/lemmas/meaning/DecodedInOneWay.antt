@@ -146,10 +146,10 @@ same_block s b p (x ∷ xs) (y ∷ ys) legal j h k l m n e =
     let first : x ≡ y =
     elim (bool_cases (is_reference s b)) [
       | inl f ↦ let g : Some (pattern s x) ≡ Some (pattern s y) = reference true f in same_pattern s x y legal.bits_from k.0 l.0 cc
-      | inr f ↦ same_residual s i p x y legal.bits_from h k.0 l.0 (no_reference_at s b j f) one
+      | inr f ↦ same_residual s i p {x = x} {y = y} legal.bits_from h k.0 l.0 (no_reference_at s b j f) one
     ] in
     let inside = λ (t : ℕ) (lt : t < length xs). (let z : i + 1 + t ≡ i + (1 + t) = omega arith in ap (λ v. is_reference_sample s v) z) ∙ inside_block s b (1 + t) (omega arith) (omega arith) in
-    let rest = same_residuals s (i + 1) x xs ys legal.bits_from k.0 k.1 l.1 inside (others ∙ ap (λ v. residuals s (i + 1) v ys) (sym first)) in
+    let rest = same_residuals s (i + 1) x {xs = xs} {ys = ys} legal.bits_from k.0 k.1 l.1 inside (others ∙ ap (λ v. residuals s (i + 1) v ys) (sym first)) in
     λ t. first t ∷ rest t
 
 same_samples : (s : Parameters) (b : ℕ) (p : ℤ) (n : ℕ) (xs ys : List ℤ) → IsLegal s → 1 ≤ s.block → IsSample s p → AllByRecursion (IsSample s) xs → AllByRecursion (IsSample s) ys →

@@ -74,9 +74,9 @@ stops_then TooLong a b c l m n f g = (
 stops_then OutOfRange a b c l m n f g = (gives_on a b c l m n [] f g.0, g.1)
 
 -- samples are taken of the bytes that wait
-pub gives_taken : (old new : SamplesAhead) (l : Option (List ℕ)) (bytes rest : List ℕ) (xs : List ℤ) → Reads old.setting bytes xs rest → bytes ≡ old.waiting → new.waiting ≡ rest
+pub gives_taken : {old new : SamplesAhead} (l : Option (List ℕ)) {bytes rest : List ℕ} {xs : List ℤ} → Reads old.setting bytes xs rest → bytes ≡ old.waiting → new.waiting ≡ rest
     → new.given ≡ old.given → new.setting ≡ old.setting → GivesSamples old new l l xs
-gives_taken old new l bytes rest xs r all left given setting = record {
+gives_taken {old} l {bytes} {xs} r all left given setting = record {
   bytes = [];
   gave = Consumes-nil l;
   given = omega (arith, given);

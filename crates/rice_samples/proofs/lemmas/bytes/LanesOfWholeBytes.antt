@@ -64,9 +64,9 @@ pair_more msb a b bs la lb h = record {
     parts false = refl
 
 -- four bytes more
-four_more : (msb : Bool) (a b c d : ℕ) (bs : List ℕ) → a < 2 ^ 8 → b < 2 ^ 8 → c < 2 ^ 8 → d < 2 ^ 8 → OrdersWords msb 4 bs (in_fours msb bs)
+four_more : {msb : Bool} {a b c d : ℕ} {bs : List ℕ} → a < 2 ^ 8 → b < 2 ^ 8 → c < 2 ^ 8 → d < 2 ^ 8 → OrdersWords msb 4 bs (in_fours msb bs)
     → OrdersWords msb 4 (a ∷ b ∷ c ∷ d ∷ bs) (in_fours msb (a ∷ b ∷ c ∷ d ∷ bs))
-four_more msb a b c d bs la lb lc ld h = record {
+four_more {msb} {a} {b} {c} {d} {bs} la lb lc ld h = record {
   words = v ∷ h.words;
   count = omega (arith, h.count);
   fit = All-cons (λ v. v < 2 ^ (8 * 4)) v h.words (omega (arith, la, lb, lc, ld)) h.fit;
@@ -136,7 +136,7 @@ fours_ordered msb (suc n) (a ∷ []) len fit = absurd (omega (arith, len))
 fours_ordered msb (suc n) (a ∷ b ∷ []) len fit = absurd (omega (arith, len))
 fours_ordered msb (suc n) (a ∷ b ∷ c ∷ []) len fit = absurd (omega (arith, len))
 fours_ordered msb (suc n) (a ∷ b ∷ c ∷ d ∷ bs) len fit =
-    four_more msb a b c d bs (fit 0 0 (omega arith)) (fit 1 0 (omega arith)) (fit 2 0 (omega arith)) (fit 3 0 (omega arith))
+    four_more (fit 0 0 (omega arith)) (fit 1 0 (omega arith)) (fit 2 0 (omega arith)) (fit 3 0 (omega arith))
     (fours_ordered msb n bs (omega (arith, len)) (λ i x lt. fit (suc (suc (suc (suc i)))) x (omega (arith, lt))))
 
 -- bytes of words stay as they are where the most significant comes first

@@ -20,9 +20,9 @@ pub flat_map-push : {X A : Type 0} (f : X → List A) (xs : List X) (x : X) → 
 flat_map-push f xs x = flat_map-append f xs (x ∷ []) ∙ ap (λ v. flat_map f xs ++ v) (append-nil (f x))
 
 -- one more is read, by the level of its value
-pub one_read : (f : ℤ → List ℕ) (value : ℕ → ℤ) (w i : ℕ) (bytes levels : List ℕ) (l : ℕ) → i < length levels → take (w * i) bytes ≡ flat_map f (map value (take i levels)) →
+pub one_read : (f : ℤ → List ℕ) (value : ℕ → ℤ) (w : ℕ) {i : ℕ} (bytes levels : List ℕ) (l : ℕ) → i < length levels → take (w * i) bytes ≡ flat_map f (map value (take i levels)) →
     take (w * i + w - w * i) (drop (w * i) bytes) ≡ f (value l) → take (w * (i + 1)) bytes ≡ flat_map f (map value (take (i + 1) (slice_set levels i l)))
-one_read f value w i bytes levels l h e g =
+one_read f value w {i} bytes levels l h e g =
     let n : w * (i + 1) ≡ w * i + w = omega arith in
     let m : w * i + w - w * i ≡ w = omega arith in
     let last : take w (drop (w * i) bytes) ≡ f (value l) = ap (λ v. take v (drop (w * i) bytes)) (sym m) ∙ g in
@@ -37,10 +37,10 @@ pub one_legal : {X : Type 0} (P : X → Type 0) (i : ℕ) (xs : List X) (x : X) 
 one_legal P i xs x h all p = subst (All P) (sym (take_more_set xs i x h)) (All-push P (take i xs) x all p)
 
 -- the bytes of one more value, by its level
-pub one_written : (f : ℤ → List ℕ) (value : ℕ → ℤ) (w i k : ℕ) (bytes ys levels : List ℕ) → i < length levels → length bytes ≡ w * length levels → length ys ≡ w
+pub one_written : (f : ℤ → List ℕ) (value : ℕ → ℤ) {w i : ℕ} (k : ℕ) (bytes : List ℕ) {ys : List ℕ} (levels : List ℕ) → i < length levels → length bytes ≡ w * length levels → length ys ≡ w
     → take (w * i) bytes ≡ flat_map f (map value (take i levels)) →
     ys ≡ f (value (get_or levels i 0)) → take (w * (i + 1)) (put_mid (w * i) k bytes ys) ≡ flat_map f (map value (take (i + 1) levels))
-one_written f value w i k bytes ys levels h len one e g =
+one_written f value {w} {i} k bytes {ys} levels h len one e g =
     let n : w * (i + 1) ≡ w * i + length ys = omega (arith, one) in
     let more : w * i ≤ w * length levels = mul-le-mul_left w (omega arith) in
     take-put_mid (w * i) k bytes ys (w * (i + 1)) n (omega (arith, more, len))

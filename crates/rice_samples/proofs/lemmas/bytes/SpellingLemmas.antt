@@ -165,9 +165,9 @@ offset_limit s more h le = by_sign s.signed
     by_sign false = omega arith
 
 -- bytes that spell the word of a sample's pattern spell the sample
-pub spelled_level : (s : Parameters) (bytes : List ℕ) (msb : Bool) (k word o : ℕ) (x : ℤ) → IsLegal s → msb ≡ s.msb → o ≡ offset s → k ≡ width s → length bytes ≡ width s → s.bits ≤ 8 * k → 1 ≤ k →
+pub spelled_level : {s : Parameters} {bytes : List ℕ} {msb : Bool} {k : ℕ} (word : ℕ) {o : ℕ} (x : ℤ) → IsLegal s → msb ≡ s.msb → o ≡ offset s → k ≡ width s → length bytes ≡ width s → s.bits ≤ 8 * k → 1 ≤ k →
     bytes ≡ ordered_bytes msb (length bytes) word → word < 2 ^ (8 * length bytes) → IsSample s x → level s x ≡ (word + o) % 2 ^ (8 * k) → bytes ≡ spelling s x
-spelled_level s bytes msb k word o x legal m f w n holds from b lt hx e =
+spelled_level {s} {bytes} {k} word x legal m f w n holds from b lt hx e =
     let len : length bytes ≡ k = n ∙ sym w in
     let fits : word < 2 ^ (8 * k) = subst (λ (v : ℕ). word < 2 ^ (8 * v)) len lt in
     let wide : Parameters = record s { bits = 8 * k } in
@@ -181,10 +181,10 @@ spelled_level s bytes msb k word o x legal m f w n holds from b lt hx e =
     ∙ (ap (λ v. ordered_bytes s.msb v word) n ∙ (ap (λ v. ordered_bytes s.msb (width s) v) same ∙ ap (λ v. ordered_bytes s.msb (width s) (twos_complement (8 * v) x)) w)))
 
 -- bytes that spell a sample tell its level
-pub level_spelled : (s : Parameters) (bytes : List ℕ) (msb : Bool) (k word o : ℕ) (y : ℤ) → IsLegal s → msb ≡ s.msb → o ≡ offset s → k ≡ width s
+pub level_spelled : {s : Parameters} {bytes : List ℕ} {msb : Bool} {k : ℕ} (word : ℕ) {o : ℕ} (y : ℤ) → IsLegal s → msb ≡ s.msb → o ≡ offset s → k ≡ width s
     → length bytes ≡ width s → s.bits ≤ 8 * k → 1 ≤ k → k ≤ 4 →
     bytes ≡ ordered_bytes msb (length bytes) word → word < 2 ^ (8 * length bytes) → IsSample s y → bytes ≡ spelling s y → (word + o) % 2 ^ (8 * k) ≡ level s y
-level_spelled s bytes msb k word o y legal m f w n holds from to b lt hy e =
+level_spelled {s} {bytes} {msb} {k} word {o} y legal m f w n holds from to b lt hy e =
     let len : length bytes ≡ k = n ∙ sym w in
     let fits : word < 2 ^ (8 * k) = subst (λ (v : ℕ). word < 2 ^ (8 * v)) len lt in
     let wide : Parameters = record s { bits = 8 * k } in

@@ -94,26 +94,26 @@ high_three v =
     let c : v % 16777216 / 65536 % 256 ≡ v / 256 / 256 % 256 = omega arith in
     λ j. c j ∷ b j ∷ a j ∷ []
 
-low-threes-spelled : (s : Parameters) (n o : ℕ) (levels : List ℕ) → 1 ≤ s.bits → s.bits ≤ 24 → width s ≡ 3 → s.msb ≡ false → o ≡ offset s → length levels ≡ n
+low-threes-spelled : (s : Parameters) {n o : ℕ} (levels : List ℕ) → 1 ≤ s.bits → s.bits ≤ 24 → width s ≡ 3 → s.msb ≡ false → o ≡ offset s → length levels ≡ n
     → All (λ l. l < value_count s) levels → threes false (words_of n o levels) ≡ spellings s (values_at s levels)
-low-threes-spelled s n o [] h few three order e len legal = refl
-low-threes-spelled s zero o (l ∷ levels) h few three order e len legal = absurd (omega (arith, len))
-low-threes-spelled s (suc n) o (l ∷ levels) h few three order e len legal =
+low-threes-spelled s [] h few three order e len legal = refl
+low-threes-spelled s {n = zero} (l ∷ levels) h few three order e len legal = absurd (omega (arith, len))
+low-threes-spelled s {n = suc n} {o} (l ∷ levels) h few three order e len legal =
     let word = word_is s l o h few three e (legal 0 0 (omega arith)) in
     let one : spelling s (value_at s l) ≡ threes false ((l + (4294967296 - o)) % 4294967296 ∷ []) =
     (λ j. cond (order j) (bytes_high_first (three j) (word j)) (bytes_low_first 0 (three j) (word j))) ∙ low_three ((l + (4294967296 - o)) % 4294967296) in
-    let rest = low-threes-spelled s n o levels h few three order e (omega (arith, len)) (λ i d lt. legal (suc i) d (omega (arith, lt))) in
+    let rest = low-threes-spelled s {n = n} levels h few three order e (omega (arith, len)) (λ i d lt. legal (suc i) d (omega (arith, lt))) in
     λ j. sym one j ++ rest j
 
-high-threes-spelled : (s : Parameters) (n o : ℕ) (levels : List ℕ) → 1 ≤ s.bits → s.bits ≤ 24 → width s ≡ 3 → s.msb ≡ true → o ≡ offset s → length levels ≡ n
+high-threes-spelled : (s : Parameters) {n o : ℕ} (levels : List ℕ) → 1 ≤ s.bits → s.bits ≤ 24 → width s ≡ 3 → s.msb ≡ true → o ≡ offset s → length levels ≡ n
     → All (λ l. l < value_count s) levels → threes true (words_of n o levels) ≡ spellings s (values_at s levels)
-high-threes-spelled s n o [] h few three order e len legal = refl
-high-threes-spelled s zero o (l ∷ levels) h few three order e len legal = absurd (omega (arith, len))
-high-threes-spelled s (suc n) o (l ∷ levels) h few three order e len legal =
+high-threes-spelled s [] h few three order e len legal = refl
+high-threes-spelled s {n = zero} (l ∷ levels) h few three order e len legal = absurd (omega (arith, len))
+high-threes-spelled s {n = suc n} {o} (l ∷ levels) h few three order e len legal =
     let word = word_is s l o h few three e (legal 0 0 (omega arith)) in
     let one : spelling s (value_at s l) ≡ threes true ((l + (4294967296 - o)) % 4294967296 ∷ []) =
     (λ j. cond (order j) (bytes_high_first (three j) (word j)) (bytes_low_first 0 (three j) (word j))) ∙ high_three ((l + (4294967296 - o)) % 4294967296) in
-    let rest = high-threes-spelled s n o levels h few three order e (omega (arith, len)) (λ i d lt. legal (suc i) d (omega (arith, lt))) in
+    let rest = high-threes-spelled s {n = n} levels h few three order e (omega (arith, len)) (λ i d lt. legal (suc i) d (omega (arith, lt))) in
     λ j. sym one j ++ rest j
 
 -- the bytes of eight words, in a vector, and three of each four
@@ -128,7 +128,7 @@ low_first s o levels h three order e len legal =
     let few = three_few s three in
     ap (λ bytes. take 24 (pick_l 0 (bytes ++ bytes) (0 ∷ 1 ∷ 2 ∷ 4 ∷ 5 ∷ 6 ∷ 8 ∷ 9 ∷ 10 ∷ 12 ∷ 13 ∷ 14 ∷ 16 ∷ 17 ∷ 18 ∷ 20 ∷ 21 ∷ 22 ∷ 24 ∷ 25 ∷ 26 ∷ 28 ∷ 29 ∷ 30 ∷ 0 ∷ 0 ∷ 0 ∷ 0 ∷ 0 ∷ 0 ∷ 0 ∷ 0 ∷ [])))
     (words_in_bytes o levels len)
-    ∙ (low_threes (words_of 8 o levels) (length-words_of 8 o levels len) ∙ low-threes-spelled s 8 o levels h few three order e len legal)
+    ∙ (low_threes (words_of 8 o levels) (length-words_of 8 o levels len) ∙ low-threes-spelled s levels h few three order e len legal)
 
 pub high_first : (s : Parameters) (o : ℕ) (levels : List ℕ) → 1 ≤ s.bits → width s ≡ 3 → s.msb ≡ true → o ≡ offset s → length levels ≡ 8 → All (λ l. l < value_count s) levels
     → let bytes = digits_l 256 32 (number_l 4294967296 (words_of 8 o levels)) in
@@ -138,13 +138,13 @@ high_first s o levels h three order e len legal =
     let few = three_few s three in
     ap (λ bytes. take 24 (pick_l 0 (bytes ++ bytes) (2 ∷ 1 ∷ 0 ∷ 6 ∷ 5 ∷ 4 ∷ 10 ∷ 9 ∷ 8 ∷ 14 ∷ 13 ∷ 12 ∷ 18 ∷ 17 ∷ 16 ∷ 22 ∷ 21 ∷ 20 ∷ 26 ∷ 25 ∷ 24 ∷ 30 ∷ 29 ∷ 28 ∷ 0 ∷ 0 ∷ 0 ∷ 0 ∷ 0 ∷ 0 ∷ 0 ∷ 0 ∷ [])))
     (words_in_bytes o levels len)
-    ∙ (high_threes (words_of 8 o levels) (length-words_of 8 o levels len) ∙ high-threes-spelled s 8 o levels h few three order e len legal)
+    ∙ (high_threes (words_of 8 o levels) (length-words_of 8 o levels len) ∙ high-threes-spelled s levels h few three order e len legal)
 
 -- eight samples more
-pub eight_more : (s : Parameters) (i : ℕ) (levels bytes spelled new : List ℕ) → 8 * i + 8 ≤ length levels → take (24 * i) bytes ≡ spellings s (values_at s (take (8 * i) levels))
+pub eight_more : (s : Parameters) (i : ℕ) (levels bytes spelled : List ℕ) {new : List ℕ} → 8 * i + 8 ≤ length levels → take (24 * i) bytes ≡ spellings s (values_at s (take (8 * i) levels))
     → take 24 spelled ≡ spellings s (values_at s (take 8 (drop (8 * i) levels))) → length spelled ≡ 32 → 24 * i + 32 ≤ length bytes → new ≡ put_chunk (24 * i) bytes spelled
     → take (24 * (i + 1)) new ≡ spellings s (values_at s (take (8 * (i + 1)) levels))
-eight_more s i levels bytes spelled new inside before next len room is =
+eight_more s i levels bytes spelled {new} inside before next len room is =
     let at : 24 * (i + 1) ≡ 24 * i + 24 = omega arith in
     let count : 8 * i + 8 ≡ 8 * (i + 1) = omega arith in
     let all : take (24 * i + 32) new ≡ take (24 * i) bytes ++ spelled = ap (take (24 * i + 32)) is ∙ take_more_put_chunk (24 * i) bytes spelled (24 * i + 32) (omega (arith, len)) room in

@@ -35,10 +35,10 @@ none_so_far s old w =
     }
 
 -- one sample more was spelled
-pub one_more : (s : Parameters) (old now new one one_new : List ℕ) (w at : ℕ) → (h : SpelledSoFar s old now at) → at + w ≤ length old → length now ≡ length old
+pub one_more : {s : Parameters} {old now new one one_new : List ℕ} (w : ℕ) {at : ℕ} → (h : SpelledSoFar s old now at) → at + w ≤ length old → length now ≡ length old
     → one ≡ take w (drop at now) → SpellsOne s one one_new
     → new ≡ take at now ++ (one_new ++ drop (at + w) now) → SpelledSoFar s old new (at + w)
-one_more s old now new one one_new w at h within len one_is d wrote =
+one_more {s} {old} {now} w {at} h within len one_is d wrote =
     let front = spellings s h.samples in
     let size : length front ≡ at = omega (arith, ap length h.spelled, length-append front (drop at old), length-drop at old) in
     let ahead : drop at now ≡ drop at old = ap (drop at) h.spelled ∙ drop_at front (drop at old) at size in

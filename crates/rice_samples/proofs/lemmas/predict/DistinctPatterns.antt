@@ -22,13 +22,13 @@ low_digits bits (negsuc v) few from below = negative (2 ^ (64 - bits)) (2 ^ bits
     negative zero p v e some lt = absurd (omega arith)
     negative (suc parts) p v e some lt = let f : 2 ^ 64 - suc v ≡ parts * p + (p - 1 - v) = omega arith in rw f (mod-mul-add parts p (p - 1 - v) (omega arith))
 
-same_signed : (n half : ℕ) (x y : ℤ) → 2 ^ n ≡ half + half → 0 < half → neg_ℤ (pos half) ≤ℤ x → int_gap (neg_ℤ (pos half)) x < 2 ^ n → neg_ℤ (pos half) ≤ℤ y → int_gap (neg_ℤ (pos half)) y < 2 ^ n →
+same_signed : (n : ℕ) {half : ℕ} {x y : ℤ} → 2 ^ n ≡ half + half → 0 < half → neg_ℤ (pos half) ≤ℤ x → int_gap (neg_ℤ (pos half)) x < 2 ^ n → neg_ℤ (pos half) ≤ℤ y → int_gap (neg_ℤ (pos half)) y < 2 ^ n →
     twos_complement n x ≡ twos_complement n y → x ≡ y
-same_signed n zero x y e lt h k l m f = absurd (omega arith)
-same_signed n (suc half) (pos v) (pos w) e lt h k l m f = ap (λ d. pos d) f
-same_signed n (suc half) (pos v) (negsuc w) e lt h k l m f = absurd (omega (arith, ints))
-same_signed n (suc half) (negsuc v) (pos w) e lt h k l m f = absurd (omega (arith, ints))
-same_signed n (suc half) (negsuc v) (negsuc w) e lt h k l m f = ap (λ d. negsuc d) (omega (arith, ints))
+same_signed n {half = zero} e lt h k l m f = absurd (omega arith)
+same_signed n {half = suc half} {x = pos v} {y = pos w} e lt h k l m f = ap (λ d. pos d) f
+same_signed n {half = suc half} {x = pos v} {y = negsuc w} e lt h k l m f = absurd (omega (arith, ints))
+same_signed n {half = suc half} {x = negsuc v} {y = pos w} e lt h k l m f = absurd (omega (arith, ints))
+same_signed n {half = suc half} {x = negsuc v} {y = negsuc w} e lt h k l m f = ap (λ d. negsuc d) (omega (arith, ints))
 
 same_unsigned : (n : ℕ) (x y : ℤ) → pos 0 ≤ℤ x → pos 0 ≤ℤ y → twos_complement n x ≡ twos_complement n y → x ≡ y
 same_unsigned n (pos v) (pos w) h k f = ap (λ d. pos d) f
@@ -40,30 +40,30 @@ same_pattern s x y h k l e = by_sign s.signed s.bits h k.0 k.1 l.0 l.1 e
   where
     by_sign : (signed : Bool) (n : ℕ) → 1 ≤ n → cond signed (neg_ℤ (pos (2 ^ (n - 1)))) (pos 0) ≤ℤ x → int_gap (cond signed (neg_ℤ (pos (2 ^ (n - 1)))) (pos 0)) x < 2 ^ n →
         cond signed (neg_ℤ (pos (2 ^ (n - 1)))) (pos 0) ≤ℤ y → int_gap (cond signed (neg_ℤ (pos (2 ^ (n - 1)))) (pos 0)) y < 2 ^ n → twos_complement n x ≡ twos_complement n y → x ≡ y
-    by_sign true n h a b c d e = same_signed n (2 ^ (n - 1)) x y (half_pow n h) (pow_pos (n - 1)) a b c d e
+    by_sign true n h a b c d e = same_signed n {x = x} {y = y} (half_pow n h) (pow_pos (n - 1)) a b c d e
     by_sign false n h a b c d e = same_unsigned n x y a c e
 
 -- where a sample is no reference, its residual tells it
-pub same_residual : (s : Parameters) (i : ℕ) (p x y : ℤ) → 1 ≤ s.bits → IsSample s p → IsSample s x → IsSample s y → is_reference_sample s i ≡ false → residual s i p x ≡ residual s i p y → x ≡ y
-same_residual s i p x y n h k l r e = by_way s.preprocess (is_reference_sample s i) r e
+pub same_residual : (s : Parameters) (i : ℕ) (p : ℤ) {x y : ℤ} → 1 ≤ s.bits → IsSample s p → IsSample s x → IsSample s y → is_reference_sample s i ≡ false → residual s i p x ≡ residual s i p y → x ≡ y
+same_residual s i p {x} {y} n h k l r e = by_way s.preprocess (is_reference_sample s i) r e
   where
     by_way : (a b : Bool) → b ≡ false → cond a (cond b 0 (rank s p x)) (pattern s x) ≡ cond a (cond b 0 (rank s p y)) (pattern s y) → x ≡ y
     by_way true true r e = absurd (let f : true ≡ false = r in cc)
     by_way true false r e = same_level s x y k l (rank_injective (value_count s) (level s p) (level s x) (level s y) h.1 k.1 l.1 e)
     by_way false b r e = same_pattern s x y n k l e
 
-pub same_residuals : (s : Parameters) (i : ℕ) (p : ℤ) (xs ys : List ℤ) → 1 ≤ s.bits → IsSample s p → AllByRecursion (IsSample s) xs → AllByRecursion (IsSample s) ys →
+pub same_residuals : (s : Parameters) (i : ℕ) (p : ℤ) {xs ys : List ℤ} → 1 ≤ s.bits → IsSample s p → AllByRecursion (IsSample s) xs → AllByRecursion (IsSample s) ys →
     ((t : ℕ) → t < length xs → is_reference_sample s (i + t) ≡ false) → residuals s i p xs ≡ residuals s i p ys → xs ≡ ys
-same_residuals s i p [] [] n h k l r e = refl
-same_residuals s i p [] (y ∷ ys) n h k l r e = absurd cc
-same_residuals s i p (x ∷ xs) [] n h k l r e = absurd cc
-same_residuals s i p (x ∷ xs) (y ∷ ys) n h k l r e =
+same_residuals s i p {xs = []} {ys = []} n h k l r e = refl
+same_residuals s i p {xs = []} {ys = y ∷ ys} n h k l r e = absurd cc
+same_residuals s i p {xs = x ∷ xs} {ys = []} n h k l r e = absurd cc
+same_residuals s i p {xs = x ∷ xs} {ys = y ∷ ys} n h k l r e =
     let one : residual s i p x ≡ residual s i p y = cc in
     let others : residuals s (i + 1) x xs ≡ residuals s (i + 1) y ys = cc in
     let here : is_reference_sample s i ≡ false = (let z : i ≡ i + 0 = omega arith in ap (λ m. is_reference_sample s m) z) ∙ r 0 (omega arith) in
-    let first = same_residual s i p x y n h k.0 l.0 here one in
+    let first = same_residual s i p {x = x} {y = y} n h k.0 l.0 here one in
     let later = λ (t : ℕ) (lt : t < length xs). (let z : i + 1 + t ≡ i + suc t = omega arith in ap (λ m. is_reference_sample s m) z) ∙ r (suc t) (omega arith) in
-    let rest = same_residuals s (i + 1) x xs ys n k.0 k.1 l.1 later (others ∙ ap (λ v. residuals s (i + 1) v ys) (sym first)) in
+    let rest = same_residuals s (i + 1) x {xs = xs} {ys = ys} n k.0 k.1 l.1 later (others ∙ ap (λ v. residuals s (i + 1) v ys) (sym first)) in
     λ j. first j ∷ rest j
 
 -- only the first sample of a block is a reference

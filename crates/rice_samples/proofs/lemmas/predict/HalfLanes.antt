@@ -64,12 +64,12 @@ last_is p (suc n) (x ∷ []) e = absurd (omega (arith, e))
 last_is p (suc n) (x ∷ y ∷ xs) e = last_is x n (y ∷ xs) (omega (arith, e))
 
 -- the levels of both halves
-pub halves_are : (s : Parameters) (before width greatest last : ℕ) (highs lows first second : List ℕ) → greatest + 1 ≡ value_count s → length highs ≡ 16
+pub halves_are : {s : Parameters} {before width : ℕ} (greatest : ℕ) {last : ℕ} {highs lows : List ℕ} (first second : List ℕ) → greatest + 1 ≡ value_count s → length highs ≡ 16
     → length lows ≡ 16 → length first ≡ 8 → length second ≡ 8
     → last ≡ get_or first 7 0 → All (λ x. x ≤ greatest) first → All (λ x. x ≤ greatest) second
     → ranks_below (greatest + 1) before first ≡ joined_parts width (take 8 highs) (take 8 lows) → ranks_below (greatest + 1) last second ≡ joined_parts width (drop 8 highs) (drop 8 lows)
     → AreLevelsOfParts s before width highs lows (first ++ second)
-halves_are s before width greatest last highs lows first second count h l f g e small few ranked more = record {
+halves_are {before} {width} greatest {highs} {lows} first second count h l f g e small few ranked more = record {
   len = length-append first second ∙ omega (arith, f, g, h);
   legal = λ i d lt. let x = All-append (λ x. x ≤ greatest) first second small few i d lt in omega (arith, x, count);
   ranked =
@@ -115,22 +115,22 @@ high_spelling s l o h wide few order e lt =
     let two = two_bytes s wide few in
     (λ j. cond (order j) (bytes_high_first (two j) (word j)) (bytes_low_first 0 (two j) (word j))) ∙ high_pair ((l + (65536 - o)) % 65536) (omega arith)
 
-pub low-spelled : (s : Parameters) (n o : ℕ) (levels : List ℕ) → 1 ≤ s.bits → 8 < s.bits → s.bits ≤ 16 → s.msb ≡ false → o ≡ offset s → length levels ≡ n → All (λ l. l < value_count s) levels
+pub low-spelled : (s : Parameters) {n o : ℕ} (levels : List ℕ) → 1 ≤ s.bits → 8 < s.bits → s.bits ≤ 16 → s.msb ≡ false → o ≡ offset s → length levels ≡ n → All (λ l. l < value_count s) levels
     → parted (zip2 (λ a b. (a + (65536 - b)) % 65536) levels (replicate n o)) ≡ spellings s (values_at s levels)
-low-spelled s n o [] h wide few order e len legal = refl
-low-spelled s zero o (l ∷ levels) h wide few order e len legal = absurd (omega (arith, len))
-low-spelled s (suc n) o (l ∷ levels) h wide few order e len legal =
+low-spelled s [] h wide few order e len legal = refl
+low-spelled s {n = zero} (l ∷ levels) h wide few order e len legal = absurd (omega (arith, len))
+low-spelled s {n = suc n} {o} (l ∷ levels) h wide few order e len legal =
     let one = low_spelling s l o h wide few order e (legal 0 0 (omega arith)) in
-    let rest = low-spelled s n o levels h wide few order e (omega (arith, len)) (λ i d lt. legal (suc i) d (omega (arith, lt))) in
+    let rest = low-spelled s {n = n} levels h wide few order e (omega (arith, len)) (λ i d lt. legal (suc i) d (omega (arith, lt))) in
     λ j. sym one j ++ rest j
 
-pub high-spelled : (s : Parameters) (n o : ℕ) (levels : List ℕ) → 1 ≤ s.bits → 8 < s.bits → s.bits ≤ 16 → s.msb ≡ true → o ≡ offset s → length levels ≡ n → All (λ l. l < value_count s) levels
+pub high-spelled : (s : Parameters) {n o : ℕ} (levels : List ℕ) → 1 ≤ s.bits → 8 < s.bits → s.bits ≤ 16 → s.msb ≡ true → o ≡ offset s → length levels ≡ n → All (λ l. l < value_count s) levels
     → swapped (parted (zip2 (λ a b. (a + (65536 - b)) % 65536) levels (replicate n o))) ≡ spellings s (values_at s levels)
-high-spelled s n o [] h wide few order e len legal = refl
-high-spelled s zero o (l ∷ levels) h wide few order e len legal = absurd (omega (arith, len))
-high-spelled s (suc n) o (l ∷ levels) h wide few order e len legal =
+high-spelled s [] h wide few order e len legal = refl
+high-spelled s {n = zero} (l ∷ levels) h wide few order e len legal = absurd (omega (arith, len))
+high-spelled s {n = suc n} {o} (l ∷ levels) h wide few order e len legal =
     let one = high_spelling s l o h wide few order e (legal 0 0 (omega arith)) in
-    let rest = high-spelled s n o levels h wide few order e (omega (arith, len)) (λ i d lt. legal (suc i) d (omega (arith, lt))) in
+    let rest = high-spelled s {n = n} levels h wide few order e (omega (arith, len)) (λ i d lt. legal (suc i) d (omega (arith, lt))) in
     λ j. sym one j ++ rest j
 
 -- pairs in a vector

@@ -224,11 +224,11 @@ bounds_below m g [] h = tt
 bounds_below m g (x ∷ xs) h = (mod_below (reach m g x + reach m g x) m h, bounds_below m g xs h)
 
 -- where no rank is above its bound, all numbers are the ones with these ranks
-pub all_near : (w : Width) (g p : ℕ) (ds bs xs before : List ℕ) → p ≤ g → g < 2 ^ bits w → length ds ≡ 8 → Each1 (Fits w) ds
+pub all_near : (w : Width) {g p : ℕ} {ds bs xs before : List ℕ} → p ≤ g → g < 2 ^ bits w → length ds ≡ 8 → Each1 (Fits w) ds
     → xs ≡ near_numbers (2 ^ bits w) p ds → before ≡ take 8 (p ∷ xs) → bs ≡ map (bound (2 ^ bits w) g) before
     → (fold_l bit_or 0 (zip2 (λ a b. (a + (2 ^ bits w - b)) % 2 ^ bits w) (sel_l (masks w ds bs) bs ds) bs) == 0) ≡ true
     → All (λ x. x ≤ g) xs × (ranks_below (g + 1) p xs ≡ ds)
-all_near w g p ds bs xs before h k n fits numbers shifted bounds test =
+all_near w {g} {p} {ds} {bs} {xs} {before} h k n fits numbers shifted bounds test =
     let most : sel_l (masks w ds bs) bs ds ≡ zip2 max ds bs = ap (λ ms. sel_l ms bs ds) (tops_compared w nat_lt ds bs) ∙ select_max ds bs in
     let over = zip2 (λ a b. (a + (2 ^ bits w - b)) % 2 ^ bits w) (zip2 max ds bs) bs in
     let test' : (fold_l bit_or 0 over == 0) ≡ true = ap (λ ys. fold_l bit_or 0 (zip2 (λ a b. (a + (2 ^ bits w - b)) % 2 ^ bits w) ys bs) == 0) (sym most) ∙ test in
@@ -245,10 +245,10 @@ all_near w g p ds bs xs before h k n fits numbers shifted bounds test =
     subst (λ (ys : List ℕ). All (λ x. x ≤ g) ys × (ranks_below (g + 1) p ys ≡ ds)) (sym numbers) ((λ i d lt. Each1-get_or (λ x. x ≤ g) (near_numbers (2 ^ bits w) p ds) i d lt near.0), near.1)
 
 -- near numbers are restored
-pub near_restored : (count greatest m p : ℕ) (levels ds numbers : List ℕ) → length levels ≡ length ds → length ds ≡ 8 → greatest + 1 ≡ count
+pub near_restored : {count : ℕ} (greatest m p : ℕ) (levels : List ℕ) {ds numbers : List ℕ} → length levels ≡ length ds → length ds ≡ 8 → greatest + 1 ≡ count
     → numbers ≡ near_numbers m p (take 8 ds) → All (λ x. x ≤ greatest) numbers
     → ranks_below (greatest + 1) p numbers ≡ take 8 ds → All (λ l. l < count) (put_chunk 0 levels numbers) × (ranks_below count p (put_chunk 0 levels numbers) ≡ ds)
-near_restored count greatest m p levels ds numbers len n above near fit ranked =
+near_restored {count} greatest m p levels {ds} {numbers} len n above near fit ranked =
     let whole : take 8 ds ≡ ds = take_all 8 ds (omega arith) in
     let many : length levels ≡ length numbers = len ∙ sym (ap length near ∙ (length-near_numbers m p (take 8 ds) ∙ ap length whole)) in
     let stored = put_chunk_whole levels numbers many in

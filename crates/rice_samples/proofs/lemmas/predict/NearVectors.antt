@@ -108,9 +108,9 @@ no_excess_in_vector (suc n) (d ∷ ds) (b ∷ bs) e t =
     (omega (arith, first), no_excess_in_vector n ds bs (omega arith) (ap (drop 1) t))
 
 -- where no rank is above its bound, all numbers are the ones with these ranks
-pub vector_is_near : (n m g p : ℕ) (ds bs xs before over : List ℕ) → p ≤ g → g < m → length ds ≡ n → xs ≡ near_numbers m p ds → before ≡ take n (p ∷ xs) → bs ≡ map (bound m g) before
+pub vector_is_near : {n m g p : ℕ} (ds : List ℕ) {bs xs before over : List ℕ} → p ≤ g → g < m → length ds ≡ n → xs ≡ near_numbers m p ds → before ≡ take n (p ∷ xs) → bs ≡ map (bound m g) before
     → over ≡ zip2 (λ d b. d - b) ds bs → over ≡ replicate n 0 → All (λ x. x ≤ g) xs × (ranks_below (g + 1) p xs ≡ ds)
-vector_is_near n m g p ds bs xs before over h k len numbers shifted bounds are test =
+vector_is_near {n} {m} {g} {p} ds {bs} {xs} {before} h k len numbers shifted bounds are test =
     let all : bs ≡ map (bound m g) (take (length ds) (p ∷ near_numbers m p ds)) = bounds ∙ (ap (map (bound m g)) shifted ∙ (λ j. map (bound m g) (take (sym len j) (p ∷ numbers j)))) in
     let many : length ds ≡ length bs = len ∙ sym
     (ap length bounds ∙ (length-map (bound m g) before
@@ -154,11 +154,11 @@ bounds-fit w g xs bs e = subst (λ (ys : List ℕ). Each1 (Fits w) ys) (sym e) (
     each [] = tt
     each (x ∷ xs) = (record { fits = mod_below (reach (2 ^ bits w) g x + reach (2 ^ bits w) g x) (2 ^ bits w) (pow_pos (bits w)) }, each xs)
 
-pub near_levels_are : (s : Parameters) (m before width greatest : ℕ) (highs lows ranks levels : List ℕ) → greatest + 1 ≡ value_count s
+pub near_levels_are : {s : Parameters} (m : ℕ) {before width : ℕ} (greatest : ℕ) {highs lows ranks levels : List ℕ} → greatest + 1 ≡ value_count s
     → length ranks ≡ length highs → levels ≡ near_numbers m before ranks
     → ranks ≡ joined_parts width highs lows → All (λ x. x ≤ greatest) levels → ranks_below (greatest + 1) before levels ≡ ranks
     → AreLevelsOfParts s before width highs lows levels
-near_levels_are s m before width greatest highs lows ranks levels count len near joined legal ranked = record {
+near_levels_are m {before} greatest {ranks} {levels} count len near joined legal ranked = record {
   len = ap length near ∙ (length-near_numbers m before ranks ∙ len);
   legal = λ i d lt. let x = legal i d lt in omega (arith, x, count);
   ranked = ap (λ n. ranks_below n before levels) (sym count) ∙ (ranked ∙ joined);

@@ -9,10 +9,10 @@ same_rest now xs i h k e =
     let heads : slice_index_or now i 0 ∷ drop (i + 1) now ≡ slice_index_or xs i 0 ∷ drop (i + 1) xs = sym (drop_more now i 0 h) ∙ (e ∙ drop_more xs i 0 k) in
     (cc, cc)
 
-pub one_rank : (count p before r i : ℕ) (now xs : List ℕ) → i < length now → i < length xs
+pub one_rank : (count p before : ℕ) {r i : ℕ} (now xs : List ℕ) → i < length now → i < length xs
     → ranks_below count p xs ≡ take i now ++ ranks_below count before (drop i xs) → drop i now ≡ drop i xs → r ≡ rank_below count before (slice_index_or now i 0) →
     ranks_below count p xs ≡ take (i + 1) (slice_set now i r) ++ ranks_below count (slice_index_or now i 0) (drop (i + 1) xs)
-one_rank count p before r i now xs h k folded rest e =
+one_rank count p before {r} {i} now xs h k folded rest e =
     let x = slice_index_or xs i 0 in
     let more = ranks_below count x (drop (i + 1) xs) in
     let same = same_rest now xs i h k rest in

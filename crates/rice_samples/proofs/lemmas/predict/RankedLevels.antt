@@ -23,10 +23,10 @@ pub legal_row : (count i n : ℕ) (xs : List ℕ) → All (λ l. l < count) xs �
 legal_row count i n xs h = All-take (λ l. l < count) (n - i) (drop i xs) (All-drop (λ l. l < count) i xs h)
 
 -- ranks of the first, and of the rest
-pub ranks_of_rest : (count p q n : ℕ) (xs first rest : List ℕ) → length first ≡ length xs → n ≤ length xs → take n first ≡ ranks_below count p (take n xs)
+pub ranks_of_rest : (count p : ℕ) {q n : ℕ} (xs first : List ℕ) {rest : List ℕ} → length first ≡ length xs → n ≤ length xs → take n first ≡ ranks_below count p (take n xs)
     → q ≡ last_number p (take n xs) → rest ≡ ranks_below count q (take (length xs - n) (drop n xs)) →
     put_mid n (length first - n) first rest ≡ ranks_below count p xs
-ranks_of_rest count p q n xs first rest len le begun last more =
+ranks_of_rest count p {n} xs first {rest} len le begun last more =
     let whole : take (length xs - n) (drop n xs) ≡ drop n xs = take_all (length xs - n) (drop n xs) (omega (arith, length-drop n xs)) in
     let end : drop (length first - n) (drop n first) ≡ [] = drop_all (length first - n) (drop n first) (omega (arith, length-drop n first)) in
     ap (λ v. take n first ++ (rest ++ v)) end ∙ (ap (λ v. take n first ++ v) (append-nil rest)

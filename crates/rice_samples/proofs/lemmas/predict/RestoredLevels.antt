@@ -26,10 +26,10 @@ pub record AreRestored (count before i reached : ℕ) (levels ds : List ℕ) : T
   pub within : reached < count
 
 -- one more by its residual
-pub restored-more : (count before i reached next above : ℕ) (levels ds : List ℕ) → i < length levels → i < length ds
+pub restored-more : {count before i reached next : ℕ} (above : ℕ) {levels ds : List ℕ} → i < length levels → i < length ds
     → AreRestored count before i reached levels ds → next < count → above ≡ count → rank_below above reached next ≡ get_or ds i 0
     → AreRestored count before (i + 1) next (slice_set levels i next) ds
-restored-more count before i reached next above levels ds h k so_far within same ranked =
+restored-more {count} {before} {i} {next} above {levels} {ds} h k so_far within same ranked =
     let more = take_more_set levels i next h in
     let from = sym so_far.last_is in
     let rank : rank_below count (last_number before (take i levels)) next ≡ get_or ds i 0 = (λ j. rank_below (sym same j) (from j) next) ∙ ranked in
@@ -60,10 +60,10 @@ pub last_taken : (p n m : ℕ) (xs : List ℕ) (d : ℕ) → m ≡ n + 1 → n <
 last_taken p n m xs d e h = sym (ap (λ k. last_number p (take k xs)) e ∙ (ap (last_number p) (take_more xs n d h) ∙ last_number-push p (take n xs) (get_or xs n d)))
 
 -- up to `m` from the place `a`, with `last` as the last one
-pub restored-row : (count before a k m last reached : ℕ) (levels ys ds : List ℕ) → length ys ≡ k → m ≡ a + k → m ≡ last + 1 → m ≤ length levels
+pub restored-row : {count before a k m : ℕ} (last : ℕ) {reached : ℕ} {levels : List ℕ} (ys : List ℕ) {ds : List ℕ} → length ys ≡ k → m ≡ a + k → m ≡ last + 1 → m ≤ length levels
     → AreRestored count before a reached levels ds → All (λ l. l < count) ys
     → ranks_below count reached ys ≡ take k (drop a ds) → AreRestored count before m (get_or (put_mid a k levels ys) last 0) (put_mid a k levels ys) ds
-restored-row count before a k m last reached levels ys ds n e f room so_far small ranked =
+restored-row {count} {before} {a} {k} {m} last {levels} ys {ds} n e f room so_far small ranked =
     let now = put_mid a k levels ys in
     let taken = row_taken a k m levels ys n e room in
     let first = take a levels in
@@ -92,9 +92,9 @@ first_can s p k ds places first can le len = record {
 }
 
 -- and the second, behind it
-pub second_can : (s : Parameters) (p k n q : ℕ) (ds places first second : List ℕ) → CanRestore s p ds places → Restores s p (take k ds) first → length first ≡ k → k ≡ n + 1
+pub second_can : {s : Parameters} {p : ℕ} (k n : ℕ) {q : ℕ} {ds places first second : List ℕ} → CanRestore s p ds places → Restores s p (take k ds) first → length first ≡ k → k ≡ n + 1
     → length second ≡ length ds - k → k ≤ length ds → q ≡ get_or first n 0 → CanRestore s q (take (length ds - k) (drop k ds)) second
-second_can s p k n q ds places first second can done len one rest le is =
+second_can {s} k n {ds} can done len one rest le is =
     let whole : take (length ds - k) (drop k ds) ≡ drop k ds = take_all (length ds - k) (drop k ds) (omega (arith, length-drop k ds)) in
     record {
       before = subst (λ (l : ℕ). l < value_count s) (sym is) (done.legal n 0 (omega (arith, len, one)));
@@ -103,9 +103,9 @@ second_can s p k n q ds places first second can done len one rest le is =
     }
 
 -- both are
-pub both_restored : (s : Parameters) (p k n q : ℕ) (ds first second : List ℕ) → Restores s p (take k ds) first → Restores s q (take (length ds - k) (drop k ds)) second
+pub both_restored : {s : Parameters} {p : ℕ} (k n : ℕ) {q : ℕ} {ds first second : List ℕ} → Restores s p (take k ds) first → Restores s q (take (length ds - k) (drop k ds)) second
     → length first ≡ k → k ≡ n + 1 → q ≡ get_or first n 0 → Restores s p ds (first ++ second)
-both_restored s p k n q ds first second a b len one is =
+both_restored {s} {p} k n {q} {ds} {first} {second} a b len one is =
     let count = value_count s in
     let whole : take (length ds - k) (drop k ds) ≡ drop k ds = take_all (length ds - k) (drop k ds) (omega (arith, length-drop k ds)) in
     let last : q ≡ last_number p first = is ∙ last_taken p n k first 0 one (omega (arith, len, one)) ∙ ap (last_number p) (take_all k first (omega (arith, len))) in

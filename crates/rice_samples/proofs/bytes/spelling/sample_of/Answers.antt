@@ -16,7 +16,7 @@ returns-then-level-number_of_values-clause-value c =
     let e : level s x.result ≡ (word.result + c.offset.result) % 2 ^ (8 * c.width.result) = rw shift at x.ensures.level in
     rw (to_z-of_z w64 x.result fits) (
       x.ensures.sample,
-      spelled_level s c.args.bytes.now c.msb.result c.width.result word.result c.offset.result x.result w.legal c.msb.ensures
+      spelled_level word.result x.result w.legal c.msb.ensures
           c.offset.ensures.value w.value c.requires w.holds_bits w.range.0 word.ensures.bytes word.ensures.fits x.ensures.sample e,
     )
 
@@ -26,7 +26,7 @@ returns-else-level-number_of_values-clause-none c = λ y sample spells.
     let word = c.word_of-word in
     let w = c.width.ensures in
     let shift = one_shl (8 * c.width.result) 64 (omega arith) in
-    let e = level_spelled s c.args.bytes.now c.msb.result c.width.result word.result c.offset.result y w.legal c.msb.ensures c.offset.ensures.value w.value
+    let e = level_spelled word.result y w.legal c.msb.ensures c.offset.ensures.value w.value
     c.requires w.holds_bits w.range.0 w.range.1 word.ensures.bytes word.ensures.fits sample spells in
     let below : level s y < value_count s = sample.1 in
     let far = rw shift at c.if-level-number_of_values.false in

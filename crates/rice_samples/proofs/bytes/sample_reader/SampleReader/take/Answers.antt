@@ -13,7 +13,7 @@ returns-clause-gives c left =
     let n = c.first_levels-count.result in
     let e : r.at + c.width.result * n ≡ r.at + width r.setting * n = ap (λ w. r.at + w * n) c.width.ensures.value in
     let rest = ap (λ m. drop m (take r.end r.buffer)) e ∙ sym (drop-drop (width r.setting * n) r.at (take r.end r.buffer)) ∙ ap (λ l. drop (width r.setting * n) l) (sym slice) in
-    rw (← c.self.view_is) (gives_taken _ _ left _ _ _ c.first_levels-count.ensures.reads slice rest refl refl)
+    rw (← c.self.view_is) (gives_taken left c.first_levels-count.ensures.reads slice rest refl refl)
 
 pub returns-clause-none : goal.returns-clause-none
 returns-clause-none c zero =

@@ -18,11 +18,11 @@ returns-clause-len c =
     ap length (excess_of_each w8 c.args.ranks bs c.fits-ranks.1 fits) ∙ (length-zip2 (λ d b. d - b) c.args.ranks bs (c.requires.lanes ∙ sym many) ∙ c.requires.lanes)
 
 pub returns-clause-fit : goal.returns-clause-fit
-returns-clause-fit c = λ e. (vector_is_near 16 (2 ^ 8) c.args.greatest c.args.p c.args.ranks c.greatest_near_ranks.result c.args.numbers c.numbers_before_each.result _
+returns-clause-fit c = λ e. (vector_is_near c.args.ranks
     c.requires.before c.ranges.greatest.fits c.requires.lanes c.requires.numbers c.numbers_before_each.ensures c.greatest_near_ranks.ensures
     (excess_of_each w8 c.args.ranks c.greatest_near_ranks.result c.fits-ranks.1 (bounds-fit w8 c.args.greatest c.numbers_before_each.result c.greatest_near_ranks.result c.greatest_near_ranks.ensures)) e).0
 
 pub returns-clause-ranks : goal.returns-clause-ranks
-returns-clause-ranks c = λ e. (vector_is_near 16 (2 ^ 8) c.args.greatest c.args.p c.args.ranks c.greatest_near_ranks.result c.args.numbers c.numbers_before_each.result _
+returns-clause-ranks c = λ e. (vector_is_near c.args.ranks
     c.requires.before c.ranges.greatest.fits c.requires.lanes c.requires.numbers c.numbers_before_each.ensures c.greatest_near_ranks.ensures
     (excess_of_each w8 c.args.ranks c.greatest_near_ranks.result c.fits-ranks.1 (bounds-fit w8 c.args.greatest c.numbers_before_each.result c.greatest_near_ranks.result c.greatest_near_ranks.ensures)) e).1

@@ -10,6 +10,6 @@ returns c =
     let test = c.if-not-both_are_zeros.ensures in
     let small = c.excess_over.ensures.value (test.first refl) in
     let count : c.number_of_values.result - 1 + 1 ≡ value_count a.setting.now = omega (arith, values.value, values.range) in
-    near_levels_are a.setting.now (2 ^ 8) a.before a.width (c.number_of_values.result - 1) a.highs a.lows c.join_parts-ranks.result c.near_numbers-levels.result count
+    near_levels_are (2 ^ 8) (c.number_of_values.result - 1) count
     (c.join_parts-ranks.ensures.len ∙ sym c.requires.len.0) c.near_numbers-levels.ensures
     (c.join_parts-ranks.ensures.value small) (c.excess_over_near-far.ensures.fit (test.second refl)) (c.excess_over_near-far.ensures.ranks (test.second refl))

@@ -8,11 +8,11 @@ returns-then-msb-clause-value c =
     let s = c.args.setting.now in
     let offset = c.offset.ensures in
     c.byte_pairs_swapped.ensures ∙ (ap swapped (words_parted c.offset.result c.args.levels c.requires.len)
-    ∙ high-spelled s 8 c.offset.result c.args.levels offset.legal.bits_from c.requires.wide c.requires.narrow (sym c.msb.ensures ∙ c.if-msb.true) offset.value c.requires.len c.requires.legal)
+    ∙ high-spelled s c.args.levels offset.legal.bits_from c.requires.wide c.requires.narrow (sym c.msb.ensures ∙ c.if-msb.true) offset.value c.requires.len c.requires.legal)
 
 pub returns-clause-value : goal.returns-clause-value
 returns-clause-value c =
     let s = c.args.setting.now in
     let offset = c.offset.ensures in
     words_parted c.offset.result c.args.levels c.requires.len
-    ∙ low-spelled s 8 c.offset.result c.args.levels offset.legal.bits_from c.requires.wide c.requires.narrow (sym c.msb.ensures ∙ c.if-msb.false) offset.value c.requires.len c.requires.legal
+    ∙ low-spelled s c.args.levels offset.legal.bits_from c.requires.wide c.requires.narrow (sym c.msb.ensures ∙ c.if-msb.false) offset.value c.requires.len c.requires.legal

@@ -7,5 +7,5 @@ pub loop-i-preserved : goal.loop-i-preserved
 loop-i-preserved c =
     let count = value_count c.args.setting.now in
     let above : c.number_of_values.result - 1 + 1 ≡ count = omega arith in
-    restored-more count c.args.before c.loop-i.i c.loop-i.level c.number_with-level.result (c.number_of_values.result - 1 + 1) c.loop-i.levels c.args.residuals.now
+    restored-more (c.number_of_values.result - 1 + 1)
     (omega arith) (omega arith) c.loop-i.invariant (omega arith) above c.number_with-level.ensures.rank

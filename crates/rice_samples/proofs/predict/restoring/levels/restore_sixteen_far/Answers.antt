@@ -9,11 +9,11 @@ restore_eight_far-requires-clause-can c =
 
 pub restore_eight_far-requires-2-clause-can : goal.restore_eight_far-requires-2-clause-can
 restore_eight_far-requires-2-clause-can c =
-    second_can c.args.setting.now c.args.before 8 7 _ c.args.residuals.now c.args.levels.now c.restore_eight_far.new.levels c.split_at_mut-first.result.1.now c.requires.can
+    second_can 8 7 c.requires.can
     c.restore_eight_far.ensures (omega (arith, c.restore_eight_far.auto.levels, c.requires.can.len, c.requires.sixteen)) refl (omega (arith, c.requires.can.len, c.requires.sixteen))
     (omega (arith, c.requires.sixteen)) refl
 
 pub returns : goal.returns
 returns c =
-    both_restored c.args.setting.now c.args.before 8 7 _ c.args.residuals.now c.restore_eight_far.new.levels c.restore_eight_far-2.new.levels c.restore_eight_far.ensures c.restore_eight_far-2.ensures
+    both_restored 8 7 c.restore_eight_far.ensures c.restore_eight_far-2.ensures
     (omega (arith, c.restore_eight_far.auto.levels, c.requires.can.len, c.requires.sixteen)) refl refl
