@@ -181,7 +181,7 @@ never_full s code xs ending used old new report status legal whole early d room 
     let bits : bits_of d.call.given ++ bits_of d.takes.left ≡ bits_of code = sym (bits_of-append d.call.given d.takes.left) ∙ ap bits_of (sym d.takes.gave) in
     let here = subst (λ (l : List Bool). Decoded s l (Some (length ys)) ys Reached (report_of report).bits) bits
     (decoded_before s (Some (length ys)) (bits_of d.call.given) (bits_of d.takes.left) ys Reached (report_of report).bits (inl refl) f.decoded) in
-    early (decoded_is_one s legal 0 0 (pos 0) (zero_is_sample s legal.bits_from) (bits_of code) (Some (length ys)) xs ys ending Reached used (report_of report).bits there here).1
+    early (decoded_is_one legal (zero_is_sample s legal.bits_from) there here).1
   where
     some : (l : List ℕ) → l ≢ [] → 0 < length l
     some [] h = absurd (h refl)

@@ -142,7 +142,7 @@ module _ (s : Parameters) (legal : IsLegal s) (asked : Option ℕ) (code left : 
     (whole : Decoded s (bits_of code) asked xs ending used) (split : code ≡ c.given ++ left) where
   -- what a part of the code decodes to that all of it decodes to
   one : (zs : List ℤ) (v : Ending) (n : ℕ) → Decoded s (bits_of code) asked zs v n → (zs ≡ xs) × (v ≡ ending) × (n ≡ used)
-  one zs v n d = decoded_is_one s legal 0 0 (pos 0) (zero_is_sample s legal.bits_from) (bits_of code) asked zs xs v ending n used d whole
+  one zs v n d = decoded_is_one legal (zero_is_sample s legal.bits_from) d whole
 
   as_before : EndsBefore e → (d : DecodesBytes s asked c r c.given ys e) → (ys ≡ xs) × (e ≡ ending) × (d.0 ≡ used)
   as_before early d =
@@ -171,7 +171,7 @@ not_early s legal asked code front more xs ys ending e used n whole split le d r
     let bits : bits_of code ≡ bits_of front ++ bits_of more = ap bits_of split ∙ bits_of-append front more in
     let inside = ends_in_front s asked (bits_of front) (bits_of more) xs ending used early
     (subst (λ (l : List Bool). Decoded s l asked xs ending used) bits whole) (omega (arith, le, length-bits_of front)) in
-    let same : e ≡ ending = (decoded_is_one s legal 0 0 (pos 0) (zero_is_sample s legal.bits_from) (bits_of front) asked ys xs e ending n used d inside).1 in
+    let same : e ≡ ending = (decoded_is_one legal (zero_is_sample s legal.bits_from) d inside).1 in
     elim runs [ inl f ↦ no f same early | inr f ↦ not_cut f same early ]
   where
     no : e ≡ Ended → e ≡ ending → EndsBefore ending → ⊥

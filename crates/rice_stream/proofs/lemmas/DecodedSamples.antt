@@ -126,7 +126,7 @@ decoded_with_set s front skipped begun b run all xs d legal behind before form s
         subst (λ (n : ℕ). DecodedFrom s n (length front + length set) (last_of p zs) rest wanted ys ending used) place
         (subst (λ (n : ℕ). DecodedFrom s (b + 1 + run) n (last_of p zs) rest wanted ys ending used) position
         (subst (λ (x : ℤ). DecodedFrom s (b + 1 + run) (length (front ++ set)) x rest wanted ys ending used) (last_both (pos 0) all xs more) next)) in
-        let here = decoding_goes_on s legal b (length front) p d skipped rest wanted zs ys ending used (goes b (omega arith)) form sound residuals skips
+        let here = decoding_goes_on legal {b = b} {position = length front} {p = p} d skipped zs (goes b (omega arith)) form sound residuals skips
         (All-append (IsSample s) xs more gives.legal run_of.legal) made.1 made.2 there in
         let none : AreOfRun s b p 0 [] = record { len = omega arith; legal = λ k d lt. absurd (omega arith); blocks = refl } in
         let again = append-nil all in

@@ -75,7 +75,7 @@ from_front s legal asked bytes xs ys front left ending known used all split earl
     let more = decoded_before s asked (bits_of front) (bits_of left) ys ending used early d in
     let bits : bits_of front ++ bits_of left ≡ bits_of bytes = sym (bits_of-append front left) ∙ ap bits_of (sym split) in
     let there = subst (λ (l : List Bool). Decoded s l asked ys ending used) bits more in
-    let one = decoded_is_one s legal 0 0 (pos 0) (zero_is_sample s legal.bits_from) (bits_of bytes) asked ys xs ending known used all there whole in
+    let one = decoded_is_one legal (zero_is_sample s legal.bits_from) there whole in
     (one.0, one.1)
 
 -- no output is longer than a decoder takes
@@ -200,7 +200,7 @@ returns_bytes s legal enc dec encoded decoded fault encodes consumed decodes = b
         let whole : dec.given ≡ output s xs = all_given enc dec consumed end ∙ written in
         let there = subst (λ (l : List ℕ). Decoded s (bits_of l) (Some (length xs)) ys decodes.ending d.0) whole
         (subst (λ (m : ℕ). Decoded s (bits_of dec.given) (Some m) ys decodes.ending d.0) n d.1) in
-        let one = decoded_is_one s legal 0 0 (pos 0) (zero_is_sample s legal.bits_from) (bits_of (output s xs)) (Some (length xs)) ys xs decodes.ending Reached d.0 all.0 there all.1 in
+        let one = decoded_is_one legal (zero_is_sample s legal.bits_from) there all.1 in
         let reached = one.1 in
         elim ends [ inl e ↦ absurd cc | inr e ↦ absurd (let ended = e.0 in cc) ]
 
@@ -245,8 +245,7 @@ returns_bytes_and_fill s legal enc dec encoded decoded fault encodes consumed de
     at_end : IsAtEnd dec.left → DecodesBytes s None dec decoded dec.given ys decodes.ending → (ys ≡ xs ++ all.0) × (decodes.ending ≡ Ended)
     at_end end d =
         let there = subst (λ (l : List ℕ). Decoded s (bits_of l) None ys decodes.ending d.0) (all_given enc dec consumed end ∙ written) d.1 in
-        let one = decoded_is_one s legal 0 0 (pos 0) (zero_is_sample s legal.bits_from) (bits_of (output s xs)) None ys (xs ++ all.0) decodes.ending Ended d.0
-        (length (bits_of (output s xs))) there all.2 in
+        let one = decoded_is_one legal (zero_is_sample s legal.bits_from) there all.2 in
         (one.0, one.1)
 
     by_fault : (fault : Option Fault) → EndsDecoding s None fault dec decoded ys decodes.ending → Ends fault

@@ -91,7 +91,7 @@ run_on (suc n) s stand q r o front given h reads (m, g, rest) =
     let place : m.block ≡ _ = ap (λ (d : DecoderState). d.block) g.moves in
     let more = run_is_more p m xs g in
     let state : IsDecoderState s m.block m.before m.run None =
-    place_moves s stand.block m.block m.run m.before None h.state.legal h.state.within place (subst (IsSample s) (sym before) h.state.sample)
+    place_moves m.run m.before None h.state.legal h.state.within place (subst (IsSample s) (sym before) h.state.sample)
     (λ lt. let some : 0 < stand.run = omega (arith, more) in omega (arith, more, h.state.run_fits some)) h.state.no_block in
     let setting : m.setting ≡ s = ap (λ (d : DecoderState). d.setting) g.moves in
     let stopped : m.stopped ≡ None = ap (λ (d : DecoderState). d.stopped) g.moves in
@@ -198,7 +198,7 @@ row_on {I} (suc n) more s stand q r new steps last bytes o front given h reads a
     let last_is = last_legal s stand.previous g.samples h.state.sample (recursion_from_All (IsSample s) g.samples block.legal) in
     let before : d.before ≡ _ = ap (λ (t : DecoderState). t.before) moves in
     let state : IsDecoderState s d.block d.before d.run None =
-    place_moves s stand.block d.block d.run d.before None h.state.legal h.state.within (ap (λ (t : DecoderState). t.block) moves)
+    place_moves d.run d.before None h.state.legal h.state.within (ap (λ (t : DecoderState). t.block) moves)
     (subst (IsSample s) (sym before) last_is) (λ lt. absurd (omega (arith, lt, none_new))) h.state.no_block in
     let one = spelled_on more s stand d r m steps k bytes o front given h reads aligned none ticked state setting stopped g counted in
     let known = one.more.gives o front given h in

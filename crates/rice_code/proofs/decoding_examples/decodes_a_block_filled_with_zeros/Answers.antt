@@ -23,5 +23,4 @@ gives = record {
 pub returns : goal.returns
 unfolding word bits_of
 returns c =
-    decoded_by_one unprocessed_defaults (Split 5 block) (pos 0xF0 ∷ replicate 7 (pos 0)) gives [] (replicate 6 false)
-    (bits_of (0xC0 ∷ 0x3F ∷ 0xE0 ∷ replicate 5 0x00)) refl refl (Some 1) (lit< tt) Reached 0 (lit≤ tt, refl)
+    decoded_by_one gives [] (replicate 6 false) refl refl (lit< tt) 0 (lit≤ tt, refl)

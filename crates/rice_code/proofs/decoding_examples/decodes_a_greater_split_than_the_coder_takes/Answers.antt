@@ -23,5 +23,5 @@ gives = record {
 
 pub returns : goal.returns
 unfolding word bits_of
-returns c = decoded_by_one defaults (Split 1 block) (map pos (range_with_len 0 8)) gives [] (replicate 1 false) (bits_of (0x40 ∷ 0x15 ∷ 0x55 ∷ 0x80 ∷ [])) refl
-    refl None tt Ended 1 (zeros_end defaults None 1 1 tt)
+returns c = decoded_by_one gives [] (replicate 1 false) refl
+    refl tt 1 (zeros_end defaults None 1 1 tt)

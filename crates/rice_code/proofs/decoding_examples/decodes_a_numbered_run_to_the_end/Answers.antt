@@ -18,5 +18,4 @@ gives = record {
 
 pub returns : goal.returns
 unfolding word bits_of
-returns c = decoded_by_one (record defaults { interval = 5 }) (ZeroBlocks (Some 0) 5) (replicate 40 (pos 0)) gives [] (replicate 6 false)
-    (bits_of (0x00 ∷ 0x00 ∷ 0x40 ∷ [])) refl refl None tt Ended 6 (zeros_end (record defaults { interval = 5 }) None 5 6 tt)
+returns c = decoded_by_one gives [] (replicate 6 false) refl refl tt 6 (zeros_end (record defaults { interval = 5 }) None 5 6 tt)

@@ -18,5 +18,5 @@ gives = record {
 
 pub returns : goal.returns
 unfolding word bits_of
-returns c = decoded_by_one defaults (RemainderOfSegment (Some 0)) (replicate 16 (pos 0)) gives [] (replicate 7 false) (bits_of (0x00 ∷ 0x00 ∷ 0x80 ∷ [])) refl
-    refl None tt Ended 7 (zeros_end defaults None 2 7 tt)
+returns c = decoded_by_one gives [] (replicate 7 false) refl
+    refl tt 7 (zeros_end defaults None 2 7 tt)

@@ -18,15 +18,13 @@ gives = record {
 
 pub returns-clause-all : goal.returns-clause-all
 unfolding word bits_of
-returns-clause-all c = decoded_by_one defaults (ZeroBlocks (Some 5) 1) (replicate 8 (pos 5)) gives [] (replicate 3 false) (bits_of (0x00 ∷ 0x58 ∷ [])) refl refl
-    None tt Ended 3 (zeros_end defaults None 1 3 tt)
+returns-clause-all c = decoded_by_one gives [] (replicate 3 false) refl refl tt 3 (zeros_end defaults None 1 3 tt)
 
 pub returns-clause-asked : goal.returns-clause-asked
 unfolding word bits_of
-returns-clause-asked c = decoded_by_one defaults (ZeroBlocks (Some 5) 1) (replicate 8 (pos 5)) gives [] (replicate 3 false) (bits_of (0x00 ∷ 0x58 ∷ [])) refl
-    refl (Some 8) (lit< tt) Reached 0 (lit≤ tt, refl)
+returns-clause-asked c = decoded_by_one gives [] (replicate 3 false) refl
+    refl (lit< tt) 0 (lit≤ tt, refl)
 
 pub returns-clause-one : goal.returns-clause-one
 unfolding word bits_of
-returns-clause-one c = decoded_by_one defaults (ZeroBlocks (Some 5) 1) (replicate 8 (pos 5)) gives [] (replicate 3 false) (bits_of (0x00 ∷ 0x58 ∷ [])) refl refl
-    (Some 1) (lit< tt) Reached 0 (lit≤ tt, refl)
+returns-clause-one c = decoded_by_one gives [] (replicate 3 false) refl refl (lit< tt) 0 (lit≤ tt, refl)

@@ -22,5 +22,4 @@ gives = record {
 
 pub returns : goal.returns
 unfolding word bits_of
-returns c = decoded_by_one one_bit_defaults (Split 5 block) (pos 0 ∷ replicate 7 (pos 1)) gives [] (replicate 2 false)
-    (bits_of (0xCF ∷ 0xE1 ∷ 0x00 ∷ 0x00 ∷ 0x00 ∷ 0x00 ∷ [])) refl refl None tt Ended 2 (zeros_end one_bit_defaults None 1 2 tt)
+returns c = decoded_by_one gives [] (replicate 2 false) refl refl tt 2 (zeros_end one_bit_defaults None 1 2 tt)

@@ -18,8 +18,7 @@ gives = record {
 
 pub returns-clause-longest : goal.returns-clause-longest
 unfolding word bits_of
-returns-clause-longest c = decoded_by_one (record defaults { interval = 64 }) (ZeroBlocks (Some 0) 63) (replicate 504 (pos 0)) gives [] (replicate 4 false)
-    (bits_of (replicate 9 0x00 ++ 0x10 ∷ [])) refl refl None tt Ended 4 (zeros_end (record defaults { interval = 64 }) None 63 4 tt)
+returns-clause-longest c = decoded_by_one gives [] (replicate 4 false) refl refl tt 4 (zeros_end (record defaults { interval = 64 }) None 63 4 tt)
 
 pub returns-clause-longer : goal.returns-clause-longer
 unfolding word bits_of

@@ -18,10 +18,10 @@ gives = record {
 
 pub returns-clause-all : goal.returns-clause-all
 unfolding word bits_of
-returns-clause-all c = decoded_by_one (record unprocessed_defaults { block = 64; interval = 64 }) (RemainderOfSegment None) (replicate 4096 (pos 0)) gives []
-    (replicate 7 false) (bits_of (0x00 ∷ 0x80 ∷ [])) refl refl None tt Ended 7 (zeros_end (record unprocessed_defaults { block = 64; interval = 64 }) None 64 7 tt)
+returns-clause-all c = decoded_by_one gives []
+    (replicate 7 false) refl refl tt 7 (zeros_end (record unprocessed_defaults { block = 64; interval = 64 }) None 64 7 tt)
 
 pub returns-clause-asked : goal.returns-clause-asked
 unfolding word bits_of
-returns-clause-asked c = decoded_by_one (record unprocessed_defaults { block = 64; interval = 64 }) (RemainderOfSegment None) (replicate 4096 (pos 0)) gives []
-    (replicate 7 false) (bits_of (0x00 ∷ 0x80 ∷ [])) refl refl (Some 10) (lit< tt) Reached 0 (lit≤ tt, refl)
+returns-clause-asked c = decoded_by_one gives []
+    (replicate 7 false) refl refl (lit< tt) 0 (lit≤ tt, refl)

@@ -18,5 +18,5 @@ gives = record {
 
 pub returns : goal.returns
 unfolding word bits_of
-returns c = decoded_by_one defaults (ZeroBlocks (Some 5) 1) (replicate 8 (pos 5)) gives [] (replicate 19 false) (bits_of (0x00 ∷ 0x58 ∷ 0x00 ∷ 0x00 ∷ [])) refl
-    refl None tt Ended 19 (zeros_end defaults None 1 19 tt)
+returns c = decoded_by_one gives [] (replicate 19 false) refl
+    refl tt 19 (zeros_end defaults None 1 19 tt)

@@ -27,7 +27,7 @@ no_form : (d : CodedDataSet) (more : List Bool) → IsForm defaults 0 d → bits
 unfolding word bits_of missing
 no_form d more h e =
     let whole : bits_of_set defaults d ++ (more ++ missing) ≡ bits_of_set defaults (Split 0 block) ++ [] = sym (append_assoc (bits_of_set defaults d) more missing) ∙ ap (λ v. v ++ missing) (sym e) in
-    let same = forms_read_in_one_way defaults 0 d (Split 0 block) (more ++ missing) [] legal h (record { reference = record { there = refl; fits = lit< tt }; len = refl }, refl, lit≤ tt) whole in
+    let same = forms_read_in_one_way 0 d (Split 0 block) (more ++ missing) [] legal h (record { reference = record { there = refl; fits = lit< tt }; len = refl }, refl, lit≤ tt) whole in
     let none = ap length same.1 in
     let some = length-append more missing in
     omega arith

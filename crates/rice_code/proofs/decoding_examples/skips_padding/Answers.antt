@@ -41,6 +41,6 @@ returns-clause-all c = record {
 
 pub returns-clause-asked : goal.returns-clause-asked
 unfolding word bits_of
-returns-clause-asked c = decoded_by_one (record defaults { interval = 1; pad = true }) run (replicate 8 (pos 5)) gives (replicate 3 true)
-    (bits_of_set (record defaults { interval = 1; pad = true }) run ++ replicate 3 false) (bits_of (0x00 ∷ 0x5F ∷ 0x00 ∷ 0x58 ∷ [])) refl refl (Some 8)
-    (lit< tt) Reached 0 (lit≤ tt, refl)
+returns-clause-asked c = decoded_by_one gives (replicate 3 true)
+    (bits_of_set (record defaults { interval = 1; pad = true }) run ++ replicate 3 false) refl refl
+    (lit< tt) 0 (lit≤ tt, refl)

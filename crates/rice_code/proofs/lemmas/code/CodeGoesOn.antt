@@ -49,13 +49,13 @@ pub own_blocks : (s : Parameters) (b q : ℕ) (p : ℤ) (xs : List ℤ) → 1 �
 own_blocks s b q p xs j len = let bare = not_filled s q p xs j len in λ i. blocks_from s b p (bare.1 i) (bare.0 i)
 
 -- no zero blocks are sent past a segment's end
-pub no_zeros_past_segment : (s : Parameters) (b : ℕ) (p : ℤ) (n : ℕ) (xs : List ℤ) → IsLegal s → IsSample s p → All (IsSample s) xs → length xs ≡ s.block * n → begins_segment s (b + n) ≡ true →
+pub no_zeros_past_segment : {s : Parameters} (b : ℕ) (p : ℤ) (n : ℕ) (xs : List ℤ) → IsLegal s → IsSample s p → All (IsSample s) xs → length xs ≡ s.block * n → begins_segment s (b + n) ≡ true →
     length (blocks_in_all s b (data_sets s b false (blocks_from s b p n xs))) ≡ n
-no_zeros_past_segment s b p n xs legal h k e begins =
+no_zeros_past_segment {s} b p n xs legal h k e begins =
     let j : 1 ≤ s.block = grind (arith, legal.block) in
     let cs = blocks_from s b p n xs in
     let count : length cs ≡ n = count_blocks s b p n xs in
-    let sound = blocks_sound s b p n xs legal j h (recursion_from_All (IsSample s) xs k) e in
+    let sound = blocks_sound b p n xs legal j h (recursion_from_All (IsSample s) xs k) e in
     let cover = covers_blocks s b false cs legal.interval_from (are_blocks s b cs sound) in
     let P : ℕ → Type 0 = λ m. GoOn s (b + m) cover.fill in
     let none = no_fill s (b + n) cover.fill begins (subst P count cover.inside) in
@@ -91,11 +91,11 @@ sets_go_on s legal b q p xs ys len begins =
     ∙ (sets_of_segments s b false false first second legal.interval_from begins'
     ∙ (ap (λ m. data_sets s b false first ++ data_sets s (b + m) false second) count ∙ ap (λ v. data_sets s b false v ++ later) (sym (own_blocks s b q p xs j len))))
 
-pub code_goes_on : (s : Parameters) → IsLegal s → (b position blocks : ℕ) (p : ℤ) (xs ys : List ℤ) → IsSample s p → All (IsSample s) xs
+pub code_goes_on : {s : Parameters} → IsLegal s → (b position blocks : ℕ) (p : ℤ) (xs ys : List ℤ) → IsSample s p → All (IsSample s) xs
     → length xs ≡ s.block * blocks → begins_segment s (b + blocks) ≡ true →
     let first = code_from s b position p xs in
     code_from s b position p (xs ++ ys) ≡ first ++ code_from s (b + blocks) (position + length first) (last_of p xs) ys
-code_goes_on s legal b position q p xs ys h k len begins =
+code_goes_on {s} legal b position q p xs ys h k len begins =
     let j : 1 ≤ s.block = grind (arith, legal.block) in
     let sent = sets_from s b p xs in
     let later = sets_from s (b + q) (last_of p xs) ys in
@@ -104,7 +104,7 @@ code_goes_on s legal b position q p xs ys h k len begins =
     let own = b + block_count s (length xs) in
     let counted = (filled_behind s q p xs ys j len).1 in
     let whole = (not_filled s q p xs j len).1 in
-    let place = ap (λ v. length (blocks_in_all s b (data_sets s b false v))) (own_blocks s b q p xs j len) ∙ no_zeros_past_segment s b p q xs legal h k len begins in
+    let place = ap (λ v. length (blocks_in_all s b (data_sets s b false v))) (own_blocks s b q p xs j len) ∙ no_zeros_past_segment b p q xs legal h k len begins in
     let inside = laid_inside s end own b position sent (omega arith) (omega arith) in
     let same : end ≡ b + q + n = omega arith in
     ap (λ v. layout s end b position v) (sets_go_on s legal b q p xs ys len begins)
@@ -123,7 +123,7 @@ code_grows s legal xs k m le =
     let here : 0 + b ≡ b = omega arith in
     let begins = ap (λ i. begins_segment s i) here ∙ start.2 in
     let samples = All-from_recursion (IsSample s) front (all_take (IsSample s) c xs (recursion_from_All (IsSample s) xs k)) in
-    let e = code_goes_on s legal 0 0 b (pos 0) front (drop c xs) (zero_is_sample s legal.bits_from) samples len begins in
+    let e = code_goes_on legal 0 0 b (pos 0) front (drop c xs) (zero_is_sample s legal.bits_from) samples len begins in
     (code_from s (0 + b) (0 + length (code s front)) (last_of (pos 0) front) (drop c xs), ap (λ v. code s v) (sym (take-append-drop c xs)) ∙ e)
 
 pub bits_go_on : (s : Parameters) → IsLegal s → (b blocks : ℕ) (p : ℤ) (xs ys : List ℤ) → length xs ≡ s.block * blocks → begins_segment s (b + blocks) ≡ true →

@@ -53,12 +53,12 @@ pub after_word : (w a b : ℕ) (t u x y : List Bool) → (word w a ++ t) ++ x �
 after_word w a b t u x y e = word_reads w a b (t ++ x) (u ++ y) (sym (append_assoc (word w a) t x) ∙ (e ∙ append_assoc (word w b) u y))
 
 -- what follows a reference
-pub after_reference : (s : Parameters) (b : ℕ) (r q : Option ℕ) → IsReference s b r → IsReference s b q → (t u x y : List Bool) →
+pub after_reference : {s : Parameters} {b : ℕ} (r q : Option ℕ) → IsReference s b r → IsReference s b q → (t u x y : List Bool) →
     (reference_bits s r ++ t) ++ x ≡ (reference_bits s q ++ u) ++ y → (r ≡ q) × (t ++ x ≡ u ++ y)
-after_reference s b None None h k t u x y e = (refl, e)
-after_reference s b None (Some w) h k t u x y e = absurd (let f : false ≡ true = h.there ∙ sym k.there in cc)
-after_reference s b (Some v) None h k t u x y e = absurd (let f : true ≡ false = h.there ∙ sym k.there in cc)
-after_reference s b (Some v) (Some w) h k t u x y e =
+after_reference None None h k t u x y e = (refl, e)
+after_reference None (Some w) h k t u x y e = absurd (let f : false ≡ true = h.there ∙ sym k.there in cc)
+after_reference (Some v) None h k t u x y e = absurd (let f : true ≡ false = h.there ∙ sym k.there in cc)
+after_reference {s} (Some v) (Some w) h k t u x y e =
     let a = after_word s.bits v w t u x y e in
     (ap (λ n. Some n) (same_below (2 ^ s.bits) v w h.fits k.fits a.0), a.1)
 
@@ -145,7 +145,7 @@ plain_reads : (s : Parameters) (b : ℕ) (c e : BlockData) (x y : List Bool) →
     tail s (NoCompression c) ++ x ≡ tail s (NoCompression e) ++ y → (c ≡ e) × (x ≡ y)
 unfolding tail
 plain_reads s b c e x y h k eq =
-    let a = after_reference s b c.reference e.reference h.0.reference k.0.reference (flat_map (word s.bits) (sent_residuals c)) (flat_map (word s.bits) (sent_residuals e)) x y eq in
+    let a = after_reference c.reference e.reference h.0.reference k.0.reference (flat_map (word s.bits) (sent_residuals c)) (flat_map (word s.bits) (sent_residuals e)) x y eq in
     let p = pieces_read (word s.bits) (λ u v. u % 2 ^ s.bits ≡ v % 2 ^ s.bits) (word_reads s.bits) (sent_residuals c) (sent_residuals e) x y (coded_len s b c e h.0 k.0 a.0) a.1 in
     let same = same_all_below (2 ^ s.bits) (sent_residuals c) (sent_residuals e) (All-coded (λ d. d < 2 ^ s.bits) c.reference c.residuals h.2)
     (All-coded (λ d. d < 2 ^ s.bits) e.reference e.residuals k.2) p.0 in
@@ -154,13 +154,13 @@ plain_reads s b c e x y h k eq =
 pub even_block : (s : Parameters) → IsLegal s → s.block ≡ s.block / 2 + s.block / 2
 even_block s h = grind (arith, h.block)
 
-second_reads : (s : Parameters) (b : ℕ) (c e : BlockData) (x y : List Bool) → IsLegal s → IsForm s b (SecondExtension c) → IsForm s b (SecondExtension e) →
+second_reads : {s : Parameters} (b : ℕ) (c e : BlockData) (x y : List Bool) → IsLegal s → IsForm s b (SecondExtension c) → IsForm s b (SecondExtension e) →
     tail s (SecondExtension c) ++ x ≡ tail s (SecondExtension e) ++ y → (c ≡ e) × (x ≡ y)
 unfolding tail
-second_reads s b c e x y legal h k eq =
+second_reads {s} b c e x y legal h k eq =
     let eq' : (reference_bits s c.reference ++ flat_map fundamental_sequence (pair_codes c.residuals)) ++ x
     ≡ (reference_bits s e.reference ++ flat_map fundamental_sequence (pair_codes e.residuals)) ++ y = cc in
-    let a = after_reference s b c.reference e.reference h.reference k.reference (flat_map fundamental_sequence (pair_codes c.residuals))
+    let a = after_reference c.reference e.reference h.reference k.reference (flat_map fundamental_sequence (pair_codes c.residuals))
     (flat_map fundamental_sequence (pair_codes e.residuals)) x y eq' in
     let p = pieces_read fundamental_sequence (λ u v. u ≡ v) sequence_reads (pair_codes c.residuals) (pair_codes e.residuals) x y
     (length-pair_codes c.residuals e.residuals (same_len s b c e h k)) a.1 in
@@ -169,13 +169,13 @@ second_reads s b c e x y legal h k eq =
     let r = a.0 in
     (λ i. record { reference = r i; residuals = g i }, p.1)
 
-split_reads : (s : Parameters) (b k : ℕ) (c e : BlockData) (x y : List Bool) → IsForm s b (Split k c) → IsForm s b (Split k e) →
+split_reads : (s : Parameters) (b k : ℕ) {c e : BlockData} (x y : List Bool) → IsForm s b (Split k c) → IsForm s b (Split k e) →
     tail s (Split k c) ++ x ≡ tail s (Split k e) ++ y → (c ≡ e) × (x ≡ y)
 unfolding tail
-split_reads s b k c e x y h g eq =
+split_reads s b k {c} {e} x y h g eq =
     let high = λ (ds : List ℕ). flat_map (λ d. fundamental_sequence (d / 2 ^ k)) ds in
     let low = λ (ds : List ℕ). flat_map (word k) ds in
-    let a = after_reference s b c.reference e.reference h.0.reference g.0.reference (high (sent_residuals c) ++ low (sent_residuals c)) (high (sent_residuals e) ++ low (sent_residuals e)) x y eq in
+    let a = after_reference c.reference e.reference h.0.reference g.0.reference (high (sent_residuals c) ++ low (sent_residuals c)) (high (sent_residuals e) ++ low (sent_residuals e)) x y eq in
     let n = coded_len s b c e h.0 g.0 a.0 in
     let p = pieces_read (λ d. fundamental_sequence (d / 2 ^ k)) (λ u v. u / 2 ^ k ≡ v / 2 ^ k) (λ u v. sequence_reads (u / 2 ^ k) (v / 2 ^ k))
     (sent_residuals c) (sent_residuals e) (low (sent_residuals c) ++ x) (low (sent_residuals e) ++ y) n
@@ -183,11 +183,11 @@ split_reads s b k c e x y h g eq =
     let q = pieces_read (word k) (λ u v. u % 2 ^ k ≡ v % 2 ^ k) (word_reads k) (sent_residuals c) (sent_residuals e) x y n p.1 in
     (same_contents c e a.0 (same_len s b c e h.0 g.0) h.1 g.1 (same_all_parts (2 ^ k) (sent_residuals c) (sent_residuals e) p.0 q.0), q.1)
 
-run_reads : (s : Parameters) (b : ℕ) (r q : Option ℕ) (m n : ℕ) (x y : List Bool) → IsReference s b r → IsReference s b q →
+run_reads : {s : Parameters} {b : ℕ} {r q : Option ℕ} (m n : ℕ) (x y : List Bool) → IsReference s b r → IsReference s b q →
     (false ∷ (reference_bits s r ++ fundamental_sequence m)) ++ x ≡ (false ∷ (reference_bits s q ++ fundamental_sequence n)) ++ y → (r ≡ q) × (m ≡ n) × (x ≡ y)
-run_reads s b r q m n x y h k eq =
+run_reads {s} {b} {r} {q} m n x y h k eq =
     let eq' : (reference_bits s r ++ fundamental_sequence m) ++ x ≡ (reference_bits s q ++ fundamental_sequence n) ++ y = cc in
-    let a = after_reference s b r q h k (fundamental_sequence m) (fundamental_sequence n) x y eq' in
+    let a = after_reference r q h k (fundamental_sequence m) (fundamental_sequence n) x y eq' in
     let p = sequence_reads m n x y a.1 in
     (a.0, p.0, p.1)
 
@@ -198,54 +198,54 @@ not_remainder : (z : ℕ) → 1 ≤ z → run_number z ≢ 4
 not_remainder z h e = absurd (grind (arith, nat_tests))
 
 -- coded data sets with one identifier
-by_tails : (s : Parameters) (b : ℕ) (d e : CodedDataSet) (x y : List Bool) → IsLegal s → IsForm s b d → IsForm s b e →
+by_tails : {s : Parameters} (b : ℕ) (d e : CodedDataSet) {x y : List Bool} → IsLegal s → IsForm s b d → IsForm s b e →
     identifier s d ≡ identifier s e → tail s d ++ x ≡ tail s e ++ y → (d ≡ e) × (x ≡ y)
 unfolding tail identifier
-by_tails s b (NoCompression c) (NoCompression e) x y legal h k i t = let p = plain_reads s b c e x y h k t in (ap (λ c. NoCompression c) p.0, p.1)
-by_tails s b (SecondExtension c) (SecondExtension e) x y legal h k i t = let p = second_reads s b c e x y legal h k t in (ap (λ c. SecondExtension c) p.0, p.1)
-by_tails s b (Split m c) (Split n e) x y legal h k i t =
+by_tails {s} b (NoCompression c) (NoCompression e) {x} {y} legal h k i t = let p = plain_reads s b c e x y h k t in (ap (λ c. NoCompression c) p.0, p.1)
+by_tails {s} b (SecondExtension c) (SecondExtension e) {x} {y} legal h k i t = let p = second_reads b c e x y legal h k t in (ap (λ c. SecondExtension c) p.0, p.1)
+by_tails {s} b (Split m c) (Split n e) {x} {y} legal h k i t =
     let same : n ≡ m = omega arith in
     let T : ℕ → Type 0 = λ j. (reference_bits s c.reference ++ (flat_map (λ d. fundamental_sequence (d / 2 ^ m)) (sent_residuals c) ++ flat_map (word m) (sent_residuals c))) ++ x
     ≡ (reference_bits s e.reference ++ (flat_map (λ d. fundamental_sequence (d / 2 ^ j)) (sent_residuals e) ++ flat_map (word j) (sent_residuals e))) ++ y in
     let at : m ≤ k_max s = h.2 in
-    let p = split_reads s b m c e x y h (k.0, k.1, at) (subst T same t) in
+    let p = split_reads s b m {c = c} {e = e} x y h (k.0, k.1, at) (subst T same t) in
     let f = p.0 in
     let g : m ≡ n = sym same in ((λ j. Split (g j) (f j)), p.1)
-by_tails s b (ZeroBlocks r z) (ZeroBlocks q w) x y legal h k i t =
-    let p = run_reads s b r q (run_number z) (run_number w) x y h.0 k.0 t in
+by_tails {s} b (ZeroBlocks r z) (ZeroBlocks q w) {x} {y} legal h k i t =
+    let p = run_reads (run_number z) (run_number w) x y h.0 k.0 t in
     let e = p.0 in let f = same_run z w h.1 k.1 p.1 in
     ((λ i. ZeroBlocks (e i) (f i)), p.2)
-by_tails s b (RemainderOfSegment r) (RemainderOfSegment q) x y legal h k i t =
-    let p = run_reads s b r q 4 4 x y h k t in (ap (λ r. RemainderOfSegment r) p.0, p.2)
-by_tails s b (ZeroBlocks r z) (RemainderOfSegment q) x y legal h k i t =
-    absurd (not_remainder z h.1 (run_reads s b r q (run_number z) 4 x y h.0 k t).1)
-by_tails s b (RemainderOfSegment q) (ZeroBlocks r z) x y legal h k i t =
-    absurd (not_remainder z k.1 (sym (run_reads s b q r 4 (run_number z) x y h k.0 t).1))
-by_tails s b (NoCompression c) (SecondExtension e) x y legal h k i t = let w = wide_id s in absurd (omega arith)
-by_tails s b (NoCompression c) (Split n e) x y legal h k i t = let w = wide_id s in let le : n ≤ 2 ^ id_len s - 3 = k.2 in absurd (omega arith)
-by_tails s b (NoCompression c) (ZeroBlocks r z) x y legal h k i t = let w = wide_id s in absurd (omega arith)
-by_tails s b (NoCompression c) (RemainderOfSegment r) x y legal h k i t = let w = wide_id s in absurd (omega arith)
-by_tails s b (SecondExtension c) (NoCompression e) x y legal h k i t = let w = wide_id s in absurd (omega arith)
-by_tails s b (SecondExtension c) (Split n e) x y legal h k i t = absurd (omega arith)
-by_tails s b (SecondExtension c) (ZeroBlocks r z) x y legal h k i t = absurd cc
-by_tails s b (SecondExtension c) (RemainderOfSegment r) x y legal h k i t = absurd cc
-by_tails s b (Split n c) (NoCompression e) x y legal h k i t = let w = wide_id s in let le : n ≤ 2 ^ id_len s - 3 = h.2 in absurd (omega arith)
-by_tails s b (Split n c) (SecondExtension e) x y legal h k i t = absurd (omega arith)
-by_tails s b (Split n c) (ZeroBlocks r z) x y legal h k i t = absurd (omega arith)
-by_tails s b (Split n c) (RemainderOfSegment r) x y legal h k i t = absurd (omega arith)
-by_tails s b (ZeroBlocks r z) (NoCompression e) x y legal h k i t = let w = wide_id s in absurd (omega arith)
-by_tails s b (ZeroBlocks r z) (SecondExtension e) x y legal h k i t = absurd cc
-by_tails s b (ZeroBlocks r z) (Split n e) x y legal h k i t = absurd (omega arith)
-by_tails s b (RemainderOfSegment r) (NoCompression e) x y legal h k i t = let w = wide_id s in absurd (omega arith)
-by_tails s b (RemainderOfSegment r) (SecondExtension e) x y legal h k i t = absurd cc
-by_tails s b (RemainderOfSegment r) (Split n e) x y legal h k i t = absurd (omega arith)
+by_tails {s} b (RemainderOfSegment r) (RemainderOfSegment q) {x} {y} legal h k i t =
+    let p = run_reads 4 4 x y h k t in (ap (λ r. RemainderOfSegment r) p.0, p.2)
+by_tails {s} b (ZeroBlocks r z) (RemainderOfSegment q) {x} {y} legal h k i t =
+    absurd (not_remainder z h.1 (run_reads (run_number z) 4 x y h.0 k t).1)
+by_tails {s} b (RemainderOfSegment q) (ZeroBlocks r z) {x} {y} legal h k i t =
+    absurd (not_remainder z k.1 (sym (run_reads 4 (run_number z) x y h k.0 t).1))
+by_tails {s} b (NoCompression c) (SecondExtension e) legal h k i t = let w = wide_id s in absurd (omega arith)
+by_tails {s} b (NoCompression c) (Split n e) legal h k i t = let w = wide_id s in let le : n ≤ 2 ^ id_len s - 3 = k.2 in absurd (omega arith)
+by_tails {s} b (NoCompression c) (ZeroBlocks r z) legal h k i t = let w = wide_id s in absurd (omega arith)
+by_tails {s} b (NoCompression c) (RemainderOfSegment r) legal h k i t = let w = wide_id s in absurd (omega arith)
+by_tails {s} b (SecondExtension c) (NoCompression e) legal h k i t = let w = wide_id s in absurd (omega arith)
+by_tails b (SecondExtension c) (Split n e) legal h k i t = absurd (omega arith)
+by_tails b (SecondExtension c) (ZeroBlocks r z) legal h k i t = absurd cc
+by_tails b (SecondExtension c) (RemainderOfSegment r) legal h k i t = absurd cc
+by_tails {s} b (Split n c) (NoCompression e) legal h k i t = let w = wide_id s in let le : n ≤ 2 ^ id_len s - 3 = h.2 in absurd (omega arith)
+by_tails b (Split n c) (SecondExtension e) legal h k i t = absurd (omega arith)
+by_tails b (Split n c) (ZeroBlocks r z) legal h k i t = absurd (omega arith)
+by_tails b (Split n c) (RemainderOfSegment r) legal h k i t = absurd (omega arith)
+by_tails {s} b (ZeroBlocks r z) (NoCompression e) legal h k i t = let w = wide_id s in absurd (omega arith)
+by_tails b (ZeroBlocks r z) (SecondExtension e) legal h k i t = absurd cc
+by_tails b (ZeroBlocks r z) (Split n e) legal h k i t = absurd (omega arith)
+by_tails {s} b (RemainderOfSegment r) (NoCompression e) legal h k i t = let w = wide_id s in absurd (omega arith)
+by_tails b (RemainderOfSegment r) (SecondExtension e) legal h k i t = absurd cc
+by_tails b (RemainderOfSegment r) (Split n e) legal h k i t = absurd (omega arith)
 
 -- no form begins another
-pub forms_read_in_one_way : (s : Parameters) (b : ℕ) (d e : CodedDataSet) (x y : List Bool) → IsLegal s → IsForm s b d → IsForm s b e →
+pub forms_read_in_one_way : {s : Parameters} (b : ℕ) (d e : CodedDataSet) (x y : List Bool) → IsLegal s → IsForm s b d → IsForm s b e →
     bits_of_set s d ++ x ≡ bits_of_set s e ++ y → (d ≡ e) × (x ≡ y)
-forms_read_in_one_way s b d e x y legal hd he eq =
+forms_read_in_one_way {s} b d e x y legal hd he eq =
     let a = same_identifiers s b d e x y hd he eq in
-    by_tails s b d e x y legal hd he a.0 a.1
+    by_tails b d e legal hd he a.0 a.1
 
 -- an identifier and what follows it
 pub head_reads : (s : Parameters) (b id : ℕ) (d : CodedDataSet) (bits more : List Bool) → id < 2 ^ id_len s → IsForm s b d → word (id_len s) id ++ bits ≡ bits_of_set s d ++ more →

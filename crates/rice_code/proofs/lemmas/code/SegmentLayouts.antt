@@ -99,11 +99,11 @@ inside_interval s start count lt at few =
     omega (arith, e)
 
 -- the code of blocks of a segment: their texts, and zeros up to a byte where they end an interval and intervals are padded
-pub code_lies : (s : Parameters) (start position count : ℕ) (cs : List BlockData) → length cs ≡ count → IsLegal s → place s start ≡ start → AreSoundBlocks s start cs → count ≤ blocks_left s start →
+pub code_lies : {s : Parameters} {start : ℕ} (position : ℕ) {count : ℕ} (cs : List BlockData) → length cs ≡ count → IsLegal s → place s start ≡ start → AreSoundBlocks s start cs → count ≤ blocks_left s start →
     bits_of_sets s (data_sets s start false cs) ++ replicate
     (cond (s.pad && start + count == s.interval) (bits_to_byte (position + length (bits_of_sets s (data_sets s start false cs)))) 0) false ≡ layout s
     (start + count) start position (data_sets s start false cs)
-code_lies s start position count [] e legal at sound few =
+code_lies {s} {start} position {count} [] e legal at sound few =
     let lt : start < s.interval = omega (arith, at, mod-lt start legal.interval_from) in
     ap (λ v. replicate (cond (s.pad && v) (bits_to_byte (position + 0)) 0) false) (no (start + count) s.interval (omega (arith, e)))
     ∙ ap (λ v. replicate (cond v (bits_to_byte (position + 0)) 0) false) (none s.pad)
@@ -114,7 +114,7 @@ code_lies s start position count [] e legal at sound few =
     none : (v : Bool) → (v && false) ≡ false
     none true = refl
     none false = refl
-code_lies s start position count (c ∷ cs) e legal at sound few =
+code_lies {s} {start} position {count} (c ∷ cs) e legal at sound few =
     let ds = data_sets s start false (c ∷ cs) in
     let bits = position + length (bits_of_sets s ds) in
     let lt : start < s.interval = omega (arith, at, mod-lt start legal.interval_from) in

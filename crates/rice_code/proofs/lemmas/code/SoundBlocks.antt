@@ -60,15 +60,15 @@ contents_sound s b p (x ∷ xs) legal j h k n = record {
     zero_there true e = zero_at_reference s b p (x ∷ xs) j e
     zero_there false e = tt
 
-pub blocks_sound : (s : Parameters) (b : ℕ) (p : ℤ) (n : ℕ) (xs : List ℤ) → IsLegal s → 1 ≤ s.block → IsSample s p → Samples s xs → length xs ≡ s.block * n
+pub blocks_sound : {s : Parameters} (b : ℕ) (p : ℤ) (n : ℕ) (xs : List ℤ) → IsLegal s → 1 ≤ s.block → IsSample s p → Samples s xs → length xs ≡ s.block * n
     → AreSoundBlocks s b (blocks_from s b p n xs)
-blocks_sound s b p zero xs legal j h k n = tt
-blocks_sound s b p (suc m) xs legal j h k n =
+blocks_sound b p zero xs legal j h k n = tt
+blocks_sound {s} b p (suc m) xs legal j h k n =
     let front : length (take s.block xs) ≡ s.block = omega (arith, length-take s.block xs) in
     let back : length (drop s.block xs) ≡ s.block * m = omega (arith, length-drop s.block xs) in
     let ks = all_take (IsSample s) s.block xs k in (
       contents_sound s b p (take s.block xs) legal j h ks front,
-      blocks_sound s (b + 1) (last_of p (take s.block xs)) m (drop s.block xs) legal j (last_legal s p (take s.block xs) h ks) (all_drop (IsSample s) s.block xs k) back,
+      blocks_sound (b + 1) (last_of p (take s.block xs)) m (drop s.block xs) legal j (last_legal s p (take s.block xs) h ks) (all_drop (IsSample s) s.block xs k) back,
     )
 
 pub count_blocks : (s : Parameters) (b : ℕ) (p : ℤ) (n : ℕ) (xs : List ℤ) → length (blocks_from s b p n xs) ≡ n
@@ -93,7 +93,7 @@ filled_len s p xs j = length-append xs _ ∙ (ap (λ n. length xs + n) (length-r
 
 pub blocks_sound_behind : (s : Parameters) (b : ℕ) (p : ℤ) (xs : List ℤ) → IsLegal s → 1 ≤ s.block → IsSample s p → Samples s xs → AreSoundBlocks s b (blocks_of s b p xs)
 blocks_sound_behind s b p xs legal j h k =
-    blocks_sound s b p (block_count s (length xs)) (filled_samples s p xs) legal j h
+    blocks_sound b p (block_count s (length xs)) (filled_samples s p xs) legal j h
     (all_append (IsSample s) xs _ k (all_replicate (IsSample s) _ (last_of p xs) (last_legal s p xs h k))) (filled_len s p xs j)
 
 pub code_is_bounded : (s : Parameters) → IsLegal s → (b : ℕ) (p : ℤ) (xs : List ℤ) → IsSample s p → All (IsSample s) xs → bits_from s b p xs ≤ bit_bound s (length xs)

@@ -48,9 +48,9 @@ shortest_bound s b c j h =
     omega arith
 
 -- a run of z blocks costs at most as much as z blocks
-run_cost : (i bound n w number : ℕ) → i + n + 2 ≤ bound → 1 ≤ n → 3 ≤ i → number ≤ w + 5 → (w ≡ 0 → number ≡ 0) → i + 1 + n + number + 1 ≤ suc w * bound
-run_cost i bound n zero number h k p m o = let z = o refl in omega (arith, h, z)
-run_cost i bound n (suc w) number h k p m o =
+run_cost : {i : ℕ} (bound : ℕ) {n : ℕ} (w number : ℕ) → i + n + 2 ≤ bound → 1 ≤ n → 3 ≤ i → number ≤ w + 5 → (w ≡ 0 → number ≡ 0) → i + 1 + n + number + 1 ≤ suc w * bound
+run_cost bound zero number h k p m o = let z = o refl in omega (arith, h, z)
+run_cost bound (suc w) number h k p m o =
     let r : suc w * 6 ≤ suc w * bound = mul-le-mul_left (suc w) (omega (arith, h, k, p)) in
     omega (arith, r, h, m)
 
@@ -72,12 +72,12 @@ run_bound s b w r cs legal h e =
     elim (zero_run_is s b r cs) [
       | inl f ↦
           let number = number_bound w in
-          let c = run_cost (id_len s) (block_bound s) s.bits w (run_number (suc w)) j legal.bits_from i number.0 number.1 in
+          let c = run_cost (block_bound s) w (run_number (suc w)) j legal.bits_from i number.0 number.1 in
           let len = cost_is_length s b (ZeroBlocks r (suc w)) j' (h, omega arith) in
           subst (λ (d : CodedDataSet). length (bits_of_set s d) ≤ suc w * block_bound s) (sym (f ∙ ap (λ z. ZeroBlocks r z) e)) (omega arith)
       | inr f ↦
           let z : 5 ≤ suc w = omega (arith, f.2) in
-          let c = run_cost (id_len s) (block_bound s) s.bits w 4 j legal.bits_from i (omega arith) (λ e. absurd (omega arith)) in
+          let c = run_cost (block_bound s) w 4 j legal.bits_from i (omega arith) (λ e. absurd (omega arith)) in
           let len = cost_is_length s b (RemainderOfSegment r) j' h in
           subst (λ (d : CodedDataSet). length (bits_of_set s d) ≤ suc w * block_bound s) (sym f.0) (omega arith)
     ]

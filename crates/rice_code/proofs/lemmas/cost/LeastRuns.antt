@@ -41,8 +41,8 @@ one_for_two : (v w : Bool) (n m : ℕ) → 1 ≤ n → 1 ≤ m → (w ≡ true �
 one_for_two v true n m h k e = let yes = e refl in grind (arith, nat_tests)
 one_for_two v false n m h k e = grind (arith, nat_tests)
 
-both_to_end : (z left len n z' left' len' : ℕ) → z ≡ n + z' → left ≡ left' + n → len ≡ n + len' → (z' == left' || z' == len') ≡ true → (z == left || z == len) ≡ true
-both_to_end z left len n z' left' len' e f g h = grind (arith, nat_tests)
+both_to_end : {z left : ℕ} (len n z' left' len' : ℕ) → z ≡ n + z' → left ≡ left' + n → len ≡ n + len' → (z' == left' || z' == len') ≡ true → (z == left || z == len) ≡ true
+both_to_end len n z' left' len' e f g h = grind (arith, nat_tests)
 
 fills_segment : (z left len : ℕ) → z ≡ left → (z == left || z == len) ≡ true
 fills_segment z left len e = grind (arith, nat_tests)
@@ -63,10 +63,10 @@ run_size s b r cs = let v = to_end s b cs in let z = run_len s b cs in omega (ar
 -- ---- where the coder goes on
 
 -- behind the last block of its run that there is
-run_laid : (s : Parameters) (fill : ℕ → ℕ → ℕ) (b end p : ℕ) (r : Option ℕ) (c : BlockData) (cs : List BlockData) → 1 ≤ s.interval → is_zero_block c ≡ true → end ≡ b + suc (length cs) →
+run_laid : (s : Parameters) (fill : ℕ → ℕ → ℕ) (b : ℕ) {end : ℕ} (p : ℕ) (r : Option ℕ) (c : BlockData) (cs : List BlockData) → 1 ≤ s.interval → is_zero_block c ≡ true → end ≡ b + suc (length cs) →
     code_end s fill end b p (zero_run s b r (c ∷ cs) ∷ data_sets s (b + 1) true cs)
     ≡ (let next = b + run_len s b (c ∷ cs) in code_end s fill end next (fill next (p + length (bits_of_set s (zero_run s b r (c ∷ cs))))) (data_sets s (b + 1) true cs))
-run_laid s fill b end p r c cs h is_zero e =
+run_laid s fill b {end} p r c cs h is_zero e =
     let z = run_len s b (c ∷ cs) in
     let run = zero_run s b r (c ∷ cs) in
     let bits = p + length (bits_of_set s run) in
@@ -113,7 +113,7 @@ run_or_afresh s fill b (c ∷ cs) h =
               some = omega (arith, skipped_go s b true c cs h z (ap not e));
               count = sym (ap (λ v. cond (not v) (run_len s b (c ∷ cs)) 0) e);
               laid = λ end p f. ap (λ l. code_end s fill end b p l) (data_sets_start s b false c cs z refl)
-                  ∙ (run_laid s fill b end p c.reference c cs h z f ∙ sym (ap (λ l. code_end s fill end next (fill next (p + length (bits_of_set s (zero_run s b c.reference (c ∷ cs))))) l) inside));
+                  ∙ (run_laid s fill b p c.reference c cs h z f ∙ sym (ap (λ l. code_end s fill end next (fill next (p + length (bits_of_set s (zero_run s b c.reference (c ∷ cs))))) l) inside));
             })
       ]
     ]
@@ -132,24 +132,24 @@ front_count s b w r rest h le = omega (arith, run_cons s b (zero_block s r) (rep
 front_len : (s : Parameters) (w : ℕ) (r : Option ℕ) (rest : List BlockData) → length (zeros_and s r w rest) ≡ suc w + length rest
 front_len s w r rest = omega (arith, length-append (replicate w (zero_block s None)) rest, length-replicate w (zero_block s None))
 
-front_laid : (s : Parameters) (fill : ℕ → ℕ → ℕ) (b end p w : ℕ) (r : Option ℕ) (rest : List BlockData) → 1 ≤ s.interval → suc w ≤ blocks_left s b → end ≡ b + 1 + w + length rest →
+front_laid : (s : Parameters) (fill : ℕ → ℕ → ℕ) (b : ℕ) {end : ℕ} (p : ℕ) {w : ℕ} (r : Option ℕ) (rest : List BlockData) → 1 ≤ s.interval → suc w ≤ blocks_left s b → end ≡ b + 1 + w + length rest →
     let all = zeros_and s r w rest in
     code_end s fill end b p (data_sets s b false all)
     ≡ (let next = b + run_len s b all in code_end s fill end next (fill next (p + length (bits_of_set s (zero_run s b r all)))) (data_sets s (b + 1 + w) true rest))
-front_laid s fill b end p w r rest h le e =
+front_laid s fill b {end} p {w} r rest h le e =
     let ahead = replicate w (zero_block s None) ++ rest in
     let all = zeros_and s r w rest in
     let next = b + run_len s b all in
     let bits = fill next (p + length (bits_of_set s (zero_run s b r all))) in
     ap (λ l. code_end s fill end b p l) (data_sets_start s b false (zero_block s r) ahead (is_zero_zeros s r) refl)
-    ∙ (run_laid s fill b end p r (zero_block s r) ahead h (is_zero_zeros s r) (omega (arith, e, front_len s w r rest)) ∙ ap (λ l. code_end s fill end next bits l) (skip_zeros s b w rest h le))
+    ∙ (run_laid s fill b {end = end} p r (zero_block s r) ahead h (is_zero_zeros s r) (omega (arith, e, front_len s w r rest)) ∙ ap (λ l. code_end s fill end next bits l) (skip_zeros s b w rest h le))
 
 -- by a run of these alone and then by the coder's choice for the others, or by the coder's choice for all
-pub run_and_more : (s : Parameters) (fill : ℕ → ℕ → ℕ) (b end p q w number others : ℕ) (r : Option ℕ) (rest : List BlockData) →
+pub run_and_more : {s : Parameters} {fill : ℕ → ℕ → ℕ} (b : ℕ) {end p q w : ℕ} (number : ℕ) {others : ℕ} (r : Option ℕ) (rest : List BlockData) →
     IsFill s fill → 1 ≤ s.interval → suc w ≤ blocks_left s b → IsLeastCodeword s b (suc w) number → end ≡ b + 1 + w + length rest → p ≤ q →
     ((position : ℕ) → position ≤ fill (b + 1 + w) (q + run_bits s r number) → code_end s fill end (b + 1 + w) position (data_sets s (b + 1 + w) false rest) ≤ others) →
     code_end s fill end b p (data_sets s b false (zeros_and s r w rest)) ≤ others
-run_and_more s fill b end p q w number others r rest is h le word e begins more =
+run_and_more {s} {fill} b {end} {p} {q} {w} number r rest is h le word e begins more =
     let all = zeros_and s r w rest in
     let z = run_len s b all in
     let v = to_end s b all in
@@ -158,7 +158,7 @@ run_and_more s fill b end p q w number others r rest is h le word e begins more 
     let size = run_size s b r all in
     let later = data_sets s here true rest in
     let count = front_count s b w r rest h le in
-    let laid = front_laid s fill b end p w r rest h le e in
+    let laid = front_laid s fill b p r rest h le e in
     elim (run_or_afresh s fill here rest h) [
       | inl none ↦
           let exact : z ≡ suc w = omega (arith, count, none.0) in
@@ -176,7 +176,7 @@ run_and_more s fill b end p q w number others r rest is h le word e begins more 
           let inside : suc w < blocks_left s b = omega (arith, run_inside s b all, count, on.some) in
           let numbered : run_number (suc w) ≤ number = elim word [ inl numbered ↦ numbered | inr full ↦ absurd (omega (arith, full.1, inside)) ] in
           let left : blocks_left s b ≡ blocks_left s here + suc w = (let n : b + suc w ≡ here = omega arith in omega (arith, left_inside s b (suc w) h inside, ap (blocks_left s) n)) in
-          let ends = both_to_end z (blocks_left s b) (length all) (suc w) z' (blocks_left s here) (length rest) joined left (front_len s w r rest) in
+          let ends = both_to_end (length all) (suc w) z' (blocks_left s here) (length rest) joined left (front_len s w r rest) in
           let few = one_for_two v v' (suc w) z' (omega arith) (omega (arith, on.some, on.count)) ends in
           let theirs = fill here (q + run_bits s r number) in
           let text' = length (bits_of_set s (zero_run s here on.reference rest)) in
@@ -188,10 +188,10 @@ run_and_more s fill b end p q w number others r rest is h le word e begins more 
     ]
 
 -- the last zero blocks, by a run of more
-last_run : (s : Parameters) (fill : ℕ → ℕ → ℕ) (b end p q j n number : ℕ) (r : Option ℕ) → IsFill s fill → 1 ≤ s.interval → suc j < n → n ≤ blocks_left s b
+last_run : {s : Parameters} {fill : ℕ → ℕ → ℕ} (b : ℕ) {end p q j n : ℕ} (number : ℕ) (r : Option ℕ) → IsFill s fill → 1 ≤ s.interval → suc j < n → n ≤ blocks_left s b
     → IsLeastCodeword s b n number → end ≡ b + suc j → p ≤ q →
     code_end s fill end b p (data_sets s b false (zeros_and s r j [])) ≤ q + run_bits s r number
-last_run s fill b end p q j n number r is h some le word e begins =
+last_run {s} {fill} b {end} {p} {j} {n} number r is h some le word e begins =
     let all = zeros_and s r j [] in
     let z = run_len s b all in
     let v = to_end s b all in
@@ -204,7 +204,7 @@ last_run s fill b end p q j n number r is h some le word e begins =
     ] in
     let bits = p + length (bits_of_set s (zero_run s b r all)) in
     let bare = is.inside b z bits (omega (arith, exact)) (omega (arith, exact, some, le)) in
-    omega (arith, front_laid s fill b end p j r [] h inside (omega (arith, e)), bare, run_size s b r all, few, begins)
+    omega (arith, front_laid s fill b {end = end} p r [] h inside (omega (arith, e)), bare, run_size s b r all, few, begins)
 
 -- the first zero blocks are all there, or the list ends among them
 run_splits : (s : Parameters) (w : ℕ) (cs ys : List BlockData) → BeginAtMost cs (replicate w (zero_block s None) ++ ys) →
@@ -219,14 +219,14 @@ run_splits s (suc w) (c ∷ cs) ys h =
     ]
 
 -- blocks that another code begins with a run, where the coder's choice for those after the run ends no later than the other code
-pub by_run : (s : Parameters) (fill : ℕ → ℕ → ℕ) (b end p q w number others : ℕ) (r : Option ℕ) (cs ys : List BlockData) →
+pub by_run : {s : Parameters} {fill : ℕ → ℕ → ℕ} (b : ℕ) {end p q w : ℕ} (number : ℕ) {others : ℕ} (r : Option ℕ) (cs ys : List BlockData) →
     IsFill s fill → 1 ≤ s.interval → suc w ≤ blocks_left s b → IsLeastCodeword s b (suc w) number → end ≡ b + length cs → p ≤ q →
     BeginAtMost cs (zeros_and s r w ys) → fill (b + 1 + w) (q + run_bits s r number) ≤ others →
     ((rest : List BlockData) (position : ℕ) → BeginAtMost rest ys → end ≡ b + 1 + w + length rest → position ≤ fill (b + 1 + w) (q + run_bits s r number) →
     code_end s fill end (b + 1 + w) position (data_sets s (b + 1 + w) false rest) ≤ others) →
     code_end s fill end b p (data_sets s b false cs) ≤ others
-by_run s fill b end p q w number others r [] ys is h le word e begins below enough more = omega (arith, begins, is.more (b + 1 + w) (q + run_bits s r number), enough)
-by_run s fill b end p q w number others r (c ∷ cs) ys is h le word e begins below enough more =
+by_run {s} b {q} {w} number r [] ys is h le word e begins below enough more = omega (arith, begins, is.more (b + 1 + w) (q + run_bits s r number), enough)
+by_run {s} {fill} b {end} {p} {q} {w} number {others} r (c ∷ cs) ys is h le word e begins below enough more =
     let first = zero_at_most s r c below.0 in
     let sent = λ (l : List BlockData). code_end s fill end b p (data_sets s b false l) in
     elim (run_splits s w cs ys below.1) [
@@ -234,10 +234,10 @@ by_run s fill b end p q w number others r (c ∷ cs) ys is h le word e begins be
           let same = go.1 in
           let all : c ∷ cs ≡ zeros_and s r w go.0 = λ i. first i ∷ same i in
           let len : end ≡ b + 1 + w + length go.0 = omega (arith, e, ap length all, front_len s w r go.0) in
-          omega (arith, ap sent all, run_and_more s fill b end p q w number others r go.0 is h le word len begins (λ position least. more go.0 position go.2 len least))
+          omega (arith, ap sent all, run_and_more b number {others = others} r go.0 is h le word len begins (λ position least. more go.0 position go.2 len least))
       | inr stop ↦
           let same = stop.2 ∙ sym (append-nil (replicate stop.0 (zero_block s None))) in
           let all : c ∷ cs ≡ zeros_and s r stop.0 [] = λ i. first i ∷ same i in
           let len : end ≡ b + suc stop.0 = omega (arith, e, ap length all, front_len s stop.0 r []) in
-          omega (arith, ap sent all, last_run s fill b end p q stop.0 (suc w) number r is h (omega (arith, stop.1)) le word len begins, is.more (b + 1 + w) (q + run_bits s r number), enough)
+          omega (arith, ap sent all, last_run b {j = stop.0} number r is h (omega (arith, stop.1)) le word len begins, is.more (b + 1 + w) (q + run_bits s r number), enough)
     ]

@@ -83,10 +83,10 @@ row_bytes {I} (suc n) old new steps steps_new p q bytes more same (m, k, d, g, c
     (m, k, d, block_bytes more front g, counted, none, row_bytes n m new k steps_new d q (drop c bytes) (drop c more) (subst (λ t. take (t * n) (drop c more) ≡ take (t * n) (drop c bytes)) (sym own) back) rest)
 
 -- a block behind a row
-pub row_and_block : {I : Type 0} (n : ℕ) (old middle new : Reader I) (steps steps_middle steps_new : ℕ) (p m q : DecoderState) (bytes : List ℕ)
+pub row_and_block : {I : Type 0} (n : ℕ) (old : Reader I) {middle new : Reader I} (steps : ℕ) {steps_middle steps_new : ℕ} (p : DecoderState) {m q : DecoderState} (bytes : List ℕ)
     → GivesRow n old middle steps steps_middle p m bytes → GivesBytes middle new steps_middle steps_new m q (drop (width p.setting * p.setting.block * n) bytes)
     → AreCounted steps_middle steps_new middle.taken new.taken → q.run ≡ 0 → GivesRow (suc n) old new steps steps_new p q bytes
-row_and_block {I} zero old middle new steps steps_middle steps_new p m q bytes (same, same_steps, same_state) g counted none =
+row_and_block {I} zero old {new} steps {steps_middle} {steps_new} p {m} {q} bytes (same, same_steps, same_state) g counted none =
     let nothing : width p.setting * p.setting.block * 0 ≡ 0 = omega arith in
     let here = subst (λ (r : Reader I). GivesBytes r new steps_middle steps_new m q (drop (width p.setting * p.setting.block * 0) bytes)) same g in
     let then = subst (λ (k : ℕ). GivesBytes old new k steps_new m q (drop (width p.setting * p.setting.block * 0) bytes)) same_steps here in
@@ -95,13 +95,13 @@ row_and_block {I} zero old middle new steps steps_middle steps_new p m q bytes (
     let own = subst (λ (r : Reader I). AreCounted steps_middle steps_new r.taken new.taken) same counted in
     let own_steps = subst (λ k. AreCounted k steps_new old.taken new.taken) same_steps own in
     (new, steps_new, q, all, own_steps, none, (refl, refl, refl))
-row_and_block {I} (suc n) old middle new steps steps_middle steps_new p m q bytes (r, k, d, first, counts, no_run, rest) g counted none =
+row_and_block {I} (suc n) old {middle} {new} steps {steps_middle} {steps_new} p {m} {q} bytes (r, k, d, first, counts, no_run, rest) g counted none =
     let c = width p.setting * p.setting.block in
     let own : width d.setting * d.setting.block ≡ c = ap (λ (s : Parameters). width s * s.block) (setting_of first) in
     let all : c * suc n ≡ c * n + c = omega arith in
     let there : drop (c * suc n) bytes ≡ drop (width d.setting * d.setting.block * n) (drop c bytes) =
     ap (λ t. drop t bytes) (omega (arith, all)) ∙ sym (drop-drop (c * n) c bytes) ∙ ap (λ t. drop (t * n) (drop c bytes)) (sym own) in
-    let tail = row_and_block n r middle new k steps_middle steps_new d m q (drop c bytes) rest (subst (λ l. GivesBytes middle new steps_middle steps_new m q l) there g) counted none in
+    let tail = row_and_block n r k d (drop c bytes) rest (subst (λ l. GivesBytes middle new steps_middle steps_new m q l) there g) counted none in
     (r, k, d, first, counts, no_run, tail)
 
 -- ---- where the reader stood
@@ -129,15 +129,15 @@ no_blocks r steps p bytes ends none = record {
 }
 
 -- a block more, whose bytes stand behind those of the others
-pub one_block_more : {I : Type 0} (n : ℕ) (old middle new : Reader I) (steps steps_middle steps_new : ℕ) (p m q : DecoderState) (bytes more own ends : List ℕ) (end : ℕ)
+pub one_block_more : {I : Type 0} {n : ℕ} {old middle new : Reader I} {steps steps_middle steps_new : ℕ} {p m q : DecoderState} {bytes more own ends : List ℕ} (end : ℕ)
     → GivesBlocks n old middle steps steps_middle p m bytes ends → GivesOneBlock middle new steps_middle steps_new m q own
     → AreCounted steps steps_middle old.taken middle.taken → AreCounted steps_middle steps_new middle.taken new.taken
     → take (width p.setting * p.setting.block * n) more ≡ take (width p.setting * p.setting.block * n) bytes → drop (width p.setting * p.setting.block * n) more ≡ own
     → end ≡ new.taken - old.taken → n < length ends
     → GivesBlocks (suc n) old new steps steps_new p q more (set ends n end)
-one_block_more {I} n old middle new steps steps_middle steps_new p m q bytes more own ends end given one before counted front back end_is room =
+one_block_more {I} {n} {old} {middle} {new} {steps} {steps_middle} {steps_new} {p} {m} {q} {bytes} {more} {ends} end given one before counted front back end_is room =
     let c = width p.setting * p.setting.block in
-    let row = row_and_block n old middle new steps steps_middle steps_new p m q more (row_bytes n old middle steps steps_middle p m bytes more front given.row)
+    let row = row_and_block n old steps p more (row_bytes n old middle steps steps_middle p m bytes more front given.row)
     (subst (λ l. GivesBytes middle new steps_middle steps_new m q l) (sym back) one.gives) counted one.run in
     let waited = waiting_more given.waited one.waited in
     let forward : old.taken ≤ new.taken = omega (arith, before.forward, counted.forward) in
@@ -168,12 +168,12 @@ one_block_more {I} n old middle new steps steps_middle steps_new p m q bytes mor
     }
 
 -- one block
-pub one_block : {I : Type 0} (old new : Reader I) (steps steps_new : ℕ) (p q : DecoderState) (bytes ends : List ℕ) (end : ℕ) → p.run ≡ 0
+pub one_block : {I : Type 0} {old new : Reader I} {steps steps_new : ℕ} {p q : DecoderState} {bytes : List ℕ} (ends : List ℕ) (end : ℕ) → p.run ≡ 0
     → GivesOneBlock old new steps steps_new p q bytes → AreCounted steps steps_new old.taken new.taken → end ≡ new.taken - old.taken → 0 < length ends
     → GivesBlocks 1 old new steps steps_new p q bytes (set ends 0 end)
-one_block old new steps steps_new p q bytes ends end none one counted end_is room =
+one_block {old} {new} {steps} {steps_new} {p} {q} {bytes} ends end none one counted end_is room =
     let nothing : width p.setting * p.setting.block * 0 ≡ 0 = omega arith in
-    one_block_more 0 old old new steps steps steps_new p p q bytes bytes bytes ends end (no_blocks old steps p bytes ends none) one
+    one_block_more end (no_blocks old steps p bytes ends none) one
     (record { forward = omega arith; limit = omega (arith, counted.forward, counted.limit); least = omega arith; most = omega arith }) counted refl (ap (λ t. drop t bytes) nothing) end_is room
 
 -- ---- places of blocks

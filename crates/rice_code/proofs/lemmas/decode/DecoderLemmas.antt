@@ -40,11 +40,11 @@ run_residuals s reference zeros = by_four (zeros == 4)
     by_four false = tt
 
 -- a sound run was taken, and the samples of its first block are given
-pub run_given : {I : Type 0} (old new : Reader I) (first last : ℕ) (s : Parameters) (b : ℕ) (p : ℤ) (r : Option ℕ) (zeros z : ℕ) (samples : List ℤ) (items : List ℕ)
+pub run_given : {I : Type 0} {old new : Reader I} {first last : ℕ} {s : Parameters} {b : ℕ} {p : ℤ} (r : Option ℕ) (zeros z : ℕ) {samples : List ℤ} {items : List ℕ}
     → SetRead old new first last s b (Zeros r zeros) items → RunIsSound s b (run_with_zeros r zeros) → blocks_in s b (run_with_zeros r zeros) ≡ zero_blocks s r z
     → length samples ≡ s.block → All (IsSample s) samples → block_data s b p samples ≡ zero_block s r
     → TakesSet old new first last s b p samples (z - 1)
-run_given old new first last s b p r zeros z samples items read run blocks len legal says = record {
+run_given {old} {new} {first} {last} {s} {b} r zeros z read run blocks len legal says = record {
   set = run_with_zeros r zeros;
   form = subst (λ x. IsForm s b x) read.tells read.form;
   run_sound = run;
@@ -59,11 +59,11 @@ run_given old new first last s b p r zeros z samples items read run blocks len l
 }
 
 -- a sound block was taken, and its samples are given
-pub block_given : {I : Type 0} (old new : Reader I) (first last : ℕ) (s : Parameters) (b : ℕ) (p : ℤ) (r : Option ℕ) (near : Bool) (samples : List ℤ) (items : List ℕ)
+pub block_given : {I : Type 0} {old new : Reader I} {first last : ℕ} {s : Parameters} {b : ℕ} (p : ℤ) (r : Option ℕ) (near : Bool) (samples : List ℤ) {items : List ℕ}
     → SetRead old new first last s b (Residuals r true near) items
     → length samples ≡ s.block → All (IsSample s) samples → block_data s b p samples ≡ block_with r items
     → TakesSet old new first last s b p samples 0
-block_given old new first last s b p r near samples items read len legal says =
+block_given p r near samples {items} read len legal says =
     let d = read.tells in
     let told = d.told refl in
     let same : block_with r items ≡ d.contents = (λ i. record { reference = sym d.reference_is i; residuals = sym told.3 i }) in
@@ -112,9 +112,9 @@ run_goes_on s b run legal h pos le = by_begin (begins_segment s (b + 1)) refl
         let same : next_block_place s b ≡ b + 1 = grind (arith, nat_tests) in
         (ap (λ n. begins_segment s n) same ∙ e, rw same (omega arith))
 
-pub place_moves : (s : Parameters) (b next run : ℕ) (last : ℤ) (stopped : Option (Result NextBlock CodeFault)) → IsLegal s → b < s.interval
+pub place_moves : {s : Parameters} {b next : ℕ} (run : ℕ) (last : ℤ) (stopped : Option (Result NextBlock CodeFault)) → IsLegal s → b < s.interval
     → next ≡ next_block_place s b → IsSample s last → (0 < run → run + 1 ≤ blocks_left s b) → stopped ≢ Some (Ok Block) → IsDecoderState s next last run stopped
-place_moves s b next run last stopped legal h e sample more no_block = record {
+place_moves {s} {b} run last stopped legal h e sample more no_block = record {
   legal = legal;
   within = subst (λ n. n < s.interval) (sym e) (next_within s b h);
   sample = sample;
@@ -127,21 +127,21 @@ replicate-first : (run : ℕ) (z : BlockData) → 0 < run → z ∷ replicate (r
 replicate-first zero z h = absurd (omega arith)
 replicate-first (suc run) z h = let e : suc run - 1 ≡ run = omega arith in ap (λ n. z ∷ replicate n z) e
 
-pub goes_on : (s : Parameters) (b next run : ℕ) (p last : ℤ) (stopped : Option (Result NextBlock CodeFault)) (samples : List ℤ) → 0 < run → next ≡ next_block_place s b → last ≡ last_of p samples
+pub goes_on : (s : Parameters) (b : ℕ) {next run : ℕ} (p : ℤ) {last : ℤ} (stopped : Option (Result NextBlock CodeFault)) {samples : List ℤ} → 0 < run → next ≡ next_block_place s b → last ≡ last_of p samples
     → length samples ≡ s.block → All (IsSample s) samples → block_data s b p samples ≡ zero_block s None
     → GivesFromRun (record { setting = s; block = b; before = p; run = run; stopped = stopped }) (record { setting = s; block = next; before = last; run = run - 1; stopped = stopped }) samples
-goes_on s b next run p last stopped samples pos e f len legal says = record {
+goes_on s b {run} p stopped pos e f len legal says = record {
   gives = record { len = len; legal = legal; blocks_are = ap (λ c. c ∷ replicate (run - 1) (zero_block s None)) says ∙ replicate-first run (zero_block s None) pos };
   moves = λ i. record { setting = s; block = e i; before = f i; run = run - 1; stopped = stopped };
 }
 
 -- a block of a run repeats the sample before it
-pub repeats_on : (s : Parameters) (b next run : ℕ) (p : ℤ) (stopped : Option (Result NextBlock CodeFault)) → IsDecoderState s b p run stopped → 0 < run
+pub repeats_on : {s : Parameters} {b : ℕ} (next : ℕ) {run : ℕ} {p : ℤ} {stopped : Option (Result NextBlock CodeFault)} → IsDecoderState s b p run stopped → 0 < run
     → s.preprocess ≡ true → next ≡ next_block_place s b
     → GivesFromRun (record { setting = s; block = b; before = p; run = run; stopped = stopped })
     (record { setting = s; block = next; before = p; run = run - 1; stopped = stopped }) (replicate s.block p)
-repeats_on s b next run p stopped state pos ways e =
-    goes_on s b next run p p stopped (replicate s.block p) pos e (sym (last_replicate p s.block)) (length-replicate s.block p) (All-replicate (IsSample s) s.block p state.sample)
+repeats_on {s} {b} next {run} {p} {stopped} state pos ways e =
+    goes_on s b p stopped pos e (sym (last_replicate p s.block)) (length-replicate s.block p) (All-replicate (IsSample s) s.block p state.sample)
     (repeated_block s b p (sym (no_reference s b (state.run_begun pos)).there) (inl ways))
 
 -- a run goes no further than its interval
@@ -172,9 +172,9 @@ pub record PassedBlocks (count : ℕ) (s : Parameters) (b next run : ℕ) (p : �
       (record { setting = s; block = next; before = p; run = run - count; stopped = stopped })
 
 -- blocks of a run repeat the sample before them
-pub passes_blocks : (count : ℕ) (s : Parameters) (b next run : ℕ) (p : ℤ) (stopped : Option (Result NextBlock CodeFault)) → IsDecoderState s b p run stopped
+pub passes_blocks : (count : ℕ) {s : Parameters} {b next run : ℕ} {p : ℤ} {stopped : Option (Result NextBlock CodeFault)} → IsDecoderState s b p run stopped
     → count ≤ run → s.preprocess ≡ true → next ≡ place_after s b count → PassedBlocks count s b next run p stopped
-passes_blocks zero s b next run p stopped state few ways e =
+passes_blocks zero {s} {b} {next} {run} {p} {stopped} state few ways e =
     let h = state.within in
     let here : place_after s b 0 ≡ b = grind (arith, nat_tests) in
     let same : next ≡ b = e ∙ here in
@@ -183,13 +183,13 @@ passes_blocks zero s b next run p stopped state few ways e =
       state = subst (λ n. IsDecoderState s n p (run - 0) stopped) (sym same) (subst (λ n. IsDecoderState s b p n stopped) (sym all) state);
       passes = λ i. record { setting = s; block = same i; before = p; run = all i; stopped = stopped };
     }
-passes_blocks (suc n) s b next run p stopped state few ways e =
+passes_blocks (suc n) {s} {b} {next} {run} {p} {stopped} state few ways e =
     let some : 0 < run = omega (arith, few) in
     let middle = next_block_place s b in
-    let there = place_moves s b middle (run - 1) p stopped state.legal state.within refl state.sample (λ h. omega (arith, state.run_fits some)) state.no_block in
-    let first = repeats_on s b middle run p stopped state some ways refl in
+    let there = place_moves {next = middle} (run - 1) p stopped state.legal state.within refl state.sample (λ h. omega (arith, state.run_fits some)) state.no_block in
+    let first = repeats_on middle state some ways refl in
     let on : next ≡ place_after s middle n = e ∙ place_on s b n state.within (inside_interval s b (suc n) run p stopped state few) in
-    let rest = passes_blocks n s middle next (run - 1) p stopped there (omega (arith, few)) ways on in
+    let rest = passes_blocks n there (omega (arith, few)) ways on in
     let left : run - 1 - n ≡ run - suc n = omega (arith, few) in
     record {
       state = subst (λ m. IsDecoderState s next p m stopped) left rest.state;
@@ -228,9 +228,9 @@ few_blocks s b (RemainderOfSegment r) legal form run =
     omega (arith, run_bits s r 4, n, left.0, left.1)
 
 -- the samples that are given and wait are bounded by the bits
-pub samples_by_bits : {I : Type 0} (old new : Reader I) (first last : ℕ) (s : Parameters) (b : ℕ) (p : ℤ) (samples : List ℤ) (run : ℕ)
+pub samples_by_bits : {I : Type 0} {old new : Reader I} {first last : ℕ} {s : Parameters} {b : ℕ} {p : ℤ} {samples : List ℤ} {run : ℕ}
     → IsLegal s → TakesSet old new first last s b p samples run → length samples + run * s.block ≤ 456 * (new.taken - old.taken)
-samples_by_bits old new first last s b p samples run legal given =
+samples_by_bits {old} {new} {s} {b} {run} legal given =
     let n : suc (length (replicate run (zero_block s None))) ≡ length (blocks_in s b given.set) = ap length given.gives.blocks_are in
     let m : length (replicate run (zero_block s None)) ≡ run = length-replicate run (zero_block s None) in
     let t : new.taken - old.taken ≡ length (bits_of_set s given.set) = omega (arith, given.takes.taken) in
@@ -255,10 +255,10 @@ stops_by old new first last s b bit_faults.Read h cut = cut
 stops_by old new first last s b bit_faults.TooLong h cut = cut
 
 -- a coded data set was taken, and its padding skipped
-set_given : {I : Type 0} (old middle new : Reader I) (first steps last : ℕ) (s : Parameters) (b : ℕ) (p : ℤ) (samples : List ℤ) (run : ℕ)
+set_given : {I : Type 0} {old middle new : Reader I} {first steps : ℕ} (last : ℕ) {s : Parameters} {b : ℕ} {p : ℤ} {samples : List ℤ} {run : ℕ}
     → TakesSet old middle first steps s b p samples run → Skips middle new (padding s (b + 1 + run) middle.taken) → last + middle.taken ≡ steps + new.taken
     → GivesSet old new first last s b p samples run
-set_given old middle new first steps last s b p samples run set skips counted =
+set_given {middle} {new} {steps} last {s} {b} {run} set skips counted =
     let n : suc (length (replicate run (zero_block s None))) ≡ length (blocks_in s b set.set) = ap length set.gives.blocks_are in
     let m : length (replicate run (zero_block s None)) ≡ run = length-replicate run (zero_block s None) in
     let behind : b + 1 + run ≡ block_after s b set.set = omega arith in
@@ -271,21 +271,21 @@ set_given old middle new first steps last s b p samples run set skips counted =
     }
 
 -- a decoder that took a coded data set and skipped its padding goes on behind its first block
-pub answers_block : {I : Type 0} (start middle new : Reader I) (first steps last : ℕ) (p q : DecoderState) (samples : List ℤ) (run : ℕ) (before : ℤ)
+pub answers_block : {I : Type 0} (start : Reader I) {middle new : Reader I} {first steps : ℕ} (last : ℕ) (p : DecoderState) {q : DecoderState} {samples : List ℤ} {run : ℕ} {before : ℤ}
     → TakesSet (with_mark start) middle first steps p.setting p.block p.before samples run
     → Skips middle new (padding p.setting (p.block + 1 + run) middle.taken) → last + middle.taken ≡ steps + new.taken
     → before ≡ last_of p.before samples → q ≡ record p { block = next_block_place p.setting p.block; before = before; run = run }
     → Answers (with_mark start) new first last p q samples (Ok Block)
-answers_block start middle new first steps last p q samples run before set skips counted sample moves =
+answers_block start {middle} {new} {first} {steps} last p {q} {samples} {run} {before} set skips counted sample moves =
     let waits : q.run ≡ run = ap (λ x. x.run) moves in
-    let given = set_given (with_mark start) middle new first steps last p.setting p.block p.before samples run set skips counted in (
+    let given = set_given last set skips counted in (
       subst (λ n. GivesSet (with_mark start) new first last p.setting p.block p.before samples n) (sym waits) given,
       moves ∙ (λ i. record { setting = p.setting; block = next_block_place p.setting p.block; before = sample i; run = sym waits i; stopped = p.stopped }),
     )
 
 -- a decoder that stops answers so
-pub answers_stop : {I : Type 0} (old new : Reader I) (first last : ℕ) (p q : DecoderState) (samples : List ℤ) (a : Result NextBlock CodeFault)
+pub answers_stop : {I : Type 0} (old new : Reader I) (first last : ℕ) (p : DecoderState) {q : DecoderState} {samples : List ℤ} (a : Result NextBlock CodeFault)
     → StopsBy old new first last p.setting p.block a → q ≡ record p { stopped = Some a } → samples ≡ [] → Answers old new first last p q samples a
-answers_stop old new first last p q samples (Ok Block) stops moves none = absurd stops
-answers_stop old new first last p q samples (Ok Done) stops moves none = (stops, moves, none)
-answers_stop old new first last p q samples (Err f) stops moves none = (stops, moves, none)
+answers_stop old new first last p (Ok Block) stops moves none = absurd stops
+answers_stop old new first last p (Ok Done) stops moves none = (stops, moves, none)
+answers_stop old new first last p (Err f) stops moves none = (stops, moves, none)

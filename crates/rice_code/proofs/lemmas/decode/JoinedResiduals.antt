@@ -104,13 +104,13 @@ part_fits high low k h le lt =
     join_fits high low (2 ^ k) (2 ^ (32 - k)) (pow_pos k) (sym (pow-add 2 (32 - k) k) ∙ ap (λ m. 2 ^ m) n) le lt
 
 -- high parts are put before low parts, one more
-pub join-more : (k : ℕ) (ms old now : List ℕ) (i : ℕ) → length old ≡ length ms → length now ≡ length old → i < length ms → k ≤ 29 → All (λ h. h ≤ (2 ^ 32 - 1) / 2 ^ k) ms → All (λ l. l < 2 ^ k) old
+pub join-more : {k : ℕ} (ms old now : List ℕ) {i : ℕ} → length old ≡ length ms → length now ≡ length old → i < length ms → k ≤ 29 → All (λ h. h ≤ (2 ^ 32 - 1) / 2 ^ k) ms → All (λ l. l < 2 ^ k) old
     → take i now ≡ take i (joined_parts k ms old) → drop i now ≡ drop i old
     → (get_or now i 0 + get_or ms i 0 * 2 ^ k % 2 ^ 32 < 2 ^ 32)
     × (take (i + 1) (set now i (get_or now i 0 + get_or ms i 0 * 2 ^ k % 2 ^ 32)) ≡ take (i + 1) (joined_parts k ms old))
     × (drop (i + 1) (set now i (get_or now i 0 + get_or ms i 0 * 2 ^ k % 2 ^ 32)) ≡ drop (i + 1) old)
     × (get_or now i 0 + get_or ms i 0 * 2 ^ k % 2 ^ 32 ≡ get_or (joined_parts k ms old) i 0)
-join-more k ms old now i same long lt few highs lows done rest =
+join-more {k} ms old now {i} same long lt few highs lows done rest =
     let v = get_or now i 0 + get_or ms i 0 * 2 ^ k % 2 ^ 32 in
     let high : get_or ms i 0 ≤ (2 ^ 32 - 1) / 2 ^ k = highs i 0 lt in
     let low : get_or old i 0 < 2 ^ k = lows i 0 (omega (arith, same, lt)) in

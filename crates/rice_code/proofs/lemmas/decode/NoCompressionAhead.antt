@@ -42,21 +42,21 @@ no_highs (suc n) k (l ∷ ls) e =
     λ j. none j ∷ rest j
 
 -- three parts that follow one another
-three-parts : (bits a b c : List Bool) (k l m : ℕ) → a ≡ take k bits → b ≡ take l (drop k bits) → c ≡ take m (drop (k + l) bits) → take (k + l + m) bits ≡ a ++ (b ++ c)
-three-parts bits a b c k l m p q r =
+three-parts : (bits : List Bool) {a b c : List Bool} (k l m : ℕ) → a ≡ take k bits → b ≡ take l (drop k bits) → c ≡ take m (drop (k + l) bits) → take (k + l + m) bits ≡ a ++ (b ++ c)
+three-parts bits {b} {c} k l m p q r =
     let all : k + l + m ≡ k + (l + m) = omega arith in
     let second : take (l + m) (drop k bits) ≡ b ++ c = take-add l m (drop k bits) ∙ (λ j. sym q j ++ (ap (take m) (drop-drop l k bits) ∙ sym r) j) in
     ap (λ i. take i bits) all ∙ (take-add k (l + m) bits ∙ (λ j. sym p j ++ second j))
 
 -- the block of words that were found
-whole_block : (waiting : List Bool) (s : Parameters) (b before from : ℕ) (r : Option ℕ) (sent levels : List ℕ) (a m : ℕ)
+whole_block : {waiting : List Bool} {s : Parameters} {b : ℕ} (before : ℕ) {from : ℕ} {r : Option ℕ} (sent : List ℕ) {levels : List ℕ} (a m : ℕ)
     → s.preprocess ≡ true → 1 ≤ s.block → IsReference s b r
     → word (id_len s) (2 ^ id_len s - 1) ≡ take (id_len s) waiting → reference_bits s r ≡ take a (drop (id_len s) waiting)
     → flat_map (word s.bits) sent ≡ take m (drop (id_len s + a) waiting) → id_len s + a + m ≤ length waiting
     → from < value_count s → IfSome r (λ v. pattern s (value_at s from) ≡ v) → IfNone r (value_at s from ≡ value_at s before)
     → length levels ≡ s.block → All (λ l. l < value_count s) levels → ranks_below (value_count s) from levels ≡ reference_place r ++ sent
     → BlockAhead waiting s b (value_at s before) levels (id_len s + a + m)
-whole_block waiting s b before from r sent levels a m pre some ref id first second there begins pat none size legal ranked =
+whole_block {waiting} {s} {b} before {from} {r} sent {levels} a m pre some ref id first second there begins pat none size legal ranked =
     let ds = reference_place r ++ sent in
     let c : BlockData = record { reference = r; residuals = ds } in
     let len : length ds ≡ s.block = sym (ap length ranked) ∙ (length-ranks_below (value_count s) from levels ∙ size) in
@@ -64,7 +64,7 @@ whole_block waiting s b before from r sent levels a m pre some ref id first seco
     let fit : All (λ d. d < value_count s) ds = subst (All (λ d. d < value_count s)) ranked (ranks_fit (value_count s) from levels begins legal) in
     let samples = values_at s levels in
     let many : length samples ≡ s.block = length-values s levels ∙ size in
-    let contents = contents_restored s b (value_at s before) (value_at s from) r ds samples ref pre len zero some (sample_at s from begins) pat none (legal_values s levels legal) many (ranks_of_values s from levels ∙ ranked) in
+    let contents = contents_restored (value_at s before) (value_at s from) samples ref pre len zero some (sample_at s from begins) pat none (legal_values s levels legal) many (ranks_of_values s from levels ∙ ranked) in
     let all : take s.block levels ≡ levels = take_all s.block levels (omega (arith, size)) in
     record {
       set = NoCompression c;
@@ -72,7 +72,7 @@ whole_block waiting s b before from r sent levels a m pre some ref id first seco
       run_sound = tt;
       residuals_sound = tt;
       within = there;
-      bits = three-parts waiting (word (id_len s) (2 ^ id_len s - 1)) (reference_bits s r) (flat_map (word s.bits) sent) (id_len s) a m id first second
+      bits = three-parts waiting (id_len s) a m id first second
           ∙ ap (λ xs. word (id_len s) (2 ^ id_len s - 1) ++ (reference_bits s r ++ flat_map (word s.bits) xs)) (sym (coded-placed r sent));
       no_turns = refl;
       enough = omega (arith, size);
@@ -89,10 +89,10 @@ split_at : (n : ℕ) (front xs : List ℕ) → take n xs ≡ front → xs ≡ fr
 split_at n front xs e = sym (take-append-drop n xs) ∙ ap (λ z. z ++ drop n xs) e
 
 -- the bytes of the block that waits
-pub whole_spelled : (waiting : List Bool) (s : Parameters) (b before from omitted head size l : ℕ) (bytes : List ℕ) → HasLanes s size 1 → word (id_len s) (2 ^ id_len s - 1) ≡ take (id_len s) waiting
+pub whole_spelled : {waiting : List Bool} {s : Parameters} {b before from omitted head size l : ℕ} {bytes : List ℕ} → HasLanes s size 1 → word (id_len s) (2 ^ id_len s - 1) ≡ take (id_len s) waiting
     → HeadAhead waiting s b before from omitted head → UncompressedAhead waiting s from omitted head size l bytes → head + (size - omitted) * s.bits ≤ length waiting
     → SpelledAhead waiting s b (value_at s before) size l (head + (size - omitted) * s.bits) bytes
-whole_spelled waiting s b before from omitted head size l bytes has id begin whole within =
+whole_spelled {waiting} {s} {b} {before} {from} {omitted} {head} {size} has id begin whole within =
     let some : 1 ≤ size = omega (arith, has.some) in
     let near = whole.spelled.near in
     let r = begin.reference in
@@ -109,16 +109,16 @@ whole_spelled waiting s b before from omitted head size l bytes has id begin who
       levels = whole.spelled.levels;
       ahead =
           subst (BlockAhead waiting s b (value_at s before) whole.spelled.levels) all
-          (whole_block waiting s b before from r sent whole.spelled.levels a m has.preprocess (omega (arith, some, has.size_is)) begin.is id begin.bits words (omega (arith, within, all)) begin.begins begin.value begin.same len near.legal ranked);
+          (whole_block {waiting = waiting} before sent {levels = whole.spelled.levels} a m has.preprocess (omega (arith, some, has.size_is)) begin.is id begin.bits words (omega (arith, within, all)) begin.begins begin.value begin.same len near.legal ranked);
       last_is = whole.spelled.last_is;
       spelled = whole.spelled.spelled;
     }
 
 -- the bytes of a row of one byte each
-pub row_spelled_in_turn : (s : Parameters) (from size : ℕ) (residuals levels old spelled : List ℕ) → 1 ≤ s.bits → HasWidth s 1 → (1 ≤ size) × (size ≤ 16) → length residuals ≡ 16 → length levels ≡ 16 → All (λ l. l < value_count s) levels
+pub row_spelled_in_turn : {s : Parameters} {from size : ℕ} {residuals : List ℕ} (levels old : List ℕ) {spelled : List ℕ} → 1 ≤ s.bits → HasWidth s 1 → (1 ≤ size) × (size ≤ 16) → length residuals ≡ 16 → length levels ≡ 16 → All (λ l. l < value_count s) levels
     → ranks_below (value_count s) from levels ≡ residuals → 16 ≤ length old → length spelled ≡ 16 → spelled ≡ spellings s (values_at s levels)
     → SpellsParts s from s.bits size (replicate size 0) (take size residuals) (slice_index_or levels (size - 1) 0) (put_chunk 0 old spelled)
-row_spelled_in_turn s from size residuals levels old spelled some has sizes many len legal ranked room count is =
+row_spelled_in_turn {s} {from} {size} {residuals} levels old {spelled} some has sizes many len legal ranked room count is =
     let most = sizes.1 in
     let least = sizes.0 in
     let narrow = has.narrow refl in
@@ -156,10 +156,10 @@ lows-first waiting skip o k n lows few inside ahead =
     }
 
 -- one row more of one byte each
-pub row_turned : (s : Parameters) (from k row n last l : ℕ) (residuals bytes now : List ℕ) → HasWidth s 1 → row < 4 → 1 ≤ n → n ≤ 16 → length residuals ≡ 64 → take (16 * row) now ≡ take (16 * row) bytes
+pub row_turned : {s : Parameters} {from k row n last l : ℕ} {residuals bytes : List ℕ} (now : List ℕ) → HasWidth s 1 → row < 4 → 1 ≤ n → n ≤ 16 → length residuals ≡ 64 → take (16 * row) now ≡ take (16 * row) bytes
     → RowsSpelled s from k (16 * row) (replicate 64 0) residuals last bytes → SpellsParts s last k n (replicate n 0) (take n (take 16 (drop (16 * row) residuals))) l (drop (16 * row) now)
     → RowsSpelled s from k (16 * row + n) (replicate 64 0) residuals l now
-row_turned s from k row n last l residuals bytes now has lt some most len front before more =
+row_turned {s} {from} {k} {row} {n} {last} {l} {residuals} {bytes} now has lt some most len front before more =
     let once : 1 * (16 * row) ≡ 16 * row = omega arith in
     let zeros : take n (drop (16 * row) (replicate 64 0)) ≡ replicate n 0 = ap (take n) (drop-replicate (16 * row) 64 0) ∙ take-replicate n (64 - 16 * row) 0 (omega (arith, lt, most)) in
     let twice : take n (take 16 (drop (16 * row) residuals)) ≡ take n (drop (16 * row) residuals) = take-take n 16 (drop (16 * row) residuals) most in
@@ -168,12 +168,12 @@ row_turned s from k row n last l residuals bytes now has lt some most len front 
     subst (λ m. SpellsParts s last k n (take n (drop (16 * row) (replicate 64 0))) (take n (drop (16 * row) residuals)) l (drop m now)) (sym once)
     (subst (λ hs. SpellsParts s last k n hs (take n (drop (16 * row) residuals)) l (drop (16 * row) now)) (sym zeros)
     (subst (λ ds. SpellsParts s last k n (replicate n 0) ds l (drop (16 * row) now)) twice more)) in
-    row_spelled s from k (16 * row) n last l 1 (replicate 64 0) residuals bytes now has some (len ∙ sym many) (omega (arith, lt, most, many)) (ap (λ n. take n now) once ∙ (front ∙ ap (λ n. take n bytes) (sym once))) before spelled
+    row_spelled has some (len ∙ sym many) (omega (arith, lt, most, many)) (ap (λ n. take n now) once ∙ (front ∙ ap (λ n. take n bytes) (sym once))) before spelled
 
 -- all of them
-pub rows_turned : (s : Parameters) (from k size last : ℕ) (residuals bytes : List ℕ) → 1 ≤ size → size ≤ 64 → length residuals ≡ 64 → RowsSpelled s from k size (replicate 64 0) residuals last bytes
+pub rows_turned : {s : Parameters} {from k size last : ℕ} {residuals bytes : List ℕ} → 1 ≤ size → size ≤ 64 → length residuals ≡ 64 → RowsSpelled s from k size (replicate 64 0) residuals last bytes
     → SpellsParts s from k size (replicate size 0) (take size residuals) last bytes
-rows_turned s from k size last residuals bytes some most len rows =
+rows_turned {s} {from} {k} {size} {residuals} some most len rows =
     let zeros : take size (replicate 64 0) ≡ replicate size 0 = take-replicate size 64 0 most in
     let near = subst (λ hs. AreLevelsOfParts s from k hs (take size residuals) rows.levels) zeros rows.near in
     let many : length rows.levels ≡ size = near.len ∙ length-replicate {A = ℕ} size 0 in

@@ -63,16 +63,16 @@ length-reference s b None h k = absurd (let f : false ≡ true = h.there ∙ k i
 length-reference s b (Some v) h k = length-word s.bits v
 
 -- nothing begins with less than a reference
-pub short_reference : (s : Parameters) (b : ℕ) (r : Option ℕ) (bits rest more : List Bool) → IsReference s b r → is_reference s b ≡ true → length bits < s.bits →
+pub short_reference : {s : Parameters} {b : ℕ} {r : Option ℕ} {bits : List Bool} (rest more : List Bool) → IsReference s b r → is_reference s b ≡ true → length bits < s.bits →
     bits ≡ (reference_bits s r ++ rest) ++ more → ⊥
-short_reference s b r bits rest more h k lt e =
+short_reference {s} {b} {r} rest more h k lt e =
     omega (arith, ap length e, length-append (reference_bits s r ++ rest) more, length-append (reference_bits s r) rest, length-reference s b r h k)
 
 -- a reference sample is the first of what follows the identifier
-pub behind_reference : (s : Parameters) (b : ℕ) (r q : Option ℕ) (bits rest more : List Bool) → IsReference s b r → IsReference s b q →
+pub behind_reference : {s : Parameters} {b : ℕ} {r q : Option ℕ} (bits rest more : List Bool) → IsReference s b r → IsReference s b q →
     reference_bits s r ++ bits ≡ (reference_bits s q ++ rest) ++ more → (r ≡ q) × (bits ≡ rest ++ more)
-behind_reference s b r q bits rest more h k e =
-    let a = after_reference s b r q h k bits rest [] more (append-nil (reference_bits s r ++ bits) ∙ e) in
+behind_reference {s} {b} {r} {q} bits rest more h k e =
+    let a = after_reference r q h k bits rest [] more (append-nil (reference_bits s r ++ bits) ∙ e) in
     (a.0, sym (append-nil bits) ∙ a.1)
 
 short_words : (width count : ℕ) (vs : List ℕ) (bits more : List Bool) → length vs ≡ count → length bits < count * width → bits ≡ flat_map (word width) vs ++ more → ⊥
@@ -81,9 +81,9 @@ short_words width count vs bits more n lt e =
     omega (arith, ap length e, length-append (flat_map (word width) vs) more, length-words width vs)
 
 -- a row that was read alone follows other numbers
-pub row_after_others : {I : Type 0} (piece : ℕ → List Bool) (P : ℕ → Type 0) (old new : Reader I) (count : ℕ) (before alone after : List ℕ)
+pub row_after_others : {I : Type 0} {piece : ℕ → List Bool} (P : ℕ → Type 0) {old new : Reader I} {count : ℕ} (before : List ℕ) {alone after : List ℕ}
     → Row piece P old new count [] alone → after ≡ before ++ alone → Row piece P old new count before after
-row_after_others piece P old new count before alone after row e = record {
+row_after_others P before row e = record {
   values = row.values;
   len = row.len;
   each = row.each;
@@ -91,11 +91,11 @@ row_after_others piece P old new count before alone after row e = record {
   takes = row.takes;
 }
 
-pub no_compression_read : {I : Type 0} (old mid new : Reader I) (first last : ℕ) (s : Parameters) (b : ℕ) (r : Option ℕ) (count : ℕ) (items : List ℕ)
+pub no_compression_read : {I : Type 0} {old mid new : Reader I} {first last : ℕ} {s : Parameters} {b : ℕ} {r : Option ℕ} {count : ℕ} {items : List ℕ}
     → IsReference s b r → count + length (reference_place r) ≡ s.block → 0 < value_count s → Takes old mid (reference_bits s r)
     → Row (word s.bits) (λ v. v < 2 ^ s.bits) mid new count (reference_place r) items → last + old.taken ≡ first + new.taken
     → BlockRead old new first last s b NoCompression (record { reference = r; sound = true }) items
-no_compression_read old mid new first last s b r count items h n z t row steps =
+no_compression_read {old} {mid} {new} {s} {r} h n z t row steps =
     let len : length (reference_place r ++ row.values) ≡ s.block = omega (arith, length-append (reference_place r) row.values, row.len) in
     let fit = all-placed (λ d. d < value_count s) r row.values z row.each in
     record {
@@ -108,45 +108,45 @@ no_compression_read old mid new first last s b r count items h n z t row steps =
       steps = omega arith;
     }
 
-pub no_compression_cut : {I : Type 0} (old mid new : Reader I) (s : Parameters) (b : ℕ) (r : Option ℕ) (count : ℕ) (bits : List Bool) (f : BitFault)
+pub no_compression_cut : {I : Type 0} {old mid new : Reader I} {s : Parameters} {b : ℕ} {r : Option ℕ} (count : ℕ) {bits : List Bool} {f : BitFault}
     → IsReference s b r → count + length (reference_place r) ≡ s.block → Takes old mid (reference_bits s r)
     → length bits < count * s.bits → Stops mid new bits f → BlockCut old new s b NoCompression f
-no_compression_cut old mid new s b r count bits f h n t short stops = record {
+no_compression_cut {old} {mid} {new} {s} {b} {r} count {bits} {f} h n t short stops = record {
   bits = reference_bits s r ++ bits;
   stops = stops-append old mid new _ bits f t stops;
   none = λ c more form e.
-      (let a = behind_reference s b r c.reference bits (flat_map (word s.bits) (sent_residuals c)) more h form.0.reference e in
+      (let a = behind_reference bits (flat_map (word s.bits) (sent_residuals c)) more h form.0.reference e in
       short_words s.bits count (sent_residuals c) bits more (length-coded_at s b c r count form.0 h n) short a.1);
 }
 
 -- a block is cut off inside its reference
-pub cut_at_reference : {I : Type 0} (old new : Reader I) (s : Parameters) (b : ℕ) (option : BlockData → CodedDataSet) (rest : BlockData → List Bool) (bits : List Bool) (f : BitFault)
+pub cut_at_reference : {I : Type 0} {old new : Reader I} (s : Parameters) (b : ℕ) (option : BlockData → CodedDataSet) (rest : BlockData → List Bool) {bits : List Bool} {f : BitFault}
     → ((c : BlockData) → set_tail s (option c) ≡ reference_bits s c.reference ++ rest c)
     → ((c : BlockData) → IsForm s b (option c) → IsReference s b c.reference) → is_reference s b ≡ true → length bits < s.bits → Stops old new bits f
     → BlockCut old new s b option f
-cut_at_reference old new s b option rest bits f tail refs k short stops = record {
+cut_at_reference s b option rest {bits} tail refs k short stops = record {
   bits = bits;
   stops = stops;
-  none = λ c more form e. short_reference s b c.reference bits (rest c) more (refs c form) k short (e ∙ ap (λ z. z ++ more) (tail c));
+  none = λ c more form e. short_reference (rest c) more (refs c form) k short (e ∙ ap (λ z. z ++ more) (tail c));
 }
 
-pub run_cut_at_reference : (s : Parameters) (b : ℕ) (bits : List Bool) → is_reference s b ≡ true → length bits < s.bits
+pub run_cut_at_reference : {s : Parameters} (b : ℕ) (bits : List Bool) → is_reference s b ≡ true → length bits < s.bits
     → (r : Option ℕ) (m : ℕ) (more : List Bool) → IsReference s b r → bits ≡ run_tail s r m ++ more → ⊥
-run_cut_at_reference s b bits k short r m more h e = short_reference s b r bits (fundamental_sequence m) more h k short e
+run_cut_at_reference {s} b bits k short r m more h e = short_reference (fundamental_sequence m) more h k short e
 
-pub run_cut : (s : Parameters) (b : ℕ) (r : Option ℕ) (zeros : ℕ) → IsReference s b r
+pub run_cut : {s : Parameters} (b : ℕ) (r : Option ℕ) (zeros : ℕ) → IsReference s b r
     → (q : Option ℕ) (m : ℕ) (more : List Bool) → IsReference s b q → reference_bits s r ++ replicate zeros false ≡ run_tail s q m ++ more → ⊥
-run_cut s b r zeros h q m more k e =
-    let a = behind_reference s b r q (replicate zeros false) (fundamental_sequence m) more h k e in
+run_cut {s} b r zeros h q m more k e =
+    let a = behind_reference (replicate zeros false) (fundamental_sequence m) more h k e in
     omega (arith, ap ones a.1, ones-zeros zeros, ones-append (fundamental_sequence m) more, ones-sequence m)
 
-pub second_extension_read : {I : Type 0} (old mid new : Reader I) (first second last : ℕ) (s : Parameters) (b : ℕ) (r : Option ℕ) (half : ℕ) (items : List ℕ) (sound : Bool)
+pub second_extension_read : {I : Type 0} {old mid new : Reader I} {first second last : ℕ} {s : Parameters} {b : ℕ} {r : Option ℕ} {half : ℕ} {items : List ℕ} (sound : Bool)
     → IsReference s b r → half + half ≡ s.block → Takes old mid (reference_bits s r)
     → PairRow mid new half items second last → second + old.taken ≡ first + mid.taken
     → (sound ≡ true → OnSome r (slice_index items 0 ≡ 0) × All (λ d. d < value_count s) items)
     → (sound ≡ false → OnSome r (slice_index items 0 ≡ 0) × All (λ d. d < value_count s) items → ⊥)
     → BlockRead old new first last s b SecondExtension (record { reference = r; sound = sound }) items
-second_extension_read old mid new first second last s b r half items sound h n t row steps told refused = record {
+second_extension_read {old} {mid} {new} {r} {items} sound h n t row steps told refused = record {
   contents = record { reference = r; residuals = items };
   form = record { reference = h; len = row.len ∙ n };
   reference_is = refl;
@@ -156,14 +156,14 @@ second_extension_read old mid new first second last s b r half items sound h n t
   steps = omega (arith, row.steps);
 }
 
-pub second_extension_cut : {I : Type 0} (old mid new : Reader I) (s : Parameters) (b : ℕ) (r : Option ℕ) (half : ℕ) (bits : List Bool) (f : BitFault)
+pub second_extension_cut : {I : Type 0} {old mid new : Reader I} {s : Parameters} {b : ℕ} {r : Option ℕ} {half : ℕ} {bits : List Bool} {f : BitFault}
     → IsReference s b r → half + half ≡ s.block → Takes old mid (reference_bits s r)
     → ones bits < half → Stops mid new bits f → BlockCut old new s b SecondExtension f
-second_extension_cut old mid new s b r half bits f h n t short stops = record {
+second_extension_cut {old} {mid} {new} {s} {b} {r} {half} {bits} {f} h n t short stops = record {
   bits = reference_bits s r ++ bits;
   stops = stops-append old mid new _ bits f t stops;
   none = λ c more form e.
-      (let a = behind_reference s b r c.reference bits (flat_map fundamental_sequence (pair_codes c.residuals)) more h form.reference e in
+      (let a = behind_reference bits (flat_map fundamental_sequence (pair_codes c.residuals)) more h form.reference e in
       omega (arith, ap ones a.1, ones-append (flat_map fundamental_sequence (pair_codes c.residuals)) more, ones-sequences (pair_codes c.residuals), count_pairs half c.residuals (form.len ∙ sym n)));
 }
 
@@ -171,13 +171,13 @@ all-suffix : (P : ℕ → Type 0) (r : Option ℕ) (vs : List ℕ) → All P (re
 all-suffix P None vs h = h
 all-suffix P (Some v) vs h = λ i d lt. h (suc i) d (omega arith)
 
-pub split_read : {I : Type 0} (old mid new : Reader I) (first last : ℕ) (s : Parameters) (b k : ℕ) (r : Option ℕ) (count most : ℕ) (small : Bool) (told items : List ℕ) (sound : Bool)
+pub split_read : {I : Type 0} {old mid new : Reader I} {first last : ℕ} {s : Parameters} {b k : ℕ} {r : Option ℕ} {count most : ℕ} {small : Bool} {told items : List ℕ} (sound : Bool)
     → IsReference s b r → k ≤ k_max s → count + length (reference_place r) ≡ s.block → Takes old mid (reference_bits s r)
     → (p : PartsRead mid new most k small count told) → last + old.taken ≡ first + new.taken
     → (sound ≡ true → All (λ d. d < value_count s) (joined_parts k p.highs p.lows)) → (sound ≡ true → items ≡ reference_place r ++ joined_parts k p.highs p.lows)
     → (sound ≡ false → All (λ d. d < value_count s) (joined_parts k p.highs p.lows) → ⊥)
     → BlockRead old new first last s b (Split k) (record { reference = r; sound = sound }) items
-split_read old mid new first last s b k r count most small told items sound h le n t p steps fit same refused =
+split_read {old} {mid} {new} {s} {k} {r} {count} {told} sound h le n t p steps fit same refused =
     let ds = joined_parts k p.highs p.lows in
     let same_len : length p.lows ≡ length p.highs = p.as_many_lows ∙ sym p.as_many_highs in
     let nd : length ds ≡ count = length-joined k p.highs p.lows same_len ∙ p.as_many_highs in
@@ -194,24 +194,24 @@ split_read old mid new first last s b k r count most small told items sound h le
     }
 
 -- a high part is too large
-pub split_large : {I : Type 0} (old mid new : Reader I) (first last : ℕ) (s : Parameters) (b k : ℕ) (r : Option ℕ) (count : ℕ) (small : Bool) (told items : List ℕ)
+pub split_large : {I : Type 0} {old mid new : Reader I} {first last : ℕ} {s : Parameters} {b k : ℕ} {r : Option ℕ} {count : ℕ} {small : Bool} {told items : List ℕ}
     → IsReference s b r → k ≤ k_max s → count + length (reference_place r) ≡ s.block → Takes old mid (reference_bits s r)
     → PartsRead mid new ((value_count s - 1) / 2 ^ k) k small count told → small ≡ false → last + old.taken ≡ first + new.taken
     → BlockRead old new first last s b (Split k) (record { reference = r; sound = false }) items
-split_large old mid new first last s b k r count small told items h le n t p e steps =
-    split_read old mid new first last s b k r count _ small told items false h le n t p steps (λ f. absurd cc) (λ f. absurd cc)
+split_large {old} {mid} {new} {first} {last} {s} {b} {k} {r} {count} {small} {told} {items} h le n t p e steps =
+    split_read false h le n t p steps (λ f. absurd cc) (λ f. absurd cc)
     (λ f all. p.refused e (highs_small k (value_count s) p.highs p.lows (p.as_many_lows ∙ sym p.as_many_highs) (pow_pos s.bits) all))
 
 -- high parts stand in their places
-pub split_joined : {I : Type 0} (old mid new : Reader I) (first last : ℕ) (s : Parameters) (b k : ℕ) (r : Option ℕ) (count : ℕ) (small : Bool) (told items : List ℕ) (sound : Bool)
+pub split_joined : {I : Type 0} {old mid new : Reader I} {first last : ℕ} {s : Parameters} {b k : ℕ} {r : Option ℕ} {count : ℕ} {small : Bool} {told items : List ℕ} (sound : Bool)
     → IsReference s b r → k ≤ k_max s → count + length (reference_place r) ≡ s.block → Takes old mid (reference_bits s r)
     → PartsRead mid new ((value_count s - 1) / 2 ^ k) k small count told → small ≡ true → last + old.taken ≡ first + new.taken
     → items ≡ reference_place r ++ told
     → (sound ≡ true → All (λ d. d < value_count s) told) → (sound ≡ false → All (λ d. d < value_count s) told → ⊥)
     → BlockRead old new first last s b (Split k) (record { reference = r; sound = sound }) items
-split_joined old mid new first last s b k r count small told items sound h le n t p e steps placed_so below above =
+split_joined {old} {mid} {new} {first} {last} {s} {b} {k} {r} {count} {small} {told} {items} sound h le n t p e steps placed_so below above =
     let is : told ≡ joined_parts k p.highs p.lows = (p.told e).1 in
-    split_read old mid new first last s b k r count _ small told items sound h le n t p steps
+    split_read sound h le n t p steps
     (λ f. subst (λ xs. All (λ d. d < value_count s) xs) is (below f))
     (λ f. placed_so ∙ ap (λ xs. reference_place r ++ xs) is)
     (λ f all. above f (subst (λ xs. All (λ d. d < value_count s) xs) (sym is) all))
@@ -223,10 +223,10 @@ parts_small old new most k small count told p e =
     subst (All (λ d. d / 2 ^ k ≤ most)) (sym (p.told e).1) (joined_highs k most p.highs p.lows (p.as_many_lows ∙ sym p.as_many_highs) p.low (p.told e).0)
 
 -- a row of high parts, and then one of low parts
-pub parts_read : {I : Type 0} (old mid new : Reader I) (most k : ℕ) (small : Bool) (count : ℕ) (told lows residuals : List ℕ)
+pub parts_read : {I : Type 0} {old mid new : Reader I} {most k : ℕ} {small : Bool} {count : ℕ} {told lows residuals : List ℕ}
     → CountRow old mid most small count told → WordRow k mid new count lows → (small ≡ true → residuals ≡ joined_parts k told lows)
     → PartsRead old new most k small count residuals
-parts_read old mid new most k small count told lows residuals high low joined = record {
+parts_read {old} {mid} {new} {k} {told} {lows} high low joined = record {
   highs = high.values;
   lows = low.values;
   as_many_highs = high.len;
@@ -313,9 +313,9 @@ after_sequences k (m ∷ ms) (d ∷ ds) x y n e =
     after_sequences k ms ds x y (omega arith) a.1
 
 -- too few low parts
-pub parts_cut_low : {I : Type 0} (old mid new : Reader I) (most k : ℕ) (small : Bool) (count : ℕ) (told : List ℕ) (bits : List Bool) (f : BitFault)
+pub parts_cut_low : {I : Type 0} {old mid new : Reader I} {most : ℕ} (k : ℕ) {small : Bool} {count : ℕ} {told : List ℕ} {bits : List Bool} {f : BitFault}
     → CountRow old mid most small count told → length bits < count * k → Stops mid new bits f → PartsCut old new k count f
-parts_cut_low old mid new most k small count told bits f high short stops = record {
+parts_cut_low {old} {mid} {new} k {count} {bits} {f} high short stops = record {
   bits = flat_map fundamental_sequence high.values ++ bits;
   stops = stops-append old mid new _ bits f high.takes stops;
   none = λ ds more n e.
@@ -324,14 +324,14 @@ parts_cut_low old mid new most k small count told bits f high short stops = reco
       short_words k count ds bits more n short low);
 }
 
-pub split_cut : {I : Type 0} (old mid new : Reader I) (s : Parameters) (b k : ℕ) (r : Option ℕ) (count : ℕ) (f : BitFault)
+pub split_cut : {I : Type 0} {old mid new : Reader I} {s : Parameters} {b k : ℕ} {r : Option ℕ} {count : ℕ} {f : BitFault}
     → IsReference s b r → count + length (reference_place r) ≡ s.block → Takes old mid (reference_bits s r)
     → PartsCut mid new k count f → BlockCut old new s b (Split k) f
-split_cut old mid new s b k r count f h n t cut = record {
+split_cut {old} {mid} {new} {s} {b} {k} {r} {count} {f} h n t cut = record {
   bits = reference_bits s r ++ cut.bits;
   stops = stops-append old mid new _ cut.bits f t cut.stops;
   none = λ c more form e.
-      (let a = behind_reference s b r c.reference cut.bits (flat_map (λ d. fundamental_sequence (d / 2 ^ k)) (sent_residuals c) ++ flat_map (word k) (sent_residuals c)) more h form.0.reference e in
+      (let a = behind_reference cut.bits (flat_map (λ d. fundamental_sequence (d / 2 ^ k)) (sent_residuals c) ++ flat_map (word k) (sent_residuals c)) more h form.0.reference e in
       cut.none (sent_residuals c) more (length-coded_at s b c r count form.0 h n) a.1);
 }
 

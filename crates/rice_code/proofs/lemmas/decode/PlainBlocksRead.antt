@@ -111,10 +111,10 @@ text-at f k (suc i) (v ∷ ws) each h =
 pub no_words : (waiting : List Bool) (s : Parameters) (w : ℕ) (bytes : List ℕ) → WordsAhead waiting s w (16 * 0) bytes
 no_words waiting s w bytes = record { words = []; counted = omega arith; fit = All-nil (λ v. v < 2 ^ (8 * w)); bits = refl; spelled = refl }
 
-pub words_more : (waiting : List Bool) (s : Parameters) (w i : ℕ) (old patterns spelled : List ℕ) → WordsAhead waiting s w (16 * i) old
+pub words_more : {waiting : List Bool} {s : Parameters} {w : ℕ} (i : ℕ) {old patterns spelled : List ℕ} → WordsAhead waiting s w (16 * i) old
     → OrdersWords s.msb w patterns spelled → length patterns ≡ 16 → length spelled ≡ 16 → 16 * i + 16 ≤ length old
     → flat_map (word 8) patterns ≡ take 128 (drop (id_len s + 128 * i) waiting) → WordsAhead waiting s w (16 * (i + 1)) (put_chunk (16 * i) old spelled)
-words_more waiting s w i old patterns spelled h o sixteen len room read =
+words_more {waiting} {s} {w} i {old} {spelled} h o sixteen len room read =
     let here : 16 * (i + 1) ≡ 16 * i + 16 = omega arith in
     let bits_here : 8 * (16 * (i + 1)) ≡ 8 * (16 * i) + 128 = omega arith in
     let at : id_len s + 128 * i ≡ id_len s + 8 * (16 * i) = omega arith in
@@ -161,10 +161,10 @@ block_words waiting s w n bytes plain h le =
         ]
 
 -- the sample at a level is the last one if it has its word
-last_is_at : (waiting : List Bool) (s : Parameters) (w i l : ℕ) (p : ℤ) (words : List ℕ) (samples : List ℤ) → 1 ≤ s.bits → s.bits ≡ 8 * w → length words ≡ suc i → length samples ≡ suc i
+last_is_at : (waiting : List Bool) (s : Parameters) (w : ℕ) {i l : ℕ} (p : ℤ) {words : List ℕ} (samples : List ℤ) → 1 ≤ s.bits → s.bits ≡ 8 * w → length words ≡ suc i → length samples ≡ suc i
     → All (λ v. v < 2 ^ (8 * w)) words → All (IsSample s) samples → map (pattern s) samples ≡ words → flat_map (word (8 * w)) words ≡ take (8 * (w * suc i)) (drop (id_len s) waiting)
     → l < value_count s → word (8 * w) (pattern s (value_at s l)) ≡ take (8 * w) (drop (id_len s + 8 * (w * suc i - w)) waiting) → value_at s l ≡ last_of p samples
-last_is_at waiting s w i l p words samples some whole many len fit legal patterns bits small last =
+last_is_at waiting s w {i} {l} p {words} samples some whole many len fit legal patterns bits small last =
     let n = 8 * w in
     let rest = drop (id_len s) waiting in
     let z = slice_index_or words i 0 in
@@ -195,13 +195,13 @@ not_padded : (s : Parameters) (w next bits : ℕ) → IsPlain s w → padding s 
 not_padded s w next bits plain = ap (λ v. cond (v && place s next == 0) (bits_to_byte bits) 0) plain.pad
 
 -- a block that waits, and the bytes of its samples, of which `x` is the last
-plain_step : {I : Type 0} (start new : Reader I) (first last : ℕ) (p q : DecoderState) (x : ℤ) (w : ℕ) (bytes : List ℕ)
+plain_step : {I : Type 0} {start new : Reader I} {first last : ℕ} (p : DecoderState) {q : DecoderState} {x : ℤ} {w : ℕ} {bytes : List ℕ}
     → (legal : IsLegal p.setting) (plain : IsPlain p.setting w) (h : PlainBlock start.waiting p.setting w bytes)
     → x ≡ last_of p.before (samples_in p.setting w h.words.words legal plain h.words.fit).samples
     → Takes (with_mark start) new (take (plain_bits p.setting w) start.waiting) → last ≡ first + plain_bits p.setting w
     → q ≡ record p { block = next_block_place p.setting p.block; before = x; run = 0 }
     → GivesBytes start new first last p q bytes
-plain_step start new first last p q x w bytes legal plain h x_is takes steps moves =
+plain_step {start} {new} {first} {last} p {q} {x} {w} {bytes} legal plain h x_is takes steps moves =
     let s = p.setting in
     let len = plain_bits s w in
     let words = h.words in
@@ -237,12 +237,12 @@ plain_step start new first last p q x w bytes legal plain h x_is takes steps mov
       split = refl;
       same = ap (λ n. record new { taken = n }) nothing;
     } in
-    let bound = samples_by_bits (with_mark start) new first last s p.block p.before samples 0 legal set in
+    let bound = samples_by_bits legal set in
     let zero_run : q.run ≡ 0 = ap (λ r. r.run) moves in
     let bytes_are : width s * length samples ≡ w * s.block = λ j. sym (plain_width s w plain) j * many j in
     record {
       samples = samples;
-      answers = answers_block start new new first last last p q samples 0 x set skips refl x_is moves;
+      answers = answers_block start last p set skips refl x_is moves;
       spelled = ap (λ n. take n bytes) bytes_are ∙ (words.spelled ∙ sym given.spelled);
       by_bits = rw zero_run (omega (arith, bound));
     }
@@ -271,9 +271,9 @@ block_kept waiting s w old new same h = record {
 pub no_row : (waiting : List Bool) (s : Parameters) (w : ℕ) (bytes : List ℕ) → PlainRow waiting s w 0 bytes
 no_row waiting s w bytes i lt = absurd (omega (arith, lt))
 
-pub row_more : (waiting : List Bool) (s : Parameters) (w i : ℕ) (old new more : List ℕ) → PlainRow waiting s w i old → new ≡ take (w * s.block * i) old ++ more → w * s.block * i ≤ length old
+pub row_more : (waiting : List Bool) {s : Parameters} {w : ℕ} (i : ℕ) (old : List ℕ) {new more : List ℕ} → PlainRow waiting s w i old → new ≡ take (w * s.block * i) old ++ more → w * s.block * i ≤ length old
     → PlainBlock (drop (plain_bits s w * i) waiting) s w more → PlainRow waiting s w (i + 1) new
-row_more waiting s w i old new more row is within last k lt =
+row_more waiting {s} {w} i old {new} {more} row is within last k lt =
     let c = w * s.block in
     elim (cases_lt k i) [
       | inl below ↦
@@ -414,14 +414,14 @@ row_there waiting s w n bytes row =
     omega (arith, last.there, length-drop (plain_bits s w * n) waiting, some)
 
 -- blocks in a row that are taken together
-pub row_given : {I : Type 0} (n : ℕ) (r new : Reader I) (first last : ℕ) (p q : DecoderState) (l w : ℕ) (bytes : List ℕ) → IsLegal p.setting
+pub row_given : {I : Type 0} (n : ℕ) (r : Reader I) {new : Reader I} (first : ℕ) {last : ℕ} (p : DecoderState) {q : DecoderState} {l w : ℕ} (bytes : List ℕ) → IsLegal p.setting
     → IsPlain p.setting w → p.block < p.setting.interval → r.refusal ≡ None
     → PlainRow r.waiting p.setting w (suc n) bytes → Takes (with_mark r) new (take (plain_bits p.setting w * suc n) r.waiting) → last ≡ first + plain_bits p.setting w * suc n → new.taken ≤ 2 ^ 52
     → l < value_count p.setting → word (8 * w) (pattern p.setting (value_at p.setting l)) ≡ take (8 * w)
     (drop (plain_bits p.setting w * n + (id_len p.setting + 8 * (w * p.setting.block - w))) r.waiting)
     → q ≡ record p { block = (p.block + suc n) % p.setting.interval; before = value_at p.setting l; run = 0 }
     → GivesRow (suc n) r new first last p q bytes
-row_given zero r new first last p q l w bytes legal plain within going row takes steps limit small spelled moves =
+row_given zero r {new} first {last} p {q} {l} {w} bytes legal plain within going row takes steps limit small spelled moves =
     let s = p.setting in
     let len = plain_bits s w in
     let block = row_first r.waiting s w 0 bytes row in
@@ -435,7 +435,7 @@ row_given zero r new first last p q l w bytes legal plain within going row takes
     let end : word (8 * w) (pattern s (value_at s l)) ≡ take (8 * w) (drop (id_len s + 8 * (w * suc (s.block - 1) - w)) r.waiting) =
     spelled ∙ (ap (λ n. take (8 * w) (drop n r.waiting)) at ∙ ap (λ n. take (8 * w) (drop (id_len s + 8 * (w * n - w)) r.waiting)) (sym size)) in
     let value : value_at s l ≡ last_of p.before given.samples =
-    last_is_at r.waiting s w (s.block - 1) l p.before words.words given.samples legal.bits_from plain.whole (count ∙ sym size) (given.len ∙ (count ∙ sym size))
+    last_is_at r.waiting s w p.before given.samples legal.bits_from plain.whole (count ∙ sym size) (given.len ∙ (count ∙ sym size))
     words.fit given.legal given.patterns read small end in
     let one : len * 1 ≡ len = omega arith in
     let next : (p.block + 1) % s.interval ≡ next_block_place s p.block = sym (next_by_mod s p.block within) in
@@ -446,13 +446,13 @@ row_given zero r new first last p q l w bytes legal plain within going row takes
       new,
       last,
       q,
-      plain_step r new first last p q (value_at s l) w bytes legal plain block value (subst (λ k. Takes (with_mark r) new (take k r.waiting)) one takes) (omega (arith, steps, one))
+      plain_step {start = r} {first = first} {last = last} p legal plain block value (subst (λ k. Takes (with_mark r) new (take k r.waiting)) one takes) (omega (arith, steps, one))
           (moves ∙ ap (λ b. record p { block = b; before = value_at s l; run = 0 }) next),
       counted,
       ap (λ (d : DecoderState). d.run) moves,
       (refl, refl, refl),
     )
-row_given (suc n) r new first last p q l w bytes legal plain within going row takes steps limit small spelled moves =
+row_given (suc n) r {new} first {last} p {q} {l} {w} bytes legal plain within going row takes steps limit small spelled moves =
     let s = p.setting in
     let len = plain_bits s w in
     let block = row_first r.waiting s w (suc n) bytes row in
@@ -480,7 +480,7 @@ row_given (suc n) r new first last p q l w bytes legal plain within going row ta
     (let e : p.block + suc (suc n) ≡ p.block + 1 + suc n = omega arith in ap (λ b. b % s.interval) e
     ∙ (sym (mod-add-mod (p.block + 1) s.interval (suc n)) ∙ ap (λ b. (b + suc n) % s.interval) (sym (next_by_mod s p.block within)))) in
     let tail : GivesRow (suc n) m new (first + len) last p1 q (drop (w * s.block) bytes) =
-    row_given n m new (first + len) last p1 q l w (drop (w * s.block) bytes) legal plain (next_within s p.block within) going more later (omega (arith, steps, all)) limit small end
+    row_given n m (first + len) {last = last} p1 (drop (w * s.block) bytes) legal plain (next_within s p.block within) going more later (omega (arith, steps, all)) limit small end
     (moves ∙ ap (λ b. record p { block = b; before = value_at s l; run = 0 }) place_is) in
     let long : length (take (len * suc (suc n)) r.waiting) ≡ len * suc (suc n) = length-take-le (len * suc (suc n)) r.waiting (omega (arith, enough, all)) in
     let took = takes.taken in
@@ -488,7 +488,7 @@ row_given (suc n) r new first last p q l w bytes legal plain within going row ta
       m,
       first + len,
       p1,
-      plain_step r m first (first + len) p p1 x w bytes legal plain block refl front refl refl,
+      plain_step {start = r} {first = first} {last = first + len} p {q = p1} {x = x} legal plain block refl front refl refl,
       counted,
       refl,
       subst (λ k. GivesRow (suc n) m new (first + len) last p1 q (drop (k * s.block) bytes)) (plain_width s w plain) tail,

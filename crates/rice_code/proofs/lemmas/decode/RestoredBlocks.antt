@@ -38,13 +38,13 @@ residual_within s b j r p x h k =
     ap (λ z. cond s.preprocess (cond z 0 (rank s p x)) (pattern s x)) e
 
 -- the residuals of samples that no reference is among
-ranks_within : (s : Parameters) (b j : ℕ) (r : Option ℕ) (p : ℤ) (xs : List ℤ) → IsReference s b r → s.preprocess ≡ true → ((j == 0) && is_some r) ≡ false
+ranks_within : {s : Parameters} {b : ℕ} (j : ℕ) {r : Option ℕ} (p : ℤ) (xs : List ℤ) → IsReference s b r → s.preprocess ≡ true → ((j == 0) && is_some r) ≡ false
     → j + length xs ≤ s.block → residuals s (s.block * b + j) p xs ≡ ranks s p xs
-ranks_within s b j r p [] k e f h = refl
-ranks_within s b j r p (x ∷ xs) k e f h =
+ranks_within j p [] k e f h = refl
+ranks_within {s} {b} j {r} p (x ∷ xs) k e f h =
     let one : residual s (s.block * b + j) p x ≡ rank s p x = residual_within s b j r p x (omega (arith, h)) k ∙ (λ i. cond (e i) (cond (f i) 0 (rank s p x)) (pattern s x)) in
     let at : s.block * b + j + 1 ≡ s.block * b + suc j = omega arith in
-    let rest = ap (λ n. residuals s n x xs) at ∙ ranks_within s b (suc j) r x xs k e (ap (λ v. v && is_some r) (eqb-suc-zero j)) (omega (arith, h)) in
+    let rest = ap (λ n. residuals s n x xs) at ∙ ranks_within (suc j) x xs k e (ap (λ v. v && is_some r) (eqb-suc-zero j)) (omega (arith, h)) in
     λ i. one i ∷ rest i
 
 patterns_alone : (s : Parameters) (n : ℕ) (p : ℤ) (xs : List ℤ) → s.preprocess ≡ false → residuals s n p xs ≡ map (pattern s) xs
@@ -70,7 +70,7 @@ pub contents_of_ranks : (s : Parameters) (b : ℕ) (p : ℤ) (ds : List ℕ) (xs
     → ranks s p xs ≡ ds → block_data s b p xs ≡ record { reference = None; residuals = ds }
 contents_of_ranks s b p ds xs h e len r =
     let at : s.block * b ≡ s.block * b + 0 = omega arith in
-    contents_are s b p None ds xs h (ap (λ n. residuals s n p xs) at ∙ (ranks_within s b 0 None p xs h e refl (omega (arith, len)) ∙ r)) tt
+    contents_are s b p None ds xs h (ap (λ n. residuals s n p xs) at ∙ (ranks_within 0 p xs h e refl (omega (arith, len)) ∙ r)) tt
 
 -- a block has a reference only with preprocessing
 reference_preprocesses : (s : Parameters) (b v : ℕ) → IsReference s b (Some v) → s.preprocess ≡ true
@@ -81,15 +81,15 @@ reference_preprocesses s b v h = at s.preprocess (place s b == 0) h.there
     at false first e = absurd (let f : true ≡ false = e in cc)
 
 -- the samples after a reference sample
-pub contents_behind : (s : Parameters) (b : ℕ) (p x : ℤ) (v : ℕ) (ds : List ℕ) (ys : List ℤ) → IsReference s b (Some v) → length ds ≡ s.block
+pub contents_behind : {s : Parameters} {b : ℕ} (p x : ℤ) {v : ℕ} (ds : List ℕ) (ys : List ℤ) → IsReference s b (Some v) → length ds ≡ s.block
     → length ds ≡ suc (length ys) → slice_index ds 0 ≡ 0 → ranks s x ys ≡ drop 1 ds → pattern s x ≡ v
     → block_data s b p (x ∷ ys) ≡ record { reference = Some v; residuals = ds }
-contents_behind s b p x v [] ys h n len first r pat = absurd (omega arith)
-contents_behind s b p x v (d ∷ ds) ys h n len first r pat =
+contents_behind p x [] ys h n len first r pat = absurd (omega arith)
+contents_behind {s} {b} p x {v} (d ∷ ds) ys h n len first r pat =
     let e = reference_preprocesses s b v h in
     let at : s.block * b ≡ s.block * b + 0 = omega arith in
     let one : residual s (s.block * b) p x ≡ d = ap (λ j. residual s j p x) at ∙ (residual_within s b 0 (Some v) p x (omega (arith, n)) h ∙ ((λ i. cond (e i) 0 (pattern s x)) ∙ sym first)) in
-    let rest : residuals s (s.block * b + 1) x ys ≡ ds = ranks_within s b 1 (Some v) x ys h e refl (omega (arith, n, len)) ∙ r in
+    let rest : residuals s (s.block * b + 1) x ys ≡ ds = ranks_within 1 x ys h e refl (omega (arith, n, len)) ∙ r in
     contents_are s b p (Some v) (d ∷ ds) (x ∷ ys) h (λ i. one i ∷ rest i) pat
 
 pub refill_all : {A : Type 0} (xs ys : List A) → length ys ≡ length xs → refill (length xs) xs ys ≡ ys
@@ -130,18 +130,18 @@ same_first : (s : Parameters) (x y : ℤ) → IsSample s x → IsSample s y → 
 same_first s x y h k e = same_level s y x k h (rank_injective (value_count s) (level s x) (level s y) (level s x) h.1 k.1 h.1 (e ∙ sym (same_rank (value_count s) (level s x))))
 
 -- samples restored from all residuals of a block, after its reference sample or the sample before it
-pub contents_restored : (s : Parameters) (b : ℕ) (p x : ℤ) (r : Option ℕ) (ds : List ℕ) (xs : List ℤ) → IsReference s b r → s.preprocess ≡ true
+pub contents_restored : {s : Parameters} {b : ℕ} (p x : ℤ) {r : Option ℕ} {ds : List ℕ} (xs : List ℤ) → IsReference s b r → s.preprocess ≡ true
     → length ds ≡ s.block → OnSome r (slice_index ds 0 ≡ 0) → 1 ≤ s.block
     → IsSample s x → IfSome r (λ v. pattern s x ≡ v) → IfNone r (x ≡ p) → All (IsSample s) xs → length xs ≡ s.block → ranks s x xs ≡ ds → block_data s b p xs ≡ record { reference = r; residuals = ds }
-contents_restored s b p x None ds xs h pre n none some hx pat same all len e = contents_of_ranks s b p ds xs h pre len (ap (λ q. ranks s q xs) (sym same) ∙ e)
-contents_restored s b p x (Some v) ds [] h pre n none some hx pat same all len e = absurd (omega arith)
-contents_restored s b p x (Some v) [] (y ∷ ys) h pre n none some hx pat same all len e = absurd (omega arith)
-contents_restored s b p x (Some v) (d ∷ ds) (y ∷ ys) h pre n none some hx pat same all len e =
+contents_restored {s} {b} p x {r = None} {ds} xs h pre n none some hx pat same all len e = contents_of_ranks s b p ds xs h pre len (ap (λ q. ranks s q xs) (sym same) ∙ e)
+contents_restored p x {r = Some v} [] h pre n none some hx pat same all len e = absurd (omega arith)
+contents_restored p x {r = Some v} {ds = []} (y ∷ ys) h pre n none some hx pat same all len e = absurd (omega arith)
+contents_restored {s} {b} p x {r = Some v} {ds = d ∷ ds} (y ∷ ys) h pre n none some hx pat same all len e =
     let first : rank s x y ≡ d = cc in
     let rest : ranks s y ys ≡ ds = cc in
     let at : y ≡ x = same_first s x y hx (all 0 x (omega arith)) (first ∙ none) in
     let rest_behind : ranks s x ys ≡ ds = ap (λ q. ranks s q ys) (sym at) ∙ rest in
-    ap (λ q. block_data s b p (q ∷ ys)) at ∙ contents_behind s b p x v (d ∷ ds) ys h n (omega arith) none rest_behind pat
+    ap (λ q. block_data s b p (q ∷ ys)) at ∙ contents_behind p x (d ∷ ds) ys h n (omega arith) none rest_behind pat
 
 -- without preprocessing a block has no reference
 pub contents_plain : (s : Parameters) (b : ℕ) (p : ℤ) (r : Option ℕ) (ds : List ℕ) (xs : List ℤ) → IsReference s b r → s.preprocess ≡ false

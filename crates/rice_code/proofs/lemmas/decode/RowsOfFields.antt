@@ -42,10 +42,10 @@ counts-none r most told e h = record {
 }
 
 -- a single sequence was read, for which v was written
-pub counts-one : {I : Type 0} (old mid new : Reader I) (most : ℕ) (fits : Bool) (counts none : List ℕ) (m v : ℕ)
+pub counts-one : {I : Type 0} {old mid new : Reader I} {most : ℕ} {fits : Bool} (counts : List ℕ) {none : List ℕ} (m v : ℕ)
     → 0 < length counts → none ≡ [] → Takes old mid (flat_map fundamental_sequence none) → Takes mid new (fundamental_sequence m)
     → (fits ≡ true → v ≡ m) → (fits ≡ false → most < m) → CountsRead old new most fits 1 (take 1 (set counts 0 v))
-counts-one old mid new most fits counts none m v some e before t good bad =
+counts-one {old} {mid} {new} counts {none} m v some e before t good bad =
     let nothing : flat_map fundamental_sequence none ≡ [] = ap (flat_map fundamental_sequence) e in
     record {
       values = m ∷ [];
@@ -63,10 +63,10 @@ pub all_back : (P : ℕ → Type 0) (xs ys : List ℕ) → All P (xs ++ ys) → 
 all_back P xs ys h = λ i d lt. subst P (get_or-append-add xs ys i d) (h (length xs + i) d (omega (arith, length-append xs ys, lt)))
 
 -- more of them
-pub counts-append : {I : Type 0} (old mid new : Reader I) (most done some : ℕ) (small fits : Bool) (front part after : List ℕ)
+pub counts-append : {I : Type 0} {old mid new : Reader I} {most done some : ℕ} {small fits : Bool} {front part after : List ℕ}
     → CountsRead old mid most small done front → CountsRead mid new most fits some part → after ≡ front ++ part
     → CountsRead old new most (small && fits) (done + some) after
-counts-append old mid new most done some small fits front part after r q e =
+counts-append {old} {mid} {new} {most} {small} {fits} r q e =
     let P : ℕ → Type 0 = λ x. x ≤ most in
     record {
       values = r.values ++ q.values;
@@ -93,17 +93,17 @@ counts-waiting old new most some now h t = record {
 }
 
 -- those that waited together, and then others
-pub counts-both : {I : Type 0} (old mid new : Reader I) (most some more count : ℕ) (small : Bool) (now rest after : List ℕ)
+pub counts-both : {I : Type 0} {old mid new : Reader I} {most some more : ℕ} (count : ℕ) {small : Bool} (now : List ℕ) {rest after : List ℕ}
     → some ≤ length now → Takes old mid (flat_map fundamental_sequence (take some now)) → CountsRead mid new most small more rest
     → some + more ≡ count → after ≡ take some now ++ rest → CountsRead old new most small count after
-counts-both old mid new most some more count small now rest after h t r n e =
-    subst (λ k. CountsRead old new most small k after) n (counts-append old mid new most some more true small (take some now) rest after (counts-waiting old mid most some now h t) r e)
+counts-both {old} {mid} {new} {most} {some} {more} count {small} now {rest} {after} h t r n e =
+    subst (λ k. CountsRead old new most small k after) n (counts-append (counts-waiting old mid most some now h t) r e)
 
 -- those that were written, judged
-pub counts-judged : {I : Type 0} (old new : Reader I) (most count : ℕ) (small below : Bool) (told : List ℕ)
+pub counts-judged : {I : Type 0} {old new : Reader I} {most count : ℕ} {small : Bool} (below : Bool) {told : List ℕ}
     → CountsRead old new most small count told → (below ≡ true → All (λ m. m < most + 1) told) → (below ≡ false → All (λ m. m < most + 1) told → ⊥)
     → CountRow old new most (small && below) count told
-counts-judged old new most count small below told r good bad = record {
+counts-judged {most} {small} below r good bad = record {
   values = r.values;
   len = r.len;
   told_are = λ e. (let b = and-split small below e in (r.told_are b.0, λ i d lt. omega (arith, subst (λ xs. All (λ m. m < most + 1) xs) (r.told_are b.0) (good b.1) i d lt)));
@@ -130,9 +130,9 @@ put_rest a xs ys h =
     ap (λ z. take a xs ++ (ys ++ z)) rest ∙ ap (λ z. take a xs ++ z) (append-nil ys)
 
 -- some pieces, and then others
-pub row-append : {I : Type 0} (f : ℕ → List Bool) (P : ℕ → Type 0) (old mid new : Reader I) (m n : ℕ) (before between after : List ℕ)
+pub row-append : {I : Type 0} {f : ℕ → List Bool} (P : ℕ → Type 0) {old mid new : Reader I} {m : ℕ} (n : ℕ) {before between after : List ℕ}
     → Row f P old mid m before between → Row f P mid new n between after → Row f P old new (m + n) before after
-row-append f P old mid new m n before between after r q = record {
+row-append {f} P {old} {mid} {new} n {before} r q = record {
   values = r.values ++ q.values;
   len = omega (arith, length-append r.values q.values, r.len, q.len);
   each = All-append P r.values q.values r.each q.each;
@@ -144,28 +144,28 @@ pub part_within : (n : ℕ) (xs part : List ℕ) → length part ≡ length (tak
 part_within n xs part e = omega (arith, e, length-take n xs)
 
 -- pieces for all places
-pub row-whole : {I : Type 0} (f : ℕ → List Bool) (P : ℕ → Type 0) (old new : Reader I) (done count : ℕ) (before xs : List ℕ)
+pub row-whole : {I : Type 0} {f : ℕ → List Bool} (P : ℕ → Type 0) {old new : Reader I} {done count : ℕ} {before xs : List ℕ}
     → Row f P old new done before (take done xs) → done ≡ count → length xs ≡ count → Row f P old new count before xs
-row-whole f P old new done count before xs r e n =
+row-whole P {done} {xs} r e n =
     record { values = r.values; len = r.len ∙ e; each = r.each; appended = sym (take_all done xs (omega (arith, e, n))) ∙ r.appended; takes = r.takes }
 
-pub counts-whole : {I : Type 0} (old new : Reader I) (most : ℕ) (small : Bool) (done count : ℕ) (xs : List ℕ)
+pub counts-whole : {I : Type 0} {old new : Reader I} {most : ℕ} {small : Bool} {done count : ℕ} {xs : List ℕ}
     → CountsRead old new most small done (take done xs) → done ≡ count → length xs ≡ count → CountsRead old new most small count xs
-counts-whole old new most small done count xs r e n =
+counts-whole {done} {xs} r e n =
     record { values = r.values; len = r.len ∙ e; told_are = λ f. sym (take_all done xs (omega (arith, e, n))) ∙ r.told_are f; refused = r.refused; takes = r.takes }
 
 -- pieces were cut off before the first
-pub stops-first : {I : Type 0} (piece : ℕ → List Bool) (old mid new : Reader I) (none : List ℕ) (bits : List Bool) (f : BitFault)
+pub stops-first : {I : Type 0} (piece : ℕ → List Bool) {old mid new : Reader I} {none : List ℕ} {bits : List Bool} {f : BitFault}
     → none ≡ [] → Takes old mid (flat_map piece none) → Stops mid new bits f → Stops old new bits f
-stops-first piece old mid new none bits f e t s =
+stops-first piece {old} {mid} {new} {bits} {f} e t s =
     stops-append old mid new [] bits f (subst (λ xs. Takes old mid (flat_map piece xs)) e t) s
 
 -- one word more
-pub row-word : {I : Type 0} (old mid new : Reader I) (width done v : ℕ) (words : List ℕ) → done < length words
+pub row-word : {I : Type 0} {old mid new : Reader I} (width : ℕ) {done : ℕ} (v : ℕ) (words : List ℕ) → done < length words
     → Row (word width) (λ v. v < 2 ^ width) old mid done [] (take done words) → v < 2 ^ width → Takes mid new (word width v)
     → Row (word width) (λ v. v < 2 ^ width) old new (done + 1) [] (take (done + 1) (set words done v))
-row-word old mid new width done v words lt r fits t =
-    row-append (word width) (λ v. v < 2 ^ width) old mid new done 1 [] (take done words) (take (done + 1) (set words done v)) r
+row-word {old} {mid} {new} width {done} v words lt r fits t =
+    row-append (λ v. v < 2 ^ width) 1 r
     (record {
       values = v ∷ [];
       len = refl;
@@ -181,11 +181,11 @@ pub row-waiting : {I : Type 0} (old new : Reader I) (width some : ℕ) (words : 
 row-waiting old new width some words within each t =
     record { values = take some words; len = length-take-le some words within; each = each; appended = refl; takes = t }
 
-pub row-both : {I : Type 0} (old mid new : Reader I) (width m n count : ℕ) (front rest after : List ℕ) → m + n ≡ count → after ≡ front ++ rest
+pub row-both : {I : Type 0} {old mid new : Reader I} (width : ℕ) {m n count : ℕ} {front rest after : List ℕ} → m + n ≡ count → after ≡ front ++ rest
     → Row (word width) (λ v. v < 2 ^ width) old mid m [] front → Row (word width) (λ v. v < 2 ^ width) mid new n [] rest
     → Row (word width) (λ v. v < 2 ^ width) old new count [] after
-row-both old mid new width m n count front rest after e whole r q =
-    let both = row-append (word width) (λ v. v < 2 ^ width) old mid new m n [] front after r
+row-both {old} {mid} {new} width {m} {n} {front} {after} e whole r q =
+    let both = row-append (λ v. v < 2 ^ width) {new = new} n {after = after} r
     (record { values = q.values; len = q.len; each = q.each; appended = whole ∙ ap (λ z. front ++ z) q.appended; takes = q.takes }) in
     subst (λ k. Row (word width) (λ v. v < 2 ^ width) old new k [] after) e both
 
@@ -194,10 +194,10 @@ too_few_bits done some count width short h k =
     let m : (done + some) * width ≤ count * width = mul-le-mul_right width h in omega arith
 
 -- some words, of those that follow, were cut off
-pub words-stop : {I : Type 0} (width : ℕ) (P : ℕ → Type 0) (old mid new : Reader I) (done some count : ℕ) (before after : List ℕ) (bits : List Bool) (f : BitFault)
+pub words-stop : {I : Type 0} (width : ℕ) (P : ℕ → Type 0) {old mid new : Reader I} {done : ℕ} (some count : ℕ) {before after : List ℕ} {bits : List Bool} {f : BitFault}
     → Row (word width) P old mid done before after → Stops mid new bits f → length bits < some * width → done + some ≤ count
     → (all : List Bool) × (length all < count * width) × Stops old new all f
-words-stop width P old mid new done some count before after bits f r s short h = (
+words-stop width P {old} {mid} {new} {done} some count {bits} {f} r s short h = (
   flat_map (word width) r.values ++ bits,
   (let e : length (flat_map (word width) r.values) ≡ done * width = length-words width r.values ∙ ap (λ n. n * width) r.len in
       omega (arith, e, length-append (flat_map (word width) r.values) bits, too_few_bits done some count width (length bits) h short)),
@@ -221,20 +221,20 @@ ones-sequences [] = refl
 ones-sequences (m ∷ ms) = omega (arith, ones-append (fundamental_sequence m) (flat_map fundamental_sequence ms), ones-sequence m, ones-sequences ms)
 
 -- a fundamental sequence was cut off
-pub sequences-stop : {I : Type 0} (old mid new : Reader I) (ms : List ℕ) (count m : ℕ) (f : BitFault)
+pub sequences-stop : {I : Type 0} {old mid new : Reader I} (ms : List ℕ) (count m : ℕ) {f : BitFault}
     → Takes old mid (flat_map fundamental_sequence ms) → length ms < count → Stops mid new (replicate m false) f
     → (all : List Bool) × (ones all < count) × Stops old new all f
-sequences-stop old mid new ms count m f t h s = (
+sequences-stop {old} {mid} {new} ms count m {f} t h s = (
   flat_map fundamental_sequence ms ++ replicate m false,
   omega (arith, ones-append (flat_map fundamental_sequence ms) (replicate m false), ones-sequences ms, ones-zeros m),
   stops-append old mid new _ _ f t s,
 )
 
 -- and cut off among those after sequences that waited together
-pub sequences-stop_behind : {I : Type 0} (old mid new : Reader I) (ms : List ℕ) (more count : ℕ) (f : BitFault)
+pub sequences-stop_behind : {I : Type 0} {old mid new : Reader I} (ms : List ℕ) {more : ℕ} (count : ℕ) {f : BitFault}
     → Takes old mid (flat_map fundamental_sequence ms) → length ms + more ≡ count → (bits : List Bool) × (ones bits < more) × Stops mid new bits f
     → (all : List Bool) × (ones all < count) × Stops old new all f
-sequences-stop_behind old mid new ms more count f t n s = (
+sequences-stop_behind {old} {mid} {new} ms count {f} t n s = (
   flat_map fundamental_sequence ms ++ s.0,
   omega (arith, ones-append (flat_map fundamental_sequence ms) s.0, ones-sequences ms, s.1, n),
   stops-append old mid new _ _ f t s.2,
@@ -260,11 +260,11 @@ pairs-none r steps h = record {
   turns = omega arith;
 }
 
-pub pairs-more : {I : Type 0} (old mid new : Reader I) (count : ℕ) (front after : List ℕ) (g a b first second third fourth : ℕ)
+pub pairs-more : {I : Type 0} {old mid new : Reader I} {count : ℕ} {front after : List ℕ} {g : ℕ} (a b : ℕ) {first second : ℕ} (third : ℕ) {fourth : ℕ}
     → PairRow old mid count front first second → Takes mid new (fundamental_sequence g) → pair_code a b ≡ g → a + b ≤ g
     → third + mid.taken ≡ second + new.taken → fourth ≡ third + (a + b) → after ≡ (front ++ a ∷ []) ++ b ∷ []
     → PairRow old new (count + 1) after first fourth
-pairs-more old mid new count front after g a b first second third fourth r t e le steps turns is =
+pairs-more {old} {mid} {new} {count} {front} {g} a b {first} third {fourth} r t e le steps turns is =
     subst (λ xs. PairRow old new (count + 1) xs first fourth) (sym is)
     (let codes : flat_map fundamental_sequence (pair_codes ((front ++ a ∷ []) ++ b ∷ [])) ≡ flat_map fundamental_sequence (pair_codes front) ++ fundamental_sequence g =
     ap (flat_map fundamental_sequence) (pair_codes-push count front a b r.len ∙ ap (λ c. pair_codes front ++ c ∷ []) e) ∙ flat_map-push fundamental_sequence (pair_codes front) g in
@@ -315,11 +315,11 @@ sum_of_pairs (suc half) (d ∷ c ∷ ds) h =
     omega (arith, both, two, bits, sum_of_pairs half ds (omega arith), sum_within d c)
 
 -- pairs whose codewords waited together
-pub pairs-waiting : {I : Type 0} (old new : Reader I) (codes out : List ℕ) (total first second third : ℕ)
+pub pairs-waiting : {I : Type 0} {old new : Reader I} {codes : List ℕ} (out : List ℕ) {total : ℕ} (first second : ℕ) {third : ℕ}
     → length codes ≤ length out / 2 → pair_codes (take (length codes + length codes) out) ≡ codes → total ≡ sum (take (length codes + length codes) out)
     → Takes old new (flat_map fundamental_sequence codes) → second + old.taken ≡ first + new.taken → third ≡ second + total
     → PairRow old new (length codes) (take (length codes + length codes) out) first third
-pairs-waiting old new codes out total first second third room e is t steps more =
+pairs-waiting {old} {new} {codes} out first second room e is t steps more =
     let len : length (take (length codes + length codes) out) ≡ length codes + length codes = length-take-le (length codes + length codes) out (omega (arith, room)) in
     record {
       len = len;
@@ -329,17 +329,17 @@ pairs-waiting old new codes out total first second third room e is t steps more 
     }
 
 -- pairs for all places
-pub pairs-whole : {I : Type 0} (old new : Reader I) (some count : ℕ) (out : List ℕ) (first second : ℕ)
+pub pairs-whole : {I : Type 0} {old new : Reader I} {some count : ℕ} {out : List ℕ} {first second : ℕ}
     → PairRow old new some (take (some + some) out) first second → some ≡ count → length out ≡ count + count → PairRow old new count out first second
-pairs-whole old new some count out first second r e n =
+pairs-whole {old} {new} {some} {count} {out} {first} {second} r e n =
     subst (λ xs. PairRow old new count xs first second) (take_all (some + some) out (omega (arith, e, n)))
     (subst (λ k. PairRow old new k (take (some + some) out) first second) e r)
 
 -- and then others
-pub pairs-both : {I : Type 0} (old mid new : Reader I) (some more count : ℕ) (front rest after : List ℕ) (first second third : ℕ)
+pub pairs-both : {I : Type 0} {old mid new : Reader I} {some more count : ℕ} {front rest after : List ℕ} {first second third : ℕ}
     → PairRow old mid some front first second → PairRow mid new more rest second third → some + more ≡ count → after ≡ front ++ rest
     → PairRow old new count after first third
-pairs-both old mid new some more count front rest after first second third r q n is =
+pairs-both {old} {mid} {new} {some} {count} {front} {rest} {first} {third} r q n is =
     subst (λ xs. PairRow old new count xs first third) (sym is)
     (let codes : flat_map fundamental_sequence (pair_codes (front ++ rest)) ≡ flat_map fundamental_sequence (pair_codes front) ++ flat_map fundamental_sequence (pair_codes rest) =
     ap (flat_map fundamental_sequence) (pair_codes-append some front rest r.len) ∙ flat_map-append fundamental_sequence (pair_codes front) (pair_codes rest) in
@@ -364,17 +364,17 @@ pairs-room old new some values first second r room limit = (
   record { limit = limit; room = omega (arith, r.steps, r.turns, r.takes.taken, room.room) },
 )
 
-pub pairs-taken : {I : Type 0} (old new : Reader I) (some : ℕ) (read out : List ℕ) (total first second third : ℕ)
+pub pairs-taken : {I : Type 0} {old new : Reader I} {some : ℕ} (read out : List ℕ) {total first : ℕ} (second : ℕ) {third : ℕ}
     → some ≤ length read → length read ≤ length out / 2
     → pair_codes (take (length (take some read) + length (take some read)) out) ≡ take some read
     → total ≡ sum (take (length (take some read) + length (take some read)) out)
     → All (λ d. d < 64) (take (length (take some read) + length (take some read)) out)
     → Takes old new (flat_map fundamental_sequence (take some read)) → second + old.taken ≡ first + new.taken → third ≡ second + total
     → HasRoom first old.taken → new.taken ≤ 2 ^ 52 → PairsTaken old new some (take (some + some) out) first third
-pairs-taken old new some read out total first second third within half pairs is few t steps more room limit =
+pairs-taken {old} {new} {some} read out {total} {first} second {third} within half pairs is few t steps more room limit =
     let codes = take some read in
     let len : length codes ≡ some = length-take-le some read within in
-    let row = pairs-waiting old new codes out total first second third (omega (arith, len, within, half)) pairs is t steps more in
+    let row = pairs-waiting out first second (omega (arith, len, within, half)) pairs is t steps more in
     let here = pairs-room old new (length codes) (take (length codes + length codes) out) first third row room limit in
     subst (λ k. PairsTaken old new k (take (k + k) out) first third) len (record { row = row; few = few; counted = here.0; room = here.1 })
 

@@ -31,42 +31,42 @@ cut_identifier s b bits lt d more form e =
       length-word (id_len s) (identifier s d),
     )
 
-cut_plain : (s : Parameters) (b id : ℕ) (bits : List Bool) → id ≡ 2 ^ id_len s - 1 → ((c : BlockData) (more : List Bool) → IsForm s b (NoCompression c) → bits ≡ no_compression_tail s c ++ more → ⊥)
+cut_plain : (s : Parameters) (b : ℕ) {id : ℕ} {bits : List Bool} → id ≡ 2 ^ id_len s - 1 → ((c : BlockData) (more : List Bool) → IsForm s b (NoCompression c) → bits ≡ no_compression_tail s c ++ more → ⊥)
     → (d : CodedDataSet) (more : List Bool) → IsForm s b d → id ≡ identifier s d → bits ≡ tail s d ++ more → ⊥
 unfolding identifier tail
-cut_plain s b id bits e none (NoCompression c) more form i t = none c more form t
-cut_plain s b id bits e none (SecondExtension c) more form i t = let w = wide_id s in omega arith
-cut_plain s b id bits e none (Split k c) more form i t = let w = wide_id s in let le : k ≤ 2 ^ id_len s - 3 = form.2 in omega arith
-cut_plain s b id bits e none (ZeroBlocks r z) more form i t = let w = wide_id s in omega arith
-cut_plain s b id bits e none (RemainderOfSegment r) more form i t = let w = wide_id s in omega arith
+cut_plain s b e none (NoCompression c) more form i t = none c more form t
+cut_plain s b e none (SecondExtension c) more form i t = let w = wide_id s in omega arith
+cut_plain s b e none (Split k c) more form i t = let w = wide_id s in let le : k ≤ 2 ^ id_len s - 3 = form.2 in omega arith
+cut_plain s b e none (ZeroBlocks r z) more form i t = let w = wide_id s in omega arith
+cut_plain s b e none (RemainderOfSegment r) more form i t = let w = wide_id s in omega arith
 
-cut_split : (s : Parameters) (b id k : ℕ) (bits : List Bool) → id ≡ k + 1 → id < 2 ^ id_len s - 1 → ((c : BlockData) (more : List Bool) → IsForm s b (Split k c) → bits ≡ split_tail s k c ++ more → ⊥)
+cut_split : (s : Parameters) (b : ℕ) {id : ℕ} (k : ℕ) {bits : List Bool} → id ≡ k + 1 → id < 2 ^ id_len s - 1 → ((c : BlockData) (more : List Bool) → IsForm s b (Split k c) → bits ≡ split_tail s k c ++ more → ⊥)
     → (d : CodedDataSet) (more : List Bool) → IsForm s b d → id ≡ identifier s d → bits ≡ tail s d ++ more → ⊥
 unfolding identifier tail
-cut_split s b id k bits e lt none (NoCompression c) more form i t = omega arith
-cut_split s b id k bits e lt none (SecondExtension c) more form i t = omega arith
-cut_split s b id k bits e lt none (Split m c) more form i t =
+cut_split s b k e lt none (NoCompression c) more form i t = omega arith
+cut_split s b k e lt none (SecondExtension c) more form i t = omega arith
+cut_split s b k {bits} e lt none (Split m c) more form i t =
     let same : m ≡ k = omega arith in
     let T : ℕ → Type 0 = λ j. IsForm s b (Split j c) × (bits ≡ split_tail s j c ++ more) in
     let q = subst T same (form, t) in none c more q.0 q.1
-cut_split s b id k bits e lt none (ZeroBlocks r z) more form i t = omega arith
-cut_split s b id k bits e lt none (RemainderOfSegment r) more form i t = omega arith
+cut_split s b k e lt none (ZeroBlocks r z) more form i t = omega arith
+cut_split s b k e lt none (RemainderOfSegment r) more form i t = omega arith
 
-cut_low : (s : Parameters) (b id : ℕ) (bits : List Bool) → id ≡ 0 → ((d : CodedDataSet) (more : List Bool) → IsForm s b d → IsLowEntropy d → bits ≡ low_entropy_tail s d ++ more → ⊥)
+cut_low : (s : Parameters) (b : ℕ) {id : ℕ} {bits : List Bool} → id ≡ 0 → ((d : CodedDataSet) (more : List Bool) → IsForm s b d → IsLowEntropy d → bits ≡ low_entropy_tail s d ++ more → ⊥)
     → (d : CodedDataSet) (more : List Bool) → IsForm s b d → id ≡ identifier s d → bits ≡ tail s d ++ more → ⊥
 unfolding identifier tail
-cut_low s b id bits e none (NoCompression c) more form i t = let w = wide_id s in omega arith
-cut_low s b id bits e none (SecondExtension c) more form i t = none (SecondExtension c) more form tt t
-cut_low s b id bits e none (Split k c) more form i t = omega arith
-cut_low s b id bits e none (ZeroBlocks r z) more form i t = none (ZeroBlocks r z) more form tt t
-cut_low s b id bits e none (RemainderOfSegment r) more form i t = none (RemainderOfSegment r) more form tt t
+cut_low s b e none (NoCompression c) more form i t = let w = wide_id s in omega arith
+cut_low s b e none (SecondExtension c) more form i t = none (SecondExtension c) more form tt t
+cut_low s b e none (Split k c) more form i t = omega arith
+cut_low s b e none (ZeroBlocks r z) more form i t = none (ZeroBlocks r z) more form tt t
+cut_low s b e none (RemainderOfSegment r) more form i t = none (RemainderOfSegment r) more form tt t
 
 -- a coded data set is cut off after its identifier
-cut_after_id : {I : Type 0} (old mid new : Reader I) (first last : ℕ) (s : Parameters) (b id : ℕ) (bits : List Bool) (f : BitFault)
+cut_after_id : {I : Type 0} {old mid new : Reader I} {first last : ℕ} {s : Parameters} {b : ℕ} (id : ℕ) {bits : List Bool} {f : BitFault}
     → id < 2 ^ id_len s → Takes old mid (word (id_len s) id) → Stops mid new bits f
     → ((d : CodedDataSet) (more : List Bool) → IsForm s b d → id ≡ identifier s d → bits ≡ tail s d ++ more → ⊥)
     → (is_blank (word (id_len s) id ++ bits) ≡ true → last + old.taken ≡ first + new.taken) → SetCut old new first last s b f
-cut_after_id old mid new first last s b id bits f lt t stops none steps = record {
+cut_after_id {old} {mid} {new} {s} {b} id {bits} {f} lt t stops none steps = record {
   bits = word (id_len s) id ++ bits;
   stops = stops-append old mid new _ bits f t stops;
   none = λ d more form e. (let a = head_reads s b id d bits more lt form e in none d more form a.0 a.1);
@@ -78,22 +78,22 @@ not_blank : (w id : ℕ) (bits : List Bool) → 0 < id → id < 2 ^ w → is_bla
 not_blank w id bits some lt blank =
     let none : false ≡ true = sym (ap (λ b. b && is_blank bits) (blank-word_positive w id some lt)) ∙ (sym (blank-append (word w id) bits) ∙ blank) in cc
 
-pub no_compression_set_cut : {I : Type 0} (old mid new : Reader I) (first last : ℕ) (s : Parameters) (b id : ℕ) (f : BitFault)
+pub no_compression_set_cut : {I : Type 0} {old mid new : Reader I} (first last : ℕ) {s : Parameters} {b id : ℕ} {f : BitFault}
     → id < 2 ^ id_len s → id ≡ 2 ^ id_len s - 1 → Takes old mid (word (id_len s) id) → BlockCut mid new s b NoCompression f → SetCut old new first last s b f
-no_compression_set_cut old mid new first last s b id f lt e t cut =
+no_compression_set_cut {old} {mid} {new} first last {s} {b} {id} {f} lt e t cut =
     let wide = wide_id s in
-    cut_after_id old mid new first last s b id cut.bits f lt t cut.stops (cut_plain s b id cut.bits e cut.none) (λ blank. absurd (not_blank (id_len s) id cut.bits (omega arith) lt blank))
+    cut_after_id id lt t cut.stops (cut_plain s b {bits = cut.bits} e cut.none) (λ blank. absurd (not_blank (id_len s) id cut.bits (omega arith) lt blank))
 
-pub split_set_cut : {I : Type 0} (old mid new : Reader I) (first last : ℕ) (s : Parameters) (b id k : ℕ) (f : BitFault)
+pub split_set_cut : {I : Type 0} {old mid new : Reader I} (first last : ℕ) {s : Parameters} {b : ℕ} (id k : ℕ) {f : BitFault}
     → id < 2 ^ id_len s - 1 → id ≡ k + 1 → Takes old mid (word (id_len s) id) → BlockCut mid new s b (Split k) f → SetCut old new first last s b f
-split_set_cut old mid new first last s b id k f lt e t cut =
-    cut_after_id old mid new first last s b id cut.bits f (omega arith) t cut.stops (cut_split s b id k cut.bits e lt cut.none)
+split_set_cut {old} {mid} {new} first last {s} {b} id k {f} lt e t cut =
+    cut_after_id id (omega arith) t cut.stops (cut_split s b k {bits = cut.bits} e lt cut.none)
     (λ blank. absurd (not_blank (id_len s) id cut.bits (omega arith) (omega arith) blank))
 
-pub low_set_cut : {I : Type 0} (old mid new : Reader I) (first second last : ℕ) (s : Parameters) (b id : ℕ) (f : BitFault)
+pub low_set_cut : {I : Type 0} {old mid new : Reader I} (first : ℕ) {second last : ℕ} {s : Parameters} {b id : ℕ} {f : BitFault}
     → id < 2 ^ id_len s → id ≡ 0 → Takes old mid (word (id_len s) id) → second + old.taken ≡ first + mid.taken → LowEntropyCut mid new second last s b f → SetCut old new first last s b f
-low_set_cut old mid new first second last s b id f lt e t steps cut =
-    cut_after_id old mid new first last s b id cut.bits f lt t cut.stops (cut_low s b id cut.bits e cut.none)
+low_set_cut {old} {mid} {new} first {last} {s} {b} {id} {f} lt e t steps cut =
+    cut_after_id id lt t cut.stops (cut_low s b {bits = cut.bits} e cut.none)
     (λ blank. omega (arith, steps, cut.steps (behind (is_blank (word (id_len s) id)) (is_blank cut.bits) (sym (blank-append (word (id_len s) id) cut.bits) ∙ blank))))
   where
     behind : (x y : Bool) → (x && y) ≡ true → y ≡ true
@@ -101,10 +101,10 @@ low_set_cut old mid new first second last s b id f lt e t steps cut =
     behind false y h = absurd (let none : false ≡ true = h in cc)
 
 -- what a block by no compression says
-pub no_compression_set : {I : Type 0} (old mid new : Reader I) (first second last : ℕ) (s : Parameters) (b id : ℕ) (r : Option ℕ) (sound near : Bool) (items : List ℕ)
+pub no_compression_set : {I : Type 0} {old mid new : Reader I} {first second last : ℕ} {s : Parameters} {b id : ℕ} (r : Option ℕ) (sound near : Bool) {items : List ℕ}
     → id ≡ 2 ^ id_len s - 1 → Takes old mid (word (id_len s) id) → second + old.taken ≡ first + mid.taken
     → BlockRead mid new second last s b NoCompression (record { reference = r; sound = sound }) items → SetRead old new first last s b (Residuals r sound near) items
-no_compression_set old mid new first second last s b id r sound near items e t steps read = record {
+no_compression_set {old} {mid} {new} r sound near e t steps read = record {
   set = NoCompression read.contents;
   form = read.form;
   takes = rw (← e) (takes-append old mid new _ _ t read.takes);
@@ -120,10 +120,10 @@ no_compression_set old mid new first second last s b id r sound near items e t s
   steps = omega (arith, read.steps);
 }
 
-pub split_set : {I : Type 0} (old mid new : Reader I) (first second last : ℕ) (s : Parameters) (b id k : ℕ) (r : Option ℕ) (sound near : Bool) (items : List ℕ)
+pub split_set : {I : Type 0} {old mid new : Reader I} {first second last : ℕ} {s : Parameters} {b : ℕ} (id k : ℕ) (r : Option ℕ) (sound near : Bool) {items : List ℕ}
     → id ≡ k + 1 → Takes old mid (word (id_len s) id) → second + old.taken ≡ first + mid.taken
     → BlockRead mid new second last s b (Split k) (record { reference = r; sound = sound }) items → SetRead old new first last s b (Residuals r sound near) items
-split_set old mid new first second last s b id k r sound near items e t steps read = record {
+split_set {old} {mid} {new} id k r sound near e t steps read = record {
   set = Split k read.contents;
   form = read.form;
   takes = rw (← e) (takes-append old mid new _ _ t read.takes);
@@ -140,10 +140,10 @@ split_set old mid new first second last s b id k r sound near items e t steps re
 }
 
 -- low data sets are data sets
-pub low_set : {I : Type 0} (old mid new : Reader I) (first second last : ℕ) (s : Parameters) (b id : ℕ) (taken : Rattle.rice_code.specs.declared.decode.options.SetSummary.SetSummary) (items : List ℕ)
+pub low_set : {I : Type 0} {old mid new : Reader I} {first second last : ℕ} {s : Parameters} {b id : ℕ} {taken : Rattle.rice_code.specs.declared.decode.options.SetSummary.SetSummary} {items : List ℕ}
     → id ≡ 0 → Takes old mid (word (id_len s) id) → second + old.taken ≡ first + mid.taken
     → LowEntropyRead mid new second last s b taken items → SetRead old new first last s b taken items
-low_set old mid new first second last s b id taken items e t steps read = record {
+low_set {old} {mid} {new} {s} e t steps read = record {
   set = read.set;
   form = read.form;
   takes = subst (λ xs. Takes old new xs) (low_text read.set read.low) (rw e at (takes-append old mid new _ _ t read.takes));
@@ -173,9 +173,9 @@ one_bit zero h k = absurd (omega arith)
 one_bit (suc zero) h k = bit_word 1 (omega arith)
 one_bit (suc (suc v)) h k = absurd (omega arith)
 
-pub low_bit_cut : {I : Type 0} (old new : Reader I) (first last : ℕ) (s : Parameters) (b : ℕ) (bits : List Bool) (f : BitFault)
+pub low_bit_cut : {I : Type 0} {old new : Reader I} (first last : ℕ) (s : Parameters) (b : ℕ) {bits : List Bool} {f : BitFault}
     → length bits < 1 → Stops old new bits f → last + old.taken ≡ first + new.taken → LowEntropyCut old new first last s b f
-low_bit_cut old new first last s b bits f lt stops steps = record { bits = bits; stops = stops; none = none bits lt; steps = λ blank. steps }
+low_bit_cut first last s b {bits} lt stops steps = record { bits = bits; stops = stops; none = none bits lt; steps = λ blank. steps }
   where
     none : (bits : List Bool) → length bits < 1 → (d : CodedDataSet) (more : List Bool) → IsForm s b d → IsLowEntropy d → bits ≡ low_entropy_tail s d ++ more → ⊥
     none bits lt (NoCompression c) more form low e = low
@@ -184,9 +184,9 @@ low_bit_cut old new first last s b bits f lt stops steps = record { bits = bits;
     none bits lt (ZeroBlocks r z) more form low e = omega (arith, ap length e)
     none bits lt (RemainderOfSegment r) more form low e = omega (arith, ap length e)
 
-pub second_low_cut : {I : Type 0} (old mid new : Reader I) (first last : ℕ) (s : Parameters) (b v : ℕ) (f : BitFault)
+pub second_low_cut : {I : Type 0} {old mid new : Reader I} (first last : ℕ) {s : Parameters} {b v : ℕ} {f : BitFault}
     → v < 2 → 0 < v → Takes old mid (word 1 v) → BlockCut mid new s b SecondExtension f → LowEntropyCut old new first last s b f
-second_low_cut old mid new first last s b v f lt pos t cut = record {
+second_low_cut {old} {mid} {new} first last {s} {b} {v} {f} lt pos t cut = record {
   bits = true ∷ cut.bits;
   stops = stops-append old mid new (true ∷ []) cut.bits f (rw (one_bit v lt pos) at t) cut.stops;
   none = none cut.bits cut.none;
@@ -201,10 +201,10 @@ second_low_cut old mid new first last s b v f lt pos t cut = record {
     none bits h (ZeroBlocks r z) more form low e = absurd cc
     none bits h (RemainderOfSegment r) more form low e = absurd cc
 
-pub run_low_cut : {I : Type 0} (old mid new : Reader I) (first second last : ℕ) (s : Parameters) (b : ℕ) (bits : List Bool) (f : BitFault)
+pub run_low_cut : {I : Type 0} {old mid new : Reader I} {first : ℕ} (second : ℕ) {last : ℕ} (s : Parameters) (b : ℕ) {bits : List Bool} {f : BitFault}
     → Takes old mid (word 1 0) → second + old.taken ≡ first + mid.taken → Stops mid new bits f → last + mid.taken ≡ second + new.taken
     → ((r : Option ℕ) (m : ℕ) (more : List Bool) → IsReference s b r → bits ≡ run_tail s r m ++ more → ⊥) → LowEntropyCut old new first last s b f
-run_low_cut old mid new first second last s b bits f t before stops behind cut = record {
+run_low_cut {old} {mid} {new} second s b {bits} {f} t before stops behind cut = record {
   bits = false ∷ bits;
   stops = stops-append old mid new (false ∷ []) bits f (rw zero_bit at t) stops;
   none = none bits cut;
@@ -219,10 +219,10 @@ run_low_cut old mid new first second last s b bits f t before stops behind cut =
     none bits h (ZeroBlocks r z) more form low e = h r (run_number z) more form.0 cc
     none bits h (RemainderOfSegment r) more form low e = h r 4 more form cc
 
-pub second_low : {I : Type 0} (old mid new : Reader I) (first second last : ℕ) (s : Parameters) (b v : ℕ) (r : Option ℕ) (sound near : Bool) (items : List ℕ)
+pub second_low : {I : Type 0} {old mid new : Reader I} {first second last : ℕ} {s : Parameters} {b v : ℕ} (r : Option ℕ) (sound near : Bool) {items : List ℕ}
     → v < 2 → 0 < v → Takes old mid (word 1 v) → second + old.taken ≡ first + mid.taken
     → BlockRead mid new second last s b SecondExtension (record { reference = r; sound = sound }) items → LowEntropyRead old new first last s b (Residuals r sound near) items
-second_low old mid new first second last s b v r sound near items lt pos t steps read = record {
+second_low {old} {mid} {new} {v} r sound near lt pos t steps read = record {
   set = SecondExtension read.contents;
   low = tt;
   form = read.form;
@@ -239,10 +239,10 @@ second_low old mid new first second last s b v r sound near items lt pos t steps
   steps = omega (arith, read.steps);
 }
 
-pub run_low : {I : Type 0} (old mid new : Reader I) (first second last : ℕ) (s : Parameters) (b : ℕ) (r : Option ℕ) (zeros : ℕ) (items : List ℕ)
+pub run_low : {I : Type 0} {old mid new : Reader I} {first : ℕ} (second : ℕ) {last : ℕ} {s : Parameters} {b : ℕ} {r : Option ℕ} (zeros : ℕ) {items : List ℕ}
     → Takes old mid (word 1 0) → second + old.taken ≡ first + mid.taken
     → IsReference s b r → Takes mid new (run_tail s r zeros) → last + mid.taken ≡ second + new.taken → LowEntropyRead old new first last s b (Zeros r zeros) items
-run_low old mid new first second last s b r zeros items t steps h u more =
+run_low {old} {mid} {new} {first} second {last} {s} {b} {r} zeros {items} t steps h u more =
     by_zeros (zeros == 4) refl
   where
     run_is : (m : ℕ) → (m == 4) ≡ false → (1 ≤ (if nat_lt m 4 then m + 1 else m)) × (run_number (if nat_lt m 4 then m + 1 else m) ≡ m)

@@ -53,9 +53,9 @@ ranks_fit count p (x ∷ xs) h all =
     All-cons (λ d. d < count) (rank_below count p x) (ranks_below count x xs) (rank_fits count p x h lt) (ranks_fit count x xs lt (λ i d k. all (suc i) d (omega (arith, k))))
 
 -- four parts that follow one another
-four-parts : (bits a b c d : List Bool) (k l m n : ℕ) → a ≡ take k bits → b ≡ take l (drop k bits) → c ≡ take m (drop (k + l) bits)
+four-parts : (bits : List Bool) {a b c d : List Bool} (k l m n : ℕ) → a ≡ take k bits → b ≡ take l (drop k bits) → c ≡ take m (drop (k + l) bits)
     → d ≡ take n (drop (k + l + m) bits) → take (k + l + m + n) bits ≡ a ++ (b ++ (c ++ d))
-four-parts bits a b c d k l m n p q r t =
+four-parts bits {b} {c} {d} k l m n p q r t =
     let all : k + l + m + n ≡ k + (l + (m + n)) = omega arith in
     let third : drop m (drop (k + l) bits) ≡ drop (k + l + m) bits = drop-drop m (k + l) bits in
     let last : take (m + n) (drop (k + l) bits) ≡ c ++ d = take-add m n (drop (k + l) bits) ∙ (λ j. sym r j ++ (ap (take n) third ∙ sym t) j) in
@@ -78,7 +78,7 @@ pub first_of : (size : ℕ) (xs ys : List ℕ) → length xs ≡ 16 → size ≤
 first_of size xs ys n h e = ap (take size) e ∙ take_at (take size xs) (replicate (16 - size) 0) size (length-take-le size xs (omega (arith, n, h)))
 
 -- the block of a split whose parts were found
-pub split_ahead : (waiting : List Bool) (s : Parameters) (b before from k : ℕ) (r : Option ℕ) (ms ls lanes : List ℕ) (a n m : ℕ)
+pub split_ahead : {waiting : List Bool} {s : Parameters} {b : ℕ} (before : ℕ) {from k : ℕ} {r : Option ℕ} (ms ls : List ℕ) {lanes : List ℕ} (a n m : ℕ)
     → s.preprocess ≡ true → 1 ≤ s.block → IsReference s b r → k ≤ k_max s
     → word (id_len s) (k + 1) ≡ take (id_len s) waiting → reference_bits s r ≡ take a (drop (id_len s) waiting)
     → flat_map fundamental_sequence ms ≡ take n (drop (id_len s + a) waiting) → flat_map (word k) ls ≡ take m (drop (id_len s + a + n) waiting)
@@ -86,7 +86,7 @@ pub split_ahead : (waiting : List Bool) (s : Parameters) (b before from k : ℕ)
     → from < value_count s → IfSome r (λ v. pattern s (value_at s from) ≡ v) → IfNone r (value_at s from ≡ value_at s before)
     → s.block ≤ length lanes → All (λ l. l < value_count s) lanes → ranks_below (value_count s) from (take s.block lanes) ≡ reference_place r ++ joined_parts k ms ls
     → BlockAhead waiting s b (value_at s before) lanes (id_len s + a + n + m)
-split_ahead waiting s b before from k r ms ls lanes a n m pre some ref split id first second third there same low begins pat none enough legal ranked =
+split_ahead {waiting} {s} {b} before {from} {k} {r} ms ls {lanes} a n m pre some ref split id first second third there same low begins pat none enough legal ranked =
     let levels = take s.block lanes in
     let small : All (λ l. l < value_count s) levels = All-take (λ l. l < value_count s) s.block lanes legal in
     let size : length levels ≡ s.block = length-take-le s.block lanes enough in
@@ -99,7 +99,7 @@ split_ahead waiting s b before from k r ms ls lanes a n m pre some ref split id 
     ap (λ xs. flat_map (λ d. fundamental_sequence (d / 2 ^ k)) xs ++ flat_map (word k) xs) (coded-placed r sent) ∙ (λ j. high_pieces k ms ls same low j ++ low_pieces k ms ls same j) in
     let samples = values_at s levels in
     let many : length samples ≡ s.block = length-values s levels ∙ size in
-    let contents = contents_restored s b (value_at s before) (value_at s from) r ds samples ref pre len zero some (sample_at s from begins) pat none
+    let contents = contents_restored (value_at s before) (value_at s from) samples ref pre len zero some (sample_at s from begins) pat none
     (legal_values s levels small) many (ranks_of_values s from levels ∙ ranked) in
     record {
       set = Split k c;
@@ -108,7 +108,7 @@ split_ahead waiting s b before from k r ms ls lanes a n m pre some ref split id 
       residuals_sound = subst (All (λ d. d < value_count s)) ranked (ranks_fit (value_count s) from levels begins small);
       within = there;
       bits =
-          four-parts waiting (word (id_len s) (k + 1)) (reference_bits s r) (flat_map fundamental_sequence ms) (flat_map (word k) ls) (id_len s) a n m id first second third
+          four-parts waiting (id_len s) a n m id first second third
           ∙ ap (λ xs. word (id_len s) (k + 1) ++ (reference_bits s r ++ xs)) (sym spelled);
       no_turns = refl;
       enough = enough;
@@ -160,13 +160,13 @@ lanes-low k size words behind lanes e f low =
     first-low k size behind lanes f all
 
 -- a block with no reference sample
-pub plain_ahead : (waiting : List Bool) (s : Parameters) (b before k head n size width : ℕ) (numbers words highs lows : List ℕ) → HasLanes s size width
+pub plain_ahead : {waiting : List Bool} {s : Parameters} {b before k head n size width : ℕ} {numbers : List ℕ} (words : List ℕ) {highs lows : List ℕ} → HasLanes s size width
     → size ≤ 16 → is_reference s b ≡ false → k < 3 + 3 * width → 208 ≤ length waiting
     → word (id_len s) (k + 1) ≡ take (id_len s) waiting → before < value_count s → head ≡ width + 2 → BeginWithSequences (drop head waiting) size numbers n
     → length words ≡ 16 → All (λ l. l < 2 ^ k) words → flat_map (word k) words ≡ take (16 * k) (drop (head + n) waiting)
     → highs ≡ take size numbers ++ replicate (16 - size) 0 → lows ≡ take size words ++ replicate (16 - size) 0
     → PartsAhead waiting s b before k before 16 highs lows (head + n + size * k)
-plain_ahead waiting s b before k head n size width numbers words highs lows has most none lt there id begins head_here found len low spelled_words high_is low_is =
+plain_ahead {waiting} {s} {b} {before} {k} {head} {n} {size} {width} {numbers} words {highs} {lows} has most none lt there id begins head_here found len low spelled_words high_is low_is =
     let known = width_known s width has.samples in
     let some : 1 ≤ size = omega (arith, has.some) in
     let split = split_fits s width k has.samples lt in
@@ -194,7 +194,7 @@ plain_ahead waiting s b before k head n size width numbers words highs lows has 
           ap (λ z. ranks_below (value_count s) before (take z lanes)) has.size_is ∙ (take-ranks size (value_count s) before lanes ∙ (ap (take size) near.ranked
           ∙ (take-joined size k highs lows ∙ (λ j. joined_parts k (first_of size numbers highs found.lanes most high_is j) (first_of size words lows len most low_is j))))) in
           subst (BlockAhead waiting s b (value_at s before) lanes) all
-          (split_ahead waiting s b before before k None ms ls lanes 0 n (size * k) has.preprocess (omega (arith, some, has.size_is))
+          (split_ahead {waiting = waiting} {s = s} {b = b} before {r = None} ms ls {lanes = lanes} 0 n (size * k) has.preprocess (omega (arith, some, has.size_is))
           (record { there = sym none; fits = tt }) split.0 id refl spelled lowest
           (omega (arith, there, head_here, head_is, short, n_few, room)) same (All-take (λ l. l < 2 ^ k) size words low) begins tt refl
           (omega (arith, near.len, many, most, has.size_is)) near.legal ranked));
@@ -209,15 +209,15 @@ first_behind : (size m : ℕ) (xs behind : List ℕ) → size ≡ suc m → m �
 first_behind size m xs behind e h is = (λ j. take (e j) (is j)) ∙ ap (λ z. 0 ∷ z) (take-take m 15 xs h)
 
 -- a block with a reference sample
-pub behind_reference_ahead : (waiting : List Bool) (s : Parameters) (b before from v k id bits n size width : ℕ)
-    (numbers words numbers_behind words_behind highs lows : List ℕ) → HasLanes s size width → size ≤ 16 → is_reference s b ≡ true → k < 3 + 3 * width
+pub behind_reference_ahead : {waiting : List Bool} {s : Parameters} {b before from v k id bits n size width : ℕ}
+    {numbers : List ℕ} (words : List ℕ) {numbers_behind words_behind highs lows : List ℕ} → HasLanes s size width → size ≤ 16 → is_reference s b ≡ true → k < 3 + 3 * width
     → 208 ≤ length waiting → word (id_len s) (k + 1) ≡ take (id_len s) waiting → id ≡ id_len s → bits ≡ s.bits → v < 2 ^ bits → word bits v ≡ take bits (drop id waiting)
     → from < value_count s → pattern s (value_at s from) ≡ v → BeginWithSequences (drop (id + bits) waiting) (size - 1) numbers n
     → length words ≡ 16 → All (λ l. l < 2 ^ k) words → flat_map (word k) words ≡ take (16 * k) (drop (id + bits + n) waiting)
     → numbers_behind ≡ 0 ∷ take 15 numbers → words_behind ≡ 0 ∷ take 15 words
     → highs ≡ take size numbers_behind ++ replicate (16 - size) 0 → lows ≡ take size words_behind ++ replicate (16 - size) 0
     → PartsAhead waiting s b before k from 16 highs lows (id + bits + n + (size - 1) * k)
-behind_reference_ahead waiting s b before from v k id bits n size width numbers words numbers_behind words_behind highs lows has most reference lt there id_word
+behind_reference_ahead {waiting} {s} {b} {before} {from} {v} {k} {id} {bits} {n} {size} {width} {numbers} words {numbers_behind} {words_behind} {highs} {lows} has most reference lt there id_word
     id_is bits_are fits value begins pat found len low spelled_words number_is word_is high_is low_is =
     let known = width_known s width has.samples in
     let some : 1 ≤ size = omega (arith, has.some) in
@@ -254,17 +254,17 @@ behind_reference_ahead waiting s b before from v k id bits n size width numbers 
           ap (λ z. ranks_below (value_count s) from (take z lanes)) has.size_is ∙ (take-ranks size (value_count s) from lanes ∙ (ap (take size) near.ranked
           ∙ (take-joined size k highs lows ∙ ((λ j. joined_parts k (first_highs j) (first_lows j)) ∙ zero-joined k ms ls)))) in
           subst (BlockAhead waiting s b (value_at s before) lanes) all
-          (split_ahead waiting s b before from k (Some v) ms ls lanes s.bits n (m * k) has.preprocess (omega (arith, some, has.size_is))
+          (split_ahead {waiting = waiting} {s = s} {b = b} before {r = Some v} ms ls {lanes = lanes} s.bits n (m * k) has.preprocess (omega (arith, some, has.size_is))
           (record { there = sym reference; fits = subst (λ w. v < 2 ^ w) bits_are fits }) split.0 id_word
           first (found.spelled ∙ ap (λ h. take n (drop h waiting)) place) lowest
           (omega (arith, there, id_here, short, n_few, room, narrow)) same (All-take (λ l. l < 2 ^ k) m words low) begins pat tt (omega (arith, near.len, many, most, has.size_is)) near.legal ranked));
     }
 
 -- one byte of each sample
-pub bytes_near : (s : Parameters) (from k size : ℕ) (highs lows levels old spelled : List ℕ) → 1 ≤ s.bits → HasWidth s 1 → size ≤ 16
+pub bytes_near : {s : Parameters} {from k size : ℕ} {highs lows levels : List ℕ} (old : List ℕ) {spelled : List ℕ} → 1 ≤ s.bits → HasWidth s 1 → size ≤ 16
     → AreLevelsOfParts s from k highs lows levels → 32 ≤ length old → length spelled ≡ 16 → spelled ≡ spellings s (values_at s levels)
     → SpellsParts s from k size highs lows (slice_index_or levels (size - 1) 0) (put_chunk 0 old spelled)
-bytes_near s from k size highs lows levels old spelled some has most near room count is =
+bytes_near {s} {size} {levels} old {spelled} some has most near room count is =
     let narrow = has.narrow refl in
     let one : width s * size ≡ size = ap (λ w. w * size) (one_byte s narrow) ∙ omega arith in
     let front : take size (put_chunk 0 old spelled) ≡ take size spelled = sym (take-take size 16 (put_chunk 0 old spelled) most)
@@ -294,10 +294,10 @@ words_front s size levels two most =
     ∙ (ap (λ n. take n (first ++ rest)) (sym len) ∙ take-append_seam first rest))
 
 -- two bytes of each of at most eight samples, and of more
-pub words_near : (s : Parameters) (from k size : ℕ) (highs lows first second old spelled : List ℕ) → 1 ≤ size → size ≤ 8 → HasWidth s 2
+pub words_near : {s : Parameters} {from k size : ℕ} {highs lows : List ℕ} (first second old : List ℕ) {spelled : List ℕ} → 1 ≤ size → size ≤ 8 → HasWidth s 2
     → AreLevelsOfParts s from k highs lows (first ++ second) → length first ≡ 8 → 32 ≤ length old
     → length spelled ≡ 16 → spelled ≡ spellings s (values_at s first) → SpellsParts s from k size highs lows (slice_index_or first (size - 1) 0) (put_chunk 0 old spelled)
-words_near s from k size highs lows first second old spelled some most has near len room count is =
+words_near {s} {size} first second old {spelled} some most has near len room count is =
     let wide = has.wide refl in
     let two = two_bytes s wide.0 wide.1 in
     let front : take 16 (put_chunk 0 old spelled) ≡ spelled = take_more_put_chunk 0 old spelled 16 (omega (arith, count)) (omega (arith, room)) in
@@ -313,12 +313,12 @@ words_near s from k size highs lows first second old spelled some most has near 
     }
 
 -- the levels of a block that was looked at and taken
-pub levels_given : {I : Type 0} (start marked middle new : Reader I) (first steps last : ℕ) (p q : DecoderState) (levels : List ℕ) (len l : ℕ) → IsLegal p.setting → 1 ≤ p.setting.block
+pub levels_given : {I : Type 0} (start : Reader I) {marked middle new : Reader I} (first : ℕ) {steps : ℕ} (last : ℕ) (p : DecoderState) {q : DecoderState} {levels : List ℕ} {len l : ℕ} → IsLegal p.setting → 1 ≤ p.setting.block
     → BlockAhead start.waiting p.setting p.block p.before levels len → marked ≡ with_mark start → Takes marked middle (take len marked.waiting) → steps ≡ first + len
     → Skips middle new (padding p.setting (p.block + 1 + 0) middle.taken) → last + middle.taken ≡ steps + new.taken → middle.taken ≤ new.taken → length levels ≡ p.setting.block
     → l ≡ slice_index_or levels (p.setting.block - 1) 0 → q ≡ record p { block = next_block_place p.setting p.block; before = value_at p.setting l; run = 0 }
     → Answers (with_mark start) new first last p q (values_at p.setting levels) (Ok Block) × (length levels + q.run * q.setting.block ≤ most_samples_of_bit * (new.taken - start.taken))
-levels_given start marked middle new first steps last p q levels len l legal some ahead marks takes counted skips skipped forward size last_is moves =
+levels_given start {marked} {middle} {new} first {steps} last p {q} {levels} {len} {l} legal some ahead marks takes counted skips skipped forward size last_is moves =
     let s = p.setting in
     let samples = values_at s levels in
     let whole : take s.block levels ≡ levels = take_all s.block levels (omega (arith, size)) in
@@ -339,20 +339,20 @@ levels_given start marked middle new first steps last p q levels len l legal som
     let end : s.block - 1 ≡ length levels - 1 = omega (arith, size) in
     let value : value_at s l ≡ last_of p.before samples =
     ap (value_at s) (last_is ∙ ap (λ n. slice_index_or levels n 0) end) ∙ last_value s p.before levels (omega (arith, size, some)) in
-    let bound = samples_by_bits (with_mark start) middle first steps s p.block p.before samples 0 legal from_start in
+    let bound = samples_by_bits legal from_start in
     let none : q.run ≡ 0 = ap (λ r. r.run) moves in
     let many : length samples ≡ length levels = length-values s levels in
-    (answers_block start middle new first steps last p q samples 0 (value_at s l) from_start skips skipped value moves, rw none (omega (arith, bound, many, forward)))
+    (answers_block start last p from_start skips skipped value moves, rw none (omega (arith, bound, many, forward)))
 
 -- the bytes of a block that was looked at, taken and spelled
-pub bytes_given : {I : Type 0} (start marked middle new : Reader I) (first steps last : ℕ) (p q : DecoderState) (lanes : List ℕ) (len l size bytes_of_one : ℕ) (bytes : List ℕ)
+pub bytes_given : {I : Type 0} {start marked middle new : Reader I} {first steps last : ℕ} {p q : DecoderState} {lanes : List ℕ} {len l size bytes_of_one : ℕ} {bytes : List ℕ}
     → IsLegal p.setting → HasLanes p.setting size bytes_of_one → BlockAhead start.waiting p.setting p.block p.before lanes len → marked ≡ with_mark start
     → Takes marked middle (take len marked.waiting) → steps ≡ first + len
     → Skips middle new (padding p.setting (p.block + 1 + 0) middle.taken) → last + middle.taken ≡ steps + new.taken → middle.taken ≤ new.taken
     → l ≡ slice_index_or lanes (size - 1) 0 → q ≡ record p { block = next_block_place p.setting p.block; before = value_at p.setting l; run = 0 }
     → take (width p.setting * size) bytes ≡ spellings p.setting (values_at p.setting (take size lanes))
     → GivesBytes start new first last p q bytes
-bytes_given start marked middle new first steps last p q lanes len l size bytes_of_one bytes legal has ahead marks takes counted skips skipped forward last_is moves spelled =
+bytes_given {start} {marked} {middle} {new} {first} {steps} {last} {p} {q} {lanes} {len} {l} {size} {bytes} legal has ahead marks takes counted skips skipped forward last_is moves spelled =
     let s = p.setting in
     let some : 1 ≤ size = omega (arith, has.some) in
     let levels = take s.block lanes in
@@ -373,7 +373,7 @@ bytes_given start marked middle new first steps last p q lanes len l size bytes_
       legal = All-take (λ l. l < value_count s) s.block lanes ahead.legal;
       gives = subst (λ ls. GivesBlock s p.block p.before (values_at s ls) 0 (blocks_in s p.block ahead.set)) (sym whole) ahead.gives;
     } in
-    let given = levels_given start marked middle new first steps last p q levels len l legal (omega (arith, some, has.size_is)) first_ahead marks takes counted skips skipped forward
+    let given = levels_given start first last p legal (omega (arith, some, has.size_is)) first_ahead marks takes counted skips skipped forward
     (omega (arith, long, has.size_is)) (last_is ∙ (sym (get_or-take s.block lanes (size - 1) 0 inside) ∙ ap (λ n. slice_index_or levels n 0) end)) moves in
     record {
       samples = values_at s levels;
@@ -382,11 +382,11 @@ bytes_given start marked middle new first steps last p q lanes len l size bytes_
       by_bits = subst (λ n. n + q.run * q.setting.block ≤ most_samples_of_bit * (new.taken - start.taken)) (sym (length-values s levels)) given.1;
     }
 
-pub sixteen_words_near : (s : Parameters) (from k size : ℕ) (highs lows first second old spelled more : List ℕ) → HasWidth s 2 → 8 < size → size ≤ 16
+pub sixteen_words_near : {s : Parameters} {from k size : ℕ} {highs lows : List ℕ} (first second old : List ℕ) {spelled more : List ℕ} → HasWidth s 2 → 8 < size → size ≤ 16
     → AreLevelsOfParts s from k highs lows (first ++ second) → length first ≡ 8 → length second ≡ 8 → 32 ≤ length old
     → length spelled ≡ 16 → length more ≡ 16 → spelled ≡ spellings s (values_at s first) → more ≡ spellings s (values_at s second)
     → SpellsParts s from k size highs lows (slice_index_or second (size - 9) 0) (put_chunk 16 (put_chunk 0 old spelled) more)
-sixteen_words_near s from k size highs lows first second old spelled more has some most near len many room count counted is more_is =
+sixteen_words_near {s} {size} first second old {spelled} {more} has some most near len many room count counted is more_is =
     let wide = has.wide refl in
     let two = two_bytes s wide.0 wide.1 in
     let all = put_chunk 16 (put_chunk 0 old spelled) more in

@@ -26,10 +26,10 @@ use Rattle.rice_code.proofs.lemmas.decode.SplitAhead.{first_of, spelled_both, sp
 use Rattle.rice_code.proofs.lemmas.decode.RowsOfFields.{all_back}
 
 -- what stands before the sequences of a block with a reference sample
-pub head_behind_reference : (waiting : List Bool) (s : Parameters) (b before from v id bits : ℕ) → is_reference s b ≡ true → id ≡ id_len s
+pub head_behind_reference : {waiting : List Bool} {s : Parameters} {b before from v id bits : ℕ} → is_reference s b ≡ true → id ≡ id_len s
     → bits ≡ s.bits → v < 2 ^ bits → word bits v ≡ take bits (drop id waiting)
     → from < value_count s → pattern s (value_at s from) ≡ v → HeadAhead waiting s b before from 1 (id + bits)
-head_behind_reference waiting s b before from v id bits there id_is bits_are fits value begins pat =
+head_behind_reference {waiting} {s} {v} {bits} there id_is bits_are fits value begins pat =
     record {
       reference = Some v;
       is = record { there = sym there; fits = subst (λ w. v < 2 ^ w) bits_are fits };
@@ -55,29 +55,29 @@ length-behind (suc zero) numbers row few len is = ap length is ∙ length-take-l
 length-behind (suc (suc o)) numbers row few len is = absurd (omega (arith, few))
 
 -- a row of fundamental sequences
-pub row-highs : (waiting : List Bool) (skip o n count : ℕ) (numbers row : List ℕ) → o ≤ 1 → o < count → skip + 64 ≤ length waiting
+pub row-highs : {waiting : List Bool} {skip : ℕ} (o : ℕ) {n : ℕ} (count : ℕ) {numbers row : List ℕ} → o ≤ 1 → o < count → skip + 64 ≤ length waiting
     → BeginWithSequences (drop skip waiting) (count - o) numbers n → row ≡ take count (replicate o 0 ++ numbers) → HighsAhead waiting skip o row n
-row-highs waiting skip zero n count numbers row few some there found is =
+row-highs {waiting} {skip} zero {n} count {numbers} few some there found is =
     let short = found.few in
     record {
       zeros = refl;
       spelled = ap (flat_map fundamental_sequence) is ∙ subst (λ c. flat_map fundamental_sequence (take c numbers) ≡ take n (drop skip waiting)) (omega arith) found.spelled;
       within = omega (arith, there, short);
     }
-row-highs waiting skip (suc zero) n (suc m) numbers row few some there found is =
+row-highs {waiting} {skip} (suc zero) {n} (suc m) {numbers} few some there found is =
     let short = found.few in
     record {
       zeros = ap (take 1) is;
       spelled = ap (λ xs. flat_map fundamental_sequence (drop 1 xs)) is ∙ subst (λ c. flat_map fundamental_sequence (take c numbers) ≡ take n (drop skip waiting)) (omega arith) found.spelled;
       within = omega (arith, there, short);
     }
-row-highs waiting skip (suc zero) n zero numbers row few some there found is = absurd (omega (arith, some))
-row-highs waiting skip (suc (suc o)) n count numbers row few some there found is = absurd (omega (arith, few))
+row-highs (suc zero) zero few some there found is = absurd (omega (arith, some))
+row-highs (suc (suc o)) count few some there found is = absurd (omega (arith, few))
 
 -- the first numbers of a row, with zeros behind them
-pub first_of_row : (o count : ℕ) (numbers behind row : List ℕ) → o ≤ 1 → count ≤ 16 → length numbers ≡ 16 → behind ≡ take 16 (replicate o 0 ++ numbers)
+pub first_of_row : {o count : ℕ} (numbers : List ℕ) {behind row : List ℕ} → o ≤ 1 → count ≤ 16 → length numbers ≡ 16 → behind ≡ take 16 (replicate o 0 ++ numbers)
     → row ≡ take count behind ++ replicate (16 - count) 0 → take count row ≡ take count (replicate o 0 ++ numbers)
-first_of_row o count numbers behind row few most len is row_is =
+first_of_row {o} {count} numbers {behind} {row} few most len is row_is =
     first_of count behind row (length-behind o numbers behind few len is) most row_is
     ∙ (ap (take count) is ∙ take-take count 16 (replicate o 0 ++ numbers) most)
 
@@ -91,9 +91,9 @@ stored_row row count numbers old new most room len value =
     ∙ (ap (take (16 * row + count)) value ∙ (ap (λ n. take (n + count) (front ++ numbers)) (sym front_len) ∙ take-append-add front numbers count))
 
 -- one row more of fundamental sequences
-pub highs-row : (waiting : List Bool) (skip omitted len n : ℕ) (highs row : List ℕ) → omitted ≤ length highs → HighsAhead waiting skip omitted highs len
+pub highs-row : {waiting : List Bool} {skip omitted len n : ℕ} {highs row : List ℕ} → omitted ≤ length highs → HighsAhead waiting skip omitted highs len
     → HighsAhead waiting (skip + len) 0 row n → HighsAhead waiting skip omitted (highs ++ row) (len + n)
-highs-row waiting skip omitted len n highs row few before more =
+highs-row {waiting} {skip} {omitted} {len} {n} {highs} {row} few before more =
     let within = more.within in
     record {
       zeros = take-append-le omitted highs row few ∙ before.zeros;
@@ -104,10 +104,10 @@ highs-row waiting skip omitted len n highs row few before more =
     }
 
 -- a row of words
-pub row-lows : (waiting : List Bool) (skip o k : ℕ) (words row : List ℕ) → o ≤ 1 → length words ≡ 16 → All (λ l. l < 2 ^ k) words
+pub row-lows : {waiting : List Bool} (skip o k : ℕ) (words : List ℕ) {row : List ℕ} → o ≤ 1 → length words ≡ 16 → All (λ l. l < 2 ^ k) words
     → flat_map (word k) words ≡ take (16 * k) (drop skip waiting) → row ≡ take 16 (replicate o 0 ++ words)
     → LowsAhead waiting skip o k row
-row-lows waiting skip zero k words row few len low bits is =
+row-lows {waiting} skip zero k words {row} few len low bits is =
     let same : row ≡ words = is ∙ take_all 16 words (omega (arith, len)) in
     let all : length row - 0 ≡ 16 = omega (arith, ap length same, len) in
     record {
@@ -115,7 +115,7 @@ row-lows waiting skip zero k words row few len low bits is =
       low = subst (All (λ l. l < 2 ^ k)) (sym same) low;
       spelled = ap (flat_map (word k)) same ∙ (bits ∙ ap (λ n. take (n * k) (drop skip waiting)) (sym all));
     }
-row-lows waiting skip (suc zero) k words row few len low bits is =
+row-lows {waiting} skip (suc zero) k words {row} few len low bits is =
     let all : length row ≡ 16 = length-behind 1 words row few len is in
     record {
       zeros = ap (take 1) is;
@@ -125,12 +125,12 @@ row-lows waiting skip (suc zero) k words row few len low bits is =
           ∙ (words-front k 15 words (omega (arith, len)) ∙ (ap (take (15 * k)) bits ∙ (take-take (15 * k) (16 * k) (drop skip waiting) (mul-le-mul_right k (omega arith))
           ∙ ap (λ n. take ((n - 1) * k) (drop skip waiting)) (sym all))));
     }
-row-lows waiting skip (suc (suc o)) k words row few len low bits is = absurd (omega (arith, few))
+row-lows skip (suc (suc o)) k words few len low bits is = absurd (omega (arith, few))
 
 -- one row more of words
-pub lows-row : (waiting : List Bool) (skip omitted k at count : ℕ) (lows row : List ℕ) → omitted ≤ length lows → LowsAhead waiting skip omitted k lows → at ≡ skip + (length lows - omitted) * k
+pub lows-row : {waiting : List Bool} {skip omitted k at count : ℕ} {lows : List ℕ} (row : List ℕ) → omitted ≤ length lows → LowsAhead waiting skip omitted k lows → at ≡ skip + (length lows - omitted) * k
     → length row ≡ count → All (λ l. l < 2 ^ k) row → flat_map (word k) row ≡ take (count * k) (drop at waiting) → LowsAhead waiting skip omitted k (lows ++ row)
-lows-row waiting skip omitted k at count lows row few before place len low bits =
+lows-row {waiting} {skip} {omitted} {k} {count} {lows} row few before place len low bits =
     let part = length lows - omitted in
     let more : part + count ≡ length (lows ++ row) - omitted = omega (arith, length-append lows row, len, few) in
     let all : part * k + count * k ≡ (length (lows ++ row) - omitted) * k = sym (add-mul part count k) ∙ ap (λ n. n * k) more in
@@ -144,9 +144,9 @@ lows-row waiting skip omitted k at count lows row few before place len low bits 
     }
 
 -- the first words of a row
-pub words-row : (waiting : List Bool) (k at count : ℕ) (words row : List ℕ) → count ≤ 16 → length words ≡ 16 → flat_map (word k) words ≡ take (16 * k) (drop at waiting)
+pub words-row : (waiting : List Bool) (k at : ℕ) {count : ℕ} (words : List ℕ) {row : List ℕ} → count ≤ 16 → length words ≡ 16 → flat_map (word k) words ≡ take (16 * k) (drop at waiting)
     → row ≡ take count words ++ replicate (16 - count) 0 → flat_map (word k) (take count row) ≡ take (count * k) (drop at waiting)
-words-row waiting k at count words row most len bits is =
+words-row waiting k at {count} words {row} most len bits is =
     ap (flat_map (word k)) (first_of count words row len most is)
     ∙ (words-front k count words (omega (arith, len, most)) ∙ (ap (take (count * k)) bits ∙ take-take (count * k) (16 * k) (drop at waiting) (mul-le-mul_right k most)))
 
@@ -165,11 +165,11 @@ zeros-joined (suc n) k (x ∷ xs) (y ∷ ys) same few e f =
     λ j. first j ∷ rest j
 
 -- the parts of a block that waits
-pub rows_parts : (waiting : List Bool) (s : Parameters) (b before k from omitted head n size bytes_of_one : ℕ) (highs lows : List ℕ) → HasLanes s size bytes_of_one → k < 3 + 3 * bytes_of_one
+pub rows_parts : {waiting : List Bool} {s : Parameters} {b before k from omitted head n size bytes_of_one : ℕ} {highs lows : List ℕ} → HasLanes s size bytes_of_one → k < 3 + 3 * bytes_of_one
     → word (id_len s) (k + 1) ≡ take (id_len s) waiting → HeadAhead waiting s b before from omitted head → HighsAhead waiting head omitted highs n → LowsAhead waiting (head + n) omitted k lows
     → length highs ≡ size → length lows ≡ size → head + n + (size - omitted) * k ≤ length waiting
     → PartsAhead waiting s b before k from size highs lows (head + n + (size - omitted) * k)
-rows_parts waiting s b before k from omitted head n size bytes_of_one highs lows has lt id begin high low many much within =
+rows_parts {waiting} {s} {b} {before} {k} {from} {omitted} {head} {n} {size} {bytes_of_one} {highs} {lows} has lt id begin high low many much within =
     let some : 1 ≤ size = omega (arith, has.some) in
     let split = split_fits s bytes_of_one k has.samples lt in
     let r = begin.reference in
@@ -195,7 +195,7 @@ rows_parts waiting s b before k from omitted head n size bytes_of_one highs lows
           ∙ (near.ranked ∙ (zeros-joined omitted k highs lows same (omega (arith, few, some, many)) high.zeros low.zeros
           ∙ ap (λ xs. xs ++ joined_parts k ms ls) (sym begin.place))) in
           subst (BlockAhead waiting s b (value_at s before) levels) all
-          (split_ahead waiting s b before from k r ms ls levels a n m has.preprocess (omega (arith, some, has.size_is)) begin.is split.0 id begin.bits first second (omega (arith, within, all)) as_many
+          (split_ahead {waiting = waiting} before ms ls {lanes = levels} a n m has.preprocess (omega (arith, some, has.size_is)) begin.is split.0 id begin.bits first second (omega (arith, within, all)) as_many
           (All-drop (λ l. l < 2 ^ k) omitted lows low.low) begin.begins begin.value begin.same (omega (arith, whole)) near.legal ranked));
     }
 
@@ -216,10 +216,10 @@ pub last-append : (p : ℕ) (xs ys : List ℕ) → last_number p (xs ++ ys) ≡ 
 last-append p [] ys = refl
 last-append p (x ∷ xs) ys = last-append x xs ys
 
-pub rows_near : (s : Parameters) (p q k : ℕ) (highs lows levels more_highs more_lows more : List ℕ) → length lows ≡ length highs → q ≡ last_number p levels
+pub rows_near : {s : Parameters} {p q k : ℕ} {highs lows levels more_highs more_lows more : List ℕ} → length lows ≡ length highs → q ≡ last_number p levels
     → AreLevelsOfParts s p k highs lows levels → AreLevelsOfParts s q k more_highs more_lows more
     → AreLevelsOfParts s p k (highs ++ more_highs) (lows ++ more_lows) (levels ++ more)
-rows_near s p q k highs lows levels more_highs more_lows more same last near then_near =
+rows_near {s} {p} {k} {highs} {lows} {levels} {more_highs} {more_lows} {more} same last near then_near =
     let first = near.len in
     let second = then_near.len in
     record {
@@ -250,9 +250,9 @@ none_spelled s from k highs lows bytes begins =
     }
 
 -- the first of the samples that have parts
-pub spells_front : (s : Parameters) (p k n l : ℕ) (highs lows bytes : List ℕ) → 1 ≤ n → n ≤ length highs → SpellsParts s p k n highs lows l bytes
+pub spells_front : {s : Parameters} {p k n l : ℕ} {highs lows bytes : List ℕ} → 1 ≤ n → n ≤ length highs → SpellsParts s p k n highs lows l bytes
     → SpellsParts s p k n (take n highs) (take n lows) l bytes
-spells_front s p k n l highs lows bytes some most all =
+spells_front {s} {p} {k} {n} {l} {highs} {lows} some most all =
     let levels = take n all.levels in
     let len : length levels ≡ n = length-take-le n all.levels (let same = all.near.len in omega (arith, same, most)) in
     record {
@@ -267,11 +267,11 @@ spells_front s p k n l highs lows bytes some most all =
     }
 
 -- one row more
-pub row_spelled : (s : Parameters) (from k count n last l w : ℕ) (highs lows bytes now : List ℕ) → HasWidth s w → 1 ≤ n → length lows ≡ length highs
+pub row_spelled : {s : Parameters} {from k count n last l w : ℕ} {highs lows bytes now : List ℕ} → HasWidth s w → 1 ≤ n → length lows ≡ length highs
     → count + n ≤ length highs → take (w * count) now ≡ take (w * count) bytes
     → RowsSpelled s from k count highs lows last bytes
     → SpellsParts s last k n (take n (drop count highs)) (take n (drop count lows)) l (drop (w * count) now) → RowsSpelled s from k (count + n) highs lows l now
-row_spelled s from k count n last l w highs lows bytes now has some same room front before more =
+row_spelled {s} {from} {k} {count} {n} {last} {l} {w} {highs} {lows} {bytes} {now} has some same room front before more =
     let one = bytes_of_width s w has in
     let next_highs = take n (drop count highs) in
     let next_lows = take n (drop count lows) in
@@ -283,7 +283,7 @@ row_spelled s from k count n last l w highs lows bytes now has some same room fr
     let last_level : l ≡ last_number last more.levels = more.last_is ∙ sym (last_at last (n - 1) more.levels end) in
     let whole : take n more.levels ≡ more.levels = take_all n more.levels (omega (arith, many)) in
     let place : width s * (count + n) ≡ w * count + width s * n = mul-add (width s) count n ∙ ap (λ v. v * count + width s * n) one in
-    let joint = rows_near s from last k (take count highs) (take count lows) before.levels next_highs next_lows more.levels as_many before.last_is before.near more.near in
+    let joint = rows_near as_many before.last_is before.near more.near in
     record {
       levels = levels;
       near =
@@ -299,10 +299,10 @@ row_spelled s from k count n last l w highs lows bytes now has some same room fr
     }
 
 -- all of them, copied to the front of other bytes
-pub all_spelled : (s : Parameters) (from k size last w : ℕ) (highs lows bytes old : List ℕ) → HasWidth s w → 1 ≤ size → size ≤ length highs
+pub all_spelled : {s : Parameters} {from k size last w : ℕ} {highs lows bytes : List ℕ} (old : List ℕ) → HasWidth s w → 1 ≤ size → size ≤ length highs
     → w * size ≤ length bytes → RowsSpelled s from k size highs lows last bytes
     → SpellsParts s from k size (take size highs) (take size lows) last (take (w * size) bytes ++ drop (w * size) old)
-all_spelled s from k size last w highs lows bytes old has some room there rows =
+all_spelled {s} {from} {size} {w} {highs} {bytes} old has some room there rows =
     let one = bytes_of_width s w has in
     let front = take (w * size) bytes in
     let rest = drop (w * size) old in

@@ -37,9 +37,9 @@ eight-behind (suc zero) numbers row few len is = (ap (take 1) is, ap (drop 1) is
 eight-behind (suc (suc o)) numbers row few len is = absurd (omega (arith, few))
 
 -- the sequences of eight residuals
-pub eight-highs : (waiting : List Bool) (skip o n : ℕ) (numbers row : List ℕ) → o ≤ 1 → skip + 64 ≤ length waiting
+pub eight-highs : (waiting : List Bool) (skip : ℕ) {o n : ℕ} {numbers row : List ℕ} → o ≤ 1 → skip + 64 ≤ length waiting
     → BeginWithSequences (drop skip waiting) (8 - o) numbers n → row ≡ take 8 (replicate o 0 ++ numbers) → HighsAhead waiting skip o row n
-eight-highs waiting skip o n numbers row few there found is =
+eight-highs waiting skip {o} {numbers} {row} few there found is =
     let len = found.lanes in
     let short = found.few in
     let parts = eight-behind o numbers row few (omega (arith, len)) is in
@@ -50,9 +50,9 @@ eight-highs waiting skip o n numbers row few there found is =
     }
 
 -- the words of the first eight residuals
-pub eight-lows : (waiting : List Bool) (skip o k : ℕ) (words row : List ℕ) → o ≤ 1 → length words ≡ 8 → All (λ l. l < 2 ^ k) words
+pub eight-lows : (waiting : List Bool) (skip : ℕ) {o : ℕ} (k : ℕ) (words : List ℕ) {row : List ℕ} → o ≤ 1 → length words ≡ 8 → All (λ l. l < 2 ^ k) words
     → flat_map (word k) words ≡ take (8 * k) (drop skip waiting) → row ≡ take 8 (replicate o 0 ++ words) → LowsAhead waiting skip o k row
-eight-lows waiting skip o k words row few len low bits is =
+eight-lows waiting skip {o} k words {row} few len low bits is =
     let parts = eight-behind o words row few (omega (arith, len)) is in
     let n : length row - o ≡ 8 - o = ap (λ n. n - o) parts.2 in
     record {
@@ -68,15 +68,15 @@ eight-lows waiting skip o k words row few len low bits is =
     zeros_low o few = λ i d lt. All-replicate (λ l. l < 2 ^ k) o 0 (pow_pos k) i d lt
 
 -- the levels of the first eight samples
-pub first_levels : (waiting : List Bool) (s : Parameters) (from k skip o last : ℕ) (words row highs old new : List ℕ) → o ≤ 1 → length words ≡ 8 → All (λ l. l < 2 ^ k) words
+pub first_levels : {waiting : List Bool} {s : Parameters} {from k skip o last : ℕ} (words : List ℕ) {row : List ℕ} (highs : List ℕ) {old new : List ℕ} → o ≤ 1 → length words ≡ 8 → All (λ l. l < 2 ^ k) words
     → flat_map (word k) words ≡ take (8 * k) (drop skip waiting) → row ≡ take 8 (replicate o 0 ++ words) → 8 ≤ length highs
     → (w : EightLevels s from k 0 (take 8 highs) row old new last) → LevelsAhead waiting s from k skip o (take 8 highs) (take 8 new) × (last ≡ last_number from (take 8 new))
-first_levels waiting s from k skip o last words row highs old new few len low bits is room w =
+first_levels {waiting} {s} {from} {k} {skip} {o} words {row} highs {new} few len low bits is room w =
     let parts = eight-behind o words row few (omega (arith, len)) is in
     let front : take 8 new ≡ w.levels = w.written in (
       record {
         lows = row;
-        words = eight-lows waiting skip o k words row few len low bits is;
+        words = eight-lows waiting skip k words few len low bits is;
         count = parts.2 ∙ sym (length-take-le 8 highs room);
         near = subst (AreLevelsOfParts s from k (take 8 highs) row) (sym front) w.near;
       },
@@ -84,21 +84,21 @@ first_levels waiting s from k skip o last words row highs old new few len low bi
     )
 
 -- those of eight samples more
-pub more_levels : (waiting : List Bool) (s : Parameters) (from k skip o at count before last : ℕ) (words highs old new : List ℕ) → o ≤ 1 → 8 ≤ count → count + 8 ≤ length highs
+pub more_levels : {waiting : List Bool} {s : Parameters} {from k skip o at count before last : ℕ} {words : List ℕ} (highs : List ℕ) {old new : List ℕ} → o ≤ 1 → 8 ≤ count → count + 8 ≤ length highs
     → length words ≡ 8 → All (λ l. l < 2 ^ k) words → flat_map (word k) words ≡ take (8 * k) (drop at waiting) → at ≡ skip + (count - o) * k
     → LevelsAhead waiting s from k skip o (take count highs) (take count old) → before ≡ last_number from (take count old)
     → (w : EightLevels s before k count (take 8 (drop count highs)) words old new last)
     → LevelsAhead waiting s from k skip o (take (count + 8) highs) (take (count + 8) new) × (last ≡ last_number from (take (count + 8) new))
-more_levels waiting s from k skip o at count before last words highs old new few some room len low bits place ahead before_is w =
+more_levels {waiting} {s} {from} {k} {skip} {o} {at} {count} {before} {words} highs {old} {new} few some room len low bits place ahead before_is w =
     let as_many : length ahead.lows ≡ count = ahead.count ∙ length-take-le count highs (omega (arith, room)) in
     let behind : length (drop count highs) ≡ length highs - count = length-drop count highs in
     let eight : length (take 8 (drop count highs)) ≡ 8 = length-take-le 8 (drop count highs) (omega (arith, behind, room)) in
-    let joint = rows_near s from before k (take count highs) ahead.lows (take count old) (take 8 (drop count highs)) words w.levels ahead.count before_is ahead.near w.near in
+    let joint = rows_near ahead.count before_is ahead.near w.near in
     let both : length (ahead.lows ++ words) ≡ length (take (count + 8) highs) =
     length-append ahead.lows words ∙ ((λ j. as_many j + len j) ∙ sym (length-take-le (count + 8) highs room)) in (
       record {
         lows = ahead.lows ++ words;
-        words = lows-row waiting skip o k at 8 ahead.lows words (omega (arith, few, some, as_many)) ahead.words (place ∙ ap (λ n. skip + (n - o) * k) (sym as_many)) len low bits;
+        words = lows-row words (omega (arith, few, some, as_many)) ahead.words (place ∙ ap (λ n. skip + (n - o) * k) (sym as_many)) len low bits;
         count = both;
         near =
             subst (λ hs. AreLevelsOfParts s from k hs (ahead.lows ++ words) (take (count + 8) new)) (sym (take-add count 8 highs))
@@ -108,9 +108,9 @@ more_levels waiting s from k skip o at count before last words highs old new few
     )
 
 -- eight levels behind others
-pub eight_written : (s : Parameters) (from k at : ℕ) (highs lows old levels new : List ℕ) → AreLevelsOfParts s from k highs lows levels → length highs ≡ 8
+pub eight_written : {s : Parameters} {from k at : ℕ} {highs lows old levels new : List ℕ} → AreLevelsOfParts s from k highs lows levels → length highs ≡ 8
     → take (at + 8) new ≡ take at old ++ levels → EightLevels s from k at highs lows old new (slice_index_or levels 7 0)
-eight_written s from k at highs lows old levels new near eight written =
+eight_written {from} {levels} near eight written =
     let many : length levels ≡ 8 = near.len ∙ eight in
     record {
       levels = levels;
@@ -121,12 +121,12 @@ eight_written s from k at highs lows old levels new near eight written =
     }
 
 -- a block of eight samples
-pub restored_eight : (waiting : List Bool) (s : Parameters) (from k skip o n : ℕ) (numbers highs words lows levels : List ℕ) → o ≤ 1 → skip + 64 ≤ length waiting
+pub restored_eight : {waiting : List Bool} {s : Parameters} {from k skip o n : ℕ} {numbers highs : List ℕ} (words : List ℕ) {lows levels : List ℕ} → o ≤ 1 → skip + 64 ≤ length waiting
     → BeginWithSequences (drop skip waiting) (8 - o) numbers n → highs ≡ take 8 (replicate o 0 ++ numbers)
     → length words ≡ 8 → All (λ l. l < 2 ^ k) words → flat_map (word k) words ≡ take (8 * k) (drop (skip + n) waiting) → lows ≡ take 8 (replicate o 0 ++ words)
     → skip + n + 8 * k ≤ length waiting → AreLevelsOfParts s from k highs lows levels
     → RestoredAhead waiting s from k skip o levels (slice_index_or levels 7 0) (skip + n + (8 - o) * k)
-restored_eight waiting s from k skip o n numbers highs words lows levels few there found high_is len low bits low_is within near =
+restored_eight {waiting} {from} {k} {skip} {o} {n} {numbers} {highs} words {lows} {levels} few there found high_is len low bits low_is within near =
     let lanes = found.lanes in
     let high = eight-behind o numbers highs few (omega (arith, lanes)) high_is in
     let lower = eight-behind o words lows few (omega (arith, len)) low_is in
@@ -135,10 +135,10 @@ restored_eight waiting s from k skip o n numbers highs words lows levels few the
     record {
       highs = highs;
       part = n;
-      sequences = eight-highs waiting skip o n numbers highs few there found high_is;
+      sequences = eight-highs waiting skip few there found high_is;
       rest = record {
         lows = lows;
-        words = eight-lows waiting (skip + n) o k words lows few len low bits low_is;
+        words = eight-lows waiting (skip + n) k words few len low bits low_is;
         count = lower.2 ∙ sym high.2;
         near = near;
       };
@@ -154,8 +154,8 @@ eight_place skip e o k some few =
     let parts : (8 * e - o) * k ≡ (8 - o) * k + 8 * (e - 1) * k = ap (λ n. n * k) (sym all) ∙ add-mul (8 - o) (8 * (e - 1)) k in
     omega (arith, parts)
 
-pub eight_inside : (skip e o k n most : ℕ) → 1 ≤ e → o ≤ 1 → e < n / 8 → skip + n * k + 64 ≤ most → skip + (8 - o) * k + 8 * (e - 1) * k + 8 * k + 64 ≤ most
-eight_inside skip e o k n most some few inside there =
+pub eight_inside : (skip : ℕ) {e o : ℕ} (k n most : ℕ) → 1 ≤ e → o ≤ 1 → e < n / 8 → skip + n * k + 64 ≤ most → skip + (8 - o) * k + 8 * (e - 1) * k + 8 * k + 64 ≤ most
+eight_inside skip {e} {o} k n most some few inside there =
     let place = eight_place skip e o k some few in
     let parts : (8 * e - o) * k + 8 * k ≡ (8 * e - o + 8) * k = sym (add-mul (8 * e - o) 8 k) in
     let all : (8 * e - o + 8) * k ≤ n * k = mul-le-mul_right k (omega (arith, inside)) in
@@ -171,11 +171,11 @@ pub places_written : (n : ℕ) (xs ys : List ℕ) → length xs ≡ n → length
 places_written n xs ys e f = take_at xs (drop (length xs) ys) (length ys) (e ∙ sym f)
 
 -- the block that waits
-pub wide_block : (waiting : List Bool) (s : Parameters) (b before k from omitted head last len : ℕ) (levels : List ℕ) → s.preprocess ≡ true → 1 ≤ s.block
+pub wide_block : {waiting : List Bool} {s : Parameters} {b before k from omitted head last len : ℕ} {levels : List ℕ} → s.preprocess ≡ true → 1 ≤ s.block
     → k ≤ k_max s → word (id_len s) (k + 1) ≡ take (id_len s) waiting → HeadAhead waiting s b before from omitted head
     → length levels ≡ s.block → RestoredAhead waiting s from k head omitted levels last len
     → BlockAhead waiting s b (value_at s before) levels len × (last ≡ slice_index_or levels (s.block - 1) 0)
-wide_block waiting s b before k from omitted head last len levels pre some split id begin size found =
+wide_block {waiting} {s} {b} {before} {k} {from} {omitted} {len} {levels} pre some split id begin size found =
     let r = begin.reference in
     let a = begin.part in
     let n = found.part in
@@ -201,7 +201,7 @@ wide_block waiting s b before k from omitted head last len levels pre some split
     ∙ (near.ranked ∙ (zeros-joined omitted k highs lows same room found.sequences.zeros found.rest.words.zeros ∙ ap (λ xs. xs ++ joined_parts k ms ls) (sym begin.place))) in
     let end : length levels ≡ suc (s.block - 1) = omega (arith, size, some) in (
       subst (BlockAhead waiting s b (value_at s before) levels) all
-          (split_ahead waiting s b before from k r ms ls levels a n m pre some begin.is split id begin.bits first second (omega (arith, within, all)) as_many
+          (split_ahead {waiting = waiting} before ms ls {lanes = levels} a n m pre some begin.is split id begin.bits first second (omega (arith, within, all)) as_many
           (All-drop (λ l. l < 2 ^ k) omitted lows found.rest.words.low) begin.begins begin.value begin.same (omega (arith, size)) near.legal ranked),
       found.last_is ∙ last_at from (s.block - 1) levels end,
     )

@@ -12,9 +12,9 @@ pub where_unset : (flag : ℕ) (a b : Option ℕ) → flag ≡ 0 → b ≡ (if n
 where_unset flag a b h = grind arith
 
 -- a set that is put is the one that is chosen, and its looks are within those of each option
-pub puts_chosen : (s : Parameters) (set chosen : CodedDataSet) (least most : ℕ) (old new last : List Bool) (m0 m1 m2 : ℕ) → set ≡ chosen → last ≡ new → m2 ≡ m1
+pub puts_chosen : {s : Parameters} {set chosen : CodedDataSet} {least most : ℕ} {old new last : List Bool} {m0 m1 m2 : ℕ} → set ≡ chosen → last ≡ new → m2 ≡ m1
     → s.block - 1 ≤ least → most ≤ 2 * s.block → PutsSet s set least most old new m0 m1 → PutsSet s chosen (s.block - 1) (2 * s.block) old last m0 m2
-puts_chosen s set chosen least most old new last m0 m1 m2 e f g low high put =
+puts_chosen {s} {old} e f g low high put =
     let price = ap (cost s) e in
     let len = ap length f in
     record {

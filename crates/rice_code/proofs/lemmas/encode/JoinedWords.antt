@@ -10,16 +10,16 @@ pub length-word_is : (width value : ℕ) (bits : List Bool) → word width value
 length-word_is width value bits e = sym (ap length e) ∙ length-word width value
 
 -- one field more
-pub more_fields : (width value more digits joined total : ℕ) → IsShort width value → digits < 2 ^ more → width + more ≤ 56 → joined ≡ value * 2 ^ more + digits
+pub more_fields : {width value : ℕ} (more digits : ℕ) {joined total : ℕ} → IsShort width value → digits < 2 ^ more → width + more ≤ 56 → joined ≡ value * 2 ^ more + digits
     → total ≡ width + more → IsShort total joined
-more_fields width value more digits joined total h lt le e f = record {
+more_fields {width} {value} more digits h lt le e f = record {
   most = omega arith;
   digits = (let b = join_below width more value digits h.digits lt in let g = ap (λ n. 2 ^ n) f in omega (arith, b, g));
 }
 
-pub joined_bits : (sink bits : List Bool) (width value more digits joined total : ℕ) → word width value ≡ bits → digits < 2 ^ more
+pub joined_bits : (sink : List Bool) {bits : List Bool} (width value more digits : ℕ) {joined total : ℕ} → word width value ≡ bits → digits < 2 ^ more
     → joined ≡ value * 2 ^ more + digits → total ≡ width + more → sink ++ word total joined ≡ sink ++ bits ++ word more digits
-joined_bits sink bits width value more digits joined total e lt f g =
+joined_bits sink {bits} width value more digits e lt f g =
     (λ i. sink ++ word (g i) (f i)) ∙ (ap (λ v. sink ++ v) (word-cat width more value digits lt ∙ ap (λ v. v ++ word more digits) e) ∙ sym (append_assoc sink bits (word more digits)))
 
 -- a one fits the width of its fundamental sequence
@@ -35,18 +35,18 @@ high_small width more v l h k few =
     let le : 2 ^ (width + more) ≤ 2 ^ 56 = pow-le-pow_right {n = 2} (omega arith) {i = width + more} {j = 56} few in
     omega (arith, le, join_below width more v l h k)
 
-pub joined_words : (width more v l all : ℕ) (bits last : List Bool) → l < 2 ^ more → word width v ≡ bits → word more l ≡ last → all ≡ v * 2 ^ more + l → word (width + more) all ≡ bits ++ last
-joined_words width more v l all bits last k e f g = ap (word (width + more)) g ∙ (word-cat width more v l k ∙ (λ i. e i ++ f i))
+pub joined_words : (width more v l : ℕ) {all : ℕ} {bits last : List Bool} → l < 2 ^ more → word width v ≡ bits → word more l ≡ last → all ≡ v * 2 ^ more + l → word (width + more) all ≡ bits ++ last
+joined_words width more v l k e f g = ap (word (width + more)) g ∙ (word-cat width more v l k ∙ (λ i. e i ++ f i))
 
 -- and three
-pub four_words : (w0 w1 w2 w3 n v0 v1 v2 v3 two three all : ℕ) (b0 b1 b2 b3 : List Bool) → v0 < 2 ^ w0 → v1 < 2 ^ w1 → v2 < 2 ^ w2 → v3 < 2 ^ w3
+pub four_words : (w0 w1 w2 w3 : ℕ) {n : ℕ} (v0 v1 v2 v3 : ℕ) {two three all : ℕ} {b0 b1 b2 b3 : List Bool} → v0 < 2 ^ w0 → v1 < 2 ^ w1 → v2 < 2 ^ w2 → v3 < 2 ^ w3
     → two ≡ v0 * 2 ^ w1 + v1 → three ≡ two * 2 ^ w2 + v2 → all ≡ three * 2 ^ w3 + v3 →
     word w0 v0 ≡ b0 → word w1 v1 ≡ b1 → word w2 v2 ≡ b2 → word w3 v3 ≡ b3 → n ≡ w0 + w1 + w2 + w3 → (all < 2 ^ n) × (word n all ≡ b0 ++ b1 ++ b2 ++ b3)
-four_words w0 w1 w2 w3 n v0 v1 v2 v3 two three all b0 b1 b2 b3 h0 h1 h2 h3 e2 e3 e4 f0 f1 f2 f3 g =
+four_words w0 w1 w2 w3 v0 v1 v2 v3 {two} {three} {all} {b0} {b1} {b2} {b3} h0 h1 h2 h3 e2 e3 e4 f0 f1 f2 f3 g =
     let x = joined_fits w0 w1 v0 v1 two h0 h1 e2 in
     let y = joined_fits (w0 + w1) w2 two v2 three x h2 e3 in
     let z = joined_fits (w0 + w1 + w2) w3 three v3 all y h3 e4 in
-    let i = joined_words w0 w1 v0 v1 two b0 b1 h1 f0 f1 e2 in
-    let j = joined_words (w0 + w1) w2 two v2 three (b0 ++ b1) b2 h2 i f2 e3 in
-    let k = joined_words (w0 + w1 + w2) w3 three v3 all (b0 ++ b1 ++ b2) b3 h3 j f3 e4 in
+    let i = joined_words w0 w1 v0 v1 h1 f0 f1 e2 in
+    let j = joined_words (w0 + w1) w2 two v2 h2 i f2 e3 in
+    let k = joined_words (w0 + w1 + w2) w3 three v3 h3 j f3 e4 in
     (subst (λ m. all < 2 ^ m) (sym g) z, ap (λ m. word m all) g ∙ k)

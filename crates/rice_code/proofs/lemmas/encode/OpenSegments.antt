@@ -121,25 +121,25 @@ few_blocks coder end h whole =
     ]
 
 -- what is put is the code of what is held
-pub code_is_held : (coder : CoderState) (count end : ℕ) (old put new : List Bool) → count ≡ blocks_held coder → IsOpen coder end → HoldsSoundBlocks coder →
+pub code_is_held : {coder : CoderState} {count end : ℕ} (old : List Bool) {put new : List Bool} → count ≡ blocks_held coder → IsOpen coder end → HoldsSoundBlocks coder →
     put ≡ old ++ bits_of_sets coder.setting (data_sets coder.setting coder.start false (held_blocks coder.setting coder.reference count coder.residuals)) →
     new ≡ put ++ replicate (cond (coder.setting.pad && coder.start + count == coder.setting.interval) (bits_to_byte (length put)) 0) false → new ≡ old ++ code_held coder (length old)
-code_is_held coder count end old put new e h blocks f g =
+code_is_held {coder} {end} old {put} e h blocks f g =
     let s = coder.setting in
     let n = blocks_held coder in
     let texts = bits_of_sets s (sets_held coder) in
     let f' : put ≡ old ++ texts = f ∙ ap (λ m. old ++ bits_of_sets s (data_sets s coder.start false (held_blocks s coder.reference m coder.residuals))) e in
     let len : length put ≡ length old + length texts = ap length f' ∙ length-append old texts in
     let pad = λ (m bits : ℕ). replicate (cond (s.pad && coder.start + m == s.interval) (bits_to_byte bits) 0) false in
-    let lies = code_lies s coder.start (length old) n (contents_held coder) (held_len s coder.reference n coder.residuals) h.legal h.place blocks.sound (few_blocks coder end h blocks.whole).0 in
+    let lies = code_lies (length old) (contents_held coder) (held_len s coder.reference n coder.residuals) h.legal h.place blocks.sound (few_blocks coder end h blocks.whole).0 in
     g ∙ ((λ i. f' i ++ pad (e i) (len i)) ∙ (append_assoc old texts (pad n (length old + length texts)) ∙ ap (λ v. old ++ v) lies))
 
 -- so this is what the call does
-pub codes_held : (coder value : CoderState) (count end : ℕ) (old put new : List Bool) (n m0 m1 : ℕ) → coder ≡ value → count ≡ blocks_held coder → IsOpen coder end → HoldsSoundBlocks value →
+pub codes_held : {coder value : CoderState} {count end : ℕ} {old put new : List Bool} {n m0 m1 : ℕ} → coder ≡ value → count ≡ blocks_held coder → IsOpen coder end → HoldsSoundBlocks value →
     PutsBlocks coder.setting coder.start (held_blocks coder.setting coder.reference count coder.residuals) old put m0 m1 →
     new ≡ put ++ replicate (cond (coder.setting.pad && coder.start + count == coder.setting.interval) (bits_to_byte (length put)) 0) false →
     n ≡ length put - length old → CodesHeld value old new n m0 m1
-codes_held coder value count end old put new n m0 m1 same e h sound puts g len =
+codes_held {coder} {count} {end} {old} {put} {new} {n} {m0} {m1} same e h sound puts g len =
     let s = coder.setting in
     let blocks : HoldsSoundBlocks coder = subst HoldsSoundBlocks (sym same) sound in
     let texts = ap (λ m. length (code_of_blocks s coder.start (held_blocks s coder.reference m coder.residuals))) e ∙ length-flat_map (bits_of_set s) (sets_held coder) in
@@ -148,7 +148,7 @@ codes_held coder value count end old put new n m0 m1 same e h sound puts g len =
     let few = ap (λ m. sum_by (least_looks s) (held_blocks s coder.reference m coder.residuals)) e in
     let many = ap (λ m. sum_by (most_looks s) (held_blocks s coder.reference m coder.residuals)) e in
     subst (λ v. CodesHeld v old new n m0 m1) same (record {
-      code_is = code_is_held coder count end old put new e h blocks puts.bits g;
+      code_is = code_is_held old e h blocks puts.bits g;
       bits = omega (arith, len, put_len, both, texts);
       least = omega (arith, texts, few, puts.steps_from);
       most = omega (arith, texts, many, puts.steps_to);

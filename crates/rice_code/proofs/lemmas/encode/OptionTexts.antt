@@ -121,9 +121,9 @@ four_more xs i n h e =
     let d' = d ∙ ap (λ m. get_or xs (i + 3) 0 ∷ drop m xs) r in
     a ∙ ap (λ v. get_or xs i 0 ∷ v) (b' ∙ ap (λ v. get_or xs (i + 1) 0 ∷ v) (c' ∙ ap (λ v. get_or xs (i + 2) 0 ∷ v) d'))
 
-pub four_added : (f : ℕ → List Bool) (xs : List ℕ) (i n : ℕ) (a b all : List Bool) → i + 3 < length xs → n ≡ i + 4 →
+pub four_added : (f : ℕ → List Bool) (xs : List ℕ) (i n : ℕ) (a : List Bool) {b all : List Bool} → i + 3 < length xs → n ≡ i + 4 →
     b ≡ a ++ (f (get_or xs i 0) ++ f (get_or xs (i + 1) 0) ++ f (get_or xs (i + 2) 0) ++ f (get_or xs (i + 3) 0)) → a ++ flat_map f (drop i xs) ≡ all → b ++ flat_map f (drop n xs) ≡ all
-four_added f xs i n a b all h e added same =
+four_added f xs i n a {b} h e added same =
     let rest = flat_map f (drop n xs) in
     ap (λ v. v ++ rest) added ∙ (nest a (f (get_or xs i 0)) (f (get_or xs (i + 1) 0)) (f (get_or xs (i + 2) 0)) (f (get_or xs (i + 3) 0)) rest
     ∙ (sym (ap (λ v. a ++ flat_map f v) (four_more xs i n h e)) ∙ same))

@@ -23,10 +23,10 @@ slice_snoc ds from i le lt =
 pub none_written : (f : ℕ → List Bool) (ds : List ℕ) (from : ℕ) (all : List Bool) → all ≡ all ++ flat_map f (slice_range ds from from)
 none_written f ds from all = sym (append-nil all) ∙ ap (λ v. all ++ flat_map f v) (sym (slice_none ds from))
 
-pub one_written : (f : ℕ → List Bool) (ds : List ℕ) (from i : ℕ) (all a b x : List Bool) → from ≤ i → i < length ds
+pub one_written : (f : ℕ → List Bool) (ds : List ℕ) {from i : ℕ} (all : List Bool) {a b x : List Bool} → from ≤ i → i < length ds
     → a ≡ all ++ flat_map f (slice_range ds from i) → b ≡ a ++ x → x ≡ f (get_or ds i 0) →
     b ≡ all ++ flat_map f (slice_range ds from (i + 1))
-one_written f ds from i all a b x le lt before put same =
+one_written f ds {from} {i} all le lt before put same =
     let xs = slice_range ds from i in
     let d = get_or ds i 0 in
     put ∙ ((λ j. before j ++ same j) ∙ (append_assoc all (flat_map f xs) (f d) ∙ ap (λ v. all ++ v)
@@ -45,9 +45,9 @@ split_times n from to w h k = let e : n - from ≡ (to - from) + (n - to) = omeg
 pub split_summed : (g : ℕ → ℕ) (ds : List ℕ) (from to : ℕ) → from ≤ to → sum_by g (drop from ds) ≡ sum_by g (slice_range ds from to) + sum_by g (drop to ds)
 split_summed g ds from to le = ap (sum_by g) (drop_split ds from to le) ∙ sum_by-append g (slice_range ds from to) (drop to ds)
 
-pub both_written : (f : ℕ → List Bool) (ds : List ℕ) (from to : ℕ) (all a b : List Bool) → from ≤ to → a ≡ all ++ flat_map f (slice_range ds from to)
+pub both_written : (f : ℕ → List Bool) (ds : List ℕ) (from to : ℕ) (all : List Bool) {a b : List Bool} → from ≤ to → a ≡ all ++ flat_map f (slice_range ds from to)
     → b ≡ a ++ flat_map f (drop to ds) → b ≡ all ++ flat_map f (drop from ds)
-both_written f ds from to all a b le e g =
+both_written f ds from to all le e g =
     let xs = slice_range ds from to in
     g ∙ (ap (λ v. v ++ flat_map f (drop to ds)) e
     ∙ (append_assoc all (flat_map f xs) (flat_map f (drop to ds))

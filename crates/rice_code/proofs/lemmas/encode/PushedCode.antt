@@ -203,10 +203,10 @@ same_position s end b m n ds h =
       | inr e ↦ laid_plain s end b m ds e ∙ sym (laid_plain s end b n ds e)
     ]
 
-pub held_part : (coder : CoderState) (b n : ℕ) (coded held full : List ℤ) → HasCodedBefore coder b coded full
+pub held_part : {coder : CoderState} {b n : ℕ} {coded held full : List ℤ} → HasCodedBefore coder b coded full
     → filled_samples coder.setting (last_of (pos 0) coded) held ≡ full → block_count coder.setting (length held) ≡ n → length full ≡ coder.setting.block * n
     → IsPart coder coded held
-held_part coder b n coded held full h shape counted len =
+held_part {coder} {b} {n} {coded} {held} {full} h shape counted len =
     let s = coder.setting in
     let j : 1 ≤ s.block = grind (arith, h.legal.block) in
     let r = h.legal.interval_from in
@@ -229,11 +229,11 @@ held_part coder b n coded held full h shape counted len =
     let goes_on = λ (m : ℕ). code_stands_in_intervals s h.legal (0 + b) coder.start m p held (ap (λ m. place s m) here ∙ same)
     ∙ (λ i. layout s (coder.start + (counted ∙ sym q) i) coder.start m (data_sets s coder.start false (moved i))) in
     let sound = sound_same s b coder.start (contents_held coder) same
-    (subst (AreSoundBlocks s b) own (blocks_sound s b p n full h.legal j (last_legal s (pos 0) coded zero samples.0) samples.1 len)) in
+    (subst (AreSoundBlocks s b) own (blocks_sound b p n full h.legal j (last_legal s (pos 0) coded zero samples.0) samples.1 len)) in
     record {
       sound = sound;
       blocks = size ∙ ap (λ v. s.block * v) (sym q);
-      code_is = λ position place. code_goes_on s h.legal 0 0 b (pos 0) coded held zero all_coded h.whole begins
+      code_is = λ position place. code_goes_on h.legal 0 0 b (pos 0) coded held zero all_coded h.whole begins
           ∙ ap (λ v. code s coded ++ v) (goes_on (0 + length (code s coded))
           ∙ same_position s (coder.start + blocks_held coder) coder.start (0 + length (code s coded)) position (sets_held coder)
           (λ e. place e ∙ ap (λ m. m % 8) (none (length (code s coded)))));
@@ -272,9 +272,9 @@ adds_held_code coder xs ys coded held e f part =
     }
 
 -- What a call that codes what is held adds, after it has taken `more` samples.
-pub adds_code : (coder : CoderState) (xs ys : List ℤ) (old new : List Bool) (count more m0 m1 m2 : ℕ) → AddsHeldCode coder xs ys → CodesHeld coder old new count m1 m2 → m1 ≡ m0 + more →
+pub adds_code : {coder : CoderState} {xs ys : List ℤ} {old new : List Bool} {count more m0 m1 m2 : ℕ} → AddsHeldCode coder xs ys → CodesHeld coder old new count m1 m2 → m1 ≡ m0 + more →
     AddsCode coder.setting xs ys old new count more m0 m2
-adds_code coder xs ys old new count more m0 m1 m2 adds codes steps = record {
+adds_code {coder} {old} adds codes steps = record {
   code_is = λ place. record { bits = code_held coder (length old); appended = codes.code_is; completes = adds.code_is (length old) place };
   bits = omega (arith, adds.bits_are, codes.bits);
   steps = record {
@@ -333,7 +333,7 @@ whole_part coder x xs h legal e =
     let more = one_more coder h.block h.coded h.held x h.holds h.short legal in
     let len : length full ≡ s.block * blocks_left s coder.start = sym (held_count (state_after coder x) h.block h.coded full more) ∙ e in
     let bare = not_filled s (blocks_left s coder.start) (last_of (pos 0) h.coded) full j len in
-    held_part (state_after coder x) h.block (blocks_left s coder.start) h.coded full full more bare.0 bare.1 len
+    held_part more bare.0 bare.1 len
 
 pub whole_sound : (coder : CoderState) (x : ℤ) (xs : List ℤ) → HasTaken coder xs → IsSample coder.setting x → IsWhole (state_after coder x) → HoldsSoundBlocks (state_after coder x)
 whole_sound coder x xs h legal e = let part = whole_part coder x xs h legal e in record { sound = part.sound; whole = part.blocks }
@@ -402,7 +402,7 @@ filled_part coder xs h =
     (let e : length h.held + (s.block - length h.held % s.block) % s.block - length h.held ≡ (s.block - length h.held % s.block) % s.block = omega arith in
     e) ∙ ap (λ v. (s.block - v % s.block) % s.block) (sym count) in
     let shape : filled_samples s p h.held ≡ full = λ i. h.held ++ replicate (fill i) (last i) in
-    held_part (state_with_fill coder n) h.block (block_count s (length h.held)) h.coded h.held full holds shape refl (sym (ap length shape) ∙ filled_len s p h.held j)
+    held_part {n = block_count s (length h.held)} holds shape refl (sym (ap length shape) ∙ filled_len s p h.held j)
 
 pub filled_sound : (coder : CoderState) (xs : List ℤ) → HasTaken coder xs → HoldsSoundBlocks (state_with_fill coder (fill_count coder.setting (length coder.residuals)))
 filled_sound coder xs h = let part = filled_part coder xs h in record { sound = part.sound; whole = part.blocks }
@@ -425,16 +425,16 @@ fill_count_is coder xs h =
 pub finish_sound : (coder held : CoderState) → held ≡ state_with_fill coder (fill_count coder.setting (length coder.residuals)) → IsCoder coder → HoldsSoundBlocks held
 finish_sound coder held g k = subst HoldsSoundBlocks (sym g) (filled_sound coder k.samples k.taken)
 
-pub finish_adds : (coder value held : CoderState) (xs : List ℤ) (old new : List Bool) (n m0 m1 m2 : ℕ) → coder ≡ value
+pub finish_adds : {coder value held : CoderState} {xs : List ℤ} {old new : List Bool} {n m0 m1 m2 : ℕ} → coder ≡ value
     → held ≡ state_with_fill coder (fill_count coder.setting (length coder.residuals)) → CodesHeld held old new n m1 m2
     → m1 ≡ m0 + fill_count coder.setting (length coder.residuals) → HasTaken value xs →
     AddsCode value.setting (complete_samples value.setting xs) xs old new n (fill_count_of value.setting xs) m0 m2
-finish_adds coder value held xs old new n m0 m1 m2 e g codes steps h =
+finish_adds {coder} {xs} {old} {new} {n} {m0} {m1} {m2} e g codes steps h =
     subst (λ (v : CoderState). HasTaken v xs → AddsCode v.setting (complete_samples v.setting xs) xs old new n (fill_count_of v.setting xs) m0 m2) e (λ k.
     (let full = state_with_fill coder (fill_count coder.setting (length coder.residuals)) in
     let coded : CodesHeld full old new n m1 m2 = subst (λ v. CodesHeld v old new n m1 m2) g codes in
     let count = fill_count_is coder xs k in
-    adds_code full (complete_samples coder.setting xs) xs old new n (fill_count_of coder.setting xs) m0 m1 m2 (filled_segment_adds_code coder xs k) coded (omega (arith, count, steps)))) h
+    adds_code (filled_segment_adds_code coder xs k) coded (omega (arith, count, steps)))) h
 
 -- The steps of a segment are few,
 pub segment_steps_few : (s : Parameters) → IsLegal s → segment_steps s ≤ 274752

@@ -116,10 +116,10 @@ pub record HoldsMore (value coder held : CoderState) (ys : List ℤ) : Type 0 wh
   pub holds : held ≡ state_after_all coder ys
 
 -- the first t of several samples,
-holds_first : (value coder held : CoderState) (xs : List ℤ) (t : ℕ) → coder ≡ value → IsCoder coder → All (IsSample value.setting) xs
+holds_first : {value coder held : CoderState} (xs : List ℤ) (t : ℕ) → coder ≡ value → IsCoder coder → All (IsSample value.setting) xs
     → length coder.residuals + t ≤ coder.setting.block * blocks_left coder.setting coder.start → t ≤ length xs →
     held ≡ state_after_all coder (take t xs) → HoldsMore value coder held (take t xs)
-holds_first value coder held xs t e k legal room few g = record {
+holds_first {coder} xs t e k legal room few g = record {
   same = e;
   coded = k;
   legal = recursion_from_All (IsSample coder.setting) (take t xs) (All-take (IsSample coder.setting) t xs (subst (λ (v : CoderState). All (IsSample v.setting) xs) (sym e) legal));
@@ -131,20 +131,20 @@ steps_of_first : (xs : List ℤ) (t m0 m1 : ℕ) → t ≤ length xs → m1 ≡ 
 steps_of_first xs t m0 m1 few steps = let len : length (take t xs) ≡ t = length-take-le t xs few in omega (arith, len, steps)
 
 -- which are given by their levels,
-pub holds_levels : (value coder held : CoderState) (levels : List ℕ) (t : ℕ) → coder ≡ value → IsCoder coder → All (λ l. l < value_count value.setting) levels
+pub holds_levels : {value coder held : CoderState} (levels : List ℕ) {t : ℕ} → coder ≡ value → IsCoder coder → All (λ l. l < value_count value.setting) levels
     → length coder.residuals + t ≤ coder.setting.block * blocks_left coder.setting coder.start → t ≤ length levels →
     held ≡ state_after_all coder (values_at coder.setting (take t levels)) → HoldsMore value coder held (take t (values_at value.setting levels))
-holds_levels value coder held levels t e k legal room few g =
+holds_levels {value} {coder} {held} levels {t} e k legal room few g =
     let s = value.setting in
     let same : values_at coder.setting (take t levels) ≡ take t (values_at s levels) = ap (λ (v : CoderState). values_at v.setting (take t levels)) e ∙ sym (take-map (value_at s) t levels) in
-    holds_first value coder held (values_at s levels) t e k (legal_values s levels legal) room (omega (arith, few, length-values s levels)) (g ∙ ap (state_after_all coder) same)
+    holds_first (values_at s levels) t e k (legal_values s levels legal) room (omega (arith, few, length-values s levels)) (g ∙ ap (state_after_all coder) same)
 
 pub steps_of_levels : (s : Parameters) (levels : List ℕ) (t m0 m1 : ℕ) → t ≤ length levels → m1 ≡ m0 + t → m1 ≡ m0 + length (take t (values_at s levels))
 steps_of_levels s levels t m0 m1 few steps = steps_of_first (values_at s levels) t m0 m1 (omega (arith, few, length-values s levels)) steps
 
 -- or one
-pub holds_one : (value coder held : CoderState) (x y : ℤ) → coder ≡ value → IsCoder coder → IsSample value.setting x → y ≡ x → held ≡ state_after coder y → HoldsMore value coder held (x ∷ [])
-holds_one value coder held x y e k legal f g = record {
+pub holds_one : {value coder held : CoderState} {x y : ℤ} → coder ≡ value → IsCoder coder → IsSample value.setting x → y ≡ x → held ≡ state_after coder y → HoldsMore value coder held (x ∷ [])
+holds_one {coder} {x} e k legal f g = record {
   same = e;
   coded = k;
   legal = (subst (λ (v : CoderState). IsSample v.setting x) (sym e) legal, tt);
@@ -168,10 +168,10 @@ whole_has_steps value coder held ys m0 m1 h room steps =
     subst (λ s. m1 + coding_steps s < 2 ^ 62) (sym same) fits
 
 -- also behind the samples that fill the last block,
-pub filled_has_steps : (value coder held : CoderState) (m0 m1 : ℕ) → coder ≡ value → IsCoder coder
+pub filled_has_steps : {value coder held : CoderState} (m0 : ℕ) {m1 : ℕ} → coder ≡ value → IsCoder coder
     → held ≡ state_with_fill coder (fill_count coder.setting (length coder.residuals)) → m0 + segment_steps value.setting < 2 ^ 62 →
     m1 ≡ m0 + fill_count coder.setting (length coder.residuals) → m1 + coding_steps held.setting < 2 ^ 62
-filled_has_steps value coder held m0 m1 e k f room steps =
+filled_has_steps {coder} m0 {m1} e k f room steps =
     let s = coder.setting in
     let some : 0 < s.block = grind (arith, k.taken.holds.legal.block) in
     let few : fill_count s (length coder.residuals) < s.block = mod-lt (s.block - length coder.residuals % s.block) some in
@@ -180,10 +180,10 @@ filled_has_steps value coder held m0 m1 e k f room steps =
     subst (λ s. m1 + coding_steps s < 2 ^ 62) (sym (ap (λ (v : CoderState). v.setting) f)) fits
 
 -- and this is what the call does
-pub whole_pushes : (value coder held after : CoderState) (ys : List ℤ) (old new : List Bool) (n m0 m1 m2 : ℕ) → HoldsMore value coder held ys → IsWhole held
+pub whole_pushes : {value coder held after : CoderState} {ys : List ℤ} {old new : List Bool} {n m0 m1 m2 : ℕ} → HoldsMore value coder held ys → IsWhole held
     → after ≡ state_after_segment held → CodesHeld held old new n m1 m2 → m1 ≡ m0 + length ys →
     PushesSamples value after ys old new n m0 m2
-whole_pushes value coder held after ys old new n m0 m1 m2 h whole e codes steps =
+whole_pushes {coder} {after} {ys} {old} {new} {n} {m0} {m1} {m2} h whole e codes steps =
     let full = state_after_all coder ys in
     let is_whole : IsWhole full = subst IsWhole h.holds whole in
     let ends_so : after ≡ state_after_segment full = e ∙ ap state_after_segment h.holds in
@@ -191,7 +191,7 @@ whole_pushes value coder held after ys old new n m0 m1 m2 h whole e codes steps 
     subst (λ v. PushesSamples v after ys old new n m0 m2) h.same (record {
       setting = ap (λ (v : CoderState). v.setting) ends_so;
       taken = λ xs k. subst (λ v. HasTaken v (xs ++ ys)) (sym ends_so) (several_end coder ys xs h.legal is_whole k);
-      adds = λ xs k. adds_code full (complete_samples coder.setting xs) (complete_samples coder.setting (xs ++ ys)) old new n (length ys) m0 m1 m2
+      adds = λ xs k. adds_code {more = length ys} {m0 = m0}
           (several_add_code coder ys xs h.legal is_whole k) coded steps;
     })
 
@@ -209,9 +209,9 @@ still_short value coder held ys h not_whole =
       | inr le ↦ absurd (let whole : IsWhole (state_after_all coder ys) = omega (arith, count, h.room, le) in not_whole (subst IsWhole (sym h.holds) whole))
     ]
 
-pub open_pushes : (value coder held : CoderState) (ys : List ℤ) (sink : List Bool) (m0 m1 : ℕ) → HoldsMore value coder held ys → (IsWhole held → ⊥)
+pub open_pushes : {value coder held : CoderState} {ys : List ℤ} {sink : List Bool} {m0 m1 : ℕ} → HoldsMore value coder held ys → (IsWhole held → ⊥)
     → m1 ≡ m0 + length ys → PushesSamples value held ys sink sink 0 m0 m1
-open_pushes value coder held ys sink m0 m1 h not_whole steps =
+open_pushes {value} {coder} {held} {ys} {sink} {m0} {m1} h not_whole steps =
     let short = still_short value coder held ys h not_whole in
     subst (λ v. PushesSamples v held ys sink sink 0 m0 m1) h.same (record {
       setting = ap (λ (v : CoderState). v.setting) h.holds;
@@ -221,25 +221,25 @@ open_pushes value coder held ys sink m0 m1 h not_whole steps =
     })
 
 -- Before the last of the first t samples none completes a segment.
-none_before_last : (value coder : CoderState) (xs : List ℤ) (t m : ℕ) → coder ≡ value → All (IsSample value.setting) xs
+none_before_last : {value coder : CoderState} (xs : List ℤ) {t m : ℕ} → coder ≡ value → All (IsSample value.setting) xs
     → length coder.residuals + t ≤ coder.setting.block * blocks_left coder.setting coder.start → t ≤ length xs → m < t → CompletesNone value (take m xs)
-none_before_last value coder xs t m e legal room few less =
+none_before_last {coder} xs {m} e legal room few less =
     let all : All (IsSample coder.setting) xs = subst (λ (v : CoderState). All (IsSample v.setting) xs) (sym e) legal in
     let firsts = recursion_from_All (IsSample coder.setting) (take m xs) (All-take (IsSample coder.setting) m xs all) in
     let len : length (take m xs) ≡ m = length-take-le m xs (omega (arith, less, few)) in
     subst (λ v. CompletesNone v (take m xs)) e (λ zs k. (several_stay_open coder (take m xs) zs k firsts (omega (arith, len, less, room))).1)
 
-pub none_before_level : (value coder : CoderState) (levels : List ℕ) (t m : ℕ) → coder ≡ value → All (λ l. l < value_count value.setting) levels
+pub none_before_level : {value coder : CoderState} (levels : List ℕ) {t m : ℕ} → coder ≡ value → All (λ l. l < value_count value.setting) levels
     → length coder.residuals + t ≤ coder.setting.block * blocks_left coder.setting coder.start → t ≤ length levels → m < t →
     CompletesNone value (take m (values_at value.setting levels))
-none_before_level value coder levels t m e legal room few less =
+none_before_level {value} {coder} levels {t} {m} e legal room few less =
     let s = value.setting in
-    none_before_last value coder (values_at s levels) t m e (legal_values s levels legal) room (omega (arith, few, length-values s levels)) less
+    none_before_last (values_at s levels) e (legal_values s levels legal) room (omega (arith, few, length-values s levels)) less
 
 -- After the call the coder has taken some samples still.
-pub is_coder_after : (value coder held after : CoderState) (ys : List ℤ) (old new : List Bool) (n m0 m2 : ℕ) → HoldsMore value coder held ys
+pub is_coder_after : {value coder held after : CoderState} {ys : List ℤ} {old new : List Bool} {n m0 m2 : ℕ} → HoldsMore value coder held ys
     → PushesSamples value after ys old new n m0 m2 → IsCoder after
-is_coder_after value coder held after ys old new n m0 m2 h pushes = record {
+is_coder_after {ys} h pushes = record {
   samples = h.coded.samples ++ ys;
   taken = pushes.taken h.coded.samples (subst (λ v. HasTaken v h.coded.samples) h.same h.coded.taken);
 }

@@ -74,9 +74,9 @@ reference_later : (r : Option ℕ) (i run : ℕ) → run ≤ i → 0 < run → r
 reference_later r zero run h k = absurd (omega arith)
 reference_later r (suc i) run h k = refl
 
-pub next_zero : (s : Parameters) (start : ℕ) (r : Option ℕ) (n : ℕ) (ds : List ℕ) (i run : ℕ) → run ≤ i → i < n → AreSoundBlocks s start (held_blocks s r n ds) →
+pub next_zero : (s : Parameters) (start : ℕ) (r : Option ℕ) {n : ℕ} (ds : List ℕ) {i run : ℕ} → run ≤ i → i < n → AreSoundBlocks s start (held_blocks s r n ds) →
     is_zero_block (held s r ds i) ≡ true → to_come s start r n ds i run ≡ to_come s start r n ds (i + 1) (run + 1)
-next_zero s start r n ds i run h k sound z =
+next_zero s start r {n} ds {i} {run} h k sound z =
     let c = held s r ds i in
     let rest = drop (i + 1) (held_blocks s r n ds) in
     let e = held_at s r n i ds k in
@@ -90,10 +90,10 @@ next_zero s start r n ds i run h k sound z =
 run_is_inside : (s : Parameters) (start n i run : ℕ) → 1 ≤ s.interval → run ≤ i → i < n → n ≤ blocks_left s start → run < blocks_left s (start + (i - run))
 run_is_inside s start n i run h k l m = let e = left_inside s start (i - run) h (omega arith) in omega arith
 
-pub next_other : (s : Parameters) (start : ℕ) (r : Option ℕ) (n : ℕ) (ds : List ℕ) (i run : ℕ) → 1 ≤ s.interval → n ≤ blocks_left s start → run ≤ i → i < n →
+pub next_other : (s : Parameters) (start : ℕ) (r : Option ℕ) {n : ℕ} (ds : List ℕ) {i run : ℕ} → 1 ≤ s.interval → n ≤ blocks_left s start → run ≤ i → i < n →
     is_zero_block (held s r ds i) ≡ false → to_come s start r n ds i run ≡ bits_of_sets s (pending_run false (reference_at r (i - run)) run)
     ++ (bits_of_set s (shortest s (held s r ds i)) ++ to_come s start r n ds (i + 1) 0)
-next_other s start r n ds i run h m l k z =
+next_other s start r {n} ds {i} {run} h m l k z =
     let c = held s r ds i in
     let rest = drop (i + 1) (held_blocks s r n ds) in
     let e = held_at s r n i ds k in
@@ -156,15 +156,15 @@ pub shortest_len : (s : Parameters) (b : ℕ) (c : BlockData) → 1 ≤ s.block 
 shortest_len s b c j h = cost_is_length s b (shortest s c) j (shortest_is_form s b c h)
 
 -- what is put has room
-pub room_other : (s : Parameters) (start : ℕ) (r : Option ℕ) (n : ℕ) (ds : List ℕ) (i run : ℕ) (sink before all : List Bool) → 1 ≤ s.interval → 1 ≤ s.block
+pub room_other : (s : Parameters) (start : ℕ) (r : Option ℕ) {n : ℕ} (ds : List ℕ) {i run : ℕ} (sink before all : List Bool) → 1 ≤ s.interval → 1 ≤ s.block
     → n ≤ blocks_left s start → run ≤ i → i < n →
     AreSoundBlocks s start (held_blocks s r n ds) → is_zero_block (held s r ds i) ≡ false → sink ++ to_come s start r n ds i run ≡ before ++ all →
     length sink + length (bits_of_sets s (pending_run false (reference_at r (i - run)) run)) + cost s (shortest s (held s r ds i)) ≤ length before + length all
-room_other s start r n ds i run sink before all h j m l k sound z same =
+room_other s start r {n} ds {i} {run} sink before all h j m l k sound z same =
     let c = held s r ds i in
     let w = bits_of_sets s (pending_run false (reference_at r (i - run)) run) in
     let rest = to_come s start r n ds (i + 1) 0 in
-    let e = ap length (sym same ∙ ap (λ v. sink ++ v) (next_other s start r n ds i run h m l k z)) in
+    let e = ap length (sym same ∙ ap (λ v. sink ++ v) (next_other s start r ds h m l k z)) in
     let a = length-append before all in
     let b = length-append sink (w ++ (bits_of_set s (shortest s c) ++ rest)) in
     let d = length-append w (bits_of_set s (shortest s c) ++ rest) in
@@ -176,13 +176,13 @@ pub room_within : (sink more before all : List Bool) → sink ++ more ≡ before
 room_within sink more before all e = omega (arith, ap length e, length-append sink more, length-append before all)
 
 -- the meter has room for one block more
-pub meter_fits : (m m0 a a0 t put total i n x : ℕ) → m + a0 ≤ m0 + a + total → total ≤ i * x → i < n → a + put ≤ a0 + t → m0 + t + n * x < 2 ^ 62 → m + put + x < 2 ^ 62
-meter_fits m m0 a a0 t put total i n x p q h k l =
+pub meter_fits : (m m0 a a0 t put total : ℕ) {i n : ℕ} (x : ℕ) → m + a0 ≤ m0 + a + total → total ≤ i * x → i < n → a + put ≤ a0 + t → m0 + t + n * x < 2 ^ 62 → m + put + x < 2 ^ 62
+meter_fits m m0 a a0 t put total {i} {n} x p q h k l =
     let e : suc i * x ≤ n * x = mul-le-mul_right x h in
     omega (arith, e)
 
-pub meter_ends : (m m0 a a0 t put total i n x : ℕ) → m + a0 ≤ m0 + a + total → total ≤ i * x → i ≤ n → a + put ≤ a0 + t → m0 + t + n * x < 2 ^ 62 → m + put < 2 ^ 62
-meter_ends m m0 a a0 t put total i n x p q h k l =
+pub meter_ends : (m m0 a a0 t put total : ℕ) {i n : ℕ} (x : ℕ) → m + a0 ≤ m0 + a + total → total ≤ i * x → i ≤ n → a + put ≤ a0 + t → m0 + t + n * x < 2 ^ 62 → m + put < 2 ^ 62
+meter_ends m m0 a a0 t put total {i} {n} x p q h k l =
     let e : i * x ≤ n * x = mul-le-mul_right x h in
     omega (arith, e)
 
@@ -194,14 +194,14 @@ other_same sink new w x y total e f =
     ap (λ v. v ++ y) e ∙ (append_assoc (sink ++ w) x y ∙ (append_assoc sink w (x ++ y) ∙ f))
 
 -- the steps of one block more
-pub least_more : (j k least m0 m m' a a' a0 put total : ℕ) → 1 ≤ j → m0 + a + total ≤ m + a0 → m + put + j * (k + 4) ≤ m' + 1 → a' ≡ a + put
+pub least_more : {j : ℕ} (k : ℕ) {least : ℕ} (m0 m m' a : ℕ) {a' : ℕ} (a0 put total : ℕ) → 1 ≤ j → m0 + a + total ≤ m + a0 → m + put + j * (k + 4) ≤ m' + 1 → a' ≡ a + put
     → least ≡ j * (k + 3) - 1 → m0 + a' + (total + least) ≤ m' + a0
-least_more j k least m0 m m' a a' a0 put total h p q e f =
+least_more {j} k m0 m m' a a0 put total h p q e f =
     let r : j * (k + 4) ≡ j * (k + 3) + j = omega arith in
     omega (arith, r)
 
-pub most_more : (most m0 m m' a a' a0 put total x : ℕ) → m + a0 ≤ m0 + a + total → m' ≤ m + put + x → a' ≡ a + put → most ≡ x → m' + a0 ≤ m0 + a' + (total + most)
-most_more most m0 m m' a a' a0 put total x p q e f = omega arith
+pub most_more : {most : ℕ} (m0 m m' a : ℕ) {a' : ℕ} (a0 put total : ℕ) {x : ℕ} → m + a0 ≤ m0 + a + total → m' ≤ m + put + x → a' ≡ a + put → most ≡ x → m' + a0 ≤ m0 + a' + (total + most)
+most_more m0 m m' a a0 put total p q e f = omega arith
 
 pub length_both : (new old more : List Bool) → new ≡ old ++ more → length new ≡ length old + length more
 length_both new old more e = ap length e ∙ length-append old more

@@ -71,11 +71,11 @@ state_after_all-snoc coder (y ∷ ys) x = sym (state_after_all-cons coder y (ys 
     ∙ (state_after_all-snoc (state_after coder y) ys x ∙ ap (λ v. state_after v x) (state_after_all-cons coder y ys))
 
 -- the segment stays open
-pub open_later : (coder : CoderState) (end : ℕ) (p : ℤ) (ds : List ℕ) (xs : List ℤ) → IsOpen coder end → IsSample coder.setting p
+pub open_later : {coder : CoderState} {end : ℕ} (p : ℤ) {ds : List ℕ} (xs : List ℤ) → IsOpen coder end → IsSample coder.setting p
     → ds ≡ coder.residuals ++ later_residuals coder.setting p xs → All (IsSample coder.setting) xs →
     length coder.residuals + length xs ≤ coder.setting.block * blocks_left coder.setting coder.start →
     IsOpen (record { setting = coder.setting; residuals = ds; reference = coder.reference; previous = last_of p xs; start = coder.start }) end
-open_later coder end p ds xs h sample e legal room = record {
+open_later {coder} p xs h sample e legal room = record {
   legal = h.legal;
   place = h.place;
   begins = h.begins;

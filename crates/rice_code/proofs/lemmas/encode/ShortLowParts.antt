@@ -16,16 +16,16 @@ use Rattle.rice_code.proofs.lemmas.encode.OptionTexts.{four_more}
 abbrev pub lanes_joined : ℕ → ℕ → ℕ → ℕ → ℕ → ℕ
 lanes_joined w a b c d = ((a * 2 ^ (3 * w) % 4294967296 + b * 2 ^ (2 * w) % 4294967296) % 4294967296 + (c * 2 ^ w % 4294967296 + d * 1 % 4294967296) % 4294967296) % 4294967296
 
-joined_value : (w a b c d : ℕ) → w ≤ 7 → a < 2 ^ w → b < 2 ^ w → c < 2 ^ w → d < 2 ^ w → lanes_joined w a b c d ≡ ((a * 2 ^ w + b) * 2 ^ w + c) * 2 ^ w + d
-joined_value zero a b c d le h i j k = omega arith
-joined_value (suc zero) a b c d le h i j k = omega arith
-joined_value (suc (suc zero)) a b c d le h i j k = omega arith
-joined_value (suc (suc (suc zero))) a b c d le h i j k = omega arith
-joined_value (suc (suc (suc (suc zero)))) a b c d le h i j k = omega arith
-joined_value (suc (suc (suc (suc (suc zero))))) a b c d le h i j k = omega arith
-joined_value (suc (suc (suc (suc (suc (suc zero)))))) a b c d le h i j k = omega arith
-joined_value (suc (suc (suc (suc (suc (suc (suc zero))))))) a b c d le h i j k = omega arith
-joined_value (suc (suc (suc (suc (suc (suc (suc (suc w)))))))) a b c d le h i j k = absurd (omega arith)
+joined_value : {w : ℕ} (a b c d : ℕ) → w ≤ 7 → a < 2 ^ w → b < 2 ^ w → c < 2 ^ w → d < 2 ^ w → lanes_joined w a b c d ≡ ((a * 2 ^ w + b) * 2 ^ w + c) * 2 ^ w + d
+joined_value {w = zero} a b c d le h i j k = omega arith
+joined_value {w = suc zero} a b c d le h i j k = omega arith
+joined_value {w = suc (suc zero)} a b c d le h i j k = omega arith
+joined_value {w = suc (suc (suc zero))} a b c d le h i j k = omega arith
+joined_value {w = suc (suc (suc (suc zero)))} a b c d le h i j k = omega arith
+joined_value {w = suc (suc (suc (suc (suc zero))))} a b c d le h i j k = omega arith
+joined_value {w = suc (suc (suc (suc (suc (suc zero)))))} a b c d le h i j k = omega arith
+joined_value {w = suc (suc (suc (suc (suc (suc (suc zero))))))} a b c d le h i j k = omega arith
+joined_value {w = suc (suc (suc (suc (suc (suc (suc (suc w)))))))} a b c d le h i j k = absurd (omega arith)
 
 pub joined_lanes : (w a b c d : ℕ) → w ≤ 7 →
     let m = 2 ^ w - 1 in
@@ -36,8 +36,8 @@ joined_lanes w a b c d le =
     let same : lanes_joined w (bit_and a (2 ^ w - 1)) (bit_and b (2 ^ w - 1)) (bit_and c (2 ^ w - 1)) (bit_and d (2 ^ w - 1))
     ≡ ((a % 2 ^ w * 2 ^ w + b % 2 ^ w) * 2 ^ w + c % 2 ^ w) * 2 ^ w + d % 2 ^ w =
     (λ i. lanes_joined w (and_mask a w i) (and_mask b w i) (and_mask c w i) (and_mask d w i))
-    ∙ joined_value w (a % 2 ^ w) (b % 2 ^ w) (c % 2 ^ w) (d % 2 ^ w) le (below a) (below b) (below c) (below d) in
-    four_words w w w w (4 * w) (a % 2 ^ w) (b % 2 ^ w) (c % 2 ^ w) (d % 2 ^ w) (a % 2 ^ w * 2 ^ w + b % 2 ^ w) ((a % 2 ^ w * 2 ^ w + b % 2 ^ w) * 2 ^ w + c % 2 ^ w) _ _ _ _ _
+    ∙ joined_value (a % 2 ^ w) (b % 2 ^ w) (c % 2 ^ w) (d % 2 ^ w) le (below a) (below b) (below c) (below d) in
+    four_words w w w w {n = 4 * w} (a % 2 ^ w) (b % 2 ^ w) (c % 2 ^ w) (d % 2 ^ w) {two = a % 2 ^ w * 2 ^ w + b % 2 ^ w} {three = (a % 2 ^ w * 2 ^ w + b % 2 ^ w) * 2 ^ w + c % 2 ^ w}
     (below a) (below b) (below c) (below d) refl refl same
     (low_word w a _ refl) (low_word w b _ refl) (low_word w c _ refl) (low_word w d _ refl) (omega arith)
 
@@ -78,9 +78,9 @@ tail_of_eight w (suc zero) v (x ∷ xs) le len e =
 tail_of_eight w (suc (suc from)) v xs le len e = absurd (omega arith)
 
 -- eight more are written
-pub eight_added : (f : ℕ → List Bool) (xs : List ℕ) (i n : ℕ) (a b all : List Bool) → i ≤ n → b ≡ a ++ flat_map f (slice_range xs i n)
+pub eight_added : (f : ℕ → List Bool) (xs : List ℕ) (i n : ℕ) (a : List Bool) {b all : List Bool} → i ≤ n → b ≡ a ++ flat_map f (slice_range xs i n)
     → a ++ flat_map f (drop i xs) ≡ all → b ++ flat_map f (drop n xs) ≡ all
-eight_added f xs i n a b all le added same =
+eight_added f xs i n a le added same =
     let rest = flat_map f (drop n xs) in
     let row = flat_map f (slice_range xs i n) in
     ap (λ v. v ++ rest) added ∙ (append_assoc a row rest ∙ (ap (λ v. a ++ v) (sym (flat_map-append f (slice_range xs i n) (drop n xs)) ∙ ap (flat_map f) (sym (drop_split xs i n le))) ∙ same))

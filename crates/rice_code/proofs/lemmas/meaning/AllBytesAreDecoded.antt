@@ -202,10 +202,10 @@ padding_fits : (position t more total : ℕ) (pads : Bool) → total ≡ t + mor
 padding_fits position t more total true e h = omega arith
 padding_fits position t more total false e h = omega arith
 
-bits_are_decoded : (fuel : ℕ) (s : Parameters) (b position : ℕ) (p : ℤ) (bits : List Bool) (asked : Option ℕ) → IsLegal s → 1 ≤ s.block → IsSample s p
+bits_are_decoded : (fuel : ℕ) {s : Parameters} {b position : ℕ} {p : ℤ} {bits : List Bool} {asked : Option ℕ} → IsLegal s → 1 ≤ s.block → IsSample s p
     → length bits < fuel → (position + length bits) % 8 ≡ 0 → Comes s b position p bits asked
-bits_are_decoded zero s b position p bits asked legal j h lt whole = absurd (omega arith)
-bits_are_decoded (suc fuel) s b position p bits asked legal j h lt whole =
+bits_are_decoded zero legal j h lt whole = absurd (omega arith)
+bits_are_decoded (suc fuel) {s} {b} {position} {p} {bits} {asked} legal j h lt whole =
     elim (goes_or_not s asked b) [
       | inr reached ↦ comes_to_stop s b position p bits asked Reached 0 (reached, refl)
       | inl go ↦ elim (form_piece s b bits legal) [
@@ -232,14 +232,14 @@ bits_are_decoded (suc fuel) s b position p bits asked legal j h lt whole =
                 let l3 : length (bits_of_set s d ++ skipped) ≡ t + n = length-append (bits_of_set s d) skipped ∙ ap (λ m. t + m) l1 in
                 let some : 1 ≤ t = not_empty (bits_of_set s d) (forms_have_a_one s b d legal q.fits) in
                 let made = blocks_have_samples s b p (blocks_in s b d) legal j h (blocks_are_sound s b d legal (q.fits, run, sound)) in
-                let later = bits_are_decoded fuel s (block_after s b d) (position + length (bits_of_set s d ++ skipped)) (last_of p made.0) rest asked legal j
+                let later = bits_are_decoded fuel {b = block_after s b d} {position = position + length (bits_of_set s d ++ skipped)} {p = last_of p made.0} {bits = rest} {asked = asked} legal j
                 (last_legal s p made.0 h made.2) (sizes _ _ _ _ _ _ size l2 fits some lt) (places _ _ _ _ _ _ _ size l2 l3 fits whole) in
                 let P : List Bool → Type 0 = λ v. DecodedFrom s b position p v asked (cut_to s asked b made.0 ++ later.0) later.1 (length (bits_of_set s d ++ skipped) + later.2) in
                 let joined : bits_of_set s d ++ (skipped ++ rest) ≡ bits = ap (λ v. bits_of_set s d ++ v) (take-append-drop n q.more) ∙ sym q.begins in (
                   cut_to s asked b made.0 ++ later.0,
                   later.1,
                   length (bits_of_set s d ++ skipped) + later.2,
-                  subst P joined (decoding_goes_on s legal b position p d skipped rest asked made.0 later.0 later.1 later.2 go q.fits run sound l1
+                  subst P joined (decoding_goes_on legal {b = b} {position = position} {p = p} d skipped made.0 go q.fits run sound l1
                       (All-from_recursion (IsSample s) made.0 made.2) made.1 made.3 later.3),
                 )
           ]
@@ -260,7 +260,7 @@ pub all_bytes_are_decoded : (s : Parameters) → IsLegal s → (bytes : List ℕ
 all_bytes_are_decoded s legal bytes asked =
     let j : 1 ≤ s.block = grind (arith, legal.block) in
     let e = length-bits_of bytes in
-    bits_are_decoded (suc (length (bits_of bytes))) s 0 0 (pos 0) (bits_of bytes) asked legal j (zero_is_sample s legal.bits_from) (omega arith) (multiple _ _ e)
+    bits_are_decoded (suc (length (bits_of bytes))) legal j (zero_is_sample s legal.bits_from) (omega arith) (multiple _ _ e)
   where
     multiple : (n m : ℕ) → n ≡ 8 * m → (0 + n) % 8 ≡ 0
     multiple n m e = omega arith

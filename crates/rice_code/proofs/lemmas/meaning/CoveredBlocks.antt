@@ -207,9 +207,9 @@ run_blocks : (s : Parameters) (r : Option ℕ) (z j : ℕ) → z ≡ suc j → z
 run_blocks s r z j e = let n : z - 1 ≡ j = omega arith in ap (λ m. zero_block s r ∷ replicate m (zero_block s None)) n
 
 -- the run that all remaining blocks make, filled up to its segment's end
-run_fills : (s : Parameters) (r : Option ℕ) (j left : ℕ) (c : BlockData) (cs : List BlockData) → suc j ≤ left → j ≡ length cs →
+run_fills : (s : Parameters) (r : Option ℕ) {j left : ℕ} {c : BlockData} (cs : List BlockData) → suc j ≤ left → j ≡ length cs →
     c ≡ zero_block s r → take j cs ≡ replicate j (zero_block s None) → zero_blocks s r left ++ [] ≡ (c ∷ cs) ++ replicate (left - suc j) (zero_block s None)
-run_fills s r j left c cs h n f g =
+run_fills s r {j} {left} cs h n f g =
     let z = zero_block s None in
     let m : left ≡ suc (j + (left - suc j)) = omega arith in
     let whole : cs ≡ replicate j z = sym (ap (λ i. take i cs) n ∙ take-length cs) ∙ g in
@@ -217,10 +217,10 @@ run_fills s r j left c cs h n f g =
     ∙ (λ i. sym f i ∷ (sym whole i ++ replicate (left - suc j) z))))
 
 -- the blocks of a run that has z blocks, before what follows it
-run_covers : (s : Parameters) (b k : ℕ) (d : CodedDataSet) (ds : List CodedDataSet) (c : BlockData) (cs tail : List BlockData) →
+run_covers : (s : Parameters) (b k : ℕ) (d : CodedDataSet) (ds : List CodedDataSet) {c : BlockData} (cs tail : List BlockData) →
     blocks_in s (b + 0) d ≡ zero_block s c.reference ∷ replicate k (zero_block s None) → c ≡ zero_block s c.reference → take k cs ≡ replicate k (zero_block s None) →
     blocks_in_all s (b + 1 + k) ds ≡ drop k cs ++ tail → blocks_in_all s (b + 0) (d ∷ ds) ≡ (c ∷ cs) ++ tail
-run_covers s b k d ds c cs tail e f g ih =
+run_covers s b k d ds {c} cs tail e f g ih =
     let zs = zero_block s c.reference ∷ replicate k (zero_block s None) in
     let n : b + 0 + length zs ≡ b + 1 + k = omega (arith, length-replicate k (zero_block s None)) in
     let front : zs ≡ c ∷ take k cs = λ i. sym f i ∷ sym g i in
@@ -331,7 +331,7 @@ covers_blocks s b behind (c ∷ cs) h k =
                 elim (zero_run_is s b c.reference (c ∷ cs)) [
                   | inl e ↦ covers_one_more s b behind true c cs ih
                       (start (ZeroBlocks c.reference (run_len s b (c ∷ cs))) e ih.fill
-                      (run_covers s b j (ZeroBlocks c.reference (run_len s b (c ∷ cs))) rest c cs (replicate ih.fill (zero_block s None))
+                      (run_covers s b j (ZeroBlocks c.reference (run_len s b (c ∷ cs))) rest cs (replicate ih.fill (zero_block s None))
                       (run_blocks s c.reference (run_len s b (c ∷ cs)) j len) zc zcs ih.blocks))
                   | inr e ↦
                       let here : b + 0 ≡ b = omega arith in
@@ -339,7 +339,7 @@ covers_blocks s b behind (c ∷ cs) h k =
                       elim e.1 [
                         | inl full ↦ covers_one_more s b behind true c cs ih
                             (start (RemainderOfSegment c.reference) e.0 ih.fill
-                            (run_covers s b j (RemainderOfSegment c.reference) rest c cs (replicate ih.fill (zero_block s None))
+                            (run_covers s b j (RemainderOfSegment c.reference) rest cs (replicate ih.fill (zero_block s None))
                             (run_blocks s c.reference (blocks_left s (b + 0)) j (left ∙ (sym full ∙ len))) zc zcs ih.blocks))
                         | inr all ↦
                             let n : j ≡ length cs = omega arith in
@@ -355,7 +355,7 @@ covers_blocks s b behind (c ∷ cs) h k =
                               last = λ p. all_skipped s (b + 1) c cs h z n;
                               blocks = start (RemainderOfSegment c.reference) e.0 fill
                                   (ap (λ ds. blocks_in_all s (b + 0) (RemainderOfSegment c.reference ∷ ds)) over
-                                  ∙ (ap (λ l. zero_blocks s c.reference l ++ []) left ∙ run_fills s c.reference j (blocks_left s b) c cs inside n zc zcs));
+                                  ∙ (ap (λ l. zero_blocks s c.reference l ++ []) left ∙ run_fills s c.reference cs inside n zc zcs));
                             }
                       ]
                 ]

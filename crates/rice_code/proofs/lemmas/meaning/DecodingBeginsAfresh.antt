@@ -74,9 +74,9 @@ blocks_behind s c zero p xs legal j e len = refl
 blocks_behind s c (suc n) p [] legal j e len = absurd (omega arith)
 blocks_behind s c (suc n) p (x ∷ xs) legal j e len = first_blocks s c p (pos 0) (suc n) x xs j e ∙ same_blocks s c 0 (pos 0) (suc n) (x ∷ xs) j (e ∙ sym (first_place s legal))
 
-stands_behind : (s : Parameters) → IsLegal s → (c n : ℕ) (p : ℤ) (bits : List Bool) (asked : Option ℕ) (xs : List ℤ) (ending : Ending) (used : ℕ) → place s c ≡ 0 → (s.pad ≡ true → n % 8 ≡ 0)
+stands_behind : {s : Parameters} → IsLegal s → (c n : ℕ) (p : ℤ) {bits : List Bool} {asked : Option ℕ} {xs : List ℤ} {ending : Ending} {used : ℕ} → place s c ≡ 0 → (s.pad ≡ true → n % 8 ≡ 0)
     → Decoded s bits asked xs ending used → DecodedFrom s c n p bits (count_behind (s.block * c) asked) xs ending used
-stands_behind s legal c n p bits asked xs ending used begins byte h =
+stands_behind {s} legal c n p {asked} {ending} begins byte h =
     let j : 1 ≤ s.block = grind (arith, legal.block) in
     let e : place s 0 ≡ place s c = first_place s legal ∙ sym begins in
     let there = count_behind (s.block * c) asked in
@@ -163,15 +163,15 @@ end_inside s end b (d ∷ ds) some e le h =
     omega (arith, end_inside s end next ds some e (omega arith) h.4, length-append (blocks_in s b d) (blocks_in_all s next ds))
 
 -- and on a byte, where intervals are padded
-lies_to_byte : (s : Parameters) (end b m : ℕ) (ds : List CodedDataSet) (bits : List Bool) → is_padded s end ≡ true → b + length (blocks_in_all s b ds) ≡ end
+lies_to_byte : (s : Parameters) {end : ℕ} (b m : ℕ) (ds : List CodedDataSet) (bits : List Bool) → is_padded s end ≡ true → b + length (blocks_in_all s b ds) ≡ end
     → (ds ≡ [] → m % 8 ≡ 0) → Lies s b m ds bits → (m + length bits) % 8 ≡ 0
-lies_to_byte s end b m [] bits pads reach whole h = let here : m + length bits ≡ m = omega (arith, ap length h) in ap (λ n. n % 8) here ∙ whole refl
-lies_to_byte s end b m (d ∷ ds) bits pads reach whole h =
+lies_to_byte s b m [] bits pads reach whole h = let here : m + length bits ≡ m = omega (arith, ap length h) in ap (λ n. n % 8) here ∙ whole refl
+lies_to_byte s {end} b m (d ∷ ds) bits pads reach whole h =
     let t = bits_of_set s d in
     let next = block_after s b d in
     let at = m + length (t ++ h.0) in
     let all : m + length bits ≡ at + length h.1 = omega (arith, ap length h.3, length-append t (h.0 ++ h.1), length-append h.0 h.1, length-append t h.0) in
-    ap (λ n. n % 8) all ∙ lies_to_byte s end next at ds h.1 pads (ends_inside s b d ds ∙ reach) last h.4
+    ap (λ n. n % 8) all ∙ lies_to_byte s next at ds h.1 pads (ends_inside s b d ds ∙ reach) last h.4
   where
     last : ds ≡ [] → (m + length (bits_of_set s d ++ h.0)) % 8 ≡ 0
     last none =
@@ -222,15 +222,15 @@ is_before s bits before begin legal b =
       count = size;
       all = h.asked_for ∙ ap (λ m. take m h.all) whole ∙ take-length h.all;
       front = omega (arith, h.bits_used, h.ends.1);
-      byte = λ pads. lies_to_byte s end 0 0 h.sets h.front (ap (λ m. s.pad && m == 0) begins ∙ ap (λ v. v && 0 == 0) pads) reach (λ none. refl) h.lie;
+      byte = λ pads. lies_to_byte s 0 0 h.sets h.front (ap (λ m. s.pad && m == 0) begins ∙ ap (λ v. v && 0 == 0) pads) reach (λ none. refl) h.lie;
     }
 
 -- coded data sets that decode to all samples that are asked for of them, and others behind them
-decodes_behind : (s : Parameters) (bits : List Bool) (before xs : List ℤ) (asked : Option ℕ) (ending : Ending) (begin used : ℕ)
+decodes_behind : {s : Parameters} {bits : List Bool} {before xs : List ℤ} (asked : Option ℕ) {ending : Ending} {begin used : ℕ}
     → (h : Decoded s bits (Some (length before)) before Reached begin) → before ≡ h.all → begin ≡ length h.front
     → DecodedFrom s (0 + length (blocks_in_all s 0 h.sets)) (0 + length h.front) (last_of (pos 0) h.all) h.rest (count_behind (length before) asked) xs ending
     used → Decoded s bits (count_behind (length before) asked) (before ++ xs) ending (begin + used)
-decodes_behind s bits before xs asked ending begin used h all front d =
+decodes_behind {s} {before} asked {ending} h all front d =
     let there = count_behind (length before) asked in
     let n = length (blocks_in_all s 0 h.sets) in
     let m = length (blocks_in_all s (0 + n) d.sets) in
@@ -264,7 +264,7 @@ decoding_begins_afresh s legal bits before xs asked ending begin used b d =
     let is = is_before s bits before begin legal b in
     let c = 0 + length (blocks_in_all s 0 h.sets) in
     let rest : drop begin bits ≡ h.rest = ap (drop begin) h.parts ∙ drop_at h.front h.rest begin (sym is.front) in
-    let there = stands_behind s legal c (0 + length h.front) (last_of (pos 0) h.all) h.rest asked xs ending used is.begins is.byte
+    let there = stands_behind legal c (0 + length h.front) (last_of (pos 0) h.all) is.begins is.byte
     (subst (λ (l : List Bool). Decoded s l asked xs ending used) rest d) in
-    decodes_behind s bits before xs asked ending begin used h is.all is.front
+    decodes_behind asked h is.all is.front
     (subst (λ (n : ℕ). DecodedFrom s c (0 + length h.front) (last_of (pos 0) h.all) h.rest (count_behind n asked) xs ending used) (sym is.count) there)

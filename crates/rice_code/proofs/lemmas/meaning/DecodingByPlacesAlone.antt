@@ -80,9 +80,9 @@ ends_there s asked there b c rest Large used e w r h =
 pub end_there : (s : Parameters) (b c : ℕ) (rest : List Bool) (ending : Ending) (used : ℕ) → place s b ≡ place s c → EndsWith s None b rest ending used → EndsWith s None c rest ending used
 end_there s b c rest ending used e h = ends_there s None None b c rest ending used e (λ k. k) (λ k. absurd k) h
 
-pub decoding_stands : (s : Parameters) → IsLegal s → (b c m n : ℕ) (p : ℤ) (bits : List Bool) (xs : List ℤ) (ending : Ending) (used : ℕ) → place s b ≡ place s c → m % 8 ≡ n % 8 →
+pub decoding_stands : {s : Parameters} → IsLegal s → {b c m n : ℕ} (p : ℤ) (bits : List Bool) (xs : List ℤ) (ending : Ending) (used : ℕ) → place s b ≡ place s c → m % 8 ≡ n % 8 →
     DecodedFrom s b m p bits None xs ending used → DecodedFrom s c n p bits None xs ending used
-decoding_stands s legal b c m n p bits xs ending used e f h =
+decoding_stands {s} legal {b} {c} {m} {n} p bits xs ending used e f h =
     let j : 1 ≤ s.block = grind (arith, legal.block) in
     let blocks = same_all_blocks s b c h.sets e in
     let count = ap length blocks in

@@ -24,12 +24,12 @@ pub cut_parts : (s : Parameters) (asked : Option ℕ) (b n : ℕ) (xs ys : List 
 cut_parts s None b n xs ys e = refl
 cut_parts s (Some m) b n xs ys e = let f : m - s.block * (b + n) ≡ m - s.block * b - length xs = omega arith in ap (λ k. take (m - s.block * b) xs ++ take k ys) f ∙ take_parts (m - s.block * b) xs ys
 
-pub decoding_goes_on : (s : Parameters) → IsLegal s → (b position : ℕ) (p : ℤ) (d : CodedDataSet) (skipped rest : List Bool) (asked : Option ℕ) (xs ys : List ℤ) (ending : Ending) (used : ℕ) →
+pub decoding_goes_on : {s : Parameters} → IsLegal s → {b position : ℕ} {p : ℤ} (d : CodedDataSet) (skipped : List Bool) {rest : List Bool} {asked : Option ℕ} (xs : List ℤ) {ys : List ℤ} {ending : Ending} {used : ℕ} →
     IsWanted s asked b → IsForm s b d → RunIsSound s b d → ResidualsAreSound s d → length skipped ≡ padding s (block_after s b d) (position + length (bits_of_set s d)) →
     All (IsSample s) xs → length xs ≡ s.block * length (blocks_in s b d) → blocks_from s b p (length (blocks_in s b d)) xs ≡ blocks_in s b d →
     DecodedFrom s (block_after s b d) (position + length (bits_of_set s d ++ skipped)) (last_of p xs) rest asked ys ending used →
     DecodedFrom s b position p (bits_of_set s d ++ (skipped ++ rest)) asked (cut_to s asked b xs ++ ys) ending (length (bits_of_set s d ++ skipped) + used)
-decoding_goes_on s legal b position p d skipped rest asked xs ys ending used go form run residuals len all xlen made h =
+decoding_goes_on {s} legal {b} {p} d skipped {rest} {asked} xs {ending} go form run residuals len all xlen made h =
     let n = length (blocks_in s b d) in
     let next = block_after s b d in
     let more = blocks_in_all s next h.sets in

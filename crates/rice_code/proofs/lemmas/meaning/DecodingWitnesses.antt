@@ -49,11 +49,11 @@ pub record Gives (s : Parameters) (d : CodedDataSet) (xs : List ℤ) : Type 0 wh
   pub blocks : blocks_from s 0 (pos 0) (length (blocks_in s 0 d)) xs ≡ blocks_in s 0 d
 
 -- one coded data set with its padding, and the rest
-pub decoded_by_one : (s : Parameters) (d : CodedDataSet) (xs : List ℤ) → Gives s d xs → (skipped rest bits : List Bool)
+pub decoded_by_one : {s : Parameters} {d : CodedDataSet} {xs : List ℤ} → Gives s d xs → (skipped rest : List Bool) {bits : List Bool}
     → length skipped ≡ padding s (block_after s 0 d) (0 + length (bits_of_set s d)) →
-    bits ≡ (bits_of_set s d ++ skipped) ++ rest → (asked : Option ℕ) → IsWanted s asked 0 → (ending : Ending) (last : ℕ) → EndsWith s asked (length (blocks_in s 0 d)) rest ending last →
+    bits ≡ (bits_of_set s d ++ skipped) ++ rest → {asked : Option ℕ} → IsWanted s asked 0 → {ending : Ending} (last : ℕ) → EndsWith s asked (length (blocks_in s 0 d)) rest ending last →
     Decoded s bits asked (cut_to s asked 0 xs) ending (length (bits_of_set s d ++ skipped) + last)
-decoded_by_one s d xs g skipped rest bits padded e asked goes ending last ends =
+decoded_by_one {s} {d} {xs} g skipped rest padded e {asked} goes {ending} last ends =
     let blocks = append-nil (blocks_in s 0 d) in
     let same = ap length blocks in
     let place : length (blocks_in s 0 d) ≡ 0 + length (blocks_in s 0 d ++ []) = omega arith in

@@ -61,11 +61,11 @@ first_block s b n p xs zs le =
     λ i. block_data s b p (front i) ∷ blocks_from s (b + 1) (last_of p (front i)) n (back i)
 
 -- the blocks of samples that are filled up are at most those of any samples that begin with them
-blocks_begin : (s : Parameters) (b m count k : ℕ) (p : ℤ) (xs ys : List ℤ) → 1 ≤ s.block → FillsLeast s k → k < s.block → length xs + k ≡ s.block * m → length xs + length ys ≡ s.block * count →
+blocks_begin : (s : Parameters) (b m count : ℕ) {k : ℕ} (p : ℤ) (xs ys : List ℤ) → 1 ≤ s.block → FillsLeast s k → k < s.block → length xs + k ≡ s.block * m → length xs + length ys ≡ s.block * count →
     BeginAtMost (blocks_from s b p m (xs ++ replicate k (last_of p xs))) (blocks_from s b p count (xs ++ ys))
-blocks_begin s b zero count k p xs ys j way few len all = tt
-blocks_begin s b (suc m) zero k p xs ys j way few len all = absurd (omega (arith, few, len, all))
-blocks_begin s b (suc zero) (suc count) k p xs ys j way few len all =
+blocks_begin s b zero count p xs ys j way few len all = tt
+blocks_begin s b (suc m) zero p xs ys j way few len all = absurd (omega (arith, few, len, all))
+blocks_begin s b (suc zero) (suc count) {k} p xs ys j way few len all =
     let fill = replicate k (last_of p xs) in
     let one : s.block ≡ length xs + k = omega (arith, len) in
     let size : s.block ≡ length (xs ++ fill) = omega (arith, one, length-append xs fill, length-replicate k (last_of p xs)) in
@@ -77,14 +77,14 @@ blocks_begin s b (suc zero) (suc count) k p xs ys j way few len all =
           (subst (λ (l : List ℤ). IsAtMost (block_data s b p (xs ++ fill)) (block_data s b p l)) (sym other) below),
       tt,
     )
-blocks_begin s b (suc (suc m)) (suc count) k p xs ys j way few len all =
+blocks_begin s b (suc (suc m)) (suc count) {k} p xs ys j way few len all =
     let whole : s.block ≤ length xs = omega (arith, few, len) in
     let next = last_of p (take s.block xs) in
     let rest = drop s.block xs in
     let last = last_behind p s.block xs in
     let own = ap (λ v. blocks_from s b p (suc (suc m)) (xs ++ replicate k v)) (sym last) ∙ first_block s b (suc m) p xs (replicate k (last_of next rest)) whole in
     let other = first_block s b count p xs ys whole in
-    let ih = blocks_begin s (b + 1) (suc m) count k next rest ys j way few (omega (arith, len, length-drop s.block xs, whole)) (omega (arith, all, length-drop s.block xs, whole)) in
+    let ih = blocks_begin s (b + 1) (suc m) count next rest ys j way few (omega (arith, len, length-drop s.block xs, whole)) (omega (arith, all, length-drop s.block xs, whole)) in
     let same : IsAtMost (block_data s b p (take s.block xs)) (block_data s b p (take s.block xs)) =
     record { reference = refl; residuals = at_most_itself (residuals s (s.block * b) p (take s.block xs)) } in
     subst (λ l. BeginAtMost l (blocks_from s b p (suc count) (xs ++ ys))) (sym own)
@@ -111,10 +111,10 @@ fill_of n j k h e = (
 )
 
 -- the bits of the coded data sets from which samples were decoded
-pub sets_are_no_shorter : (s : Parameters) → IsLegal s → 4 ≤ s.block → (xs more : List ℤ) → (s.preprocess ≡ true) ⊎ (length xs % s.block ≡ 0)
-    → (bits : List Bool) (asked : Option ℕ) (ending : Ending) (used : ℕ) →
+pub sets_are_no_shorter : {s : Parameters} → IsLegal s → 4 ≤ s.block → (xs more : List ℤ) → (s.preprocess ≡ true) ⊎ (length xs % s.block ≡ 0)
+    → {bits : List Bool} {asked : Option ℕ} {ending : Ending} {used : ℕ} →
     (h : Decoded s bits asked (xs ++ more) ending used) → length (code s xs) ≤ length h.front
-sets_are_no_shorter s legal size xs more way bits asked ending used h =
+sets_are_no_shorter {s} legal size xs more way {asked} h =
     let j : 1 ≤ s.block = grind (arith, legal.block) in
     let m = block_count s (length xs) in
     let k = next_multiple_of (length xs) s.block - length xs in
@@ -125,20 +125,20 @@ sets_are_no_shorter s legal size xs more way bits asked ending used h =
     let least_fill : FillsLeast s k = elim way [ inl on ↦ inl on | inr whole ↦ inr (filled.1 whole) ] in
     let len : length xs + k ≡ s.block * m = omega (arith, filled_len s (pos 0) xs j, length-append xs (replicate k last), length-replicate k last) in
     let all : length xs + length parted.0 ≡ s.block * count = omega (arith, h.len, ap length parted.1, length-append xs parted.0) in
-    let below = blocks_begin s 0 m count k (pos 0) xs parted.0 j least_fill filled.0 len all in
+    let below = blocks_begin s 0 m count (pos 0) xs parted.0 j least_fill filled.0 len all in
     let theirs = ap (λ l. blocks_from s 0 (pos 0) count l) (sym parted.1) ∙ h.blocks in
     let cs = blocks_of s 0 (pos 0) xs in
     let end : 0 + m ≡ 0 + length cs = omega (arith, count_blocks s 0 (pos 0) m (filled_samples s (pos 0) xs)) in
     omega (
       arith,
-      ends_no_later s (padded s) legal size (padded_is s legal.interval_from) 0 (0 + m) 0 0 cs h.sets end (omega arith) (taken_at_will s asked 0 h.sets h.taken)
+      ends_no_later legal size (padded_is s legal.interval_from) 0 {p = 0} {q = 0} cs h.sets end (omega arith) (taken_at_will s asked 0 h.sets h.taken)
           (subst (λ l. BeginAtMost cs l) theirs below),
       sent_padded s (0 + m) 0 0 (sets_of s xs),
       taken_padded s 0 0 h.sets h.front h.lie,
     )
 
 pub no_code_is_shorter : NoCodeIsShorter
-no_code_is_shorter s legal size xs more way bits asked ending used h = omega (arith, sets_are_no_shorter s legal size xs more way bits asked ending used h, h.bits_used)
+no_code_is_shorter s legal size xs more way bits asked ending used h = omega (arith, sets_are_no_shorter legal size xs more way h, h.bits_used)
 
 pub no_output_is_shorter : NoOutputIsShorter
 no_output_is_shorter s legal size xs more way bytes asked ending used h =
@@ -147,7 +147,7 @@ no_output_is_shorter s legal size xs more way bytes asked ending used h =
     let fill = bits_to_byte (length own) in
     omega (
       arith,
-      sets_are_no_shorter s legal size xs more way (bits_of bytes) asked ending used h,
+      sets_are_no_shorter legal size xs more way h,
       ap length h.parts,
       length-append h.front h.rest,
       length-bits_of bytes,

@@ -13,21 +13,21 @@ use Rattle.rice_code.proofs.lemmas.meaning.DecodedInOneWay.{decoded_is_one}
 use Rattle.rice_code.proofs.lemmas.meaning.SamplesAreReturned.{returns_samples}
 
 -- what the output of samples decodes to, by their number
-decodes_to : (s : Parameters) → IsLegal s → (bytes : List ℕ) (count : ℕ) (xs ys : List ℤ) (ending : Ending) (used : ℕ) → All (IsSample s) xs → length xs ≡ count → output s xs ≡ bytes
+decodes_to : {s : Parameters} → IsLegal s → {bytes : List ℕ} {count : ℕ} (xs : List ℤ) {ys : List ℤ} {ending : Ending} {used : ℕ} → All (IsSample s) xs → length xs ≡ count → output s xs ≡ bytes
     → Decoded s (bits_of bytes) (Some count) ys ending used → (ys ≡ xs) × (ending ≡ Reached)
-decodes_to s legal bytes count xs ys ending used k number is d =
+decodes_to {s} legal {bytes} {count} xs {ys} {ending} {used} k number is d =
     let all = returns_samples s legal xs k in
     let there = subst (λ (n : ℕ). Decoded s (bits_of bytes) (Some n) xs Reached all.0) number (subst (λ (l : List ℕ). Decoded s (bits_of l) (Some (length xs)) xs Reached all.0) is all.1) in
-    let one = decoded_is_one s legal 0 0 (pos 0) (zero_is_sample s legal.bits_from) (bits_of bytes) (Some count) ys xs ending Reached used all.0 d there in
+    let one = decoded_is_one legal (zero_is_sample s legal.bits_from) d there in
     (one.0, one.1)
 
 pub codes_differ : CodesDiffer
 codes_differ s legal xs ys kx ky same equal =
     let all = returns_samples s legal ys ky in
-    sym (decodes_to s legal (output s ys) (length ys) xs ys Reached all.0 kx same equal all.1).0
+    sym (decodes_to legal xs kx same equal all.1).0
 
 pub refused_bytes : RefusedBytesAreNoOutput
-refused_bytes s legal bytes xs ys ending used k d other is = other (decodes_to s legal bytes (length xs) xs ys ending used k refl is d).1
+refused_bytes s legal bytes xs ys ending used k d other is = other (decodes_to legal xs k refl is d).1
 
 -- as many samples as are asked for, where these are reached
 reached_samples : (s : Parameters) (bits : List Bool) (count : ℕ) (xs : List ℤ) (used : ℕ) → Decoded s bits (Some count) xs Reached used → All (IsSample s) xs × (length xs ≡ count)
@@ -41,7 +41,7 @@ pub own_bytes : OwnBytesAreRecognised
 own_bytes s legal bytes count xs ending used d = (own, again)
   where
     own : IsOutputOf s count bytes → (ending ≡ Reached) × (output s xs ≡ bytes)
-    own o = let one = decodes_to s legal bytes count o.samples xs ending used o.legal o.count_is o.is d in (one.1, ap (output s) one.0 ∙ o.is)
+    own o = let one = decodes_to legal o.samples o.legal o.count_is o.is d in (one.1, ap (output s) one.0 ∙ o.is)
 
     again : (ending ≡ Reached) × (output s xs ≡ bytes) → IsOutputOf s count bytes
     again h =

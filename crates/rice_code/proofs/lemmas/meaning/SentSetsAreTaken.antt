@@ -56,9 +56,9 @@ count_zeros : (s : Parameters) (r : Option ℕ) (z w : ℕ) → z ≡ suc w → 
 count_zeros s r z w e = omega (arith, length-replicate (z - 1) (zero_block s None))
 
 -- one more coded data set, and those after it
-take_one : (s : Parameters) (asked : Option ℕ) (b n : ℕ) (d : CodedDataSet) (ds : List CodedDataSet) → IsWanted s asked b → IsSound s b d
+take_one : (s : Parameters) (asked : Option ℕ) (b : ℕ) {n : ℕ} (d : CodedDataSet) (ds : List CodedDataSet) → IsWanted s asked b → IsSound s b d
     → length (blocks_in s b d) ≡ suc n → AreTaken s asked (b + 1 + n) ds → AreTaken s asked b (d ∷ ds)
-take_one s asked b n d ds go sound e h =
+take_one s asked b {n} d ds go sound e h =
     let P : ℕ → Type 0 = λ m. AreTaken s asked m ds in
     let f : b + 1 + n ≡ block_after s b d = omega arith in
     (go, sound.0, sound.1, sound.2, subst P f h)
@@ -78,7 +78,7 @@ are_taken s asked b behind (c ∷ cs) h k go =
           let ih = are_taken s asked (b + 1) false cs h k.1 later in
           let rest = data_sets s (b + 1) false cs in
           at (shortest s c ∷ rest) (skipped_plain s b behind c cs h z) (data_sets_plain s b behind c cs z)
-          (take_one s asked b 0 (shortest s c) rest here (shortest_is_sound s b c k.0) (ap length (shortest_covers s b c)) ih)
+          (take_one s asked b (shortest s c) rest here (shortest_is_sound s b c k.0) (ap length (shortest_covers s b c)) ih)
       | inl z ↦
           let ih = are_taken s asked (b + 1) true cs h k.1 later in
           let j = skipped s (b + 1) true cs in
@@ -96,9 +96,9 @@ are_taken s asked b behind (c ∷ cs) h k go =
                 let sound = zero_run_is_sound s b j c.reference (c ∷ cs) h k.0.block.reference len in
                 at (d ∷ rest) (skipped_stop s b behind (c ∷ cs) stop) (data_sets_start s b behind c cs z stop)
                 (elim (zero_run_is s b c.reference (c ∷ cs)) [
-                  | inl e ↦ take_one s asked b j d rest here sound (ap (λ d. length (blocks_in s b d)) e ∙ count_zeros s c.reference (run_len s b (c ∷ cs)) j len) ih
+                  | inl e ↦ take_one s asked b d rest here sound (ap (λ d. length (blocks_in s b d)) e ∙ count_zeros s c.reference (run_len s b (c ∷ cs)) j len) ih
                   | inr e ↦ elim e.1 [
-                    | inl full ↦ take_one s asked b j d rest here sound (ap (λ d. length (blocks_in s b d)) e.0 ∙ count_zeros s c.reference (blocks_left s b) j (sym full ∙ len)) ih
+                    | inl full ↦ take_one s asked b d rest here sound (ap (λ d. length (blocks_in s b d)) e.0 ∙ count_zeros s c.reference (blocks_left s b) j (sym full ∙ len)) ih
                     | inr all ↦
                         let R : List CodedDataSet → Type 0 = λ ds. AreTaken s asked (block_after s b d) ds in
                         (here, sound.0, sound.1, sound.2, subst R (sym (nothing_more s (b + 1) cs h (omega arith))) tt)

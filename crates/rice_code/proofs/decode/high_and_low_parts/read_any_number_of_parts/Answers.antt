@@ -35,19 +35,16 @@ returns-in_err-read_words-clause-err g c =
     let high = subst (λ n. CountRow c.args.reader.now c.read_sequences-2.new.reader c.args.most c.in_ok-small.small n c.read_sequences-2.new.counts) c.requires.same c.in_ok-small.ensures.ok in
     let e = c.in_err-read_words.ensures.err in
     let p = err_from_is_err_and c.from_residual-in_err-read_words.result c.from_residual-in_err-read_words.ensures.1 in
-    rw (p.1, p.2) (parts_cut_low c.args.reader.now c.read_sequences-2.new.reader c.read_words.new.reader c.args.most c.args.k c.in_ok-small.small (length c.args.residuals.now)
-    c.read_sequences-2.new.counts e.0 c.in_err-read_words.field-0.0 high e.1 e.2)
+    rw (p.1, p.2) (parts_cut_low c.args.k high e.1 e.2)
 
 pub returns-then-small-clause-ok : goal.returns-then-small-clause-ok
 returns-then-small-clause-ok g c =
     let high = subst (λ n. CountRow c.args.reader.now c.read_sequences-2.new.reader c.args.most c.in_ok-small.small n c.read_sequences-2.new.counts) c.requires.same c.in_ok-small.ensures.ok in
-    parts_read c.args.reader.now c.read_sequences-2.new.reader c.read_words.new.reader c.args.most c.args.k c.in_ok-small.small (length c.args.residuals.now)
-    c.read_sequences-2.new.counts c.read_words.new.words c.join_all_parts.new.lows
+    parts_read
     high c.in_ok-read_words.ensures.ok (λ e. c.join_all_parts.ensures)
 
 pub returns-else-small-clause-ok : goal.returns-else-small-clause-ok
 returns-else-small-clause-ok g c =
     let high = subst (λ n. CountRow c.args.reader.now c.read_sequences-2.new.reader c.args.most c.in_ok-small.small n c.read_sequences-2.new.counts) c.requires.same c.in_ok-small.ensures.ok in
-    parts_read c.args.reader.now c.read_sequences-2.new.reader c.read_words.new.reader c.args.most c.args.k c.in_ok-small.small (length c.args.residuals.now)
-    c.read_sequences-2.new.counts c.read_words.new.words c.read_words.new.words
+    parts_read
     high c.in_ok-read_words.ensures.ok (λ e. absurd (let f : false ≡ true = sym c.if-small.false ∙ e in cc))

@@ -5,5 +5,5 @@ pub returns-clause-spelled : goal.returns-clause-spelled
 returns-clause-spelled c =
     let a = c.args in
     let turned = c.levels_in_turn-turned in
-    row_spelled_in_turn a.setting.now a.from a.size a.residuals turned.result.levels a.bytes.now c.spelled_in_one_byte.result c.bits-bits.ensures.legal.bits_from c.requires.width c.requires.size c.requires.sixteen turned.ensures.len turned.ensures.legal turned.ensures.ranked
+    row_spelled_in_turn turned.result.levels a.bytes.now c.bits-bits.ensures.legal.bits_from c.requires.width c.requires.size c.requires.sixteen turned.ensures.len turned.ensures.legal turned.ensures.ranked
     c.requires.bytes c.spelled_in_one_byte.ensures.len c.spelled_in_one_byte.ensures.value

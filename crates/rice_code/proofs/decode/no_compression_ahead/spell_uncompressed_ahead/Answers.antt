@@ -18,4 +18,4 @@ returns g c =
     let short : head.result.len ≤ 11 = omega (arith, head.ensures.short, known.id_is, c.requires.lanes.samples.narrow refl) in
     let part = words_inside size head.result.omitted s.bits (c.requires.lanes.samples.narrow refl) in
     subst (λ b. SpelledAhead waiting s a.block (value_at s a.before) size last.result (head.result.len + (size - head.result.omitted) * b) last.new.bytes) (sym bits)
-    (whole_spelled waiting s a.block a.before head.result.from head.result.omitted head.result.len size last.result last.new.bytes c.requires.lanes c.requires.id head.ensures last.ensures (omega (arith, part, short, c.requires.there)))
+    (whole_spelled c.requires.lanes c.requires.id head.ensures last.ensures (omega (arith, part, short, c.requires.there)))

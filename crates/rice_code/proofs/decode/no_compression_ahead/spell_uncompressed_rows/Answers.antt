@@ -44,7 +44,7 @@ loop-row-preserved g c =
       room = next.ensures.len ∙ l.invariant.room;
       rows =
           subst (λ n. RowsSpelled s c.args.from s.bits n (replicate 64 0) c.low_parts_in_rows-residuals.result next.result next.new.bytes) row.ensures.end
-          (row_turned s c.args.from s.bits l.row row.result l.last next.result c.low_parts_in_rows-residuals.result l.bytes next.new.bytes c.requires.width inside.0 row.ensures.some.0 row.ensures.some.1
+          (row_turned next.new.bytes c.requires.width inside.0 row.ensures.some.0 row.ensures.some.1
           c.low_parts_in_rows-residuals.ensures.places next.ensures.before before next.ensures.spelled);
     }
 
@@ -61,5 +61,5 @@ returns g c =
       residuals = take size lows.result;
       ahead = subst (λ k. LowsAhead a.reader.now.waiting a.skip a.omitted k (take size lows.result)) c.bits-bits.ensures.value lows.ensures.lows;
       count = length-take-le size lows.result (omega (arith, most.1, lows.ensures.places));
-      spelled = rows_turned s a.from s.bits size l.last lows.result l.bytes (omega (arith, most.0)) most.1 lows.ensures.places rows;
+      spelled = rows_turned (omega (arith, most.0)) most.1 lows.ensures.places rows;
     }

@@ -10,7 +10,7 @@ use Rattle.rice_code.proofs.decode.pairs.read_pairs.Goals as goal
 pub returns-then-some-count-clause-ok : goal.returns-then-some-count-clause-ok
 returns-then-some-count-clause-ok g c =
     let w = c.take_waiting_pairs-some in
-    pairs-whole c.args.reader.now w.new.reader w.result (length c.args.out.now / 2) w.new.out c.args.meter.now w.new.meter w.ensures.taken.row
+    pairs-whole w.ensures.taken.row
     (omega (arith, c.if-some-count.true)) (omega (arith, w.auto.out, c.requires.even))
 
 pub returns-then-some-count-clause-few : goal.returns-then-some-count-clause-few
@@ -23,7 +23,7 @@ returns-in_err-read_pairs_one_by_one-clause-err g c =
     let w = c.take_waiting_pairs-some in
     let front = take (w.result + w.result) w.new.out in
     let p = err_from_is_err_and c.from_residual.result c.from_residual.ensures.1 in
-    rw (p.1, p.2) (sequences-stop_behind c.args.reader.now w.new.reader c.read_pairs_one_by_one.new.reader (pair_codes front) _ (length c.args.out.now / 2) c.in_err-read_pairs_one_by_one.field-0.0 w.ensures.taken.row.takes
+    rw (p.1, p.2) (sequences-stop_behind (pair_codes front) (length c.args.out.now / 2) w.ensures.taken.row.takes
     (omega (arith, count_pairs w.result front w.ensures.taken.row.len, w.ensures.within, w.auto.out, c.read_pairs_one_by_one.auto.out)) c.in_err-read_pairs_one_by_one.ensures.err)
 
 pub returns-in_err-read_pairs_one_by_one-clause-steps : goal.returns-in_err-read_pairs_one_by_one-clause-steps
@@ -41,7 +41,6 @@ returns-clause-ok g c =
     let w = c.take_waiting_pairs-some in
     let rest = c.read_pairs_one_by_one.new.out in
     let twice : 2 * w.result ≡ w.result + w.result = omega arith in
-    pairs-both c.args.reader.now w.new.reader c.read_pairs_one_by_one.new.reader w.result _ (length c.args.out.now / 2) (take (w.result + w.result) w.new.out) rest _
-    c.args.meter.now w.new.meter c.read_pairs_one_by_one.new.meter
+    pairs-both
     w.ensures.taken.row c.in_ok-read_pairs_one_by_one.ensures.ok (omega (arith, w.ensures.within, w.auto.out, c.read_pairs_one_by_one.auto.out))
     (put_rest (2 * w.result) w.new.out rest (omega (arith, w.ensures.within, w.auto.out)) ∙ ap (λ k. take k w.new.out ++ rest) twice)

@@ -17,13 +17,12 @@ returns-in_err-g-clause-err g c =
     let e = c.in_err-g.ensures.err r.takes.going in
     let values = take (c.loop-done.done + c.loop-done.done) c.loop-done.out in
     let p = err_from_is_err_and c.from_residual.result c.from_residual.ensures.1 in
-    rw (p.1, p.2) (sequences-stop c.args.reader.now c.loop-done.reader c.take_fs.new.self (pair_codes values) (length c.args.out.now / 2)
-    e.0 c.in_err-g.field-0.0 r.takes (omega (arith, count_pairs c.loop-done.done values r.len, c.loop-done-test.true)) e.1)
+    rw (p.1, p.2) (sequences-stop (pair_codes values) (length c.args.out.now / 2)
+    e.0 r.takes (omega (arith, count_pairs c.loop-done.done values r.len, c.loop-done-test.true)) e.1)
 
 pub loop-done-preserved : goal.loop-done-preserved
 loop-done-preserved g c = record {
-  row = pairs-more c.args.reader.now c.loop-done.reader c.take_fs.new.self c.loop-done.done (take (c.loop-done.done + c.loop-done.done) c.loop-done.out) _
-      c.in_ok-g.g c.pair_of-a.result.0 c.pair_of-a.result.1 c.args.meter.now c.loop-done.meter c.take_fs.new.meter c.pair_of-a.new.meter
+  row = pairs-more c.pair_of-a.result.0 c.pair_of-a.result.1 c.take_fs.new.meter
       c.loop-done.invariant.row c.in_ok-g.ensures.ok c.pair_of-a.ensures.pair c.pair_of-a.ensures.turns c.in_ok-g.ensures.steps c.pair_of-a.ensures.steps
       (two_more c.loop-done.done c.loop-done.out c.pair_of-a.result.0 c.pair_of-a.result.1 (omega (arith, c.loop-done-test.true, c.loop-done.auto.out)));
   limit = c.in_ok-g.ensures.most;

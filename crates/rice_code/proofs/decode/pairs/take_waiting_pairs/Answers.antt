@@ -6,7 +6,7 @@ pub tick-requires : goal.tick-requires
 tick-requires g c =
     let waiting = c.take_waiting_fs-some in
     let written = c.write_pairs-turns in
-    let taken = pairs-taken c.args.reader.now waiting.new.self waiting.result waiting.new.zeros written.new.out written.result c.args.meter.now waiting.new.meter (waiting.new.meter + written.result)
+    let taken = pairs-taken waiting.new.zeros written.new.out waiting.new.meter {third = waiting.new.meter + written.result}
     waiting.ensures.within (omega (arith, waiting.auto.zeros, written.auto.out, c.requires.codes)) written.ensures.pairs written.ensures.sum written.ensures.few
     waiting.ensures.takes waiting.ensures.steps refl c.requires.room waiting.ensures.limit in
     omega (arith, taken.room.room)
@@ -15,6 +15,6 @@ pub returns-clause-taken : goal.returns-clause-taken
 returns-clause-taken g c =
     let waiting = c.take_waiting_fs-some in
     let written = c.write_pairs-turns in
-    pairs-taken c.args.reader.now waiting.new.self waiting.result waiting.new.zeros written.new.out written.result c.args.meter.now waiting.new.meter c.tick.new.self
+    pairs-taken waiting.new.zeros written.new.out waiting.new.meter
     waiting.ensures.within (omega (arith, waiting.auto.zeros, written.auto.out, c.requires.codes)) written.ensures.pairs written.ensures.sum written.ensures.few
     waiting.ensures.takes waiting.ensures.steps c.tick.ensures c.requires.room waiting.ensures.limit

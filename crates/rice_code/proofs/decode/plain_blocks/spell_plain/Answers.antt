@@ -18,7 +18,7 @@ loop-i-preserved g c =
     let room : 16 * l.i + 16 ≤ length l.bytes = omega (arith, c.loop-i-test.true, count.value, c.requires.room, l.auto.bytes) in
     let place : skip + c.known_id_len-head.result + 128 * l.i ≡ skip + (id_len s + 128 * l.i) = omega (arith, c.known_id_len-head.ensures.value) in
     record {
-      words = words_more (drop skip all) s g.row.WIDTH l.i l.bytes patterns.result c.bytes_of_patterns-spelled.result l.invariant.words c.bytes_of_patterns-spelled.ensures.words patterns.ensures.len
+      words = words_more l.i l.invariant.words c.bytes_of_patterns-spelled.ensures.words patterns.ensures.len
           c.bytes_of_patterns-spelled.ensures.len room (patterns.ensures.bits ∙ (ap (λ n. take 128 (drop n all)) place ∙ ap (take 128) (sym (drop-drop (id_len s + 128 * l.i) skip all))));
     }
 

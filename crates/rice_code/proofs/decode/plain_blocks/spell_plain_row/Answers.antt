@@ -39,6 +39,6 @@ loop-i-preserved g c =
       words = c.spell_plain.ensures;
     } in
     record {
-      row = row_more all s w l.i l.bytes _ more l.invariant.row (kept ∙ ap (λ n. take n l.bytes ++ more) place) (omega (arith, within, place))
+      row = row_more all l.i l.bytes l.invariant.row (kept ∙ ap (λ n. take n l.bytes ++ more) place) (omega (arith, within, place))
           (subst (λ n. PlainBlock (drop n all) s w more) here block);
     }

@@ -10,7 +10,7 @@ returns-in_err-small-clause-err g c =
     let waiting = c.take_waiting_fs-some in
     let now = waiting.new.zeros in
     let p = err_from_is_err_and c.from_residual.result c.from_residual.ensures.1 in
-    rw (p.1, p.2) (sequences-stop_behind c.args.reader.now waiting.new.self c.read_sequences_one_by_one.new.reader (take waiting.result now) _ (length c.args.counts.now) c.in_err-small.field-0.0 waiting.ensures.takes
+    rw (p.1, p.2) (sequences-stop_behind (take waiting.result now) (length c.args.counts.now) waiting.ensures.takes
     (omega (arith, length-take-le waiting.result now waiting.ensures.within, waiting.auto.zeros, waiting.ensures.within, c.read_sequences_one_by_one.auto.counts)) c.in_err-small.ensures.err)
 
 pub returns-then-some-counts-clause-ok : goal.returns-then-some-counts-clause-ok
@@ -18,8 +18,8 @@ returns-then-some-counts-clause-ok g c =
     let waiting = c.take_waiting_fs-some in
     let now = waiting.new.zeros in
     let rest = c.read_sequences_one_by_one.new.counts in
-    counts-judged c.args.reader.now c.read_sequences_one_by_one.new.reader c.args.most (length c.args.counts.now) c.in_ok-small.small _ _
-    (counts-both c.args.reader.now waiting.new.self c.read_sequences_one_by_one.new.reader c.args.most waiting.result _ (length c.args.counts.now) c.in_ok-small.small now rest _
+    counts-judged _
+    (counts-both (length c.args.counts.now) now
     waiting.ensures.within waiting.ensures.takes c.in_ok-small.ensures.ok (omega (arith, waiting.auto.zeros, waiting.ensures.within, c.read_sequences_one_by_one.auto.counts))
     (put_rest waiting.result now rest waiting.ensures.within))
     c.are_below.ensures.0 (iff_false c.are_below.ensures)

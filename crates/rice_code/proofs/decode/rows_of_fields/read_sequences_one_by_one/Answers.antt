@@ -16,18 +16,17 @@ returns-in_err-some-clause-err g c =
     let r = c.loop-done.invariant.row in
     let e = c.in_err-some.ensures.err in
     let p = err_from_is_err_and c.from_residual.result c.from_residual.ensures.1 in
-    rw (p.1, p.2) (sequences-stop c.args.reader.now c.loop-done.reader c.read_some_sequences.new.reader r.values (length c.args.counts.now)
-    e.0 c.in_err-some.field-0.0 r.takes (omega (arith, r.len, c.loop-done-test.true, c.loop-done.auto.counts)) e.1)
+    rw (p.1, p.2) (sequences-stop r.values (length c.args.counts.now)
+    e.0 r.takes (omega (arith, r.len, c.loop-done-test.true, c.loop-done.auto.counts)) e.1)
 
 pub returns-clause-ok : goal.returns-clause-ok
 returns-clause-ok g c =
-    counts-whole c.args.reader.now c.loop-done.reader c.args.most c.loop-done.small c.loop-done.done (length c.args.counts.now) c.loop-done.counts
+    counts-whole
     c.loop-done.invariant.row (omega (arith, c.loop-done.invariant.within, c.loop-done-test.false, c.loop-done.auto.counts)) c.loop-done.auto.counts
 
 pub loop-done-preserved : goal.loop-done-preserved
 loop-done-preserved g c = record {
-  row = counts-append c.args.reader.now c.loop-done.reader c.read_some_sequences.new.reader c.args.most c.loop-done.done c.in_ok-some.some c.loop-done.small c.in_ok-some.fit
-      (take c.loop-done.done c.loop-done.counts) (take c.in_ok-some.some c.read_some_sequences.new.counts) _
+  row = counts-append
       c.loop-done.invariant.row c.in_ok-some.ensures.ok
       (put_front c.loop-done.done _ c.in_ok-some.some c.loop-done.counts c.read_some_sequences.new.counts (search rules) c.in_ok-some.ensures.some.1);
   steps = omega (arith, c.in_ok-some.ensures.steps, c.loop-done.invariant.steps);

@@ -10,7 +10,7 @@ pub returns-clause-ok : goal.returns-clause-ok
 returns-clause-ok g c =
     let waiting = c.take_waiting_fs-some in
     let none : waiting.result ≡ 0 = omega (arith, c.if-some-gt0.false) in
-    counts-one c.args.reader.now waiting.new.self c.take_fs.new.self c.args.most _ waiting.new.zeros (take waiting.result waiting.new.zeros) c.in_ok-zeros.zeros c.min.result
+    counts-one waiting.new.zeros c.in_ok-zeros.zeros c.min.result
     (omega (arith, c.requires.some, waiting.auto.zeros)) (ap (λ n. take n waiting.new.zeros) none) waiting.ensures.takes c.in_ok-zeros.ensures.ok
     (λ e. c.min.ensures ∙ min-eq_left (leb-true c.in_ok-zeros.zeros c.args.most e)) (λ e. leb-false c.in_ok-zeros.zeros c.args.most e)
 
@@ -22,6 +22,6 @@ returns-in_err-zeros-clause-err g c =
     let p = err_from_is_err_and c.from_residual.result c.from_residual.ensures.1 in
     rw (p.1, p.2) (
       e.0,
-      stops-first fundamental_sequence c.args.reader.now waiting.new.self c.take_fs.new.self (take waiting.result waiting.new.zeros) _ c.in_err-zeros.field-0.0
+      stops-first fundamental_sequence
           (ap (λ n. take n waiting.new.zeros) none) waiting.ensures.takes e.1,
     )

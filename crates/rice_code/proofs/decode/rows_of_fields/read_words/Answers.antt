@@ -9,14 +9,13 @@ returns-in_err-read_words_one_by_one-clause-err g c =
     let e = c.in_err-read_words_one_by_one.ensures.err in
     let row = row-waiting c.args.reader.now waiting.new.self c.args.width waiting.result waiting.new.words waiting.ensures.within waiting.ensures.fit waiting.ensures.takes in
     let p = err_from_is_err_and c.from_residual.result c.from_residual.ensures.1 in
-    rw (p.1, p.2) (words-stop c.args.width (λ v. v < 2 ^ c.args.width) c.args.reader.now waiting.new.self c.read_words_one_by_one.new.reader waiting.result _
-    (length c.args.words.now) [] (take waiting.result waiting.new.words)
-    e.0 c.in_err-read_words_one_by_one.field-0.0 row e.2 e.1 (omega (arith, waiting.auto.words, waiting.ensures.within, c.read_words_one_by_one.auto.words)))
+    rw (p.1, p.2) (words-stop c.args.width (λ v. v < 2 ^ c.args.width) _
+    (length c.args.words.now) row e.2 e.1 (omega (arith, waiting.auto.words, waiting.ensures.within, c.read_words_one_by_one.auto.words)))
 
 pub returns-clause-ok : goal.returns-clause-ok
 returns-clause-ok g c =
     let waiting = c.take_waiting-some in
     let rest = c.read_words_one_by_one.new.words in
     let row = row-waiting c.args.reader.now waiting.new.self c.args.width waiting.result waiting.new.words waiting.ensures.within waiting.ensures.fit waiting.ensures.takes in
-    row-both c.args.reader.now waiting.new.self c.read_words_one_by_one.new.reader c.args.width waiting.result _ (length c.args.words.now) (take waiting.result waiting.new.words) rest _
+    row-both c.args.width
     (omega (arith, waiting.auto.words, waiting.ensures.within, c.read_words_one_by_one.auto.words)) (put_rest waiting.result waiting.new.words rest waiting.ensures.within) row c.in_ok-read_words_one_by_one.ensures.ok

@@ -7,6 +7,6 @@ returns-then-begins_interval g c =
     let a = c.args in
     let number = c.number_ahead.ensures in
     let from = c.level_of_pattern-from in
-    head_behind_reference a.reader.now.waiting a.setting.now a.block a.before from.result c.number_ahead.result a.id c.bits-bits.result
+    head_behind_reference
     (sym c.begins_interval.ensures ∙ c.if-begins_interval.true) c.requires.id c.bits-bits.ensures.value
     number.below number.bits from.ensures.below from.ensures.pattern

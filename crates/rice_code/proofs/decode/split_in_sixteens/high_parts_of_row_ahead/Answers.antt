@@ -6,7 +6,7 @@ pub returns-clause-some : goal.returns-clause-some
 returns-clause-some g c =
     let a = c.args in
     let found = c.in_ok-sequences in
-    row-highs a.reader.now.waiting a.skip a.omitted found.sequences.len a.count found.sequences.numbers (take a.count c.first_lanes.result) c.requires.omitted c.requires.count.0
+    row-highs a.omitted a.count c.requires.omitted c.requires.count.0
     (omega (arith, c.if-waiting-skip.false, c.waiting.ensures)) found.ensures
-    (first_of_row a.omitted a.count found.sequences.numbers c.behind_omitted.result c.first_lanes.result c.requires.omitted c.requires.count.1
+    (first_of_row found.sequences.numbers c.requires.omitted c.requires.count.1
     found.ensures.lanes c.behind_omitted.ensures c.first_lanes.ensures)

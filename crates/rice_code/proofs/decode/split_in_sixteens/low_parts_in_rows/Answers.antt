@@ -10,7 +10,7 @@ pub loop-row-init : goal.loop-row-init
 loop-row-init g c =
     let words = c.words_ahead.ensures in
     let one : rows_len c.args.size 1 ≡ 16 = omega (arith, c.requires.size.0) in
-    let first = row-lows c.args.reader.now.waiting c.args.skip c.args.omitted c.args.k c.words_ahead.result c.behind_omitted-first.result c.requires.omitted
+    let first = row-lows {waiting = c.args.reader.now.waiting} c.args.skip c.args.omitted c.args.k c.words_ahead.result c.requires.omitted
     words.len words.fit words.bits c.behind_omitted-first.ensures in
     record {
       places = c.store_row.ensures.len;
@@ -45,9 +45,9 @@ loop-row-preserved g c =
     record {
       places = c.store_row-in-loop-row.ensures.len ∙ l.invariant.places;
       rows = subst (LowsAhead w skip o k) (sym (ap (λ n. take n c.store_row-in-loop-row.new.rows) (sym row.ensures.end) ∙ stored))
-          (lows-row w skip o k at count before (take count lanes.result) few (subst (λ n. LowsAhead w skip o k (take n l.lows)) (rows_before size l.row inside.1) l.invariant.rows) place
+          (lows-row (take count lanes.result) few (subst (λ n. LowsAhead w skip o k (take n l.lows)) (rows_before size l.row inside.1) l.invariant.rows) place
           (length-take-le count lanes.result (omega (arith, sixteen, most))) (All-take (λ x. x < 2 ^ k) count lanes.result low)
-          (words-row w k at count words.result lanes.result most words.ensures.len words.ensures.bits lanes.ensures));
+          (words-row w k at words.result most words.ensures.len words.ensures.bits lanes.ensures));
       fit = subst (All (λ x. x < 2 ^ k)) (sym c.store_row-in-loop-row.ensures.value) (All-append (λ x. x < 2 ^ k) before lanes.result l.invariant.fit low);
     }
 

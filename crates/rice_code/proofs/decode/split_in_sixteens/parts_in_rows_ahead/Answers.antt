@@ -14,8 +14,7 @@ returns-clause-some g c =
     let lows = c.low_parts_in_rows-lows in
     let most = c.requires.lanes.few in
     let part : (size - head.result.omitted) * a.k ≤ size * a.k = mul-le-mul_right a.k (omega arith) in
-    rows_parts a.reader.now.waiting a.setting.now a.block a.before a.k head.result.from head.result.omitted head.result.len high.len size
-    g.row.WIDTH (take size highs) (take size lows.result) c.requires.lanes c.requires.split c.requires.id
+    rows_parts c.requires.lanes c.requires.split c.requires.id
     head.ensures high.ensures.some lows.ensures.lows (length-take-le size highs (omega (arith, most, high.ensures.places)))
     (length-take-le size lows.result (omega (arith, most, lows.ensures.places)))
     (omega (arith, part, c.if-waiting-words.false, c.waiting.ensures))

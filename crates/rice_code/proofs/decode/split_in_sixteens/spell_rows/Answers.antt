@@ -22,7 +22,7 @@ loop-row-preserved g c =
     let places = c.requires.places in
     let behind : length (drop (16 * l.row) parts.highs) ≡ 64 - 16 * l.row = length-drop (16 * l.row) parts.highs ∙ ap (λ m. m - 16 * l.row) places.0 in
     let sixteen : length (take 16 (drop (16 * l.row) parts.highs)) ≡ 16 = length-take-le 16 (drop (16 * l.row) parts.highs) (omega (arith, behind, inside.0)) in
-    let spelled = spells_front s l.last c.args.k n c.in_ok-last.last (take 16 (drop (16 * l.row) parts.highs)) (take 16 (drop (16 * l.row) parts.lows)) (drop (g.row.WIDTH * (16 * l.row)) c.spell_row.new.bytes)
+    let spelled = spells_front
     row.ensures.some.0 (omega (arith, most, sixteen)) c.in_ok-last.ensures.some in
     let exact = subst (λ hs. SpellsParts s l.last c.args.k n hs (take n (drop (16 * l.row) parts.lows)) c.in_ok-last.last (drop (g.row.WIDTH * (16 * l.row)) c.spell_row.new.bytes))
     (take-take n 16 (drop (16 * l.row) parts.highs) most)
@@ -32,7 +32,7 @@ loop-row-preserved g c =
       room = c.spell_row.ensures.len ∙ l.invariant.room;
       rows =
           subst (λ n. RowsSpelled s parts.from c.args.k n parts.highs parts.lows c.in_ok-last.last c.spell_row.new.bytes) row.ensures.end
-          (row_spelled s parts.from c.args.k (16 * l.row) n l.last c.in_ok-last.last g.row.WIDTH parts.highs parts.lows l.spelled c.spell_row.new.bytes
+          (row_spelled {now = c.spell_row.new.bytes}
           c.requires.width row.ensures.some.0 (places.1 ∙ sym places.0) (omega (arith, most, inside.0, places.0)) c.spell_row.ensures.before
           (subst (λ n. RowsSpelled s parts.from c.args.k n parts.highs parts.lows l.last l.spelled) (rows_before size l.row inside.1) l.invariant.rows) exact);
     }
@@ -49,5 +49,5 @@ returns-clause-some g c =
     let rows = subst (λ n. RowsSpelled s parts.from c.args.k n parts.highs parts.lows l.last l.spelled)
     (rows_end size l.row (omega (arith, c.loop-row-test.false))) l.invariant.rows in
     subst (λ front. SpellsParts s parts.from c.args.k size (take size parts.highs) (take size parts.lows) l.last (front ++ drop (w * size) c.args.bytes.now)) (sym c.copy_from_slice.ensures.after)
-    (all_spelled s parts.from c.args.k size l.last w parts.highs parts.lows l.spelled c.args.bytes.now c.requires.width (omega (arith, most.0))
+    (all_spelled c.args.bytes.now c.requires.width (omega (arith, most.0))
     (omega (arith, most.1, c.requires.places.0)) (omega (arith, inside.0, l.invariant.room)) rows)

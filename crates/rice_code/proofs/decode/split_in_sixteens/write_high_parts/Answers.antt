@@ -39,7 +39,7 @@ loop-row-preserved g c =
     record {
       places = c.store_row-in-loop-row.ensures.len ∙ l.invariant.places;
       rows = subst (λ xs. HighsAhead w skip o xs (l.len + next.len)) (sym (ap (λ n. take n c.store_row-in-loop-row.new.rows) (sym row.ensures.end) ∙ stored))
-          (highs-row w skip o l.len next.len (take (16 * l.row) l.highs) (take row.result next.numbers) few before c.in_ok-next.ensures.some);
+          (highs-row few before c.in_ok-next.ensures.some);
     }
 
 pub returns-clause-some : goal.returns-clause-some

@@ -9,9 +9,8 @@ returns g c =
     let value = c.number_ahead.ensures in
     let first = c.level_of_pattern-first in
     let words = c.words_ahead.ensures in
-    behind_reference_ahead a.reader.now.waiting a.setting.now a.block a.before first.result c.number_ahead.result a.k c.id_len-id.result c.bits-bits.result
-    c.in_ok-sequences.sequences.len a.size g.row.WIDTH c.in_ok-sequences.sequences.numbers
-    c.words_ahead.result c.zero_and_all_but_last.result c.zero_and_all_but_last-2.result c.first_lanes.result c.first_lanes-2.result c.requires.lanes c.requires.row
+    behind_reference_ahead
+    c.words_ahead.result c.requires.lanes c.requires.row
     c.requires.reference c.requires.split c.requires.there c.requires.id
     id.value bits.value value.below value.bits first.ensures.below first.ensures.pattern c.in_ok-sequences.ensures words.len words.fit words.bits
     c.zero_and_all_but_last.ensures c.zero_and_all_but_last-2.ensures c.first_lanes.ensures c.first_lanes-2.ensures

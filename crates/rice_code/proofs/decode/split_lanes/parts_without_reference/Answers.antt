@@ -6,7 +6,6 @@ pub returns : goal.returns
 returns g c =
     let a = c.args in
     let words = c.words_ahead.ensures in
-    plain_ahead a.reader.now.waiting a.setting.now a.block a.before a.k (g.row.WIDTH + 2) c.in_ok-sequences.sequences.len a.size g.row.WIDTH
-    c.in_ok-sequences.sequences.numbers c.words_ahead.result c.first_lanes.result c.first_lanes-2.result
+    plain_ahead {head = g.row.WIDTH + 2} c.words_ahead.result
     c.requires.lanes c.requires.row c.requires.reference c.requires.split c.requires.there c.requires.id c.requires.before refl
     c.in_ok-sequences.ensures words.len words.fit words.bits c.first_lanes.ensures c.first_lanes-2.ensures

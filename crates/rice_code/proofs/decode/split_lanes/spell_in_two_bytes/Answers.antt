@@ -11,7 +11,7 @@ pub returns-then-size-le8-clause-some : goal.returns-then-size-le8-clause-some
 returns-then-size-le8-clause-some g c =
     let a = c.args in
     let near = c.in_ok-near in
-    words_near a.setting.now a.from a.k a.size a.highs a.lows near.near.first near.near.second a.bytes.now c.spelled_in_two_bytes.result c.requires.size.0 c.if-size-le8.true
+    words_near near.near.first near.near.second a.bytes.now c.requires.size.0 c.if-size-le8.true
     c.requires.width near.ensures.levels near.ensures.halves.0 c.requires.bytes
     c.spelled_in_two_bytes.ensures.len c.spelled_in_two_bytes.ensures.value
 
@@ -19,6 +19,5 @@ pub returns-clause-some : goal.returns-clause-some
 returns-clause-some g c =
     let a = c.args in
     let near = c.in_ok-near in
-    sixteen_words_near a.setting.now a.from a.k a.size a.highs a.lows near.near.first near.near.second a.bytes.now c.spelled_in_two_bytes.result
-    c.spelled_in_two_bytes-2.result c.requires.width (omega (arith, c.if-size-le8.false)) c.requires.size.1 near.ensures.levels
+    sixteen_words_near near.near.first near.near.second a.bytes.now c.requires.width (omega (arith, c.if-size-le8.false)) c.requires.size.1 near.ensures.levels
     near.ensures.halves.0 near.ensures.halves.1 c.requires.bytes c.spelled_in_two_bytes.ensures.len c.spelled_in_two_bytes-2.ensures.len c.spelled_in_two_bytes.ensures.value c.spelled_in_two_bytes-2.ensures.value

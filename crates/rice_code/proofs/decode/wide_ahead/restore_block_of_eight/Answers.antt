@@ -20,11 +20,11 @@ returns-clause-some g c =
     let eight : length levels ≡ 8 = c.in_ok-near.ensures.len ∙ high.2 in
     subst (λ ls. RestoredAhead waiting s a.from a.k a.skip a.omitted ls (slice_index_or levels 7 0) (a.skip + sequences.len + (8 - a.omitted) * a.k))
     (sym (put_chunk_whole a.levels.now levels (c.requires.size ∙ sym eight)))
-    (restored_eight waiting s a.from a.k a.skip a.omitted sequences.len sequences.numbers highs.result words.result lows.result levels c.requires.omitted c.requires.there found highs.ensures
+    (restored_eight {waiting = waiting} {skip = a.skip} words.result c.requires.omitted c.requires.there found highs.ensures
     words.ensures.len words.ensures.fit words.ensures.bits lows.ensures (omega (arith, c.if-waiting-words.false, c.waiting.ensures)) c.in_ok-near.ensures)
 
 pub near_words-requires-clause-lows : goal.near_words-requires-clause-lows
 near_words-requires-clause-lows g c =
     let a = c.args in
     let words = c.wide_words_ahead in
-    (eight-lows a.reader.now.waiting (a.skip + c.in_ok-sequences.sequences.len) a.omitted a.k words.result c.words_behind_omitted-lows.result c.requires.omitted words.ensures.len words.ensures.fit words.ensures.bits c.words_behind_omitted-lows.ensures).low
+    (eight-lows a.reader.now.waiting (a.skip + c.in_ok-sequences.sequences.len) a.k words.result c.requires.omitted words.ensures.len words.ensures.fit words.ensures.bits c.words_behind_omitted-lows.ensures).low

@@ -9,19 +9,19 @@ pub restore_eight_at-requires-clause-low : goal.restore_eight_at-requires-clause
 restore_eight_at-requires-clause-low g c =
     let a = c.args in
     let words = c.wide_words_ahead in
-    (eight-lows a.reader.now.waiting a.skip a.omitted a.k words.result c.words_behind_omitted-first.result c.requires.omitted words.ensures.len words.ensures.fit words.ensures.bits c.words_behind_omitted-first.ensures).low
+    (eight-lows a.reader.now.waiting a.skip a.k words.result c.requires.omitted words.ensures.len words.ensures.fit words.ensures.bits c.words_behind_omitted-first.ensures).low
 
 pub wide_words_ahead-lows-requires-clause-there : goal.wide_words_ahead-lows-requires-clause-there
 wide_words_ahead-lows-requires-clause-there g c =
     let a = c.args in
-    eight_inside a.skip c.loop-eight.eight a.omitted a.k (length a.levels.now) (length a.reader.now.waiting) c.loop-eight.auto.eight c.requires.omitted (omega (arith, c.loop-eight-test.true, c.restore_eight_at.ensures.len)) c.requires.there
+    eight_inside a.skip a.k (length a.levels.now) (length a.reader.now.waiting) c.loop-eight.auto.eight c.requires.omitted (omega (arith, c.loop-eight-test.true, c.restore_eight_at.ensures.len)) c.requires.there
 
 pub loop-eight-init : goal.loop-eight-init
 loop-eight-init g c =
     let a = c.args in
     let words = c.wide_words_ahead.ensures in
     let w = c.in_ok-last.ensures.some in
-    let all = first_levels a.reader.now.waiting a.setting.now a.from a.k a.skip a.omitted c.in_ok-last.last c.wide_words_ahead.result c.words_behind_omitted-first.result a.highs.now a.levels.now c.restore_eight_at.new.levels
+    let all = first_levels {waiting = a.reader.now.waiting} {skip = a.skip} c.wide_words_ahead.result a.highs.now
     c.requires.omitted words.len words.fit words.bits c.words_behind_omitted-first.ensures (omega (arith, c.requires.some, c.requires.highs)) w in
     record {
       room = c.restore_eight_at.ensures.len;
@@ -40,7 +40,7 @@ loop-eight-preserved g c =
     let w = c.in_ok-last-2.ensures.some in
     let next : 8 * l.eight + 8 ≡ 8 * (l.eight + 1) = omega arith in
     let levels = c.restore_eight_at-in-loop-eight.new.levels in
-    let all = more_levels waiting s a.from a.k a.skip a.omitted (a.skip + (8 - a.omitted) * a.k + 8 * (l.eight - 1) * a.k) (8 * l.eight) l.last c.in_ok-last-2.last words.result a.highs.now l.levels levels
+    let all = more_levels a.highs.now
     c.requires.omitted (omega (arith, l.auto.eight)) (omega (arith, c.loop-eight-test.true, c.restore_eight_at.ensures.len, c.requires.highs)) words.ensures.len words.ensures.fit words.ensures.bits
     (eight_place a.skip l.eight a.omitted a.k l.auto.eight c.requires.omitted) l.invariant.ahead l.invariant.last_is w in
     record {

@@ -5,13 +5,13 @@ use Rattle.rice_code.proofs.encode.bit_buffer.four_short_sequences.Goals as goal
 
 pub returns-clause-fits : goal.returns-clause-fits
 returns-clause-fits c =
-    (four_words (c.args.a + 1) (c.args.b + 1) (c.args.c + 1) (c.args.d + 1) (c.args.a + c.args.b + c.args.c + c.args.d + 4) 1 1 1 1 c.join-two.result c.join-three.result c.join.result _ _ _ _
+    (four_words (c.args.a + 1) (c.args.b + 1) (c.args.c + 1) (c.args.d + 1) {n = c.args.a + c.args.b + c.args.c + c.args.d + 4} 1 1 1 1
     (one_fits c.args.a) (one_fits c.args.b) (one_fits c.args.c) (one_fits c.args.d) c.join-two.ensures c.join-three.ensures c.join.ensures
     (word-fs c.args.a) (word-fs c.args.b) (word-fs c.args.c) (word-fs c.args.d) (omega arith)).0
 
 pub returns-clause-bits : goal.returns-clause-bits
 returns-clause-bits c =
-    (four_words (c.args.a + 1) (c.args.b + 1) (c.args.c + 1) (c.args.d + 1) (c.args.a + c.args.b + c.args.c + c.args.d + 4) 1 1 1 1 c.join-two.result c.join-three.result c.join.result _ _ _ _
+    (four_words (c.args.a + 1) (c.args.b + 1) (c.args.c + 1) (c.args.d + 1) {n = c.args.a + c.args.b + c.args.c + c.args.d + 4} 1 1 1 1
     (one_fits c.args.a) (one_fits c.args.b) (one_fits c.args.c) (one_fits c.args.d) c.join-two.ensures c.join-three.ensures c.join.ensures
     (word-fs c.args.a) (word-fs c.args.b) (word-fs c.args.c) (word-fs c.args.d) (omega arith)).1
 

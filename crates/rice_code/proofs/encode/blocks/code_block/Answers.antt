@@ -24,9 +24,9 @@ returns g c =
     let chosen = c.choose-choice.ensures in
     let option = λ (o : Choice). chosen_set o c.new-block.result in
     let put : PutsSet s (option c.choose-choice.result.0) (s.block - 1) (2 * s.block) c.args.sink.now c.match-choice.sink c.choose-choice.new.meter c.match-choice.steps = elim c.match-choice.branch [
-      | in-NoCompression w ↦ puts_chosen s _ _ _ _ _ _ _ _ _ _ (ap option (sym w.in-NoCompression.is)) w.sink-is w.steps-is (omega arith) (omega arith) w.put_no_compression.ensures
-      | in-SecondExtension w ↦ puts_chosen s _ _ _ _ _ _ _ _ _ _ (ap option (sym w.in-SecondExtension.is)) w.sink-is w.steps-is (omega arith) (omega arith) w.put_second_extension.ensures
-      | in-Split w ↦ puts_chosen s _ _ _ _ _ _ _ _ _ _ (ap option (sym w.in-Split.is)) w.sink-is w.steps-is (omega arith) (omega arith) w.put_split.ensures
+      | in-NoCompression w ↦ puts_chosen (ap option (sym w.in-NoCompression.is)) w.sink-is w.steps-is (omega arith) (omega arith) w.put_no_compression.ensures
+      | in-SecondExtension w ↦ puts_chosen (ap option (sym w.in-SecondExtension.is)) w.sink-is w.steps-is (omega arith) (omega arith) w.put_second_extension.ensures
+      | in-Split w ↦ puts_chosen (ap option (sym w.in-Split.is)) w.sink-is w.steps-is (omega arith) (omega arith) w.put_split.ensures
     ] in
     let value : option c.choose-choice.result.0 ≡ shortest s b = chosen.value ∙ ap (shortest s) same in
     let price = ap (cost s) value in

@@ -32,7 +32,7 @@ code_next-run-requires-clause-look g c =
     let all = bits_of_sets s (data_sets s c.args.start false cs) in
     let i = c.loop-i.i in
     let room = room_within c.loop-i.sink (to_come s c.args.start c.args.reference c.args.count c.args.segment.now i c.loop-i.run) c.args.sink.now all c.loop-i.invariant.same in
-    let fits = meter_fits c.loop-i.meter c.args.meter.now (length c.loop-i.sink) (length c.args.sink.now) (length all) 0 (sum_by (most_looks s) (take i cs)) i c.args.count (s.block * (k_max s + 5))
+    let fits = meter_fits c.loop-i.meter c.args.meter.now (length c.loop-i.sink) (length c.args.sink.now) (length all) 0 (sum_by (most_looks s) (take i cs)) (s.block * (k_max s + 5))
     c.loop-i.invariant.steps_to (most_of_all s i cs) c.loop-i-test.true (omega (arith, room)) (omega (arith, c.requires.room.steps)) in
     let more = looks_more s.block (k_max s) in
     omega (arith, fits, more)
@@ -55,9 +55,9 @@ code_next-run-requires-clause-room g c =
     * (k_max s + 5)) (length c.loop-i.sink) c.loop-i.meter in
     subst P (sym e) (λ z.
     let put = length (bits_of_sets s (pending_run false (reference_at c.args.reference (i - c.loop-i.run)) c.loop-i.run)) + cost s (shortest s (held s c.args.reference ds i)) in
-    let g = room_other s c.args.start c.args.reference c.args.count ds i c.loop-i.run c.loop-i.sink c.args.sink.now all legal.interval_from one c.requires.few
+    let g = room_other s c.args.start c.args.reference ds c.loop-i.sink c.args.sink.now all legal.interval_from one c.requires.few
     c.loop-i.invariant.inside c.loop-i-test.true c.requires.sound z c.loop-i.invariant.same in
-    let fits = meter_fits c.loop-i.meter c.args.meter.now (length c.loop-i.sink) (length c.args.sink.now) (length all) put (sum_by (most_looks s) (take i cs)) i c.args.count (s.block * (k_max s + 5))
+    let fits = meter_fits c.loop-i.meter c.args.meter.now (length c.loop-i.sink) (length c.args.sink.now) (length all) put (sum_by (most_looks s) (take i cs)) (s.block * (k_max s + 5))
     c.loop-i.invariant.steps_to (most_of_all s i cs) c.loop-i-test.true (omega (arith, g)) (omega (arith, c.requires.room.steps)) in
     record { room = omega (arith, g, c.requires.room.room); steps = omega (arith, fits) })
 
@@ -92,7 +92,7 @@ loop-i-preserved g c =
           record {
             inside = omega (arith, joins.run_is);
             same = (λ j. joins.bits j ++ to_come s start r n ds (i + 1) (joins.run_is j))
-                ∙ (ap (λ v. c.loop-i.sink ++ v) (sym (next_zero s start r n ds i run inv.inside c.loop-i-test.true c.requires.sound zh)) ∙ inv.same);
+                ∙ (ap (λ v. c.loop-i.sink ++ v) (sym (next_zero s start r ds inv.inside c.loop-i-test.true c.requires.sound zh)) ∙ inv.same);
             steps_from = omega (arith, low, looks.0, len, joins.steps, inv.steps_from);
             steps_to = omega (arith, high, looks.1, len, joins.steps, inv.steps_to);
           }
@@ -103,7 +103,7 @@ loop-i-preserved g c =
           let len = ends.len in
           let k = ap (best_split s) e in
           let put = length (bits_of_sets s (pending_run false (reference_at c.args.reference (c.loop-i.i - c.loop-i.run)) run)) + cost s (shortest s raw) in
-          let more = next_other s start r n ds i run legal.interval_from c.requires.few inv.inside c.loop-i-test.true zh in
+          let more = next_other s start r ds legal.interval_from c.requires.few inv.inside c.loop-i-test.true zh in
           let more' : to_come s start r n ds i run ≡ bits_of_sets s (pending_run false (reference_at c.args.reference (c.loop-i.i - c.loop-i.run)) run)
           ++ (bits_of_set s (shortest s raw) ++ to_come s start r n ds (i + 1) 0) =
           more ∙ (λ j. bits_of_sets s (pending_run false (reference_at r (i - run)) run) ++ (bits_of_set s (shortest s (sym e j)) ++ to_come s start r n ds (i + 1) 0)) in
@@ -114,11 +114,11 @@ loop-i-preserved g c =
                 (bits_of_sets s (pending_run false (reference_at c.args.reference (c.loop-i.i - c.loop-i.run)) run)) (bits_of_set s (shortest s raw))
                 (to_come s start r n ds (i + 1) 0) (c.args.sink.now ++ all) ends.bits
                 (sym (ap (λ v. c.loop-i.sink ++ v) more') ∙ inv.same);
-            steps_from = rw low (least_more s.block (best_split s raw) (least_looks s (held s r ds i)) c.args.meter.now c.loop-i.meter c.code_next-run.new.meter
-                (length c.loop-i.sink) (length c.code_next-run.new.sink) (length c.args.sink.now) put (sum_by (least_looks s) (take i cs))
+            steps_from = rw low (least_more (best_split s raw) c.args.meter.now c.loop-i.meter c.code_next-run.new.meter
+                (length c.loop-i.sink) {a' = length c.code_next-run.new.sink} (length c.args.sink.now) put (sum_by (least_looks s) (take i cs))
                 one inv.steps_from (omega (arith, ends.steps_from)) (omega (arith, len)) (looks.0 ∙ ap (λ k. s.block * (k + 3) - 1) (sym k)));
-            steps_to = rw high (most_more (most_looks s (held s r ds i)) c.args.meter.now c.loop-i.meter c.code_next-run.new.meter (length c.loop-i.sink)
-                (length c.code_next-run.new.sink) (length c.args.sink.now) put (sum_by (most_looks s) (take i cs)) (s.block * (min (best_split s raw + 1) (k_max s) + 5))
+            steps_to = rw high (most_more c.args.meter.now c.loop-i.meter c.code_next-run.new.meter (length c.loop-i.sink)
+                {a' = length c.code_next-run.new.sink} (length c.args.sink.now) put (sum_by (most_looks s) (take i cs))
                 inv.steps_to (omega (arith, ends.steps_to)) (omega (arith, len)) (looks.1 ∙ ap (λ k. s.block * (min (k + 1) (k_max s) + 5)) (sym k)));
           }
     ]
@@ -139,7 +139,7 @@ put_pending_run-requires-clause-room g c =
     let room = room_within c.loop-i.sink (bits_of_sets s (pending_run true (reference_at c.args.reference (n - run)) run)) c.args.sink.now all (sym ends ∙ same) in
     let w = ap (λ f. length (bits_of_sets s (pending_run true f run))) c.reference_of-first.ensures in
     let fits = meter_ends c.loop-i.meter c.args.meter.now (length c.loop-i.sink) (length c.args.sink.now) (length all) put
-    (sum_by (most_looks s) (take c.loop-i.i cs)) c.loop-i.i n (s.block * (k_max s + 5))
+    (sum_by (most_looks s) (take c.loop-i.i cs)) {i = c.loop-i.i} {n = n} (s.block * (k_max s + 5))
     c.loop-i.invariant.steps_to (most_of_all s c.loop-i.i cs) (omega arith) (omega (arith, room)) (omega (arith, c.requires.room.steps)) in
     record { room = omega (arith, room, w, c.requires.room.room); steps = omega (arith, fits, w) }
 

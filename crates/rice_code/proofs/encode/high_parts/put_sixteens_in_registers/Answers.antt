@@ -16,7 +16,7 @@ loop-i-init c =
     let row = ap (λ i. sum_by (λ d. d / 2 ^ c.args.k) (slice_range xs i 16)) start in
     record {
       after = omega arith;
-      same = eight_added f xs from 16 all _ _ (omega (arith, c.requires.from)) (c.put_sixteen_high_at.ensures.bits ∙ ap (λ i. all ++ flat_map f (slice_range xs i 16)) start) refl;
+      same = eight_added f xs from 16 all (omega (arith, c.requires.from)) (c.put_sixteen_high_at.ensures.bits ∙ ap (λ i. all ++ flat_map f (slice_range xs i 16)) start) refl;
       len = omega (arith, sums, row, c.put_sixteen_high_at.ensures.len, c.requires.from);
       steps = omega (arith, sums, row, c.put_sixteen_high_at.ensures.steps, c.requires.from);
     }
@@ -35,7 +35,7 @@ loop-i-preserved c =
     (λ j. sum_by (λ d. d / 2 ^ c.args.k) (slice_range xs (start j) (end j))) in
     record {
       after = omega arith;
-      same = eight_added f xs i n all _ _ (omega arith) (c.put_sixteen_high_at-in-loop-i.ensures.bits ∙ (λ j. all ++ flat_map f (slice_range xs (start j) (end j)))) c.loop-i.invariant.same;
+      same = eight_added f xs i n all (omega arith) (c.put_sixteen_high_at-in-loop-i.ensures.bits ∙ (λ j. all ++ flat_map f (slice_range xs (start j) (end j)))) c.loop-i.invariant.same;
       len = omega (arith, sums, row, c.put_sixteen_high_at-in-loop-i.ensures.len);
       steps = omega (arith, sums, row, c.put_sixteen_high_at-in-loop-i.ensures.steps);
     }

@@ -23,5 +23,5 @@ returns-clause-bits c =
     let front = word w c.args.four.0 ++ word w c.args.four.1 in
     let back = word w c.args.four.2 ++ word w c.args.four.3 in
     ap (λ m. word m c.join.result) size
-    ∙ (joined_words n n c.two_pairs-first.result.0 c.two_pairs-first.result.1 c.join.result front back c.two_pairs-first.ensures.last_fits c.two_pairs-first.ensures.first c.two_pairs-first.ensures.last c.join.ensures
+    ∙ (joined_words n n c.two_pairs-first.result.0 c.two_pairs-first.result.1 c.two_pairs-first.ensures.last_fits c.two_pairs-first.ensures.first c.two_pairs-first.ensures.last c.join.ensures
     ∙ sym (append_assoc front (word w c.args.four.2) (word w c.args.four.3)))

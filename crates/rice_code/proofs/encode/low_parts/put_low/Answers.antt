@@ -13,7 +13,7 @@ returns c =
     let each = c.put_low_one_by_one.ensures in
     let fours = c.put_low_by_fours.ensures in
     record {
-      bits = both_written (word w) c.args.block.now c.args.from to (c.args.sink.now ++ c.args.fields.now) _ _ (omega arith) each.bits fours.bits;
+      bits = both_written (word w) c.args.block.now c.args.from to (c.args.sink.now ++ c.args.fields.now) (omega arith) each.bits fours.bits;
       len = omega (arith, digits, each.len, fours.len);
       steps = omega (arith, looks, each.steps, fours.steps);
     }

@@ -13,7 +13,7 @@ loop-i-preserved c =
     let g = four_fewer (length xs) i (c.args.from + 4 * (c.loop-i.i + 1)) (w + 1) (omega arith) (omega arith) in
     let words = c.four_low_parts_joined.ensures.bits ∙ (λ j. word w (four.first j) ++ word w (four.second j) ++ word w (four.third j) ++ word w (four.last j)) in
     record {
-      same = four_added (word w) xs i (c.args.from + 4 * (c.loop-i.i + 1)) (c.loop-i.sink ++ c.loop-i.fields) _ _ (omega arith) (omega arith)
+      same = four_added (word w) xs i (c.args.from + 4 * (c.loop-i.i + 1)) (c.loop-i.sink ++ c.loop-i.fields) (omega arith) (omega arith)
           (c.add.ensures.bits ∙ ap (λ v. c.loop-i.sink ++ c.loop-i.fields ++ v) words) c.loop-i.invariant.same;
       len = omega (arith, f);
       steps = omega (arith, g);

@@ -29,7 +29,7 @@ loop-i-preserved c =
     record {
       after = omega (arith, before.after);
       adds = record {
-        bits = one_written (word w) c.args.block.now c.args.from c.loop-i.i (c.args.sink.now ++ c.args.fields.now) _ _ _ before.after (omega arith) before.adds.bits c.add.ensures.bits low;
+        bits = one_written (word w) c.args.block.now (c.args.sink.now ++ c.args.fields.now) before.after (omega arith) before.adds.bits c.add.ensures.bits low;
         len = omega (arith, before.adds.len, c.add.ensures.len, one_more_times c.args.from c.loop-i.i w before.after);
         steps = omega (arith, before.adds.steps, c.add.ensures.steps, one_more_times c.args.from c.loop-i.i (w + 1) before.after);
       };

@@ -23,7 +23,7 @@ returns-clause-bits c =
     let e : 8 * w ≡ 4 * w + 4 * w = omega arith in
     let a = c.four_at-a.ensures in
     let b = c.four_at-b.ensures in
-    let words = joined_words (4 * w) (4 * w) c.two_fours_joined-first.result.0 c.two_fours_joined-first.result.1 c.join.result _ _ c.two_fours_joined-first.ensures.last_fits
+    let words = joined_words (4 * w) (4 * w) c.two_fours_joined-first.result.0 c.two_fours_joined-first.result.1 c.two_fours_joined-first.ensures.last_fits
     c.two_fours_joined-first.ensures.first c.two_fours_joined-first.ensures.last c.join.ensures in
     ap (λ n. word n c.join.result) e ∙ (words
     ∙ ((λ j. (word w (a.first j) ++ word w (a.second j) ++ word w (a.third j) ++ word w (a.last j)) ++ (word w (b.first j) ++ word w (b.second j) ++ word w (b.third j) ++ word w (b.last j)))

@@ -16,7 +16,7 @@ loop-i-init c =
     let less = first_eight_fewer (length xs) from w c.requires.from (omega (arith, c.len-eights.ensures.range.0, c.len-eights.ensures.value)) in
     record {
       after = omega arith;
-      same = eight_added (word w) xs from 8 all _ _ (omega (arith, c.requires.from)) (c.add.ensures.bits ∙ ap (λ v. all ++ v) words) refl;
+      same = eight_added (word w) xs from 8 all (omega (arith, c.requires.from)) (c.add.ensures.bits ∙ ap (λ v. all ++ v) words) refl;
       len = omega (arith, less);
       steps = omega (arith, less);
     }
@@ -33,7 +33,7 @@ loop-i-preserved c =
     let row = ap (λ m. flat_map (word w) (slice_range xs i m)) next in
     record {
       after = omega arith;
-      same = eight_added (word w) xs i n all _ _ (omega arith) (c.add-in-loop-i.ensures.bits ∙ ap (λ v. all ++ v) (c.eight_low_parts_joined-eight.ensures.bits ∙ sym row)) c.loop-i.invariant.same;
+      same = eight_added (word w) xs i n all (omega arith) (c.add-in-loop-i.ensures.bits ∙ ap (λ v. all ++ v) (c.eight_low_parts_joined-eight.ensures.bits ∙ sym row)) c.loop-i.invariant.same;
       len = omega (arith, less);
       steps = omega (arith, less);
     }

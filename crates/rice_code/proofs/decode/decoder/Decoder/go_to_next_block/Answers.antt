@@ -11,7 +11,7 @@ invariant_of-self g c =
     let state = c.self.invariant.1 in
     let below = rw (← c.self.view_is) at c.requires.last in (
       below,
-      place_moves st.setting st.block c.next_place-self-inside.result c.args.run (value_at st.setting c.args.last) st.stopped
+      place_moves c.args.run (value_at st.setting c.args.last) st.stopped
           state.legal state.within c.next_place-self-inside.ensures (sample_at st.setting c.args.last below) (rw (← c.self.view_is) at c.requires.run) state.no_block,
     )
 

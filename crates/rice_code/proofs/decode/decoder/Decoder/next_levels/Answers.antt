@@ -12,7 +12,7 @@ invariant_of-self g c =
     let state = c.self.invariant.1 in
     let last = c.restore_zero_block-last in (
       last.ensures.below,
-      place_moves st.setting st.block c.next_place-self-inside.result (st.run - 1) (value_at st.setting last.result) st.stopped
+      place_moves (st.run - 1) (value_at st.setting last.result) st.stopped
           state.legal state.within c.next_place-self-inside.ensures (sample_at st.setting last.result last.ensures.below)
           (λ h. omega (arith, state.run_fits c.if-self-gt0.true)) state.no_block,
     )
@@ -25,7 +25,7 @@ returns-then-self-gt0-clause-in_run g c none pos =
     let ls = last.new.levels.items in
     rw (← c.self.view_is) (
       refl,
-      goes_on s st.block c.next_place-self-inside.result st.run (value_at s st.before) (value_at s last.result) st.stopped (values_at s ls)
+      goes_on s st.block (value_at s st.before) st.stopped {samples = values_at s ls}
           c.if-self-gt0.true c.next_place-self-inside.ensures last.ensures.last (length-values s ls ∙ last.ensures.len) (legal_values s ls last.ensures.legal) last.ensures.contents,
       refl,
       refl,

@@ -15,13 +15,12 @@ returns-else-not-sound-clause-reads g c =
     let ls = last.new.levels.items in
     let marks = c.mark.ensures.going c.requires.going in
     let read = rw (c.in-Ok-Residuals.field-0-is, c.if-not-sound.false) at c.in-Ok-Residuals.ensures.ok in
-    let set = block_given c.mark.new.self c.read_set.new.reader c.args.meter.now c.read_set.new.meter s st.block p c.in-Ok-Residuals.reference
-    c.in-Ok-Residuals.near (values_at s ls) c.read_set.new.residuals
+    let set = block_given p c.in-Ok-Residuals.reference
+    c.in-Ok-Residuals.near (values_at s ls)
     read (length-values s ls ∙ last.ensures.len) (legal_values s ls last.ensures.legal) last.ensures.contents in
     rw (← c.self.view_is, c.go_to_next_block.ensures.block)
-    (answers_block c.args.reader.now c.read_set.new.reader c.go_to_next_block.new.reader c.args.meter.now c.read_set.new.meter c.go_to_next_block.new.meter
-    (record { setting = st.setting; block = st.block; before = value_at st.setting st.before; run = st.run; stopped = st.stopped }) c.go_to_next_block.new.self
-    (values_at s ls) 0 (value_at s last.result)
+    (answers_block c.args.reader.now c.go_to_next_block.new.meter
+    (record { setting = st.setting; block = st.block; before = value_at st.setting st.before; run = st.run; stopped = st.stopped })
     (subst (λ r. TakesSet r c.read_set.new.reader c.args.meter.now c.read_set.new.meter s st.block p (values_at s ls) 0) marks set) c.go_to_next_block.ensures.skips c.go_to_next_block.ensures.steps
     last.ensures.last c.go_to_next_block.ensures.moves)
 
@@ -44,11 +43,11 @@ returns-else-not-sound-clause-waiting g c =
     let p = value_at s st.before in
     let ls = last.new.levels.items in
     let read = rw (c.in-Ok-Residuals.field-0-is, c.if-not-sound.false) at c.in-Ok-Residuals.ensures.ok in
-    let set = block_given c.mark.new.self c.read_set.new.reader c.args.meter.now c.read_set.new.meter s st.block p c.in-Ok-Residuals.reference
-    c.in-Ok-Residuals.near (values_at s ls) c.read_set.new.residuals
+    let set = block_given p c.in-Ok-Residuals.reference
+    c.in-Ok-Residuals.near (values_at s ls)
     read (length-values s ls ∙ last.ensures.len) (legal_values s ls last.ensures.legal) last.ensures.contents in
     let same : c.mark.new.self.taken ≡ c.args.reader.now.taken = ap (λ r. r.taken) (c.mark.ensures.going c.requires.going) in
-    let bound = samples_by_bits c.mark.new.self c.read_set.new.reader c.args.meter.now c.read_set.new.meter s st.block p (values_at s ls) 0 c.self.invariant.1.legal set in
+    let bound = samples_by_bits c.self.invariant.1.legal set in
     let waits : c.go_to_next_block.new.self.run ≡ 0 = ap (λ r. r.run) c.go_to_next_block.ensures.moves in
     rw waits (omega (arith, bound, same, c.go_to_next_block.ensures.few))
 
@@ -61,14 +60,13 @@ returns-in-Some-clause-reads g c =
     let ls = last.new.levels.items in
     let marks = c.mark.ensures.going c.requires.going in
     let run = c.in-Some.ensures in
-    let set = run_given c.mark.new.self c.read_set.new.reader c.args.meter.now c.read_set.new.meter s st.block p c.in-Ok-Zeros.reference c.in-Ok-Zeros.zeros
-    c.in-Some.count (values_at s ls) c.read_set.new.residuals
+    let set = run_given {p = p} c.in-Ok-Zeros.reference c.in-Ok-Zeros.zeros
+    c.in-Some.count {samples = values_at s ls}
     (rw c.in-Ok-Zeros.field-0-is at c.in-Ok-Zeros.ensures.ok) (run.sound c.in-Ok-Zeros.reference) (run.blocks c.in-Ok-Zeros.reference)
     (length-values s ls ∙ last.ensures.len) (legal_values s ls last.ensures.legal) last.ensures.contents in
     rw (← c.self.view_is, c.go_to_next_block-in-Some.ensures.block)
-    (answers_block c.args.reader.now c.read_set.new.reader c.go_to_next_block-in-Some.new.reader c.args.meter.now c.read_set.new.meter c.go_to_next_block-in-Some.new.meter
-    (record { setting = st.setting; block = st.block; before = value_at st.setting st.before; run = st.run; stopped = st.stopped }) c.go_to_next_block-in-Some.new.self
-    (values_at s ls) (c.in-Some.count - 1) (value_at s last.result)
+    (answers_block c.args.reader.now c.go_to_next_block-in-Some.new.meter
+    (record { setting = st.setting; block = st.block; before = value_at st.setting st.before; run = st.run; stopped = st.stopped })
     (subst (λ r. TakesSet r c.read_set.new.reader c.args.meter.now c.read_set.new.meter s st.block p (values_at s ls) (c.in-Some.count - 1)) marks set)
     c.go_to_next_block-in-Some.ensures.skips c.go_to_next_block-in-Some.ensures.steps
     last.ensures.last c.go_to_next_block-in-Some.ensures.moves)
@@ -92,12 +90,12 @@ returns-in-Some-clause-waiting g c =
     let p = value_at s st.before in
     let ls = last.new.levels.items in
     let run = c.in-Some.ensures in
-    let set = run_given c.mark.new.self c.read_set.new.reader c.args.meter.now c.read_set.new.meter s st.block p c.in-Ok-Zeros.reference c.in-Ok-Zeros.zeros
-    c.in-Some.count (values_at s ls) c.read_set.new.residuals
+    let set = run_given {p = p} c.in-Ok-Zeros.reference c.in-Ok-Zeros.zeros
+    c.in-Some.count {samples = values_at s ls}
     (rw c.in-Ok-Zeros.field-0-is at c.in-Ok-Zeros.ensures.ok) (run.sound c.in-Ok-Zeros.reference) (run.blocks c.in-Ok-Zeros.reference)
     (length-values s ls ∙ last.ensures.len) (legal_values s ls last.ensures.legal) last.ensures.contents in
     let same : c.mark.new.self.taken ≡ c.args.reader.now.taken = ap (λ r. r.taken) (c.mark.ensures.going c.requires.going) in
-    let bound = samples_by_bits c.mark.new.self c.read_set.new.reader c.args.meter.now c.read_set.new.meter s st.block p (values_at s ls) (c.in-Some.count - 1) c.self.invariant.1.legal set in
+    let bound = samples_by_bits c.self.invariant.1.legal set in
     let moves = c.go_to_next_block-in-Some.ensures.moves in
     let waits : c.go_to_next_block-in-Some.new.self.run ≡ c.in-Some.count - 1 = ap (λ r. r.run) moves in
     let size : c.go_to_next_block-in-Some.new.self.setting.block ≡ st.setting.block = ap (λ r. r.setting.block) moves in
@@ -112,8 +110,7 @@ returns-in-Err-clause-reads g c =
     let stops = stops_by c.mark.new.self c.read_set.new.reader c.args.meter.now c.read_set.new.meter st.setting st.block c.in-Err.fault marked c.in-Err.ensures.err in
     rw (← c.self.view_is, c.stop-in-Err.ensures.answer, c.answer_of.ensures)
     (answers_stop (with_mark c.args.reader.now) c.read_set.new.reader c.args.meter.now c.read_set.new.meter
-    (record { setting = st.setting; block = st.block; before = value_at st.setting st.before; run = st.run; stopped = st.stopped }) c.stop-in-Err.new.self
-    (values_at st.setting c.stop-in-Err.new.levels.items) (answer_to c.in-Err.fault)
+    (record { setting = st.setting; block = st.block; before = value_at st.setting st.before; run = st.run; stopped = st.stopped }) (answer_to c.in-Err.fault)
     (subst (λ r. StopsBy r c.read_set.new.reader c.args.meter.now c.read_set.new.meter st.setting st.block (answer_to c.in-Err.fault)) marks stops)
     (rw c.answer_of.ensures at c.stop-in-Err.ensures.stops) none)
 

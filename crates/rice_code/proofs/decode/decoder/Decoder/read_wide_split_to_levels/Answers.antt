@@ -27,7 +27,7 @@ returns-clause-some g c _ =
     subst (λ (ls : List ℕ). Answers (with_mark start) new.reader c.args.meter.now new.meter p new.self (values_at p.setting ls) (Ok Block)
     × (length ls + new.self.run * new.self.setting.block ≤ most_samples_of_bit * (new.reader.taken - start.taken)))
     (sym (places_written size levels places (c.restore_wide_ahead.ensures.len ∙ sym c.block.ensures.value) c.set_len.ensures))
-    (levels_given start (with_mark start) c.take_ahead.new.reader new.reader c.args.meter.now c.take_ahead.new.meter new.meter p new.self levels restored.len restored.last
+    (levels_given start c.args.meter.now new.meter p
     legal some known.0 refl c.take_ahead.ensures.takes c.take_ahead.ensures.steps c.go_to_next_block-answer.ensures.skips c.go_to_next_block-answer.ensures.steps
     (omega (arith, c.go_to_next_block-answer.ensures.few)) same known.1 c.go_to_next_block-answer.ensures.moves)
 

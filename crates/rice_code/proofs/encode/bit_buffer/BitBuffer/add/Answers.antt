@@ -12,7 +12,7 @@ join-self-inside-requires-clause-high c =
 pub invariant_of-self : goal.invariant_of-self
 invariant_of-self c =
     let i = c.self.inside in
-    more_fields i.width i.value c.args.width c.args.value c.join-self-inside.result (i.width + c.args.width) c.self.invariant c.requires.value
+    more_fields c.args.width c.args.value c.self.invariant c.requires.value
     (omega (arith, length-word_is i.width i.value _ c.self.view_is, c.make_room.ensures.fits)) c.join-self-inside.ensures refl
 
 pub returns : goal.returns
@@ -21,7 +21,7 @@ returns c =
     let held = length-word_is i.width i.value _ c.self.view_is in
     let len = length-word (i.width + c.args.width) c.join-self-inside.result in
     record {
-      bits = joined_bits c.make_room.new.sink c.make_room.new.self i.width i.value c.args.width c.args.value c.join-self-inside.result (i.width + c.args.width)
+      bits = joined_bits c.make_room.new.sink i.width i.value c.args.width c.args.value {total = i.width + c.args.width}
           c.self.view_is c.requires.value c.join-self-inside.ensures refl
           ∙ ap (λ bits. bits ++ word c.args.width c.args.value) c.make_room.ensures.bits;
       len = omega (arith, held, len);

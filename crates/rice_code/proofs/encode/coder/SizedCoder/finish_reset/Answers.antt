@@ -10,7 +10,7 @@ code-bits-requires g c = (
   search rules,
   (
     finish_sound c.self.inside.segment c.fill.new.self c.fill.ensures.value c.self.invariant,
-    (c.requires.room, filled_has_steps _ c.self.inside.segment c.fill.new.self _ _ c.self.view_is c.self.invariant c.fill.ensures.value c.requires.meter c.fill.ensures.steps),
+    (c.requires.room, filled_has_steps _ c.self.view_is c.self.invariant c.fill.ensures.value c.requires.meter c.fill.ensures.steps),
   ),
 )
 
@@ -20,7 +20,7 @@ invariant_of-self g c =
     subst IsCoder (sym (c.restart.ensures ∙ ap (λ (v : CoderState). empty_state v.setting) c.fill.ensures.value)) (record { samples = []; taken = none_taken c.self.inside.segment.setting legal })
 
 pub returns-clause-adds : goal.returns-clause-adds
-returns-clause-adds g c xs h = finish_adds c.self.inside.segment _ c.fill.new.self xs _ _ _ _ _ _ c.self.view_is c.fill.ensures.value c.code-bits.ensures c.fill.ensures.steps h
+returns-clause-adds g c xs h = finish_adds c.self.view_is c.fill.ensures.value c.code-bits.ensures c.fill.ensures.steps h
 
 pub returns-clause-taken : goal.returns-clause-taken
 returns-clause-taken g c =

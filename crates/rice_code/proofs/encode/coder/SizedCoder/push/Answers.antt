@@ -14,25 +14,25 @@ hold-requires g c =
 
 pub code-bits-requires : goal.code-bits-requires
 code-bits-requires g c =
-    let more = holds_one _ _ _ c.args.x _ c.self.view_is c.self.invariant c.requires.sample (to_z-of_z w64 c.args.x c.ranges.x) c.hold.ensures in
+    let more = holds_one c.self.view_is c.self.invariant c.requires.sample (to_z-of_z w64 c.args.x c.ranges.x) c.hold.ensures in
     (search rules, (whole_is_sound _ _ _ _ more (search rules), (c.requires.room, whole_has_steps _ _ _ _ _ _ more c.requires.meter c.tick.ensures)))
 
 pub invariant_of-self : goal.invariant_of-self
 invariant_of-self g c =
-    let more = holds_one _ _ _ c.args.x _ c.self.view_is c.self.invariant c.requires.sample (to_z-of_z w64 c.args.x c.ranges.x) c.hold.ensures in
-    is_coder_after _ _ _ _ _ _ _ _ _ _ more (whole_pushes _ _ _ _ _ _ _ _ _ _ _ more (search rules) c.begin_next.ensures c.code-bits.ensures c.tick.ensures)
+    let more = holds_one c.self.view_is c.self.invariant c.requires.sample (to_z-of_z w64 c.args.x c.ranges.x) c.hold.ensures in
+    is_coder_after more (whole_pushes more (search rules) c.begin_next.ensures c.code-bits.ensures c.tick.ensures)
 
 pub invariant_of-self-else-is_whole : goal.invariant_of-self-else-is_whole
 invariant_of-self-else-is_whole g c =
-    let more = holds_one _ _ _ c.args.x _ c.self.view_is c.self.invariant c.requires.sample (to_z-of_z w64 c.args.x c.ranges.x) c.hold.ensures in
-    is_coder_after _ _ _ _ _ _ _ _ _ _ more (open_pushes _ _ _ _ c.args.sink.now _ _ more (search rules) c.tick.ensures)
+    let more = holds_one c.self.view_is c.self.invariant c.requires.sample (to_z-of_z w64 c.args.x c.ranges.x) c.hold.ensures in
+    is_coder_after more (open_pushes {sink = c.args.sink.now} more (search rules) c.tick.ensures)
 
 pub returns-then-is_whole : goal.returns-then-is_whole
 returns-then-is_whole g c =
-    let more = holds_one _ _ _ c.args.x _ c.self.view_is c.self.invariant c.requires.sample (to_z-of_z w64 c.args.x c.ranges.x) c.hold.ensures in
-    whole_pushes _ _ _ _ _ _ _ _ _ _ _ more (search rules) c.begin_next.ensures c.code-bits.ensures c.tick.ensures
+    let more = holds_one c.self.view_is c.self.invariant c.requires.sample (to_z-of_z w64 c.args.x c.ranges.x) c.hold.ensures in
+    whole_pushes more (search rules) c.begin_next.ensures c.code-bits.ensures c.tick.ensures
 
 pub returns-else-is_whole : goal.returns-else-is_whole
 returns-else-is_whole g c =
-    let more = holds_one _ _ _ c.args.x _ c.self.view_is c.self.invariant c.requires.sample (to_z-of_z w64 c.args.x c.ranges.x) c.hold.ensures in
-    open_pushes _ _ _ _ _ _ _ more (search rules) c.tick.ensures
+    let more = holds_one c.self.view_is c.self.invariant c.requires.sample (to_z-of_z w64 c.args.x c.ranges.x) c.hold.ensures in
+    open_pushes more (search rules) c.tick.ensures

@@ -23,7 +23,7 @@ invariant_of-self g c =
     let last = last_value s p levels c.requires.some in (
       legal (length levels - 1) 0 (omega (arith, c.requires.some)),
       subst (λ v. IsOpen (record { setting = s; residuals = c.push_each_after_the_one_before.new.segment; reference = i.reference; previous = v; start = i.start }) i.end) (sym last)
-          (open_later st i.end p c.push_each_after_the_one_before.new.segment xs c.self.invariant.1 (sample_at s c.args.before within) c.push_each_after_the_one_before.ensures
+          (open_later p xs c.self.invariant.1 (sample_at s c.args.before within) c.push_each_after_the_one_before.ensures
           (legal_values s levels legal) (omega (arith, room, length-values s levels))),
       c.self.invariant.2,
     )
