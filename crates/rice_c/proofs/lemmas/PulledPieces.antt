@@ -87,11 +87,11 @@ pulled-push s code drain [] last behind h k = ((behind, k), tt)
 pulled-push s code drain (p ∷ ps) last behind h k = (h.0, pulled-push s code p.drain ps last behind h.1 k)
 
 -- what they gave stands in the caller's memory
-wrote_in_parts : (s : Parameters) (code : List ℕ) (o : Origin) (front : List Bool) (given : List ℤ) (drain : RiceDrain) (pulls : List Pull) (xs : List ℤ)
+wrote_in_parts : {s : Parameters} (code : List ℕ) {o : Origin} {front : List Bool} {given : List ℤ} (drain : RiceDrain) (pulls : List Pull) (xs : List ℤ)
     → IsStand s o drain.stand front given → ArePulled s code drain pulls → stream.GiveInParts s drain.stand (engines pulls) xs
     → WriteInParts pulls (spellings s xs)
-wrote_in_parts s code o front given drain [] xs h pulled g = ap (spellings s) g
-wrote_in_parts s code o front given drain (p ∷ ps) xs h pulled g =
+wrote_in_parts {s} code drain [] xs h pulled g = ap (spellings s) g
+wrote_in_parts {s} code {o} {front} {given} drain (p ∷ ps) xs h pulled g =
     let d = pulled.0.1.1 o front given h in
     let part = g.0 in
     let size = length-spellings s part in
@@ -102,7 +102,7 @@ wrote_in_parts s code o front given drain (p ∷ ps) xs h pulled g =
       ap (spellings s) g.2 ∙ spellings-append s part g.1,
       d.written ∙ ap (λ n. width s * n) count ∙ sym size,
       g.4 ∙ ap (λ n. spellings s part ++ drop n p.old) (sym size),
-      wrote_in_parts s code o (front ++ d.decodes.bits) (given ++ d.decodes.samples) p.drain ps g.1 d.decodes.stands pulled.1 g.5,
+      wrote_in_parts code {front = front ++ d.decodes.bits} {given = given ++ d.decodes.samples} p.drain ps g.1 d.decodes.stands pulled.1 g.5,
     )
 
 -- ---- how they end
@@ -157,9 +157,9 @@ record TellsDrain (s : Parameters) (p : Pull) : Type 0 where
   pub place : p.report.place ≡ pause_place (pause_of p.status) (p.drain.stand.samples / s.block)
 
 -- the report of a pull tells where its drain stands
-tells_drain : (s : Parameters) (code : List ℕ) (o : Origin) (front : List Bool) (given : List ℤ) (drain : RiceDrain) (p : Pull) (behind : List ℕ)
+tells_drain : {s : Parameters} (code : List ℕ) {o : Origin} {front : List Bool} {given : List ℤ} (drain : RiceDrain) (p : Pull) (behind : List ℕ)
     → IsStand s o drain.stand front given → IsPulled s code drain p behind → TellsDrain s p
-tells_drain s code o front given drain p behind h pulled =
+tells_drain {s} code {o} {front} {given} drain p behind h pulled =
     let d = pulled.1 o front given h in
     record {
       samples = ap (λ (r : Report). r.samples) d.counts;
@@ -167,10 +167,10 @@ tells_drain s code o front given drain p behind h pulled =
     }
 
 -- with room for all samples the whole call does not fail
-never_full : (s : Parameters) (code : List ℕ) (xs : List ℤ) (ending : Ending) (used : ℕ) (old new : List ℕ) (report : RiceReport) (status : ℕ) → IsLegal s
+never_full : {s : Parameters} {code : List ℕ} {xs : List ℤ} {ending : Ending} {used : ℕ} {old new : List ℕ} {report : RiceReport} {status : ℕ} → IsLegal s
     → Decoded s (bits_of code) None xs ending used → (ending ≡ Reached → ⊥) → (d : DecodesInto s None code old new report status)
     → width s * length xs ≤ length old → d.fault ≢ Some faults.Write
-never_full s code xs ending used old new report status legal whole early d room full =
+never_full {s} {code} {xs} {ending} {used} {report} legal whole early d room full =
     let ys = d.decodes.samples in
     let fails = subst (λ (f : Option Fault). EndsDecoding s None f d.call (report_of report) ys d.decodes.ending) full d.decodes.ends in
     let f = fails.0 in
@@ -199,20 +199,20 @@ pulls_are_decoding s code o before setting first opened pulls last behind old ne
     let at = same_last first pulls in
     let last_one = one_pulled s code (last_drain first pulls) last behind last_pulled in
     let how = subst (λ (n : ℕ). EndsCode (pause_of n) behind (ending_of paused)) (sym paused_is) (ends_code paused ended behind ends) in
-    let p = seek_all s code o before first.stand (engines pulls) (engine last) behind (ending_of paused) place begins (all_pulled s code first pulls pulled)
+    let p = seek_all (engines pulls) (engine last) behind (ending_of paused) place begins (all_pulled s code first pulls pulled)
     (subst (λ (v : Stand). stream.IsPulled s code v (engine last) behind) (sym at) last_one) how in
     let xs = before ++ p.samples in
     let bytes = spellings s p.samples in
     let stands = stands_at s code o [] [] first pulls begins pulled in
-    let end = tells_drain s code o stands.0 stands.1 (last_drain first pulls) last behind stands.2 last_pulled in
+    let end = tells_drain code (last_drain first pulls) last behind stands.2 last_pulled in
     let count : last.report.samples ≡ length xs = end.samples ∙ p.count in
-    let write = never_full s code xs (ending_of paused) p.used old new report status legal p.decoded (never_reached_so paused ended behind ends) d
+    let write = never_full legal p.decoded (never_reached_so paused ended behind ends) d
     (let fits : width s * length xs ≤ length old = (omega (arith, room, ap (λ n. width s * n) count)) in fits) in
-    let same = decodes_as s legal None code d.takes.left d.call (report_of report) d.fault xs d.decodes.samples (ending_of paused) d.decodes.ending p.used
+    let same = decodes_as legal {c = d.call} {r = report_of report} {fault = d.fault} d.decodes.samples d.decodes.ending
     p.decoded p.limit (inl refl) d.takes.gave d.takes.left_is d.decodes.ends d.writes.reads write in
     let told = tells_end s paused ended behind xs d.fault last.report j ends same.fault_is count (end.place ∙ (λ i. pause_place (pause_of (paused_is i)) (p.count i / s.block))) in (
       bytes,
-      wrote_in_parts s code o [] [] first (pulls ++ last ∷ []) p.samples begins (pulled-push s code first pulls last behind pulled last_pulled)
+      wrote_in_parts code first (pulls ++ last ∷ []) p.samples begins (pulled-push s code first pulls last behind pulled last_pulled)
           (subst (λ (l : List stream.Pull). stream.GiveInParts s first.stand l p.samples) (engines-push pulls last) p.parts),
       subst (λ (l : List ℕ). StandsInFront l old new) (same.written ∙ spellings-append s before p.samples) d.writes.front,
       d.tells.status ∙ told.0,
@@ -227,21 +227,20 @@ pulls_to_a_count_are_decoding s code o before setting first opened pulls n old n
     let legal = begins.state.legal in
     let at = same_last first pulls in
     let samples_at : (stream.last_stand first.stand (engines pulls)).samples ≡ (last_drain first pulls).stand.samples = ap (λ (v : Stand). v.samples) at in
-    let p = seek_enough s code o before first.stand (engines pulls) n place begins (all_pulled s code first pulls pulled) (omega (arith, enough, samples_at)) (omega (arith, few, samples_at)) in
+    let p = seek_enough (engines pulls) n place begins (all_pulled s code first pulls pulled) (omega (arith, enough, samples_at)) (omega (arith, few, samples_at)) in
     let part = take n p.samples in
     let xs = before ++ part in
     let bytes = spellings s p.samples in
     let write : d.fault ≢ Some faults.Write = λ full. decode_suffices s (o.samples + n) code old new report status d (omega (arith, room))
     (d.tells.status ∙ ap (λ (v : Option Fault). status_number (fault_status v)) full) in
-    let same = decodes_as s legal (Some (o.samples + n)) code d.takes.left d.call (report_of report) d.fault xs d.decodes.samples Reached d.decodes.ending
-    (stream.last_stand first.stand (engines pulls)).bits p.decoded p.limit (inr refl) d.takes.gave d.takes.left_is d.decodes.ends d.writes.reads write in
+    let same = decodes_as legal {c = d.call} {r = report_of report} {fault = d.fault} d.decodes.samples d.decodes.ending p.decoded p.limit (inr refl) d.takes.gave d.takes.left_is d.decodes.ends d.writes.reads write in
     let count : length part ≡ n = length-take-le n p.samples p.size in
     let size : length (spellings s part) ≡ width s * n = length-spellings s part ∙ ap (λ m. width s * m) count in
     let far = spellings s (drop n p.samples) in
     let both : bytes ≡ spellings s part ++ far = ap (spellings s) (sym (take-append-drop n p.samples)) ∙ spellings-append s part (drop n p.samples) in
     let first_n : spellings s part ≡ take (width s * n) bytes = sym (ap (take (width s * n)) both ∙ take_at (spellings s part) far (width s * n) size) in (
       bytes,
-      wrote_in_parts s code o [] [] first pulls p.samples begins pulled p.parts,
+      wrote_in_parts code first pulls p.samples begins pulled p.parts,
       subst (λ (l : List ℕ). StandsInFront l old new) (same.written ∙ spellings-append s before part ∙ ap (λ l. spellings s before ++ l) first_n) d.writes.front,
       d.tells.status ∙ ap (λ (v : Option Fault). status_number (fault_status v)) same.fault_is,
       omega (arith, same.samples, length-append before part, count, place.count),
@@ -255,4 +254,4 @@ drains_tell_places s code o before setting first opened pulls place opens pulled
     let at = same_last first pulls in
     let told = stands_tell_places s code o before first.stand (engines pulls) place begins (all_pulled s code first pulls pulled)
     (ap (λ (v : Stand). v.block) at ∙ at_start) (ap (λ (v : Stand). v.run) at ∙ no_run) in
-    (told.0, wrote_in_parts s code o [] [] first pulls told.0 begins pulled told.1, subst (λ (v : Stand). IsPlace s code (place_at v) (before ++ told.0)) at told.2)
+    (told.0, wrote_in_parts code first pulls told.0 begins pulled told.1, subst (λ (v : Stand). IsPlace s code (place_at v) (before ++ told.0)) at told.2)

@@ -46,10 +46,10 @@ record EncodedAll (s : Parameters) (samples : List ℕ) (encoded : RiceReport) (
   pub gave : Consumes (Some c.written) left given
 
 -- the code of samples decodes to them, and what fills the last block
-encoded_all : (s : Parameters) (samples code_old code old new : List ℕ) (asked : Option ℕ) (encoded decoded : RiceReport) (status : ℕ)
+encoded_all : {s : Parameters} {samples code_old code old new : List ℕ} {asked : Option ℕ} {encoded decoded : RiceReport} {status : ℕ}
     → (e : EncodesInto s samples code_old code encoded (status_number Done)) →
     (d : DecodesInto s asked (take encoded.written code) old new decoded status) → EncodedAll s samples encoded e.call d.call.left d.call.given
-encoded_all s samples code_old code old new asked encoded decoded status e d =
+encoded_all {s} {code_old} {code} {encoded} e d =
     let none : e.fault ≡ None = none_of e.fault (sym e.tells.status) e.writes.reads in
     let all = subst (λ (f : Option Fault). Encodes s e.call (report_of encoded) f) none e.encodes in
     let at_end : e.takes.left ≡ [] = subst (λ (l : Option (List ℕ)). IsAtEnd l) e.takes.left_is all.ends.1 in
@@ -63,7 +63,7 @@ encoded_all s samples code_old code old new asked encoded decoded status e d =
 
 pub returns_bytes : ReturnsBytes
 returns_bytes s legal samples code_old code old new encoded decoded status e d room =
-    let a = encoded_all s samples code_old code old new (Some encoded.samples) encoded decoded status e d in
+    let a = encoded_all e d in
     let xs = a.encodes.samples in
     let spelled : e.call.given ≡ spellings s xs = a.encodes.ends.0.whole ∙ ap (λ l. spellings s xs ++ l) a.encodes.ends.0.stops ∙ append-nil (spellings s xs) in
     let size : length samples ≡ encoded.samples * width s = omega (arith, ap length a.all, ap length spelled, length-spellings s xs, ap (λ n. width s * n) a.encodes.ends.2.reports.samples) in
@@ -79,7 +79,7 @@ returns_bytes s legal samples code_old code old new encoded decoded status e d r
 
 pub returns_bytes_and_fill : ReturnsBytesAndFill
 returns_bytes_and_fill s legal samples code_old code old new encoded decoded status e d =
-    let a = encoded_all s samples code_old code old new None encoded decoded status e d in
+    let a = encoded_all e d in
     by_end a.all (stream.returns_bytes_and_fill s legal e.call d.call (report_of encoded) (report_of decoded) d.fault a.encodes a.gave d.decodes)
   where
     status_of : (f : Option Fault) → d.fault ≡ f → status ≡ status_number (fault_status f)

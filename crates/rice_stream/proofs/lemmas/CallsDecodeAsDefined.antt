@@ -33,10 +33,10 @@ front_of bits more a b e le =
     sym (take-append-drop n bits) ∙ ap (λ l. l ++ drop n bits) (sym (take-append-le n bits more le) ∙ ap (take n) e ∙ take-append_seam a b)
 
 -- what is left begins with the same coded data set, which is refused
-unsound_front : (s : Parameters) (b used : ℕ) (bits more front rest : List Bool) (P : CodedDataSet → Type 0) → bits ++ more ≡ front ++ rest
+unsound_front : {s : Parameters} {b used : ℕ} (bits more front : List Bool) {rest : List Bool} (P : CodedDataSet → Type 0) → bits ++ more ≡ front ++ rest
     → (u : BeginsUnsound s b rest used P) → length front + used ≤ length bits
     → (left : List Bool) × (bits ≡ front ++ left) × BeginsUnsound s b left used P
-unsound_front s b used bits more front rest P e u le =
+unsound_front {s} bits more front P e u le =
     let set = bits_of_set s u.refused in
     let all = front ++ set in
     let far = drop (length all) bits in
@@ -68,22 +68,22 @@ module _ (s : Parameters) (asked : Option ℕ) (bits more : List Bool) (xs : Lis
   }
 
 -- decoding that ends in the front of a code ends so without the rest
-ends_in_front : (s : Parameters) (asked : Option ℕ) (bits more : List Bool) (xs : List ℤ) (ending : Ending) (used : ℕ) → EndsBefore ending
+ends_in_front : {s : Parameters} {asked : Option ℕ} (bits more : List Bool) {xs : List ℤ} (ending : Ending) {used : ℕ} → EndsBefore ending
     → Decoded s (bits ++ more) asked xs ending used → used ≤ length bits → Decoded s bits asked xs ending used
-ends_in_front s asked bits more xs Reached used early d le =
+ends_in_front {s} {asked} bits more {xs} Reached {used} early d le =
     with_rest s asked bits more xs Reached used d (drop (length d.front) bits) (front_of bits more d.front d.rest d.parts (omega (arith, d.bits_used, le))) d.ends
-ends_in_front s asked bits more xs Past used early d le =
-    let u = unsound_front s _ d.last bits more d.front d.rest _ d.parts d.ends.1 (omega (arith, d.bits_used, le)) in
+ends_in_front {s} {asked} bits more {xs} Past {used} early d le =
+    let u = unsound_front bits more d.front _ d.parts d.ends.1 (omega (arith, d.bits_used, le)) in
     with_rest s asked bits more xs Past used d u.0 u.1 (d.ends.0, u.2)
-ends_in_front s asked bits more xs Large used early d le =
-    let u = unsound_front s _ d.last bits more d.front d.rest _ d.parts d.ends.1 (omega (arith, d.bits_used, le)) in
+ends_in_front {s} {asked} bits more {xs} Large {used} early d le =
+    let u = unsound_front bits more d.front _ d.parts d.ends.1 (omega (arith, d.bits_used, le)) in
     with_rest s asked bits more xs Large used d u.0 u.1 (d.ends.0, u.2)
-ends_in_front s asked bits more xs Ended used (inl e) d le = absurd cc
-ends_in_front s asked bits more xs Ended used (inr (inl e)) d le = absurd cc
-ends_in_front s asked bits more xs Ended used (inr (inr e)) d le = absurd cc
-ends_in_front s asked bits more xs CutOff used (inl e) d le = absurd cc
-ends_in_front s asked bits more xs CutOff used (inr (inl e)) d le = absurd cc
-ends_in_front s asked bits more xs CutOff used (inr (inr e)) d le = absurd cc
+ends_in_front bits more Ended (inl e) d le = absurd cc
+ends_in_front bits more Ended (inr (inl e)) d le = absurd cc
+ends_in_front bits more Ended (inr (inr e)) d le = absurd cc
+ends_in_front bits more CutOff (inl e) d le = absurd cc
+ends_in_front bits more CutOff (inr (inl e)) d le = absurd cc
+ends_in_front bits more CutOff (inr (inr e)) d le = absurd cc
 
 -- ---- a count that is not reached
 
@@ -164,12 +164,12 @@ module _ (s : Parameters) (legal : IsLegal s) (asked : Option ℕ) (code left : 
   }
 
 -- a code of which so few bits are used is not too long
-not_early : (s : Parameters) → IsLegal s → (asked : Option ℕ) (code front more : List ℕ) (xs ys : List ℤ) (ending e : Ending) (used n : ℕ)
+not_early : {s : Parameters} → IsLegal s → {asked : Option ℕ} {code : List ℕ} (front more : List ℕ) {xs ys : List ℤ} {ending e : Ending} {used n : ℕ}
     → Decoded s (bits_of code) asked xs ending used → code ≡ front ++ more → used ≤ 8 * length front
     → Decoded s (bits_of front) asked ys e n → RunsOut e → EndsBefore ending → ⊥
-not_early s legal asked code front more xs ys ending e used n whole split le d runs early =
+not_early {s} legal {asked} {code} front more {xs} {ys} {ending} {e} {used} {n} whole split le d runs early =
     let bits : bits_of code ≡ bits_of front ++ bits_of more = ap bits_of split ∙ bits_of-append front more in
-    let inside = ends_in_front s asked (bits_of front) (bits_of more) xs ending used early
+    let inside = ends_in_front (bits_of front) (bits_of more) ending early
     (subst (λ (l : List Bool). Decoded s l asked xs ending used) bits whole) (omega (arith, le, length-bits_of front)) in
     let same : e ≡ ending = (decoded_is_one legal (zero_is_sample s legal.bits_from) d inside).1 in
     elim runs [ inl f ↦ no f same early | inr f ↦ not_cut f same early ]
@@ -185,52 +185,51 @@ not_early s legal asked code front more xs ys ending e used n whole split le d r
     not_cut f same (inr (inr g)) = absurd cc
 
 -- a code that decodes within the limit has no byte past it that is read
-never_long : (s : Parameters) → IsLegal s → (asked : Option ℕ) (code front more : List ℕ) (xs ys : List ℤ) (ending e : Ending) (used n : ℕ)
+never_long : {s : Parameters} → IsLegal s → {asked : Option ℕ} {code : List ℕ} (front more : List ℕ) {xs ys : List ℤ} {ending e : Ending} {used n : ℕ}
     → Decoded s (bits_of code) asked xs ending used → used ≤ 2 ^ 52 → code ≡ front ++ more → length front ≡ 2 ^ 49 → 0 < length more
     → Decoded s (bits_of front) asked ys e n → RunsOut e → ⊥
-never_long s legal asked code front more xs ys Reached e used n whole limit split full some d runs = not_early s legal asked code front more xs ys Reached e
-    used n whole split (omega arith) d runs (inl refl)
-never_long s legal asked code front more xs ys Past e used n whole limit split full some d runs = not_early s legal asked code front more xs ys Past e used n
+never_long {s} legal {asked} {code} front more {xs} {ys} {ending = Reached} {e} {used} {n} whole limit split full some d runs = not_early legal front more whole split (omega arith) d runs (inl refl)
+never_long {s} legal {asked} {code} front more {xs} {ys} {ending = Past} {e} {used} {n} whole limit split full some d runs = not_early legal front more
     whole split (omega arith) d runs (inr (inl refl))
-never_long s legal asked code front more xs ys Large e used n whole limit split full some d runs = not_early s legal asked code front more xs ys Large e used n
+never_long {s} legal {asked} {code} front more {xs} {ys} {ending = Large} {e} {used} {n} whole limit split full some d runs = not_early legal front more
     whole split (omega arith) d runs (inr (inr refl))
-never_long s legal asked code front more xs ys Ended e used n whole limit split full some d runs =
+never_long legal {code} front more {ending = Ended} whole limit split full some d runs =
     omega (arith, whole.bits_used, whole.ends.2, ap length whole.parts, length-append whole.front whole.rest, length-bits_of code, ap length split, length-append front more)
-never_long s legal asked code front more xs ys CutOff e used n whole limit split full some d runs =
+never_long legal {code} front more {ending = CutOff} whole limit split full some d runs =
     omega (arith, whole.bits_used, whole.ends.3, ap length whole.parts, length-append whole.front whole.rest, length-bits_of code, ap length split, length-append front more)
 
 -- a call of the decoder finds the one way in which its bytes decode
-pub decodes_as : (s : Parameters) → IsLegal s
-    → (asked : Option ℕ) (code left : List ℕ) (c : Call) (r : Report) (fault : Option Fault) (xs ys : List ℤ) (ending e : Ending) (used : ℕ)
+pub decodes_as : {s : Parameters} → IsLegal s
+    → {asked : Option ℕ} {code left : List ℕ} {c : Call} {r : Report} {fault : Option Fault} {xs : List ℤ} (ys : List ℤ) {ending : Ending} (e : Ending) {used : ℕ}
     → Decoded s (bits_of code) asked xs ending used → used ≤ 2 ^ 52
     → (asked ≡ None) ⊎ (ending ≡ Reached) → code ≡ c.given ++ left → c.left ≡ Some left → EndsDecoding s asked fault c r ys e → fault ≢ Some Read
     → fault ≢ Some Write → DecodesAs s xs ending used c r fault
-decodes_as s legal asked code left c r None xs ys ending e used whole limit way split left_is (d, inl reached) read write =
+decodes_as {s} legal {asked} {code} {left} {c} {r} {fault = None} {xs} ys {ending} e {used} whole limit way split left_is (d, inl reached) read write =
     decodes_so s legal asked code left c r xs ys ending e used whole split None d
     (as_before s legal asked code left c r xs ys ending e used whole split (inl reached) d) (subst (λ (v : Ending). FaultOf s ys v None) (sym reached) refl)
-decodes_as s legal asked code left c r None xs ys ending e used whole limit way split left_is (d, inr (ended, none, end)) read write =
+decodes_as {s} legal {asked} {code} {left} {c} {r} {fault = None} {xs} ys {ending} e {used} whole limit way split left_is (d, inr (ended, none, end)) read write =
     decodes_so s legal asked code left c r xs ys ending e used whole split None d
     (as_all s legal asked code left c r xs ys ending e used whole split (is_at_end c.left left left_is end) d) (subst (λ (v : Ending). FaultOf s ys v None) (sym ended) refl)
-decodes_as s legal asked code left c r (Some (CodeEnds n)) xs ys ending e used whole limit way split left_is (d, inl cut, end, count) read write =
+decodes_as {s} legal {asked} {code} {left} {c} {r} {fault = Some (CodeEnds n)} {xs} ys {ending} e {used} whole limit way split left_is (d, inl cut, end, count) read write =
     decodes_so s legal asked code left c r xs ys ending e used whole split (Some (CodeEnds n)) d
     (as_all s legal asked code left c r xs ys ending e used whole split (is_at_end c.left left left_is end) d)
     (subst (λ (v : Ending). FaultOf s ys v (Some (CodeEnds n))) (sym cut) (ap (λ m. Some (CodeEnds m)) count))
-decodes_as s legal asked code left c r (Some (CodeEnds n)) xs ys ending e used whole limit way split left_is (d, inr (ended, some), end, count) read write =
+decodes_as {s} legal {asked} {code} {left} {c} {r} {fault = Some (CodeEnds n)} {xs} ys {ending} e {used} whole limit way split left_is (d, inr (ended, some), end, count) read write =
     let same = (as_all s legal asked code left c r xs ys ending e used whole split (is_at_end c.left left left_is end) d).1 in
     elim way [ inl none ↦ absurd (let no : false ≡ true = subst (λ (a : Option ℕ). IsSome a) none some in cc) | inr reached ↦ absurd cc ]
-decodes_as s legal asked code left c r (Some (RunPastSegment b)) xs ys ending e used whole limit way split left_is (d, past, count) read write =
+decodes_as {s} legal {asked} {code} {left} {c} {r} {fault = Some (RunPastSegment b)} {xs} ys {ending} e {used} whole limit way split left_is (d, past, count) read write =
     decodes_so s legal asked code left c r xs ys ending e used whole split (Some (RunPastSegment b)) d (as_before s legal asked code left c r xs ys ending e used whole split (inr (inl past)) d)
     (subst (λ (v : Ending). FaultOf s ys v (Some (RunPastSegment b))) (sym past) (b, count, refl))
-decodes_as s legal asked code left c r (Some (ResidualTooLarge b)) xs ys ending e used whole limit way split left_is (d, large, count) read write =
+decodes_as {s} legal {asked} {code} {left} {c} {r} {fault = Some (ResidualTooLarge b)} {xs} ys {ending} e {used} whole limit way split left_is (d, large, count) read write =
     decodes_so s legal asked code left c r xs ys ending e used whole split (Some (ResidualTooLarge b)) d (as_before s legal asked code left c r xs ys ending e used whole split (inr (inr large)) d)
     (subst (λ (v : Ending). FaultOf s ys v (Some (ResidualTooLarge b))) (sym large) (b, count, refl))
-decodes_as s legal asked code left c r (Some TooLong) xs ys ending e used whole limit way split left_is h read write =
+decodes_as {s} legal {asked} {code} {left} {fault = Some TooLong} {xs} ys {ending} e {used} whole limit way split left_is h read write =
     let front = h.0.0 in
     let passes = h.0.1 in
     let more = passes.last ∷ left in
     let parts : code ≡ front ++ more = split ∙ ap (λ l. l ++ left) passes.split ∙ append_assoc front (passes.last ∷ []) left in
-    absurd (never_long s legal asked code front more xs ys ending e used h.0.2.0 whole limit parts passes.full (omega arith) h.0.2.1 h.1)
-decodes_as s legal asked code left c r (Some Read) xs ys ending e used whole limit way split left_is h read write = absurd (read refl)
-decodes_as s legal asked code left c r (Some Write) xs ys ending e used whole limit way split left_is h read write = absurd (write refl)
-decodes_as s legal asked code left c r (Some (SampleOutOfRange index)) xs ys ending e used whole limit way split left_is h read write = absurd h
-decodes_as s legal asked code left c r (Some (SampleCut index)) xs ys ending e used whole limit way split left_is h read write = absurd h
+    absurd (never_long legal front more whole limit parts passes.full (omega arith) h.0.2.1 h.1)
+decodes_as legal {fault = Some Read} ys e whole limit way split left_is h read write = absurd (read refl)
+decodes_as legal {fault = Some Write} ys e whole limit way split left_is h read write = absurd (write refl)
+decodes_as legal {fault = Some (SampleOutOfRange index)} ys e whole limit way split left_is h read write = absurd h
+decodes_as legal {fault = Some (SampleCut index)} ys e whole limit way split left_is h read write = absurd h

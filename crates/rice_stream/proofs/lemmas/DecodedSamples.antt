@@ -90,11 +90,11 @@ last_both : (p : ℤ) (all xs more : List ℤ) → last_of p ((all ++ xs) ++ mor
 last_both p all xs more = ap (last_of p) (append_assoc all xs more) ∙ last_append p all (xs ++ more)
 
 -- a coded data set was taken, and its first block given
-pub decoded_with_set : (s : Parameters) (front skipped : List Bool) (begun b run : ℕ) (all xs : List ℤ) (d : CodedDataSet) → IsLegal s
+pub decoded_with_set : {s : Parameters} {front : List Bool} (skipped : List Bool) {begun b run : ℕ} {all xs : List ℤ} (d : CodedDataSet) → IsLegal s
     → DecodedSoFar s front begun b 0 all → begun ≤ b → IsForm s b d → RunIsSound s b d → ResidualsAreSound s d →
     length skipped ≡ padding s (block_after s b d) (length front + length (bits_of_set s d)) → GivesBlock s b (last_of (pos 0) all) xs run (blocks_in s b d)
     → DecodedSoFar s (front ++ (bits_of_set s d ++ skipped)) (b + 1) (b + 1) run (all ++ xs)
-decoded_with_set s front skipped begun b run all xs d legal behind before form sound residuals skips gives =
+decoded_with_set {s} {front} skipped {b} {run} {all} {xs} d legal behind before form sound residuals skips gives =
     let p = last_of (pos 0) all in
     let more_one : s.block * b + s.block ≡ s.block * (b + 1) = omega arith in
     let all_sound = subst (AreSoundBlocks s b) (sym gives.blocks_are) (blocks_are_sound s b d legal (form, sound, residuals)) in
@@ -146,9 +146,9 @@ decoded_with_set s front skipped begun b run all xs d legal behind before form s
         (subst (λ (n : ℕ). Decoded s (front ++ (t ++ (skipped ++ rest))) wanted (cut_to s wanted 0 (all ++ []) ++ (cut_to s wanted b zs ++ ys)) ending n) count all_of))
 
 -- a block of a run was given
-pub decoded_with_run_block : (s : Parameters) (front : List Bool) (begun b run left : ℕ) (all xs : List ℤ) → DecodedSoFar s front begun b run all
+pub decoded_with_run_block : {s : Parameters} {front : List Bool} {begun b run left : ℕ} {all xs : List ℤ} → DecodedSoFar s front begun b run all
     → GivesBlock s b (last_of (pos 0) all) xs left (replicate run (zero_block s None)) → DecodedSoFar s front begun (b + 1) left (all ++ xs)
-decoded_with_run_block s front begun b run left all xs behind gives =
+decoded_with_run_block {s} {front} {begun} {b} {run} {left} {all} {xs} behind gives =
     let more_one : s.block * b + s.block ≡ s.block * (b + 1) = omega arith in
     let some : run ≡ suc left = count in
     let all_sound = subst (λ (n : ℕ). AreSoundBlocks s b (replicate n (zero_block s None))) some behind.sound in
@@ -211,10 +211,10 @@ at_end s b position p rest wanted ending used ends =
     }
 
 -- decoding ends after the blocks of the run
-ends_after_run : (s : Parameters) (front rest : List Bool) (begun b run : ℕ) (all more : List ℤ) (wanted : Option ℕ) (ending : Ending) (used : ℕ)
+ends_after_run : {s : Parameters} {front : List Bool} (rest : List Bool) {begun b run : ℕ} {all more : List ℤ} (wanted : Option ℕ) (ending : Ending) (used : ℕ)
     → DecodedSoFar s front begun b run all → ((i : ℕ) → i < begun → IsWanted s wanted i) → AreOfRun s b (last_of (pos 0) all) run more →
     EndsWith s wanted (b + run) rest ending used → Decoded s (front ++ rest) wanted (cut_to s wanted 0 (all ++ more)) ending (length front + used)
-ends_after_run s front rest begun b run all more wanted ending used behind goes of_run ends =
+ends_after_run {s} {front} rest {b} {run} {all} {more} wanted ending used behind goes of_run ends =
     subst (λ (l : List ℤ). Decoded s (front ++ rest) wanted l ending (length front + used)) (append-nil (cut_to s wanted 0 (all ++ more)))
     (behind.goes_on wanted more rest [] ending used (record {
       begun_wanted = goes;
@@ -223,20 +223,20 @@ ends_after_run s front rest begun b run all more wanted ending used behind goes 
     }))
 
 -- it ends where no run goes on
-pub ends_here : (s : Parameters) (front rest : List Bool) (begun b : ℕ) (all : List ℤ) (wanted : Option ℕ) (ending : Ending) (used : ℕ)
+pub ends_here : {s : Parameters} {front : List Bool} (rest : List Bool) {begun b : ℕ} {all : List ℤ} (wanted : Option ℕ) (ending : Ending) (used : ℕ)
     → DecodedSoFar s front begun b 0 all → ((i : ℕ) → i < begun → IsWanted s wanted i) → EndsWith s wanted b rest ending used →
     Decoded s (front ++ rest) wanted (cut_to s wanted 0 all) ending (length front + used)
-ends_here s front rest begun b all wanted ending used behind goes ends =
+ends_here {s} {front} rest {begun} {b} {all} wanted ending used behind goes ends =
     let none : AreOfRun s b (last_of (pos 0) all) 0 [] = record { len = omega arith; legal = λ k d lt. absurd (omega arith); blocks = refl } in
     let at : b ≡ b + 0 = omega arith in
     subst (λ (l : List ℤ). Decoded s (front ++ rest) wanted (cut_to s wanted 0 l) ending (length front + used)) (append-nil all)
-    (ends_after_run s front rest begun b 0 all [] wanted ending used behind goes none (subst (λ (n : ℕ). EndsWith s wanted n rest ending used) at ends))
+    (ends_after_run rest wanted ending used behind goes none (subst (λ (n : ℕ). EndsWith s wanted n rest ending used) at ends))
 
 -- it ends with the samples that were asked for, all of which were given
-pub ends_reached : (s : Parameters) (front rest : List Bool) (begun b run : ℕ) (all : List ℤ) (n : ℕ) → IsLegal s → DecodedSoFar s front begun b run all
+pub ends_reached : {s : Parameters} {front : List Bool} (rest : List Bool) {begun b run : ℕ} {all : List ℤ} (n : ℕ) → IsLegal s → DecodedSoFar s front begun b run all
     → ((i : ℕ) → i < begun → IsWanted s (Some n) i) → n ≤ s.block * b →
     Decoded s (front ++ rest) (Some n) (cut_to s (Some n) 0 all) Reached (length front + 0)
-ends_reached s front rest begun b run all n legal behind goes enough =
+ends_reached {s} {front} rest {begun} {b} {run} {all} n legal behind goes enough =
     let j : 1 ≤ s.block = let k : 2 ≤ s.block = grind (arith, legal.block) in omega arith in
     let p = last_of (pos 0) all in
     let hp = last_legal s (pos 0) all (zero_is_sample s legal.bits_from) (recursion_from_All (IsSample s) all behind.legal) in
@@ -250,4 +250,4 @@ ends_reached s front rest begun b run all n legal behind goes enough =
     let far : s.block * b ≤ s.block * (b + run) = mul-le-mul_left s.block (omega arith) in
     let ends : EndsWith s (Some n) (b + run) rest Reached 0 = (omega arith, refl) in
     let cut : take (n - s.block * 0) (all ++ made.0) ≡ take (n - s.block * 0) all = take-append-le (n - s.block * 0) all made.0 (omega (arith, behind.len)) in
-    subst (λ (l : List ℤ). Decoded s (front ++ rest) (Some n) l Reached (length front + 0)) cut (ends_after_run s front rest begun b run all made.0 (Some n) Reached 0 behind goes of_run ends)
+    subst (λ (l : List ℤ). Decoded s (front ++ rest) (Some n) l Reached (length front + 0)) cut (ends_after_run rest (Some n) Reached 0 behind goes of_run ends)

@@ -122,14 +122,14 @@ pub record Grows (steps tick old_taken new_taken wanted run run_new size : ℕ) 
 
 -- a block more is written
 pub progress_with_block : {I : Type 0} {s : Parameters} {asked : Option ℕ} {start : Reader I} {out_old out out_new : Option Room} {p q : DecoderState}
-    {r new : Reader I} {steps steps_new written : ℕ} {xs : List ℤ} (count steps_next : ℕ) → IsLegal s
+    {r new : Reader I} {steps steps_new written : ℕ} {xs : List ℤ} {count steps_next : ℕ} → IsLegal s
     → (runs : DecodingProgress s asked start out_old out p r steps written) → count ≡ wanted_of asked written s.block → wanted_of asked written s.block ≢ 0
     → Gains s r new steps steps_new runs.front runs.sets runs.blocks q.run runs.given xs → q ≡ state_after_block p xs q.run
     → Grows steps steps_new r.taken new.taken count p.run q.run s.block → steps_next ≡ steps_new + count
     → Appends out out_new (spellings s (take count xs))
     → DecodingProgress s asked start out_old out_new q new steps_next (written + count)
 progress_with_block {s = s} {asked = asked} {start = start} {out_old = out_old} {out = out} {out_new = out_new} {p = p} {q = q} {r = r} {new = new}
-    {steps = steps} {steps_new = steps_new} {written = written} {xs = xs} count steps_next legal runs is some gained moves grows ticked put =
+    {steps = steps} {steps_new = steps_new} {written = written} {xs = xs} {count} legal runs is some gained moves grows ticked put =
     let b = runs.blocks in
     let at = runs.at_block in
     let so = runs.has_written in
@@ -247,10 +247,10 @@ whole_steps {sets = sets} {front = front} waiting bytes has bits count steps =
 
 -- the steps where it ends with bits that are no sound coded data set
 last_steps : {s : Parameters} {rep : Report} {sets : List CodedDataSet} {front : List Bool} {blocks : ℕ} (last waiting : List Bool) (bytes : List ℕ)
-    (ending : Ending) (in_last steps new_steps taken new_taken written : ℕ) → HasSets s sets front blocks → bits_of bytes ≡ (front ++ last) ++ waiting
+    {ending : Ending} (in_last : ℕ) {steps new_steps : ℕ} (taken : ℕ) {new_taken written : ℕ} → HasSets s sets front blocks → bits_of bytes ≡ (front ++ last) ++ waiting
     → EndsInTurns s blocks last ending in_last → new_steps + taken ≡ steps + new_taken + in_last → steps ≡ taken + written + sum_by turns sets → new_taken ≡ length (front ++ last)
     → rep.bits ≡ new_taken → rep.samples ≡ written → rep.steps ≡ new_steps → CountsSteps s (bits_of bytes) rep ending
-last_steps {s = s} {sets = sets} {front = front} last waiting bytes ending in_last steps new_steps taken new_taken written has bits ends counted before count bits_are samples_are steps_are =
+last_steps {s = s} {sets = sets} {front = front} last waiting bytes {ending} in_last {steps} taken has bits ends counted before count bits_are samples_are steps_are =
     record {
       sets = sets;
       front = front;
@@ -278,7 +278,7 @@ reached_ends {s = s} {asked = Some n} {p = p} {r = r} {rep = rep} {left = left} 
     let ys = cut_to s (Some n) 0 runs.given in
     let k = length-take (n - s.block * 0) runs.given in
     let enough : n ≤ s.block * runs.blocks = omega (arith, none, so.count, k, runs.decoded.len) in
-    let decoded = ends_reached s runs.front r.waiting runs.begun runs.blocks p.run runs.given n legal runs.decoded (begun_wanted runs) enough in
+    let decoded = ends_reached r.waiting n legal runs.decoded (begun_wanted runs) enough in
     let used : length runs.front + 0 ≡ r.taken = omega (arith, read.count) in
     let all : Decoded s (bits_of read.bytes) (Some n) ys Reached (length runs.front + 0) = subst (λ (l : List Bool). Decoded s l (Some n) ys Reached (length runs.front + 0)) (sym read.bits) decoded in
     let few = given_is_limited read tells.ahead tells.limit in
@@ -357,7 +357,7 @@ runs_dry {s = s} {asked = asked} {p = p} {r = r} {new = new} {steps = steps} {st
     let read = has_read-append runs.has_read cut.stops.draws cut.stops.taken in
     let ys = cut_to s asked 0 runs.given in
     let goes = goes_on s asked runs.blocks written runs.given runs.decoded.len so.count some in
-    let out_of = ends_here s runs.front bits runs.begun runs.blocks runs.given asked (ending_of blank) (length bits) (at_set runs none) (begun_wanted runs)
+    let out_of = ends_here bits asked (ending_of blank) (length bits) (at_set runs none) (begun_wanted runs)
     (ends_out s asked runs.blocks bits blank goes told cut.none) in
     let whole : bits_of read.bytes ≡ front = read.bits ∙ append-nil front in
     let used : length runs.front + length bits ≡ new.taken = sym (read.count ∙ length-append runs.front bits) in
@@ -375,7 +375,7 @@ runs_dry {s = s} {asked = asked} {p = p} {r = r} {new = new} {steps = steps} {st
       bits = tells.bits_are ∙ sym used;
       samples = tells.samples_are ∙ so.count;
       count = so.count;
-      sets = λ more. last_steps bits (bits_of more) (read.bytes ++ more) (ending_of blank) in_last steps steps_new r.taken new.taken written has
+      sets = λ more. last_steps bits (bits_of more) (read.bytes ++ more) {ending = ending_of blank} in_last r.taken has
           (bits_of-append read.bytes more ∙ ap (λ l. l ++ bits_of more) whole)
           (turns_out s runs.blocks bits blank in_last told cut.none (omega (arith, counted.most, cut.stops.taken)) (λ zeros. omega (arith, cut.steps zeros, cut.stops.taken)))
           (omega (arith, counted.least, cut.stops.taken)) runs.has_steps.count read.count tells.bits_are tells.samples_are tells.steps_are;
@@ -448,7 +448,7 @@ long_ends {s = s} {asked = asked} {start = start} {new = new} {rep = rep} {left 
 
 -- a coded data set was refused
 refused_ends : {I : Type 0} {s : Parameters} {asked : Option ℕ} {start : Reader I} {out_old out : Option Room} {p : DecoderState} {r new : Reader I}
-    {steps steps_new written : ℕ} {rep : Report} {f : Option Fault} {left : Option (List ℕ)} {failed : ℕ} (P : CodedDataSet → Type 0) (ending : Ending) (fault : Option Fault)
+    {steps steps_new written : ℕ} {rep : Report} {f : Option Fault} {left : Option (List ℕ)} {failed : ℕ} {P : CodedDataSet → Type 0} (ending : Ending) {fault : Option Fault}
     → fault ≢ Some TooLong → IsLegal s → (runs : DecodingProgress s asked start out_old out p r steps written) → wanted_of asked written s.block ≢ 0 → p.run ≡ 0
     → SetRefused (with_mark r) new steps steps_new s runs.blocks P
     → ((asked : Option ℕ) (rest : List Bool) (used : ℕ) → IsWanted s asked runs.blocks → BeginsUnsound s runs.blocks rest used P → EndsWith s asked runs.blocks rest ending used)
@@ -457,7 +457,7 @@ refused_ends : {I : Type 0} {s : Parameters} {asked : Option ℕ} {start : Reade
     → ((c : Call) (ys : List ℤ) → DecodesBytes s asked c rep c.given ys ending → length ys ≡ s.block * (written / s.block)
     → EndsDecoding s asked fault c rep ys ending) → DecodesBetween s asked start.left left out_old out rep f
 refused_ends {s = s} {asked = asked} {start = start} {p = p} {r = r} {new = new} {steps = steps} {steps_new = steps_new} {written = written} {rep = rep}
-    {left = left} P ending fault other legal runs some none refused by_rule by_turns counted tells ends =
+    {left = left} {P} ending {fault} other legal runs some none refused by_rule by_turns counted tells ends =
     let b = runs.blocks in
     let so = runs.has_written in
     let j : 1 ≤ s.block = let k : 2 ≤ s.block = grind (arith, legal.block) in omega arith in
@@ -470,7 +470,7 @@ refused_ends {s = s} {asked = asked} {start = start} {p = p} {r = r} {new = new}
     let ys = cut_to s asked 0 runs.given in
     let refuses : BeginsUnsound s b rest (length set) P = record { refused = refused.set; more = new.waiting; form = refused.form; unsound = refused.unsound; begins = refl; bits = refl } in
     let alone : BeginsUnsound s b set (length set) P = record { refused = refused.set; more = []; form = refused.form; unsound = refused.unsound; begins = sym (append-nil set); bits = refl } in
-    let here = ends_here s runs.front rest runs.begun b runs.given asked ending (length set) (at_set runs none) (begun_wanted runs) (by_rule asked rest (length set) goes refuses) in
+    let here = ends_here rest asked ending (length set) (at_set runs none) (begun_wanted runs) (by_rule asked rest (length set) goes refuses) in
     let used : length runs.front + length set ≡ rep.bits = sym (tells.bits_are ∙ read.count ∙ length-append runs.front set) in
     let number : written / s.block ≡ b = ap (λ n. n / s.block) so_far.0 ∙ mul-div_cancel_left b j in
     let few = given_is_limited read tells.ahead tells.limit in
@@ -481,7 +481,7 @@ refused_ends {s = s} {asked = asked} {start = start} {p = p} {r = r} {new = new}
       gave = read.gave;
       took = so.put;
       ahead = omega (arith, few.0, tells.bits_are);
-      steps = last_steps set new.waiting read.bytes ending (turns refused.set) steps steps_new r.taken new.taken written has read.bits
+      steps = last_steps set new.waiting read.bytes {ending = ending} (turns refused.set) r.taken has read.bits
           (by_turns set (turns refused.set) alone refl) refused.steps runs.has_steps.count read.count tells.bits_are tells.samples_are tells.steps_are;
     } tells.left_is tells.fault_is (λ _. few.1)
     (ends _ ys (length runs.front + length set, decodes, record { written = refl; samples = tells.samples_are ∙ so.count; bits = sym used })
@@ -516,7 +516,7 @@ write_ends {s = s} {asked = asked} {out_old = out_old} {out = out} {out_new = ou
     let wanted : (i : ℕ) → i < gives.begun → IsWanted s (Some (length ys)) i = λ i lt. below s.block i b (length ys) written count size so_far.0
     (λ none. some (sym is ∙ none)) (omega (arith, lt, gives.before)) in
     let bound : length ys ≤ s.block * (b + 1) = up_to s.block b (length ys) written count size so_far.0 most in
-    let here = ends_reached s front new.waiting gives.begun (b + 1) q.run (runs.given ++ xs) (length ys) legal gives.decoded wanted bound in
+    let here = ends_reached new.waiting (length ys) legal gives.decoded wanted bound in
     let exact : cut_to s (Some (length ys)) 0 (runs.given ++ xs) ≡ ys = exactly asked in
     let used : length front + 0 ≡ rep.bits = omega (arith, taken) in
     let decoded : Decoded s (bits_of read.bytes) (Some (length ys)) ys Reached rep.bits = subst
@@ -571,20 +571,20 @@ pub refusal_ends : {I : Type 0} {s : Parameters} {asked : Option ℕ} {start : R
     → AreCounted steps steps_new r.taken new.taken → Reports rep f left failed new written steps_new (Some (refusal_fault fault written s.block)) → DecodesBetween s asked start.left left out_old out rep f
 refusal_ends faults.CodeEnds legal runs some stops counted tells = ended_ends false runs some stops.0 stops.1 counted tells
 refusal_ends {s = s} faults.RunPastSegment legal runs some stops counted tells =
-    refused_ends (RunIsSound s runs.blocks) Past _ (λ e. cc) legal runs some stops.0 stops.1 (λ asked rest used goes h. (goes, h)) (λ last count h e. (h, e)) counted tells (λ c ys d n. (d, refl, n))
+    refused_ends Past (λ e. cc) legal runs some stops.0 stops.1 (λ asked rest used goes h. (goes, h)) (λ last count h e. (h, e)) counted tells (λ c ys d n. (d, refl, n))
 refusal_ends {s = s} faults.ResidualTooLarge legal runs some stops counted tells =
-    refused_ends (ResidualsAreSound s) Large _ (λ e. cc) legal runs some stops.0 stops.1 (λ asked rest used goes h. (goes, h)) (λ last count h e. (h, e)) counted tells (λ c ys d n. (d, refl, n))
+    refused_ends Large (λ e. cc) legal runs some stops.0 stops.1 (λ asked rest used goes h. (goes, h)) (λ last count h e. (h, e)) counted tells (λ c ys d n. (d, refl, n))
 refusal_ends faults.Read legal runs some stops counted tells = read_ends runs some stops.0 stops.1 counted tells
 refusal_ends faults.TooLong legal runs some stops counted tells = long_ends runs some stops.0 stops.1 counted tells
 
 -- a fault of the intake is its one failure
-stops_fail : {I : Type 0} (s : Parameters) (b : ℕ) (r new : Reader I) (steps steps_new n written block writes : ℕ) (fault : CodeFault)
+stops_fail : {I : Type 0} (s : Parameters) (b : ℕ) (r new : Reader I) (steps steps_new : ℕ) {n : ℕ} (written block writes : ℕ) (fault : CodeFault)
     → StopsBy (with_mark r) new steps steps_new s b (Err fault) → r.failed ≡ n → Fails (Some (refusal_fault fault written block)) n new.failed writes writes
-stops_fail s b r new steps steps_new n written block writes faults.CodeEnds stops e = (stops.cut.stops.refuses.2 ∙ e, refl)
-stops_fail s b r new steps steps_new n written block writes faults.RunPastSegment stops e = (stops.takes.failures ∙ e, refl)
-stops_fail s b r new steps steps_new n written block writes faults.ResidualTooLarge stops e = (stops.takes.failures ∙ e, refl)
-stops_fail s b r new steps steps_new n written block writes faults.Read stops e = (stops.stops.refuses.1 ∙ ap (λ m. m + 1) e, refl)
-stops_fail s b r new steps steps_new n written block writes faults.TooLong stops e = (stops.stops.refuses.1 ∙ e, refl)
+stops_fail s b r new steps steps_new written block writes faults.CodeEnds stops e = (stops.cut.stops.refuses.2 ∙ e, refl)
+stops_fail s b r new steps steps_new written block writes faults.RunPastSegment stops e = (stops.takes.failures ∙ e, refl)
+stops_fail s b r new steps steps_new written block writes faults.ResidualTooLarge stops e = (stops.takes.failures ∙ e, refl)
+stops_fail s b r new steps steps_new written block writes faults.Read stops e = (stops.stops.refuses.1 ∙ ap (λ m. m + 1) e, refl)
+stops_fail s b r new steps steps_new written block writes faults.TooLong stops e = (stops.stops.refuses.1 ∙ e, refl)
 
 -- the failures where decoding ends with this fault
 reported_fails : {f fault : Option Fault} {reads_now failed writes writes_new : ℕ} (reads : ℕ) → f ≡ fault → failed ≡ reads_now → writes_new ≡ writes
@@ -599,7 +599,7 @@ pub refusal_fails : {I : Type 0} {s : Parameters} {asked : Option ℕ} {start : 
     → (runs : DecodingProgress s asked start out_old out p r steps written) → (p.run ≡ 0) × StopsBy (with_mark r) new steps steps_new s runs.blocks (Err fault) → writes_new ≡ writes
     → Reports rep f left failed new written steps_new (Some (refusal_fault fault written s.block)) → Fails f start.failed failed writes writes_new
 refusal_fails {s = s} {r = r} {new = new} {written = written} {writes = writes} fault runs stops same tells =
-    reported_fails _ tells.fault_is tells.failed_is same (stops_fail s runs.blocks r new _ _ _ written s.block writes fault stops.1 runs.reads)
+    reported_fails _ tells.fault_is tells.failed_is same (stops_fail s runs.blocks r new _ _ written s.block writes fault stops.1 runs.reads)
 
 -- an end without a fault counts as none
 pub done_fails : {I : Type 0} {s : Parameters} {asked : Option ℕ} {start : Reader I} {out_old out : Option Room} {p : DecoderState} {r new : Reader I}

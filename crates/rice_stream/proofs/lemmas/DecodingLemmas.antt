@@ -39,11 +39,11 @@ pub record Advances {I : Type 0} (old new : Reader I) (steps steps_new : ℕ) (p
   pub reads : p.stopped ≡ None → p.run ≡ 0 → Answers (with_mark old) new steps steps_new p q samples answer
 
 -- what a call of the decoder answers, of its levels and of its samples
-pub decoder_advances : {I : Type 0} (old new : Reader I) (steps steps_new : ℕ) (p q : DecoderState) (s : Parameters) (levels : List ℕ)
+pub decoder_advances : {I : Type 0} {old new : Reader I} (steps steps_new : ℕ) (p q : DecoderState) {s : Parameters} (levels : List ℕ)
     {answer known : Result NextBlock CodeFault} → p.setting ≡ s → answer ≡ known
     → (p.stopped ≡ None → 0 < p.run → (answer ≡ Ok Block) × GivesFromRun p q (values_at p.setting levels) × (new ≡ old) × (steps_new ≡ steps))
     → (p.stopped ≡ None → p.run ≡ 0 → Answers (with_mark old) new steps steps_new p q (values_at p.setting levels) answer) → Advances old new steps steps_new p q (values_at s levels) known
-decoder_advances old new steps steps_new p q s levels {answer} {known} setting is in_run reads =
+decoder_advances {old} {new} steps steps_new p q levels {answer} {known} setting is in_run reads =
     subst (λ (t : Parameters). Advances old new steps steps_new p q (values_at t levels) known) setting
     (subst (λ (a : Result NextBlock CodeFault). Advances old new steps steps_new p q (values_at p.setting levels) a) is record { in_run = in_run; reads = reads })
 
@@ -95,29 +95,29 @@ pub same_place : (s : Parameters) (b c : ℕ) → 1 ≤ s.interval → place s b
 same_place s b c h e = let lt : c < s.interval = omega (arith, e, mod-lt b h) in mod-eq_of_lt lt ∙ sym e
 
 -- a block depends on its place in its interval alone
-gives_there : (s : Parameters) (b c run : ℕ) (p : ℤ) (xs : List ℤ) (d : CodedDataSet) → 1 ≤ s.block → place s c ≡ place s b
+gives_there : {s : Parameters} (b : ℕ) {c run : ℕ} {p : ℤ} {xs : List ℤ} (d : CodedDataSet) → 1 ≤ s.block → place s c ≡ place s b
     → GivesBlock s c p xs run (blocks_in s c d) → GivesBlock s b p xs run (blocks_in s b d)
-gives_there s b c run p xs d j e g = record {
+gives_there {s} b {c} {run} {p} {xs} d j e g = record {
   len = g.len;
   legal = g.legal;
   blocks_are = ap (λ v. v ∷ replicate run (zero_block s None)) (sym (same_contents s c b p xs j e)) ∙ g.blocks_are ∙ same_blocks_in s c b d e;
 }
 
 -- and so does a block of a run
-run_gives_there : (s : Parameters) (b c run left : ℕ) (p : ℤ) (xs : List ℤ) → 1 ≤ s.block → place s c ≡ place s b
+run_gives_there : {s : Parameters} (b : ℕ) {c : ℕ} (run : ℕ) {left : ℕ} {p : ℤ} {xs : List ℤ} → 1 ≤ s.block → place s c ≡ place s b
     → GivesBlock s c p xs left (replicate run (zero_block s None)) → GivesBlock s b p xs left (replicate run (zero_block s None))
-run_gives_there s b c run left p xs j e g = record {
+run_gives_there {s} b {c} run {left} {p} {xs} j e g = record {
   len = g.len;
   legal = g.legal;
   blocks_are = ap (λ v. v ∷ replicate left (zero_block s None)) (sym (same_contents s c b p xs j e)) ∙ g.blocks_are;
 }
 
 -- A block of a coded data set. The reader may have taken other numbers of bits, if the padding is the same.
-pub gains_set : {I : Type 0} (s : Parameters) (r new : Reader I) (steps steps_new b c begun run : ℕ) (p : ℤ) (front : List Bool) (sets : List CodedDataSet) (given xs : List ℤ)
+pub gains_set : {I : Type 0} {s : Parameters} {r new : Reader I} {steps steps_new b c begun run : ℕ} {p : ℤ} {front : List Bool} {sets : List CodedDataSet} {given xs : List ℤ}
     → IsLegal s → place s b ≡ c → p ≡ last_of (pos 0) given → ((b n : ℕ) → padding s b (r.taken + n) ≡ padding s b (length front + n)) → begun ≤ b
     → HasSets s sets front b → DecodedSoFar s front begun b 0 given
     → GivesSet (with_mark r) new steps steps_new s c p xs run → Gains s r new steps steps_new front sets b run given xs
-gains_set {I = I} s r new steps steps_new b c begun run p front sets given xs legal here previous taken before has behind gives =
+gains_set {I = I} {s} {r} {new} {b} {c} {begun} {run} {p} {front} {sets} {given} {xs} legal here previous taken before has behind gives =
     let j : 1 ≤ s.block = let k : 2 ≤ s.block = grind (arith, legal.block) in omega arith in
     let e = same_place s b c legal.interval_from here in
     let set = gives.set in
@@ -128,7 +128,7 @@ gains_set {I = I} s r new steps steps_new b c begun run p front sets given xs le
     let pads : length skips.bits ≡ padding s (block_after s b d) (length front + length t) =
     skips.len ∙ ap (λ n. padding s (block_after s c d) n) set.takes.taken ∙ taken (block_after s c d) (length t)
     ∙ ap (λ v. cond (s.pad && v == 0) (bits_to_byte (length front + length t)) 0) (next_place s c b d e) in
-    let block = gives_there s b c run p xs d j e set.gives in
+    let block = gives_there b d j e set.gives in
     let form = form_there s c b d e set.form in
     let run_sound = run_there s c b d e set.run_sound in
     let bits = t ++ skips.bits in
@@ -149,10 +149,10 @@ gains_set {I = I} s r new steps steps_new b c begun run p front sets given xs le
       len = block.len;
       begun = b + 1;
       before = omega arith;
-      decoded = decoded_with_set s front skips.bits begun b run given xs d legal behind before form run_sound set.residuals_sound pads
+      decoded = decoded_with_set skips.bits d legal behind before form run_sound set.residuals_sound pads
           (subst (λ (q : ℤ). GivesBlock s b q xs run (blocks_in s b d)) previous block);
       more_sets = sets ++ d ∷ [];
-      has_sets = sets-push s sets front skips.bits b (b + 1 + run) d has form run_sound set.residuals_sound pads after;
+      has_sets = sets-push skips.bits d has form run_sound set.residuals_sound pads after;
       counted = omega (arith, set.steps, gives.steps, sum_by_push turns sets d);
     }
   where
@@ -160,13 +160,13 @@ gains_set {I = I} s r new steps steps_new b c begun run p front sets given xs le
     sums n t m k all e f g = omega arith
 
 -- a block of a run
-pub gains_run : {I : Type 0} (s : Parameters) (r new : Reader I) (steps steps_new b c begun run run_new : ℕ) (p : ℤ) (front : List Bool) (sets : List CodedDataSet) (given xs : List ℤ)
+pub gains_run : {I : Type 0} {s : Parameters} {r new : Reader I} {steps steps_new b c begun run run_new : ℕ} {p : ℤ} {front : List Bool} {sets : List CodedDataSet} {given xs : List ℤ}
     → IsLegal s → place s b ≡ c → p ≡ last_of (pos 0) given → r.refusal ≡ None → begun ≤ b → HasSets s sets front (b + run) → DecodedSoFar s front begun b run given → new ≡ r → steps_new ≡ steps
     → GivesBlock s c p xs run_new (replicate run (zero_block s None)) → Gains s r new steps steps_new front sets b run_new given xs
-gains_run {I = I} s r new steps steps_new b c begun run run_new p front sets given xs legal here previous going before has behind same same_steps gives =
+gains_run {I = I} {s} {r} {b} {c} {begun} {run} {run_new} {p} {front} {sets} {given} {xs} legal here previous going before has behind same same_steps gives =
     let j : 1 ≤ s.block = let k : 2 ≤ s.block = grind (arith, legal.block) in omega arith in
-    let block = run_gives_there s b c run run_new p xs j (same_place s b c legal.interval_from here) gives in
-    let all = decoded_with_run_block s front begun b run run_new given xs behind (subst (λ (q : ℤ). GivesBlock s b q xs run_new (replicate run (zero_block s None))) previous block) in
+    let block = run_gives_there b run j (same_place s b c legal.interval_from here) gives in
+    let all = decoded_with_run_block behind (subst (λ (q : ℤ). GivesBlock s b q xs run_new (replicate run (zero_block s None))) previous block) in
     let nothing : r.taken ≡ r.taken + 0 = omega arith in
     let count : suc (length (replicate run_new (zero_block s None))) ≡ length (replicate run (zero_block s None)) = ap length block.blocks_are in
     let after : b + run ≡ b + 1 + run_new = omega (arith, count, length-replicate run (zero_block s None), length-replicate run_new (zero_block s None)) in
@@ -199,48 +199,48 @@ gains_block {s = s} {p = p} {q = q} {r = r} {new = new} {steps = steps} {steps_n
     let at = runs.at_block in
     elim (took_block at.going a) [
       | inl k ↦ let block = subst (λ (t : Parameters). GivesBlock t p.block p.before xs q.run (replicate p.run (zero_block t None))) at.setting k.gives.gives in
-          gains_run s r new steps steps_new runs.blocks p.block runs.begun p.run q.run p.before runs.front runs.sets runs.given xs legal at.here at.previous
+          gains_run legal at.here at.previous
           runs.going runs.before runs.has_sets runs.decoded k.same k.steps_are block
       | inr k ↦ let set = subst (λ (t : Parameters). GivesSet (with_mark r) new steps steps_new t p.block p.before xs q.run) at.setting k.gives in
           let end : runs.blocks + p.run ≡ runs.blocks = omega (arith, k.none) in
           let has = subst (λ (n : ℕ). HasSets s runs.sets runs.front n) end runs.has_sets in
           let behind = subst (λ (n : ℕ). DecodedSoFar s runs.front runs.begun runs.blocks n runs.given) k.none runs.decoded in
-          gains_set s r new steps steps_new runs.blocks p.block runs.begun q.run p.before runs.front runs.sets runs.given xs legal at.here at.previous
+          gains_set legal at.here at.previous
           (λ b n. ap (λ m. padding s b (m + n)) runs.has_read.count) runs.before has behind set
     ]
 
 -- of the block only its place matters where the decoder stops
-pub cut_there : {I : Type 0} (old new : Reader I) (first last : ℕ) (s : Parameters) (b c : ℕ) (fault : BitFault) → place s c ≡ place s b
+pub cut_there : {I : Type 0} {old new : Reader I} {first last : ℕ} {s : Parameters} {b c : ℕ} {fault : BitFault} → place s c ≡ place s b
     → SetCut old new first last s c fault → SetCut old new first last s b fault
-cut_there old new first last s b c fault e cut = record { bits = cut.bits; stops = cut.stops; none = λ d more f g. cut.none d more (form_there s b c d (sym e) f) g; steps = cut.steps }
+cut_there {s} {b} {c} e cut = record { bits = cut.bits; stops = cut.stops; none = λ d more f g. cut.none d more (form_there s b c d (sym e) f) g; steps = cut.steps }
 
 -- the end of a code depends on the place in the interval alone
-pub ends_there : {I : Type 0} (old new : Reader I) (first last : ℕ) (s : Parameters) (b c : ℕ) (blank : Bool) → place s c ≡ place s b
+pub ends_there : {I : Type 0} {old new : Reader I} {first last : ℕ} {s : Parameters} {b c : ℕ} {blank : Bool} → place s c ≡ place s b
     → SetEnds old new first last s c blank → SetEnds old new first last s b blank
 unfolding cut_there
-ends_there old new first last s b c blank e ends = record { cut = cut_there old new first last s b c _ e ends.cut; told = ends.told }
+ends_there {old} {new} {first} {last} {s} {b} {c} e ends = record { cut = cut_there {b = b} e ends.cut; told = ends.told }
 
 -- and so does a refusal
 stops_there : {I : Type 0} (old new : Reader I) (first last : ℕ) (s : Parameters) (b c : ℕ) (fault : CodeFault) → place s c ≡ place s b
     → StopsBy old new first last s c (Err fault) → StopsBy old new first last s b (Err fault)
-stops_there old new first last s b c faults.CodeEnds e h = ends_there old new first last s b c false e h
+stops_there old new first last s b c faults.CodeEnds e h = ends_there e h
 stops_there old new first last s b c faults.RunPastSegment e h =
     record { set = h.set; form = form_there s c b h.set e h.form; takes = h.takes; unsound = λ g. h.unsound (run_there s b c h.set (sym e) g); steps = h.steps }
 stops_there old new first last s b c faults.ResidualTooLarge e h = record { set = h.set; form = form_there s c b h.set e h.form; takes = h.takes; unsound = h.unsound; steps = h.steps }
-stops_there old new first last s b c faults.Read e h = cut_there old new first last s b c _ e h
-stops_there old new first last s b c faults.TooLong e h = cut_there old new first last s b c _ e h
+stops_there old new first last s b c faults.Read e h = cut_there e h
+stops_there old new first last s b c faults.TooLong e h = cut_there e h
 
 -- a refusal at the decoder's place is one at the block of that number
-stops_here : {I : Type 0} (old new : Reader I) (first last : ℕ) (s t : Parameters) (b c : ℕ) (fault : CodeFault) → 1 ≤ s.interval → t ≡ s → place s b ≡ c
+stops_here : {I : Type 0} (old new : Reader I) (first last : ℕ) {s t : Parameters} (b : ℕ) {c : ℕ} (fault : CodeFault) → 1 ≤ s.interval → t ≡ s → place s b ≡ c
     → StopsBy old new first last t c (Err fault) → StopsBy old new first last s b (Err fault)
-stops_here old new first last s t b c fault some setting here h =
+stops_here old new first last {s} {t} b {c} fault some setting here h =
     stops_there old new first last s b c fault (same_place s b c some here) (subst (λ (t : Parameters). StopsBy old new first last t c (Err fault)) setting h)
 
 -- and an end at the decoder's place is one there
-ends_at : {I : Type 0} (old new : Reader I) (first last : ℕ) (s t : Parameters) (b c : ℕ) (blank : Bool) → 1 ≤ s.interval → t ≡ s → place s b ≡ c
+ends_at : {I : Type 0} {old new : Reader I} {first last : ℕ} {s t : Parameters} (b : ℕ) {c : ℕ} {blank : Bool} → 1 ≤ s.interval → t ≡ s → place s b ≡ c
     → SetEnds old new first last t c blank → SetEnds old new first last s b blank
-ends_at old new first last s t b c blank some setting here h =
-    ends_there old new first last s b c blank (same_place s b c some here) (subst (λ (t : Parameters). SetEnds old new first last t c blank) setting h)
+ends_at {old} {new} {first} {last} {s} {t} b {c} {blank} some setting here h =
+    ends_there (same_place s b c some here) (subst (λ (t : Parameters). SetEnds old new first last t c blank) setting h)
 
 -- where the decoder stops, it is in no run
 pub stops_in_no_run : {I : Type 0} {s : Parameters} {asked : Option ℕ} {start : Reader I} {out_old out : Option Room} {p q : DecoderState} {r new : Reader I}
@@ -251,7 +251,7 @@ stops_in_no_run {s = s} {p = p} {r = r} {new = new} {steps = steps} {steps_new =
     let at = runs.at_block in
     elim (runs_or_not p) [
       | inl lt ↦ absurd (let e = (a.in_run at.going lt).0 in cc)
-      | inr none ↦ (none, stops_here (with_mark r) new steps steps_new s p.setting runs.blocks p.block fault legal.interval_from at.setting at.here (a.reads at.going none).0)
+      | inr none ↦ (none, stops_here (with_mark r) new steps steps_new runs.blocks fault legal.interval_from at.setting at.here (a.reads at.going none).0)
     ]
 
 -- where the decoder finds the end, it is in no run, and what was decoded is all
@@ -263,7 +263,7 @@ decoding_is_done {s = s} {p = p} {r = r} {new = new} {steps = steps} {steps_new 
     let at = runs.at_block in
     elim (runs_or_not p) [
       | inl lt ↦ absurd (let e = (a.in_run at.going lt).0 in cc)
-      | inr none ↦ (none, ends_at (with_mark r) new steps steps_new s p.setting runs.blocks p.block true legal.interval_from at.setting at.here (a.reads at.going none).0)
+      | inr none ↦ (none, ends_at runs.blocks legal.interval_from at.setting at.here (a.reads at.going none).0)
     ]
 
 -- no more samples than were asked for

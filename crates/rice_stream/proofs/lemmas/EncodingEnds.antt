@@ -64,53 +64,53 @@ given_ahead s bytes rest xs samples split few e =
     at w n k b m e h few = let p = ap (λ v. v * w) h in omega arith
 
 -- bytes came, and samples were taken of them
-reads_more : {N : ℕ} (s : Parameters) (left_old left left_new : Option (List ℕ)) (taken_old taken : Option Room) (e : Encoding N) (r r_new : SamplesAhead) (ys : List ℤ)
+reads_more : {N : ℕ} {s : Parameters} {left_old left left_new : Option (List ℕ)} {taken_old taken : Option Room} {e : Encoding N} {r r_new : SamplesAhead} {ys : List ℤ}
     → (p : EncodingProgress s left_old left taken_old taken e r) → (g : GivesSamples r r_new left left_new ys) → Reads s (p.bytes ++ g.bytes) (p.samples ++ ys) r_new.waiting
-reads_more s left_old left left_new taken_old taken e r r_new ys p g =
+reads_more {s} {r} {r_new} {ys} p g =
     reads_then s (p.bytes ++ g.bytes) (r.waiting ++ g.bytes) r_new.waiting p.samples ys (reads_before s p.samples p.bytes r.waiting g.bytes p.reads)
     (subst (λ (s : Parameters). Reads s (r.waiting ++ g.bytes) ys r_new.waiting) p.setting g.reads)
 
 -- they are at most as many as the bytes
-pub few_given : {N : ℕ} (s : Parameters) (left_old left left_new : Option (List ℕ)) (taken_old taken : Option Room) (e : Encoding N) (r r_new : SamplesAhead) (ys : List ℤ)
+pub few_given : {N : ℕ} {s : Parameters} {left_old left left_new : Option (List ℕ)} {taken_old taken : Option Room} {e : Encoding N} {r r_new : SamplesAhead} {ys : List ℤ}
     → (p : EncodingProgress s left_old left taken_old taken e r) → GivesSamples r r_new left left_new ys → length p.samples + length ys ≤ r_new.given
-few_given s left_old left left_new taken_old taken e r r_new ys p g =
-    let few = few_more s (p.samples ++ ys) (p.bytes ++ g.bytes) r_new.waiting (reads_more s left_old left left_new taken_old taken e r r_new ys p g) (some_width s) in
+few_given {s} {left_old} {left} {left_new} {taken_old} {taken} {e} {r} {r_new} {ys} p g =
+    let few = few_more s (p.samples ++ ys) (p.bytes ++ g.bytes) r_new.waiting (reads_more p g) (some_width s) in
     omega (arith, few, length-append p.samples ys, length-append p.bytes g.bytes, p.count, g.given)
 
 -- and the encoding has taken them
-pub reads_further : {N : ℕ} (s : Parameters) (left_old left left_new : Option (List ℕ)) (taken_old taken taken_new : Option Room) (e e_new : Encoding N)
-    (r r_new : SamplesAhead) (ys : List ℤ) → (p : EncodingProgress s left_old left taken_old taken e r) → GivesSamples r r_new left left_new ys →
+pub reads_further : {N : ℕ} {s : Parameters} {left_old left left_new : Option (List ℕ)} {taken_old taken taken_new : Option Room} {e e_new : Encoding N}
+    {r r_new : SamplesAhead} {ys : List ℤ} → (p : EncodingProgress s left_old left taken_old taken e r) → GivesSamples r r_new left left_new ys →
     IsEncodingOf s (afresh taken_old) taken_new e_new (p.samples ++ ys) → EncodingProgress s left_old left_new taken_old taken_new e_new r_new
-reads_further s left_old left left_new taken_old taken taken_new e e_new r r_new ys p g holds = record {
+reads_further {s} {left_old} {left} {left_new} {taken_old} {taken} {e} {r} {r_new} {ys} p g holds = record {
   bytes = p.bytes ++ g.bytes;
   samples = p.samples ++ ys;
   setting = g.setting ∙ p.setting;
-  reads = reads_more s left_old left left_new taken_old taken e r r_new ys p g;
+  reads = reads_more p g;
   count = omega (arith, p.count, g.given, length-append p.bytes g.bytes);
   gave = Consumes-trans left_old left left_new p.bytes g.bytes p.gave g.gave;
   holds = holds;
 }
 
 -- or bytes that spell no more samples yet
-pub reads_none : {N : ℕ} (s : Parameters) (left_old left left_new : Option (List ℕ)) (taken_old taken : Option Room) (e : Encoding N) (r r_new : SamplesAhead)
+pub reads_none : {N : ℕ} {s : Parameters} {left_old left left_new : Option (List ℕ)} {taken_old taken : Option Room} {e : Encoding N} {r r_new : SamplesAhead}
     → EncodingProgress s left_old left taken_old taken e r → GivesSamples r r_new left left_new [] → EncodingProgress s left_old left_new taken_old taken e r_new
-reads_none s left_old left left_new taken_old taken e r r_new p g =
-    reads_further s left_old left left_new taken_old taken taken e e r r_new [] p g
+reads_none {s} {left_old} {left} {left_new} {taken_old} {taken} {e} {r} {r_new} p g =
+    reads_further p g
     (subst (λ (xs : List ℤ). IsEncodingOf s (afresh taken_old) taken e xs) (sym (append-nil p.samples)) p.holds)
 
 -- no more samples come
-pub reading_ends : {N : ℕ} (s : Parameters) (left_old left left_new : Option (List ℕ)) (taken_old taken : Option Room) (e : Encoding N) (r r_new : SamplesAhead)
-    (fault : SampleFault) (report : Report) (f : Option Fault) → EncodingProgress s left_old left taken_old taken e r → StopsSamples fault r r_new left left_new
+pub reading_ends : {N : ℕ} {s : Parameters} {left_old left left_new : Option (List ℕ)} {taken_old taken : Option Room} {e : Encoding N} {r : SamplesAhead} (r_new : SamplesAhead)
+    (fault : SampleFault) {report : Report} {f : Option Fault} → EncodingProgress s left_old left taken_old taken e r → StopsSamples fault r r_new left left_new
     → length r_new.waiting ≤ 4096 → r_new.given ≤ 281474976710656 → ((xs : List ℤ) → CountsSamples s e xs → ReportsTaken s report xs)
     → f ≡ Some (fault_at fault e.samples) → EncodesBetween s left_old left_new taken_old taken report f
-reading_ends {N} s left_old left left_new taken_old taken e r r_new fault report f before stops few limit told is =
+reading_ends {N} {s} {left_old} {left} {left_new} {taken_old} {taken} {e} {r} r_new fault {report} {f} before stops few limit told is =
     subst (λ (f : Option Fault). EncodesBetween s left_old left_new taken_old taken report f) (sym is) (by_fault fault stops)
   where
     Progress : Option (List ℕ) → Type 0
     Progress l = EncodingProgress s left_old l taken_old taken e r_new
 
     on : (l : Option (List ℕ)) → GivesSamples r r_new left l [] → Progress l
-    on l g = reads_none s left_old left l taken_old taken e r r_new before g
+    on l g = reads_none before g
 
     at : (f : Option Fault) (p : Progress left_new) → EndsEncoding s f (record { given = p.bytes; left = left_new; written = early_output s p.samples }) report p.samples →
         IsWithinLimit 281474976710656 f p.bytes → EncodesBetween s left_old left_new taken_old taken report f
@@ -159,9 +159,9 @@ reading_ends {N} s left_old left left_new taken_old taken e r r_new fault report
         )
 
 -- and the failures then
-pub reading_fails : (fault : SampleFault) (index : ℕ) (f : Option Fault) (reads mid reads_new writes writes_new : ℕ) → f ≡ Some (fault_at fault index)
+pub reading_fails : (fault : SampleFault) (index : ℕ) {f : Option Fault} {reads mid : ℕ} (reads_new : ℕ) {writes writes_new : ℕ} → f ≡ Some (fault_at fault index)
     → CountsReads {T = ℕ} mid reads_new (Err fault) → mid ≡ reads → writes_new ≡ writes → Fails f reads reads_new writes writes_new
-reading_fails fault index f reads mid reads_new writes writes_new is counts same calm = subst (λ (f : Option Fault). Fails f reads reads_new writes writes_new) (sym is) (by_fault fault counts)
+reading_fails fault index {f} {reads} {mid} reads_new {writes} {writes_new} is counts same calm = subst (λ (f : Option Fault). Fails f reads reads_new writes writes_new) (sym is) (by_fault fault counts)
   where
     by_fault : (fault : SampleFault) → CountsReads {T = ℕ} mid reads_new (Err fault) → Fails (Some (fault_at fault index)) reads reads_new writes writes_new
     by_fault faults.Read e = (e ∙ ap (λ n. n + 1) same, calm)
@@ -170,10 +170,10 @@ reading_fails fault index f reads mid reads_new writes writes_new is counts same
     by_fault faults.OutOfRange e = (e ∙ same, calm)
 
 -- all samples were given, and their code is written or not
-pub finish_ends : {N : ℕ} (s : Parameters) (left_old left : Option (List ℕ)) (taken_old taken new : Option Room) (e : Encoding N) (q : SamplesAhead)
-    (r : Report) (f : Option Fault) → (runs : EncodingProgress s left_old left taken_old taken e q) → IsAtEnd left → q.waiting ≡ [] → q.given ≤ 281474976710656
+pub finish_ends : {N : ℕ} {s : Parameters} {left_old left : Option (List ℕ)} {taken_old taken new : Option Room} {e : Encoding N} {q : SamplesAhead}
+    {r : Report} {f : Option Fault} → (runs : EncodingProgress s left_old left taken_old taken e q) → IsAtEnd left → q.waiting ≡ [] → q.given ≤ 281474976710656
     → ReportsAll s r runs.samples → WritesRest s (afresh taken_old) new runs.samples f → EncodesBetween s left_old left taken_old new r f
-finish_ends s left_old left taken_old taken new e q r f runs end none limit closes finishes = by_fault f finishes
+finish_ends {s} {left_old} {left} {taken_old} {new} {e} {q} {r} {f} runs end none limit closes finishes = by_fault f finishes
   where
     xs : List ℤ
     xs = runs.samples
@@ -220,17 +220,17 @@ finish_ends s left_old left taken_old taken new e q r f runs end none limit clos
     by_fault (Some (ResidualTooLarge block)) bad = absurd bad
 
 -- the outlet failed after one of the samples that were given
-pub writing_ends : {N : ℕ} (s : Parameters) (left_old left left_new : Option (List ℕ)) (taken_old taken taken_new : Option Room) (e e_new : Encoding N) (q q_new : SamplesAhead)
-    (r : Report) (ys : List ℤ) → (p : EncodingProgress s left_old left taken_old taken e q) → GivesSamples q q_new left left_new ys →
+pub writing_ends : {N : ℕ} {s : Parameters} {left_old left left_new : Option (List ℕ)} {taken_old taken taken_new : Option Room} {e e_new : Encoding N} {q q_new : SamplesAhead}
+    (r : Report) {ys : List ℤ} → (p : EncodingProgress s left_old left taken_old taken e q) → GivesSamples q q_new left left_new ys →
     FailsIn s (afresh taken_old) taken_new e_new p.samples ys → width s * length ys + length q_new.waiting ≤ 4096 → q_new.given ≤ 281474976710656
     → ((xs : List ℤ) → CountsSamples s e_new xs → ReportsTaken s r xs) → EncodesBetween s left_old left_new taken_old taken_new r (Some Write)
-writing_ends s left_old left left_new taken_old taken taken_new e e_new q q_new r ys p g fail few limit told =
+writing_ends {s} {left_old} {left} {left_new} {taken_old} {taken_new} {e} {e_new} {q} {q_new} r {ys} p g fail few limit told =
     let xs = p.samples in
     let given = p.bytes ++ g.bytes in
     let bytes = q.waiting ++ g.bytes in
     let so_far : Reads s given xs bytes = reads_before s xs p.bytes q.waiting g.bytes p.reads in
     let now : Reads s bytes ys q_new.waiting = subst (λ (s : Parameters). Reads s bytes ys q_new.waiting) p.setting g.reads in
-    let m = fails_among s (afresh taken_old) taken_new e_new xs ys bytes q_new.waiting now fail in
+    let m = fails_among now fail in
     let joined = reads_then s given bytes m.rest xs (m.more ++ m.last ∷ []) so_far m.reads in
     let before = xs ++ m.more in
     let all = before ++ m.last ∷ [] in
@@ -268,10 +268,10 @@ writing_ends s left_old left left_new taken_old taken taken_new e e_new q q_new 
     ahead w n b g k e few some lt = let p = mul-le-mul_right w lt in omega arith
 
 -- and the failures then
-pub push_fails : {N : ℕ} (s : Parameters) (old : Beginning) (taken : Option Room) (e : Encoding N) (xs : List ℤ) (bytes : List ℕ) (f : Fault) (g : Option Fault)
-    (reads reads_new writes mid writes_new : ℕ) → reads_new ≡ reads → mid ≡ writes →
+pub push_fails : {N : ℕ} (s : Parameters) (old : Beginning) (taken : Option Room) (e : Encoding N) (xs : List ℤ) (bytes : List ℕ) {f : Fault} {g : Option Fault}
+    {reads reads_new writes mid : ℕ} (writes_new : ℕ) → reads_new ≡ reads → mid ≡ writes →
     Pushes {T = Unit {0}} s old taken e xs bytes (Err f) → PushFails {T = Unit {0}} mid writes_new (Err f) → g ≡ Some f → Fails g reads reads_new writes writes_new
-push_fails s old taken e xs bytes f g reads reads_new writes mid writes_new same before pushes fails is =
+push_fails s old taken e xs bytes {f} {g} {reads} {reads_new} {writes} {mid} writes_new same before pushes fails is =
     let result = by_fault f pushes fails in
     subst (λ (g : Option Fault). Fails g reads reads_new writes writes_new) (sym is) result
   where
@@ -286,13 +286,13 @@ push_fails s old taken e xs bytes f g reads reads_new writes mid writes_new same
     by_fault (ResidualTooLarge block) bad k = absurd bad
 
 -- the report's bounds where taking the bytes in hand stops
-pub push_within : {N : ℕ} (s : Parameters) (old : Beginning) (taken : Option Room) (e : Encoding N) (r : Report) (f : Fault) (xs : List ℤ) (bytes : List ℕ)
+pub push_within : {N : ℕ} {s : Parameters} (old : Beginning) (taken : Option Room) (e : Encoding N) {r : Report} (f : Fault) (xs : List ℤ) (bytes : List ℕ)
     → ((ys : List ℤ) → CountsSamples s e ys → ReportsTaken s r ys) → Pushes {T = Unit {0}} s old taken e xs bytes (Err f) → EncodesWithin s r
-push_within s old taken e r (SampleOutOfRange index) xs bytes told m = let k = m.0.holds.counts in within_early s r (xs ++ m.0.more) (settled_by s e (xs ++ m.0.more) k) (told (xs ++ m.0.more) k)
-push_within s old taken e r Write xs bytes told m = let ys = (xs ++ m.more) ++ m.last ∷ [] in let k = m.fails.counts in within_early s r ys (settled_by s e ys k) (told ys k)
-push_within s old taken e r Read xs bytes told bad = absurd bad
-push_within s old taken e r TooLong xs bytes told bad = absurd bad
-push_within s old taken e r (SampleCut index) xs bytes told bad = absurd bad
-push_within s old taken e r (CodeEnds samples) xs bytes told bad = absurd bad
-push_within s old taken e r (RunPastSegment block) xs bytes told bad = absurd bad
-push_within s old taken e r (ResidualTooLarge block) xs bytes told bad = absurd bad
+push_within {s} old taken e {r} (SampleOutOfRange index) xs bytes told m = let k = m.0.holds.counts in within_early s r (xs ++ m.0.more) (settled_by s e (xs ++ m.0.more) k) (told (xs ++ m.0.more) k)
+push_within {s} old taken e {r} Write xs bytes told m = let ys = (xs ++ m.more) ++ m.last ∷ [] in let k = m.fails.counts in within_early s r ys (settled_by s e ys k) (told ys k)
+push_within old taken e Read xs bytes told bad = absurd bad
+push_within old taken e TooLong xs bytes told bad = absurd bad
+push_within old taken e (SampleCut index) xs bytes told bad = absurd bad
+push_within old taken e (CodeEnds samples) xs bytes told bad = absurd bad
+push_within old taken e (RunPastSegment block) xs bytes told bad = absurd bad
+push_within old taken e (ResidualTooLarge block) xs bytes told bad = absurd bad

@@ -86,10 +86,10 @@ sink_place s old now e xs h pads =
     omega arith
 
 -- samples are taken
-pub taken_on : {N : ℕ} (s : Parameters) (old : Beginning) (now : Option Room) (e f : Encoding N) (xs ys : List ℤ) (n : ℕ) → IsEncodingOf s old now e xs →
+pub taken_on : {N : ℕ} {s : Parameters} {old : Beginning} {now : Option Room} {e f : Encoding N} {xs ys : List ℤ} {n : ℕ} → IsEncodingOf s old now e xs →
     PushesSamples e.coder f.coder ys e.sink f.sink n e.meter f.meter → f.bits ≡ e.bits + n → f.samples ≡ e.samples + length ys
     → ((m : ℕ) → m < length ys → CompletesNone e.coder (take m ys)) → TakesSamples s f xs ys
-taken_on s old now e f xs ys n h pushes bits samples before =
+taken_on {s} {old} {now} {e} {f} {xs} {ys} {n} h pushes bits samples before =
     let stands = h.counts.stands in
     let adds : AddsCode s (complete_samples s xs) (complete_samples s (xs ++ ys)) e.sink f.sink n (length ys) e.meter f.meter =
     subst (λ (t : Parameters). AddsCode t (complete_samples t xs) (complete_samples t (xs ++ ys)) e.sink f.sink n (length ys) e.meter f.meter) h.counts.setting (pushes.adds xs stands) in
@@ -110,10 +110,10 @@ taken_on s old now e f xs ys n h pushes bits samples before =
     }
 
 -- nothing is whole
-pub none_whole : {N : ℕ} (s : Parameters) (old : Beginning) (now : Option Room) (e f : Encoding N) (xs ys : List ℤ) → IsEncodingOf s old now e xs
+pub none_whole : {N : ℕ} {s : Parameters} {old : Beginning} {now : Option Room} {e f : Encoding N} {xs : List ℤ} (ys : List ℤ) → IsEncodingOf s old now e xs
     → CountsSamples s f (xs ++ ys) → complete_code s (xs ++ ys) ≡ whole_part (complete_code s xs) ++ f.sink →
     length f.sink < 8 → IsEncodingOf s old now f (xs ++ ys)
-none_whole s old now e f xs ys h c same few =
+none_whole {s} {old} {now} {f} {xs} ys h c same few =
     let a = complete_code s xs in
     let b = complete_code s (xs ++ ys) in
     let z : bits_in_bytes (length f.sink) ≡ 0 = omega arith in
@@ -125,10 +125,10 @@ none_whole s old now e f xs ys h c same few =
     }
 
 -- the whole bytes are written
-pub all_written : {N : ℕ} (s : Parameters) (old : Beginning) (now new : Option Room) (e f g : Encoding N) (xs ys : List ℤ) → IsEncodingOf s old now e xs
+pub all_written : {N : ℕ} {s : Parameters} {old : Beginning} {now new : Option Room} {e f g : Encoding N} {xs : List ℤ} (ys : List ℤ) → IsEncodingOf s old now e xs
     → CountsSamples s f (xs ++ ys) → complete_code s (xs ++ ys) ≡ whole_part (complete_code s xs) ++ f.sink →
     Appends now new (whole_bytes f.sink) → g.sink ≡ drop (bits_in_bytes (length f.sink)) f.sink → CountsSamples s g (xs ++ ys) → IsEncodingOf s old new g (xs ++ ys)
-all_written s old now new e f g xs ys h c same took rest d =
+all_written {s} {old} {now} {new} {f} {xs} ys h c same took rest d =
     let a = complete_code s xs in
     let b = complete_code s (xs ++ ys) in
     record {
@@ -177,10 +177,10 @@ parts_of (y ∷ []) h = record { before = []; last = y; split = refl }
 parts_of (y ∷ z ∷ ys) h = let p = parts_of (z ∷ ys) (omega arith) in record { before = y ∷ p.before; last = p.last; split = ap (λ l. y ∷ l) p.split }
 
 -- not all that the samples complete was written
-pub fails_in : {N : ℕ} (s : Parameters) (old : Beginning) (now new : Option Room) (e f g : Encoding N) (xs samples : List ℤ) (n : ℕ)
+pub fails_in : {N : ℕ} {s : Parameters} {old : Beginning} {now new : Option Room} {e f g : Encoding N} {xs samples : List ℤ} {n : ℕ}
     → IsEncodingOf s old now e xs → TakesSamples s f xs (take n samples) → 0 < n → n ≤ length samples → TakesPart now new (whole_bytes f.sink)
     → CountsSamples s g (xs ++ take n samples) → FailsIn s old new g xs samples
-fails_in s old now new e f g xs samples n h takes some within part counts =
+fails_in {s} {old} {now} {new} {f} {g} {xs} {samples} {n} h takes some within part counts =
     let ys = take n samples in
     let len = length-take-le n samples within in
     let p = parts_of ys (omega (arith, len)) in
@@ -242,11 +242,11 @@ sets_nothing s j =
     (bits, omega (arith, bits, least), omega (arith, bits, most))
 
 -- the end of the samples
-pub samples_end : {N : ℕ} (s : Parameters) (old : Beginning) (now : Option Room) (e : Encoding N) (r : Report) (sink end : List Bool) (xs : List ℤ) (n : ℕ) → IsEncodingOf s old now e xs →
+pub samples_end : {N : ℕ} {s : Parameters} {old : Beginning} {now : Option Room} {e : Encoding N} {r : Report} {sink end : List Bool} {xs : List ℤ} {n : ℕ} → IsEncodingOf s old now e xs →
     AddsCode e.coder.setting (complete_samples e.coder.setting xs) xs e.sink sink n (fill_count_of e.coder.setting xs) e.meter r.steps → r.bits ≡ e.bits + n
     → r.samples ≡ e.samples → end ≡ sink ++ replicate (bits_to_byte (length sink)) false →
     ReportsAll s r xs × (padded_bits (code s xs) ≡ whole_part (complete_code s xs) ++ end)
-samples_end s old now e r sink end xs n h finishes bits samples fill =
+samples_end {s} {old} {now} {e} {r} {sink} {xs} {n} h finishes bits samples fill =
     let t : AddsCode s (complete_samples s xs) xs e.sink sink n (fill_count_of s xs) e.meter r.steps = subst
     (λ (t : Parameters). AddsCode t (complete_samples t xs) xs e.sink sink n (fill_count_of t xs) e.meter r.steps) h.counts.setting finishes in
     let k = t.code_is (sink_place s old now e xs h) in
@@ -267,9 +267,9 @@ All-front : {X : Type 0} (P : X → Type 0) (xs ys : List X) → All P (xs ++ ys
 All-front P xs ys h = subst (All P) (take-append_seam xs ys) (All-take P (length xs) (xs ++ ys) h)
 
 -- of samples that the bytes spell one is the last that was taken
-pub fails_among : {N : ℕ} (s : Parameters) (old : Beginning) (new : Option Room) (e : Encoding N) (xs ys : List ℤ) (bytes rest : List ℕ) → Reads s bytes ys rest
+pub fails_among : {N : ℕ} {s : Parameters} {old : Beginning} {new : Option Room} {e : Encoding N} {xs ys : List ℤ} {bytes rest : List ℕ} → Reads s bytes ys rest
     → FailsIn s old new e xs ys → MeetsFailure s old new e xs bytes
-fails_among s old new e xs ys bytes rest reads f =
+fails_among {s} {ys} {rest} reads f =
     let parts : ys ≡ (f.before ++ f.last ∷ []) ++ f.behind = f.split ∙ sym (append_assoc f.before (f.last ∷ []) f.behind) in
     record {
       more = f.before;
@@ -284,9 +284,9 @@ fails_among s old new e xs ys bytes rest reads f =
     }
 
 -- and others stand before them
-pub fails_behind : {N : ℕ} (s : Parameters) (old : Beginning) (new : Option Room) (e : Encoding N) (xs more : List ℤ) (bytes rest : List ℕ) → Reads s bytes more rest
+pub fails_behind : {N : ℕ} {s : Parameters} {old : Beginning} {new : Option Room} {e : Encoding N} {xs more : List ℤ} {bytes rest : List ℕ} → Reads s bytes more rest
     → MeetsFailure s old new e (xs ++ more) rest → MeetsFailure s old new e xs bytes
-fails_behind s old new e xs more bytes rest reads m = record {
+fails_behind {s} {old} {new} {e} {xs} {more} {bytes} {rest} reads m = record {
   more = more ++ m.more;
   last = m.last;
   rest = m.rest;

@@ -32,9 +32,9 @@ pub record PulledSoFar (s : Parameters) (o : Origin) (front : List Bool) (given 
   pub count : at ≡ width s * length samples
 
 -- before the first block nothing was pulled
-pub none_so_far : (s : Parameters) (o : Origin) (front : List Bool) (given : List ℤ) (piece : List ℕ) (old : Stand) (out : List ℕ) (rest : List Bool)
+pub none_so_far : {s : Parameters} {o : Origin} {front : List Bool} {given : List ℤ} (piece : List ℕ) {old : Stand} (out : List ℕ) {rest : List Bool}
     → IsStand s o old front given → rest ≡ bits_ahead old piece → PulledSoFar s o front given piece old out out old rest 0
-none_so_far s o front given piece old out rest h e = record {
+none_so_far {s} {o} {front} {given} piece {old} out h e = record {
   bits = [];
   samples = [];
   parts = sym e;
@@ -57,11 +57,11 @@ still e f so = record {
 }
 
 -- blocks more
-pub more_so_far : {I : Type 0} (s : Parameters) (o : Origin) (front : List Bool) (given xs : List ℤ) (piece : List ℕ) (old here next : Stand)
-    (out_old out out_new : List ℕ) (r new : Reader I) (at n : ℕ) → (so : PulledSoFar s o front given piece old out_old out here (ahead r) at)
+pub more_so_far : {I : Type 0} {s : Parameters} {o : Origin} {front : List Bool} {given xs : List ℤ} {piece : List ℕ} {old here next : Stand}
+    {out_old out out_new : List ℕ} {r new : Reader I} {at n : ℕ} → (so : PulledSoFar s o front given piece old out_old out here (ahead r) at)
     → GivesNext s o (front ++ so.bits) (given ++ so.samples) next r new xs → n ≡ width s * length xs
     → out_new ≡ take at out ++ (spellings s xs ++ drop (at + n) out) → PulledSoFar s o front given piece old out_old out_new next (ahead new) (at + n)
-more_so_far s o front given xs piece old here next out_old out out_new r new at n so g e wrote =
+more_so_far {s} {o} {front} {given} {xs} {next} {out_old} {out} {new} {at} {n} so g e wrote =
     let a = spellings s so.samples in
     let size : at ≡ length a = so.count ∙ sym (length-spellings s so.samples) in
     let first : take at out ≡ a = (λ i. take (size i) (so.writes i)) ∙ take-append_seam a (drop at out_old) in
@@ -101,7 +101,7 @@ pub refuses_piece : (s : Parameters) (o : Origin) (front : List Bool) (given : L
     → IsStand s o old front given → 2 ^ 52 < old.bits + 8 * length piece → DecodesMore s o front given piece old out out old pauses.TooLong
 unfolding none_so_far
 refuses_piece s o front given piece old out h passes =
-    ends_so pauses.TooLong (none_so_far s o front given piece old out (bits_ahead old piece) h refl) (record { passes = passes; stays = refl; none = refl }) (λ no. absurd (no refl))
+    ends_so pauses.TooLong (none_so_far piece out {rest = bits_ahead old piece} h refl) (record { passes = passes; stays = refl; none = refl }) (λ no. absurd (no refl))
 
 -- nothing is left of no bytes
 pub nothing_ahead : (s : Parameters) (old : Stand) (b : ℕ) (piece : List ℕ) (bits rest : List Bool) → length piece ≡ 0 → bits_ahead old piece ≡ bits ++ rest
@@ -124,23 +124,23 @@ refused_so xs r new faults.Read so room t read limit = absurd (read refl)
 refused_so xs r new faults.TooLong so room t read limit = absurd t
 
 -- there is room for another block
-pub has_room : (s : Parameters) (at len len_old k : ℕ) {w j : ℕ} → w ≡ width s → j ≡ s.block → w * j ≤ len - at → at ≤ len → at ≡ width s * k → len ≡ len_old → HasRoomForBlock s k len_old
-has_room s at len len_old k {w} {j} e f le within count same = let size : w * j ≡ width s * s.block = (λ i. e i * f i) in omega arith
+pub has_room : (s : Parameters) {at len len_old : ℕ} (k : ℕ) {w j : ℕ} → w ≡ width s → j ≡ s.block → w * j ≤ len - at → at ≤ len → at ≡ width s * k → len ≡ len_old → HasRoomForBlock s k len_old
+has_room s k {w} {j} e f le within count same = let size : w * j ≡ width s * s.block = (λ i. e i * f i) in omega arith
 
 -- there is none
-pub has_none : (s : Parameters) (at len len_old k : ℕ) {w j : ℕ} → w ≡ width s → j ≡ s.block → len - at < w * j → at ≤ len → at ≡ width s * k → len ≡ len_old
+pub has_none : (s : Parameters) {at len len_old : ℕ} (k : ℕ) {w j : ℕ} → w ≡ width s → j ≡ s.block → len - at < w * j → at ≤ len → at ≡ width s * k → len ≡ len_old
     → (width s * k ≤ len_old) × (len_old < width s * k + width s * s.block)
-has_none s at len len_old k {w} {j} e f lt within count same = let size : w * j ≡ width s * s.block = (λ i. e i * f i) in (omega arith, omega arith)
+has_none s k {w} {j} e f lt within count same = let size : w * j ≡ width s * s.block = (λ i. e i * f i) in (omega arith, omega arith)
 
 -- where the decoder refuses, the intake has failed only if the fault says so
 pub failed_once : {I : Type 0} (s : Parameters) (o : Origin) (front : List Bool) (given : List ℤ) (here : Stand) (r new : Reader I) (xs : List ℤ)
-    (fault : CodeFault) → fault ≡ faults.Read → TakesNext s o front given here r new xs (Err fault) → new.failed ≡ 1
-failed_once s o front given here r new xs fault e t = subst (λ (f : CodeFault). TakesNext s o front given here r new xs (Err f)) e t
+    {fault : CodeFault} → fault ≡ faults.Read → TakesNext s o front given here r new xs (Err fault) → new.failed ≡ 1
+failed_once s o front given here r new xs e t = subst (λ (f : CodeFault). TakesNext s o front given here r new xs (Err f)) e t
 
 -- a reader of a piece within the limit never passes it
 pub never_too_long : {I : Type 0} (s : Parameters) (o : Origin) (front : List Bool) (given : List ℤ) (here : Stand) (r new : Reader I) (xs : List ℤ)
-    (fault : CodeFault) → fault ≡ faults.TooLong → TakesNext s o front given here r new xs (Err fault) → ⊥
-never_too_long s o front given here r new xs fault e t = subst (λ (f : CodeFault). TakesNext s o front given here r new xs (Err f)) e t
+    {fault : CodeFault} → fault ≡ faults.TooLong → TakesNext s o front given here r new xs (Err fault) → ⊥
+never_too_long s o front given here r new xs e t = subst (λ (f : CodeFault). TakesNext s o front given here r new xs (Err f)) e t
 
 -- ---- a reader of a piece
 
@@ -165,10 +165,10 @@ skipped_bits intake piece k v new takes =
     sym (ap (λ n. drop n (bits_of piece)) (sym (length-word k v)) ∙ ap (drop (length (word k v))) drawn.1 ∙ drop_front (word k v) (ahead new))
 
 -- a piece that has bytes has so few bits more
-pub never_refused : {I : Type 0} (intake : I) (piece : List ℕ) (k : ℕ) (bits : List Bool) (new : Reader I) (fault : BitFault) → k < 8 → length bits < k
+pub never_refused : {I : Type 0} (intake : I) (piece : List ℕ) {k : ℕ} {bits : List Bool} {new : Reader I} (fault : BitFault) → k < 8 → length bits < k
     → length piece ≢ 0 → new.failed ≡ 0 → Stops (new_reader intake (Some piece) 0) new bits fault → ⊥
-never_refused intake piece k bits new (bit_faults.End told) lt few some none stops =
+never_refused intake piece {bits} {new} (bit_faults.End told) lt few some none stops =
     let all = all_drawn (Some piece) stops.middle new.left [] bits refl stops.draws stops.refuses.0 stops.refuses.1 in
     omega (arith, ap length all, length-bits_of piece, some)
-never_refused intake piece k bits new bit_faults.Read lt few some none stops = omega (arith, stops.refuses.1, none)
-never_refused intake piece k bits new bit_faults.TooLong lt few some none stops = omega (arith, stops.refuses.2, stops.taken)
+never_refused intake piece bit_faults.Read lt few some none stops = omega (arith, stops.refuses.1, none)
+never_refused intake piece bit_faults.TooLong lt few some none stops = omega (arith, stops.refuses.2, stops.taken)

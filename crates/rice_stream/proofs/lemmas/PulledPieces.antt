@@ -172,11 +172,11 @@ unfolding bits_behind_stand
 nothing_far stand piece behind e = let k = stand.bits % 8 - length (bits_of piece) in ap (λ l. drop k (bits_of l)) e ∙ ap (drop k) bits_of-nil ∙ drop-nil k
 
 -- a pause behind which nothing is left is the end of the code
-pause_finishes : (s : Parameters) (old stand : Stand) (piece behind : List ℕ) (room count : ℕ) (left : List Bool) (pause : Pause) (ending : Ending)
+pause_finishes : {s : Parameters} (old : Stand) {stand : Stand} (piece behind : List ℕ) (room count : ℕ) (left : List Bool) (pause : Pause) {ending : Ending}
     → PausesAt s old piece room stand left count pause → EndsCode pause behind ending → EndsBehind s stand (left ++ bits_behind_stand old piece behind) (length left) ending
-pause_finishes s old stand piece behind room count left pauses.Full ending at e = absurd e
-pause_finishes s old stand piece behind room count left pauses.TooLong ending at e = absurd e
-pause_finishes s old stand piece behind room count left pauses.Blank ending at e =
+pause_finishes old piece behind room count left pauses.Full at e = absurd e
+pause_finishes old piece behind room count left pauses.TooLong at e = absurd e
+pause_finishes {s} old {stand} piece behind room count left pauses.Blank at e =
     let whole : left ≡ left ++ bits_behind_stand old piece behind = sym (append-nil left) ∙ ap (λ l. left ++ l) (sym (nothing_far old piece behind e.0)) in
     record {
       none = at.1;
@@ -185,7 +185,7 @@ pause_finishes s old stand piece behind room count left pauses.Blank ending at e
       ends = subst (λ (v : Ending). EndsWith s None stand.block (left ++ bits_behind_stand old piece behind) v (length left)) (sym e.1)
           (subst (λ (l : List Bool). EndsWith s None stand.block l Ended (length left)) whole at.2);
     }
-pause_finishes s old stand piece behind room count left pauses.Cut ending at e =
+pause_finishes {s} old {stand} piece behind room count left pauses.Cut at e =
     let whole : left ≡ left ++ bits_behind_stand old piece behind = sym (append-nil left) ∙ ap (λ l. left ++ l) (sym (nothing_far old piece behind e.0)) in
     record {
       none = at.1;
@@ -194,7 +194,7 @@ pause_finishes s old stand piece behind room count left pauses.Cut ending at e =
       ends = subst (λ (v : Ending). EndsWith s None stand.block (left ++ bits_behind_stand old piece behind) v (length left)) (sym e.1)
           (subst (λ (l : List Bool). EndsWith s None stand.block l CutOff (length left)) whole at.2);
     }
-pause_finishes s old stand piece behind room count left pauses.RunPastSegment ending at e =
+pause_finishes {s} old {stand} piece behind room count left pauses.RunPastSegment at e =
     record {
       none = at.1;
       used = at.2;
@@ -202,7 +202,7 @@ pause_finishes s old stand piece behind room count left pauses.RunPastSegment en
       ends = subst (λ (v : Ending). EndsWith s None stand.block (left ++ bits_behind_stand old piece behind) v at.2) (sym e)
           (tt, unsound_on s stand.block at.2 left (bits_behind_stand old piece behind) _ at.3.1);
     }
-pause_finishes s old stand piece behind room count left pauses.ResidualTooLarge ending at e =
+pause_finishes {s} old {stand} piece behind room count left pauses.ResidualTooLarge at e =
     record {
       none = at.1;
       used = at.2;
@@ -225,14 +225,14 @@ at_first : (s : Parameters) (code : List ℕ) (o : Origin) (first : Stand) → o
 at_first s code o first le h = record { front = []; given = []; rest = drop o.bits (bits_of code); inside = le; split = refl; stands = h }
 
 -- what ends there is what the code decodes to
-decoded_all : (s : Parameters) (code : List ℕ) (o : Origin) (stand : Stand) (rest : List Bool) (ahead : ℕ) (ending : Ending) → (h : HasPulled s code o stand)
+decoded_all : {s : Parameters} {code : List ℕ} {o : Origin} {stand : Stand} {rest : List Bool} {ahead : ℕ} {ending : Ending} → (h : HasPulled s code o stand)
     → h.rest ≡ rest → (f : EndsBehind s stand rest ahead ending)
     → Decoded s (drop o.bits (bits_of code)) None h.given ending (length h.front + f.used)
-decoded_all s code o stand rest ahead ending h e f =
+decoded_all {s} {stand} {rest} {ending} h e f =
     let st = h.stands in
     let ends = end_there s stand.block st.blocks rest ending f.used (same_place s st.blocks stand.block st.state.legal.interval_from st.here) f.ends in
     subst (λ (l : List Bool). Decoded s l None h.given ending (length h.front + f.used)) (ap (λ l. h.front ++ l) (sym e) ∙ sym h.split)
-    (ends_here s h.front rest st.begun st.blocks h.given None ending f.used (subst (λ (n : ℕ). DecodedSoFar s h.front st.begun st.blocks n h.given) f.none st.decoded) (λ i lt. tt) ends)
+    (ends_here rest None ending f.used (subst (λ (n : ℕ). DecodedSoFar s h.front st.begun st.blocks n h.given) f.none st.decoded) (λ i lt. tt) ends)
 
 -- Pieces were pulled from where decoding began to where the code ends.
 record PulledAll (s : Parameters) (code : List ℕ) (o : Origin) (first : Stand) (pulls : List Pull) (last : Stand) (ending : Ending) : Type 0 where
@@ -244,21 +244,21 @@ record PulledAll (s : Parameters) (code : List ℕ) (o : Origin) (first : Stand)
   pub count : last.samples ≡ o.samples + length samples
 
 -- pulls up to the end of a code give what it decodes to
-pulled_all : (s : Parameters) (code : List ℕ) (o : Origin) (first : Stand) (pulls : List Pull) (last : Pull) (behind : List ℕ) (ending : Ending)
+pulled_all : {s : Parameters} {code : List ℕ} {o : Origin} {first : Stand} (pulls : List Pull) (last : Pull) (behind : List ℕ) (ending : Ending)
     → o.bits ≤ length (bits_of code) → IsStand s o first [] [] → ArePulled s code first pulls
     → IsPulled s code (last_stand first pulls) last behind → EndsCode last.pause behind ending → PulledAll s code o first (pulls ++ last ∷ []) last.stand ending
 unfolding at_first
-pulled_all s code o first pulls last behind ending inside begins pulled last_pulled ends =
+pulled_all {s} {code} {o} {first} pulls last behind ending inside begins pulled last_pulled ends =
     let all = pull_all s code o first pulls (at_first s code o first inside begins) pulled in
     let on = pulls_on s code o (last_stand first pulls) last behind all.next last_pulled in
-    let f = pause_finishes s (last_stand first pulls) last.stand last.piece behind (length last.old) (length on.part) on.left last.pause ending on.pauses_at ends in
+    let f = pause_finishes {s = s} (last_stand first pulls) {stand = last.stand} last.piece behind (length last.old) (length on.part) on.left last.pause {ending = ending} on.pauses_at ends in
     let same : on.next.given ≡ all.more ++ on.part = on.more ∙ ap (λ l. l ++ on.part) all.all in
     record {
       samples = all.more ++ on.part;
       used = length on.next.front + f.used;
       parts = parts-push s first pulls last all.more on.part all.parts on.count on.writes;
       decoded = subst (λ (l : List ℤ). Decoded s (drop o.bits (bits_of code)) None l ending (length on.next.front + f.used)) same
-          (decoded_all s code o last.stand (on.left ++ bits_behind_stand (last_stand first pulls) last.piece behind) (length on.left) ending on.next on.rest_is f);
+          (decoded_all on.next on.rest_is f);
       limit = omega (arith, on.limit (not_long last.pause behind ending ends), on.next.stands.bits, f.few);
       count = on.next.stands.samples ∙ ap (λ l. o.samples + length l) same;
     }
@@ -277,17 +277,17 @@ record PulledEnough (s : Parameters) (code : List ℕ) (o : Origin) (first : Sta
   pub here : place s blocks ≡ last.block
 
 -- pulls up to as many samples as are asked for give these
-pulled_enough : (s : Parameters) (code : List ℕ) (o : Origin) (first : Stand) (pulls : List Pull) (n : ℕ) → o.bits ≤ length (bits_of code) → IsStand s o first [] [] → ArePulled s code first pulls
+pulled_enough : {s : Parameters} (code : List ℕ) {o : Origin} {first : Stand} (pulls : List Pull) (n : ℕ) → o.bits ≤ length (bits_of code) → IsStand s o first [] [] → ArePulled s code first pulls
     → o.samples + n ≤ (last_stand first pulls).samples → (last_stand first pulls).samples < o.samples + n + s.block → PulledEnough s code o first pulls n (last_stand first pulls)
 unfolding at_first
-pulled_enough s code o first pulls n inside begins pulled enough few =
+pulled_enough {s} code {o} {first} pulls n inside begins pulled enough few =
     let all = pull_all s code o first pulls (at_first s code o first inside begins) pulled in
     let h = all.next in
     let st = h.stands in
     let count : length h.given ≡ s.block * st.blocks = st.decoded.len in
     let here : (last_stand first pulls).samples ≡ o.samples + length h.given = omega (arith, st.samples) in
     let wanted : (i : ℕ) → i < st.begun → IsWanted s (Some n) i = λ i lt. below s.block i st.blocks n (omega (arith, lt, st.before)) (omega (arith, few, here, count)) in
-    let decoded = ends_reached s h.front h.rest st.begun st.blocks (last_stand first pulls).run h.given n st.state.legal st.decoded wanted (omega (arith, enough, here, count)) in
+    let decoded = ends_reached h.rest n st.state.legal st.decoded wanted (omega (arith, enough, here, count)) in
     let first_n : n - s.block * 0 ≡ n = omega arith in
     record {
       samples = all.more;
@@ -311,13 +311,13 @@ pulled_enough s code o first pulls n inside begins pulled enough few =
 -- from the front of a code on
 pub pulls_are_decoding : PullsAreDecoding
 pulls_are_decoding s code first pulls last behind ending begins pulled last_pulled ends =
-    let p = pulled_all s code at_front first pulls last behind ending (omega arith) begins pulled last_pulled ends in
+    let p = pulled_all {code = code} pulls last behind ending (omega arith) begins pulled last_pulled ends in
     (p.samples, p.used, p.parts, p.decoded)
 
 -- and up to a number of samples
 pub pulls_to_a_count_are_decoding : EnoughIsDecoding
 pulls_to_a_count_are_decoding s code first pulls n begins pulled enough few =
-    let p = pulled_enough s code at_front first pulls n (omega arith) begins pulled (omega (arith, enough)) (omega (arith, few)) in
+    let p = pulled_enough code pulls n (omega arith) begins pulled (omega (arith, enough)) (omega (arith, few)) in
     let bits : p.used ≡ (last_stand first pulls).bits = omega (arith, p.bits) in
     (p.samples, p.parts, subst (λ (m : ℕ). Decoded s (bits_of code) (Some n) (take n p.samples) Reached m) bits p.decoded)
 
@@ -343,11 +343,11 @@ pub record SeekAll (s : Parameters) (code : List ℕ) (before : List ℤ) (first
   pub count : last.samples ≡ length (before ++ samples)
 
 -- pulls from the place of an interval on give what follows the samples before it
-pub seek_all : (s : Parameters) (code : List ℕ) (o : Origin) (before : List ℤ) (first : Stand) (pulls : List Pull) (last : Pull) (behind : List ℕ)
+pub seek_all : {s : Parameters} {code : List ℕ} {o : Origin} {before : List ℤ} {first : Stand} (pulls : List Pull) (last : Pull) (behind : List ℕ)
     (ending : Ending) → IsPlace s code o before → IsStand s o first [] []
     → ArePulled s code first pulls → IsPulled s code (last_stand first pulls) last behind → EndsCode last.pause behind ending → SeekAll s code before first (pulls ++ last ∷ []) last.stand ending
-seek_all s code o before first pulls last behind ending place begins pulled last_pulled ends =
-    let p = pulled_all s code o first pulls last behind ending (inside_code s code o before place) begins pulled last_pulled ends in
+seek_all {s} {code} {o} {before} {first} pulls last behind ending place begins pulled last_pulled ends =
+    let p = pulled_all {code = code} pulls last behind ending (inside_code s code o before place) begins pulled last_pulled ends in
     record {
       samples = p.samples;
       used = o.bits + p.used;
@@ -359,7 +359,7 @@ seek_all s code o before first pulls last behind ending place begins pulled last
 
 pub pulls_from_an_interval_are_decoding : SeekingIsDecoding
 pulls_from_an_interval_are_decoding s code o before first pulls last behind ending place begins pulled last_pulled ends =
-    let p = seek_all s code o before first pulls last behind ending place begins pulled last_pulled ends in
+    let p = seek_all pulls last behind ending place begins pulled last_pulled ends in
     (p.samples, p.used, p.parts, p.decoded)
 
 -- Pieces were pulled from there until there were n samples, and no block more.
@@ -371,11 +371,11 @@ pub record SeekEnough (s : Parameters) (code : List ℕ) (before : List ℤ) (fi
   pub limit : last.bits ≤ 2 ^ 52
 
 -- and up to a number of samples
-pub seek_enough : (s : Parameters) (code : List ℕ) (o : Origin) (before : List ℤ) (first : Stand) (pulls : List Pull) (n : ℕ) → IsPlace s code o before
+pub seek_enough : {s : Parameters} {code : List ℕ} {o : Origin} {before : List ℤ} {first : Stand} (pulls : List Pull) (n : ℕ) → IsPlace s code o before
     → IsStand s o first [] [] → ArePulled s code first pulls
     → o.samples + n ≤ (last_stand first pulls).samples → (last_stand first pulls).samples < o.samples + n + s.block → SeekEnough s code before first pulls (o.samples + n) n (last_stand first pulls)
-seek_enough s code o before first pulls n place begins pulled enough few =
-    let p = pulled_enough s code o first pulls n (inside_code s code o before place) begins pulled enough few in
+seek_enough {s} {code} {o} {before} {first} pulls n place begins pulled enough few =
+    let p = pulled_enough code pulls n (inside_code s code o before place) begins pulled enough few in
     let d = decoding_begins_afresh s begins.state.legal (bits_of code) before (take n p.samples) (Some n) Reached o.bits p.used place.begins p.decoded in
     record {
       samples = p.samples;
@@ -388,7 +388,7 @@ seek_enough s code o before first pulls n place begins pulled enough few =
 
 pub enough_behind_is_decoding : EnoughBehindIsDecoding
 enough_behind_is_decoding s code o before first pulls n place begins pulled enough few =
-    let p = seek_enough s code o before first pulls n place begins pulled enough few in
+    let p = seek_enough pulls n place begins pulled enough few in
     (p.samples, p.parts, p.decoded)
 
 -- no pull goes back
@@ -404,7 +404,7 @@ stands_tell_places s code o before first pulls place begins pulled at_start no_r
     let j : 1 ≤ s.block = grind (arith, legal.block) in
     let n = last.samples - o.samples in
     let far : o.samples ≤ last.samples = pulled_far s code o first pulls (inside_code s code o before place) begins pulled in
-    let p = pulled_enough s code o first pulls n (inside_code s code o before place) begins pulled (omega arith) (omega arith) in
+    let p = pulled_enough code pulls n (inside_code s code o before place) begins pulled (omega arith) (omega arith) in
     let xs = p.samples in
     let count : n ≡ length xs = omega (arith, p.count) in
     let whole : take n xs ≡ xs = ap (λ m. take m xs) count ∙ take-length xs in

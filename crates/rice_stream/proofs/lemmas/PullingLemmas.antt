@@ -49,8 +49,8 @@ all_drawn old mid new waiting bits told d c e =
     (draws_ahead old mid waiting [] bits told d).1 ∙ ap (λ l. bits ++ bits_of l) (nothing_left mid new c e) ∙ ap (λ l. bits ++ l) bits_of-nil ∙ append-nil bits
 
 -- the padding is that of the same place in a byte
-pads_as : (s : Parameters) (o : Origin) (taken bits len b n : ℕ) → MayBegin s o → taken % 8 ≡ bits % 8 → bits ≡ o.bits + len → padding s b (taken + n) ≡ padding s b (len + n)
-pads_as s o taken bits len b n begins e f = by_pad s.pad (place s b == 0)
+pads_as : (s : Parameters) (o : Origin) (taken : ℕ) {bits : ℕ} (len b n : ℕ) → MayBegin s o → taken % 8 ≡ bits % 8 → bits ≡ o.bits + len → padding s b (taken + n) ≡ padding s b (len + n)
+pads_as s o taken len b n begins e f = by_pad s.pad (place s b == 0)
     (λ pad. let g : o.bits % 8 ≡ 0 = begins pad in let same : (taken + n) % 8 ≡ (len + n) % 8 = omega arith in ap (λ v. (8 - v) % 8) same)
   where
     by_pad : (pad at : Bool) {x y : ℕ} → (pad ≡ true → x ≡ y) → cond (pad && at) x 0 ≡ cond (pad && at) y 0
@@ -75,13 +75,13 @@ module _ {I : Type 0} (s : Parameters) (stand next : Stand) (r new : Reader I) (
   gained o front given t h =
       let legal = h.state.legal in
       elim (took_block refl t.advances) [
-        | inl k ↦ gains_run s r new steps steps_new h.blocks stand.block h.begun stand.run next.run stand.previous front h.sets given xs legal h.here h.previous
+        | inl k ↦ gains_run legal h.here h.previous
             t.reads.going h.before h.has_sets h.decoded k.same k.steps_are k.gives.gives
         | inr k ↦
             let none : stand.run ≡ 0 = k.none in
             let end : h.blocks + stand.run ≡ h.blocks = omega arith in
-            gains_set s r new steps steps_new h.blocks stand.block h.begun next.run stand.previous front h.sets given xs legal h.here h.previous
-            (λ b n. pads_as s o r.taken stand.bits (length front) b n h.begins (t.aligned none) h.bits) h.before
+            gains_set legal h.here h.previous
+            (λ b n. pads_as s o r.taken (length front) b n h.begins (t.aligned none) h.bits) h.before
             (subst (λ (n : ℕ). HasSets s h.sets front n) end h.has_sets) (subst (λ (n : ℕ). DecodedSoFar s front h.begun h.blocks n given) none h.decoded) k.gives
       ]
 
@@ -178,29 +178,29 @@ never_long s b first last stand r new reads cut =
     one_left (Some xs) (Some ys) byte told c = omega (arith, ap length c)
 
 -- the decoder refuses
-refuses_next : {I : Type 0} (s : Parameters) (o : Origin) (stand : Stand) (r new : Reader I) (first last : ℕ) (front : List Bool) (given xs : List ℤ)
+refuses_next : {I : Type 0} (s : Parameters) (o : Origin) {stand : Stand} {r : Reader I} (new : Reader I) (first last : ℕ) (front : List Bool) (given xs : List ℤ)
     (fault : CodeFault) → IsReadFrom stand r → stand.run ≡ 0
     → StopsBy (with_mark r) new first last s stand.block (Err fault) → TakesNext s o front given stand r new xs (Err fault)
-refuses_next s o stand r new first last front given xs faults.CodeEnds reads none h = (none, ends_cut s stand.block first last r new reads.told h)
-refuses_next s o stand r new first last front given xs faults.RunPastSegment reads none h = let u = begins_unsound s stand.block first last r new _ reads.told h in (none, u.0, (tt, u.1))
-refuses_next s o stand r new first last front given xs faults.ResidualTooLarge reads none h = let u = begins_unsound s stand.block first last r new _ reads.told h in (none, u.0, (tt, u.1))
-refuses_next s o stand r new first last front given xs faults.Read reads none h = h.stops.refuses.1 ∙ ap (λ n. n + 1) reads.failed
-refuses_next s o stand r new first last front given xs faults.TooLong reads none h = never_long s stand.block first last stand r new reads h
+refuses_next s o {stand} {r} new first last front given xs faults.CodeEnds reads none h = (none, ends_cut s stand.block first last r new reads.told h)
+refuses_next s o {stand} {r} new first last front given xs faults.RunPastSegment reads none h = let u = begins_unsound s stand.block first last r new _ reads.told h in (none, u.0, (tt, u.1))
+refuses_next s o {stand} {r} new first last front given xs faults.ResidualTooLarge reads none h = let u = begins_unsound s stand.block first last r new _ reads.told h in (none, u.0, (tt, u.1))
+refuses_next s o new first last front given xs faults.Read reads none h = h.stops.refuses.1 ∙ ap (λ n. n + 1) reads.failed
+refuses_next s o {stand} {r} new first last front given xs faults.TooLong reads none h = never_long s stand.block first last stand r new reads h
 
 -- a refusal leaves the stand where it was
-pub stops_next : {I : Type 0} (s : Parameters) (o : Origin) (stand : Stand) (r new : Reader I) (steps steps_new : ℕ) (q : DecoderState) (front : List Bool)
-    (given xs : List ℤ) (fault : CodeFault) → IsReadFrom stand r
+pub stops_next : {I : Type 0} (s : Parameters) (o : Origin) {stand : Stand} {r new : Reader I} {steps steps_new : ℕ} {q : DecoderState} (front : List Bool)
+    (given : List ℤ) {xs : List ℤ} {fault : CodeFault} → IsReadFrom stand r
     → Advances r new steps steps_new (state_of s stand) q xs (Err fault) → TakesNext s o front given stand r new xs (Err fault)
-stops_next s o stand r new steps steps_new q front given xs fault reads a =
+stops_next s o {stand} {r} {new} {steps} {steps_new} front given {xs} {fault} reads a =
     elim (runs_or_not (state_of s stand)) [
       | inl lt ↦ absurd (let e = (a.in_run refl lt).0 in cc)
-      | inr none ↦ refuses_next s o stand r new steps steps_new front given xs fault reads none (a.reads refl none).0
+      | inr none ↦ refuses_next s o new steps steps_new front given xs fault reads none (a.reads refl none).0
     ]
 
 -- and so does the end
-pub done_next : {I : Type 0} (s : Parameters) (o : Origin) (stand : Stand) (r new : Reader I) (steps steps_new : ℕ) (q : DecoderState) (front : List Bool) (given xs : List ℤ) → IsReadFrom stand r
+pub done_next : {I : Type 0} (s : Parameters) (o : Origin) {stand : Stand} {r new : Reader I} {steps steps_new : ℕ} {q : DecoderState} (front : List Bool) (given : List ℤ) {xs : List ℤ} → IsReadFrom stand r
     → Advances r new steps steps_new (state_of s stand) q xs (Ok Done) → TakesNext s o front given stand r new xs (Ok None)
-done_next s o stand r new steps steps_new q front given xs reads a =
+done_next s o {stand} {r} {new} {steps} {steps_new} front given reads a =
     elim (runs_or_not (state_of s stand)) [
       | inl lt ↦ absurd (let e = (a.in_run refl lt).0 in cc)
       | inr none ↦ (none, ends_blank s stand.block steps steps_new r new reads.told (a.reads refl none).0)

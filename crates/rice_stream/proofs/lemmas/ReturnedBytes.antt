@@ -68,10 +68,10 @@ decoded_before s asked bits more xs ending used early d = record {
 }
 
 -- what the first of some bytes decode to, where that ends before them, all do
-from_front : (s : Parameters) → IsLegal s → (asked : Option ℕ) (bytes : List ℕ) (xs ys : List ℤ) (front left : List ℕ) (ending known : Ending) (used all : ℕ)
+from_front : {s : Parameters} → IsLegal s → {asked : Option ℕ} {bytes : List ℕ} {xs ys : List ℤ} (front left : List ℕ) {ending known : Ending} {used all : ℕ}
     → bytes ≡ front ++ left → EndsBefore ending
     → Decoded s (bits_of front) asked ys ending used → Decoded s (bits_of bytes) asked xs known all → (ys ≡ xs) × (ending ≡ known)
-from_front s legal asked bytes xs ys front left ending known used all split early d whole =
+from_front {s} legal {asked} {bytes} {xs} {ys} front left {ending} {known} {used} {all} split early d whole =
     let more = decoded_before s asked (bits_of front) (bits_of left) ys ending used early d in
     let bits : bits_of front ++ bits_of left ≡ bits_of bytes = sym (bits_of-append front left) ∙ ap bits_of (sym split) in
     let there = subst (λ (l : List Bool). Decoded s l asked ys ending used) bits more in
@@ -153,10 +153,10 @@ all_given encoding decoding consumed end = by_left decoding.left consumed end
     by_left (Some rest) c end = sym (append-nil decoding.given) ∙ ap (λ l. decoding.given ++ l) (sym end) ∙ sym c
 
 -- an output does not pass the limit of a code
-not_too_long : (s : Parameters) (encoding decoding : Call) → IsLegal s → (xs : List ℤ) → All (IsSample s) xs → (front : List ℕ) → encoding.written ≡ output s xs
+not_too_long : {s : Parameters} (encoding decoding : Call) → IsLegal s → (xs : List ℤ) → All (IsSample s) xs → {front : List ℕ} → encoding.written ≡ output s xs
     → encoding.given ≡ spellings s xs → length encoding.given ≤ 281474976710656
     → Consumes (Some encoding.written) decoding.left decoding.given → PassesLimit 562949953421312 decoding.given front → ⊥
-not_too_long s encoding decoding legal xs k front written bytes limit consumed passes =
+not_too_long {s} encoding decoding legal xs k {front} written bytes limit consumed passes =
     let given = ap length passes.split ∙ length-append front (passes.last ∷ []) in
     let parts = given_of encoding decoding consumed in
     let whole = ap length (sym written ∙ parts.1) ∙ length-append decoding.given parts.0 in
@@ -191,7 +191,7 @@ returns_bytes s legal enc dec encoded decoded fault encodes consumed decodes = b
     at_front : DecodesBytes s (Some encoded.samples) dec decoded dec.given ys decodes.ending → EndsBefore decodes.ending → (ys ≡ xs) × (decodes.ending ≡ Reached)
     at_front d early =
         let parts = given_of enc dec consumed in
-        from_front s legal (Some (length xs)) (output s xs) xs ys dec.given parts.0 decodes.ending Reached d.0 all.0 (sym written ∙ parts.1) early
+        from_front legal dec.given parts.0 (sym written ∙ parts.1) early
         (subst (λ (m : ℕ). Decoded s (bits_of dec.given) (Some m) ys decodes.ending d.0) n d.1) all.1
 
     not_at_end : IsAtEnd dec.left → DecodesBytes s (Some encoded.samples) dec decoded dec.given ys decodes.ending
@@ -209,7 +209,7 @@ returns_bytes s legal enc dec encoded decoded fault encodes consumed decodes = b
     by_fault None (d, inr (ended, none, end)) = absurd cc
     by_fault (Some Read) h = inr (inl refl)
     by_fault (Some Write) h = inr (inr refl)
-    by_fault (Some TooLong) h = absurd (not_too_long s enc dec legal xs encodes.ends.0.legal h.0.0 written bytes encodes.limit consumed h.0.1)
+    by_fault (Some TooLong) h = absurd (not_too_long enc dec legal xs encodes.ends.0.legal written bytes encodes.limit consumed h.0.1)
     by_fault (Some (CodeEnds samples)) (d, ends, end, count) = absurd (not_at_end end d ends)
     by_fault (Some (RunPastSegment block)) (d, past, count) = absurd (let reached = (at_front d (inr (inl past))).1 in cc)
     by_fault (Some (ResidualTooLarge block)) (d, large, count) = absurd (let reached = (at_front d (inr (inr large))).1 in cc)
@@ -240,7 +240,7 @@ returns_bytes_and_fill s legal enc dec encoded decoded fault encodes consumed de
     at_front : DecodesBytes s None dec decoded dec.given ys decodes.ending → EndsBefore decodes.ending → decodes.ending ≡ Ended
     at_front d early =
         let parts = given_of enc dec consumed in
-        (from_front s legal None (output s xs) (xs ++ all.0) ys dec.given parts.0 decodes.ending Ended d.0 (length (bits_of (output s xs))) (sym written ∙ parts.1) early d.1 all.2).1
+        (from_front legal dec.given parts.0 (sym written ∙ parts.1) early d.1 all.2).1
 
     at_end : IsAtEnd dec.left → DecodesBytes s None dec decoded dec.given ys decodes.ending → (ys ≡ xs ++ all.0) × (decodes.ending ≡ Ended)
     at_end end d =
@@ -254,7 +254,7 @@ returns_bytes_and_fill s legal enc dec encoded decoded fault encodes consumed de
         inl (refl, all.0, all.1, d.2.written ∙ ap (spellings s) (at_end end d).0 ∙ spellings-append s xs all.0 ∙ ap (λ l. l ++ spellings s all.0) (sym bytes))
     by_fault (Some Read) h = inr (inl refl)
     by_fault (Some Write) h = inr (inr refl)
-    by_fault (Some TooLong) h = absurd (not_too_long s enc dec legal xs encodes.ends.0.legal h.0.0 written bytes encodes.limit consumed h.0.1)
+    by_fault (Some TooLong) h = absurd (not_too_long enc dec legal xs encodes.ends.0.legal written bytes encodes.limit consumed h.0.1)
     by_fault (Some (CodeEnds samples)) (d, inl cut, end, count) = absurd (let ended = (at_end end d).1 in cc)
     by_fault (Some (CodeEnds samples)) (d, inr (ended, some), end, count) = absurd (let no : false ≡ true = some in cc)
     by_fault (Some (RunPastSegment block)) (d, past, count) = absurd (let ended = at_front d (inr (inl past)) in cc)

@@ -29,9 +29,9 @@ use Rattle.rice_stream.proofs.lemmas.RunsWritten.{Appends-split, all_wanted, mor
 use Rattle.rice_stream.proofs.lemmas.SpelledBlocks.{advances_spelled, spelled_front}
 
 -- the same with `more` steps before
-later_set : {I : Type 0} (more : ℕ) (old new : Reader I) (steps steps_new : ℕ) (s : Parameters) (b : ℕ) (p : ℤ) (samples : List ℤ) (run : ℕ)
+later_set : {I : Type 0} (more : ℕ) {old new : Reader I} {steps steps_new : ℕ} {s : Parameters} {b : ℕ} {p : ℤ} {samples : List ℤ} {run : ℕ}
     → GivesSet old new steps steps_new s b p samples run → GivesSet old new (steps + more) (steps_new + more) s b p samples run
-later_set more old new steps steps_new s b p samples run g =
+later_set more {steps} g =
     let t = g.set in
     record {
       middle = g.middle;
@@ -54,7 +54,7 @@ pub gives_with_more_steps : {I : Type 0} (more : ℕ) (old new : Reader I) (step
     → GivesBytes old new steps steps_new p q bytes → GivesBytes old new (steps + more) (steps_new + more) p q bytes
 gives_with_more_steps more old new steps steps_new p q bytes g = record {
   samples = g.samples;
-  answers = (later_set more (with_mark old) new steps steps_new p.setting p.block p.before g.samples q.run g.answers.0, g.answers.1);
+  answers = (later_set more g.answers.0, g.answers.1);
   spelled = g.spelled;
   by_bits = g.by_bits;
 }
@@ -66,18 +66,18 @@ bytes_apart s n bytes =
     ap (λ k. take k bytes) e ∙ take-add (width s * s.block) (width s * s.block * n) bytes
 
 -- one block is written
-pub one_on : {I : Type 0} {s : Parameters} {asked : Option ℕ} {start : Reader I} {out_old : Option Room} (more : ℕ) (out out_new : Option Room) (r m : Reader I)
-    (steps steps_m : ℕ) (p d : DecoderState) (bytes : List ℕ) (written : ℕ) → IsLegal s
+pub one_on : {I : Type 0} {s : Parameters} {asked : Option ℕ} {start : Reader I} {out_old : Option Room} (more : ℕ) {out out_new : Option Room} {r m : Reader I}
+    {steps steps_m : ℕ} {p d : DecoderState} {bytes : List ℕ} {written : ℕ} → IsLegal s
     → DecodingProgress s asked start out_old out p r (steps + more) written → p.run ≡ 0 → GivesBytes r m steps steps_m p d bytes
     → AreCounted steps steps_m r.taken m.taken → d.run ≡ 0 → wanted_of asked written s.block ≡ s.block
     → Appends out out_new (take (width s * s.block) bytes) → DecodingProgress s asked start out_old out_new d m (steps_m + (more + s.block)) (written + s.block)
-one_on {s = s} more out out_new r m steps steps_m p d bytes written legal runs none g counted none_new is put =
+one_on {s = s} more {out} {out_new} {r} {m} {steps} {steps_m} {p} {d} {bytes} legal runs none g counted none_new is put =
     let at = runs.at_block in
     let j : 2 ≤ s.block = grind (arith, legal.block) in
     let b = gives_with_more_steps more r m steps steps_m p d bytes g in
     let a = advances_spelled none b in
     let block = samples_of_block s at.setting at.going a in
-    let text = spelled_front s p.setting (width s) s.block b.samples bytes at.setting refl refl block.len b.spelled in
+    let text = spelled_front (width s) s.block b.samples bytes at.setting refl refl block.len b.spelled in
     let first = subst (λ (l : List ℕ). Appends out out_new l) text put in
     let by_bits = g.by_bits in
     let d_none : d.run * d.setting.block ≡ 0 = ap (λ k. k * d.setting.block) none_new ∙ omega arith in
@@ -85,15 +85,15 @@ one_on {s = s} more out out_new r m steps steps_m p d bytes written legal runs n
     let few : s.block + d.run * s.block ≤ p.run * s.block + 456 * (m.taken - r.taken) = omega (arith, block.len, by_bits, d_none, d_run) in
     let ticks : AreCounted (steps + more) (steps_m + more) r.taken m.taken =
     record { forward = counted.forward; limit = counted.limit; least = omega (arith, counted.least); most = omega (arith, counted.most) } in
-    progress_with_block s.block (steps_m + (more + s.block)) legal runs (sym is) (λ e. omega (arith, e, is, j)) (gains_block legal runs a) (moves_of at.going a)
+    progress_with_block legal runs (sym is) (λ e. omega (arith, e, is, j)) (gains_block legal runs a) (moves_of at.going a)
     (record { counted = ticks; few = few }) (omega arith) first
 
 -- a row that was written goes on with what was decoded so far
-pub progress_on_row : {I : Type 0} {s : Parameters} {asked : Option ℕ} {start : Reader I} {out_old : Option Room} (n more : ℕ) (out out_new : Option Room)
-    (r new : Reader I) (steps last : ℕ) (p q : DecoderState) (bytes : List ℕ) (written : ℕ) → IsLegal s
+pub progress_on_row : {I : Type 0} {s : Parameters} {asked : Option ℕ} {start : Reader I} {out_old : Option Room} (n more : ℕ) {out out_new : Option Room}
+    {r new : Reader I} (steps last : ℕ) {p q : DecoderState} (bytes : List ℕ) {written : ℕ} → IsLegal s
     → DecodingProgress s asked start out_old out p r (steps + more) written → p.run ≡ 0 → GivesRow n r new steps last p q bytes → IfSome asked (λ k. written + s.block * n ≤ k)
     → Appends out out_new (take (row_bytes s n) bytes) → DecodingProgress s asked start out_old out_new q new (last + (more + s.block * n)) (written + s.block * n)
-progress_on_row {I} {s = s} {asked = asked} {start = start} {out_old = out_old} zero more out out_new r new steps last p q bytes written legal runs none (same, same_steps, same_state) wanted put =
+progress_on_row {I} {s = s} {asked = asked} {start = start} {out_old = out_old} zero more {out} {out_new} {r} {new} steps last {p} bytes {written} legal runs none (same, same_steps, same_state) wanted put =
     let nothing : s.block * 0 ≡ 0 = omega arith in
     let no_bytes : row_bytes s 0 ≡ 0 = omega arith in
     let there = progress_put runs (subst (λ k. Appends out out_new (take k bytes)) no_bytes put) in
@@ -102,13 +102,13 @@ progress_on_row {I} {s = s} {asked = asked} {start = start} {out_old = out_old} 
     subst (λ (d : DecoderState). DecodingProgress s asked start out_old out_new d new (last + (more + s.block * 0)) (written + s.block * 0)) (sym same_state)
     (subst (λ (t : Reader I). DecodingProgress s asked start out_old out_new p t (last + (more + s.block * 0)) (written + s.block * 0)) (sym same)
     (subst (λ k. DecodingProgress s asked start out_old out_new p r k (written + s.block * 0)) a (subst (λ k. DecodingProgress s asked start out_old out_new p r (steps + more) k) b there)))
-progress_on_row {s = s} {asked = asked} {start = start} {out_old = out_old} (suc n) more out out_new r new steps last p q bytes written legal runs none
+progress_on_row {s = s} {asked = asked} {start = start} {out_old = out_old} (suc n) more {out} {out_new} {r} {new} steps last {p} {q} bytes {written} legal runs none
     (m, k, d, g, counted, none_new, rest) wanted put =
     let parts = Appends-split out out_new (take (width s * s.block) bytes) (take (row_bytes s n) (drop (width s * s.block) bytes)) (subst (λ l. Appends out out_new l) (bytes_apart s n bytes) put) in
-    let here = one_on more out parts.0 r m steps k p d bytes written legal runs none g counted none_new (all_wanted asked written s.block n wanted) parts.1 in
+    let here = one_on more {out_new = parts.0} legal runs none g counted none_new (all_wanted asked written s.block n wanted) parts.1 in
     let own : width p.setting * p.setting.block ≡ width s * s.block = ap (λ t. width t * t.block) runs.at_block.setting in
     let tail = subst (λ c. GivesRow n m new k last d q (drop c bytes)) own rest in
-    let done = progress_on_row n (more + s.block) parts.0 out_new m new k last d q (drop (width s * s.block) bytes) (written + s.block) legal here none_new tail
+    let done = progress_on_row n (more + s.block) {out_new = out_new} {new = new} k last {q = q} (drop (width s * s.block) bytes) legal here none_new tail
     (more_wanted asked written s.block n wanted) parts.2 in
     let all : s.block * suc n ≡ s.block + s.block * n = omega arith in
     let a : last + (more + s.block + s.block * n) ≡ last + (more + s.block * suc n) = omega (arith, all) in
@@ -118,13 +118,13 @@ progress_on_row {s = s} {asked = asked} {start = start} {out_old = out_old} (suc
 
 -- the outlet fails in a row
 pub fails_in_row : {I : Type 0} {s : Parameters} {asked : Option ℕ} {start : Reader I} {out_old : Option Room} {rep : Report} {f : Option Fault}
-    {left : Option (List ℕ)} {failed : ℕ} (n more : ℕ) (out room out_new : Option Room) (r new : Reader I) (steps last : ℕ)
-    (p q : DecoderState) (bytes : List ℕ) (written : ℕ) → IsLegal s
+    {left : Option (List ℕ)} {failed : ℕ} (n more : ℕ) {out room out_new : Option Room} {r new : Reader I} (steps last : ℕ)
+    {p : DecoderState} (q : DecoderState) (bytes : List ℕ) {written : ℕ} → IsLegal s
     → DecodingProgress s asked start out_old out p r (steps + more) written → p.run ≡ 0 → GivesRow (suc n) r new steps last p q bytes → IfSome asked (λ k. written + s.block * suc n ≤ k)
     → Appends out room (take (row_bytes s n) bytes) → TakesPart room out_new (take (row_bytes s 1) (drop (row_bytes s n) bytes))
     → Reports rep f left failed new (written + s.block * n) (last + (more + s.block * n)) (Some Write) → DecodesBetween s asked start.left left out_old out_new rep f
-fails_in_row {I} {s = s} {asked = asked} {start = start} {out_old = out_old} {rep = rep} {f = f} {left = left} {failed = failed} zero more out room out_new r
-    new steps last p q bytes written legal runs none (m, k, d, g, counted, none_new, (same, same_steps, same_state)) wanted put part tells =
+fails_in_row {I} {s = s} {asked = asked} {start = start} {out_old = out_old} {rep = rep} {f = f} {left = left} {failed = failed} zero more {out} {room} {out_new} {r}
+    {new} steps last {p} q bytes {written} legal runs none (m, k, d, g, counted, none_new, (same, same_steps, same_state)) wanted put part tells =
     let at = runs.at_block in
     let j : 2 ≤ s.block = grind (arith, legal.block) in
     let nothing : s.block * 0 ≡ 0 = omega arith in
@@ -134,7 +134,7 @@ fails_in_row {I} {s = s} {asked = asked} {start = start} {out_old = out_old} {re
     let b = gives_with_more_steps more r m steps k p d bytes g in
     let a = advances_spelled none b in
     let block = samples_of_block s at.setting at.going a in
-    let text = spelled_front s p.setting (width s) s.block b.samples bytes at.setting refl refl block.len b.spelled in
+    let text = spelled_front (width s) s.block b.samples bytes at.setting refl refl block.len b.spelled in
     let front : take (row_bytes s 1) (drop (row_bytes s 0) bytes) ≡ spellings s (take s.block b.samples) = (λ i. take (one i) (drop (no_bytes i) bytes)) ∙ text in
     let piece = subst (λ l. TakesPart room out_new l) front part in
     let is = all_wanted asked written s.block 0 wanted in
@@ -144,10 +144,10 @@ fails_in_row {I} {s = s} {asked = asked} {start = start} {out_old = out_old} {re
     (subst (λ x. Reports rep f left failed new x (k + more) (Some Write)) same_written
     (subst (λ x. Reports rep f left failed new (written + s.block * 0) x (Some Write)) ticked tells)) in
     write_ends s.block d legal there (sym is) (λ e. omega (arith, e, is, j)) (gains_block legal there a) piece told
-fails_in_row {s = s} {asked = asked} {start = start} {out_old = out_old} {rep = rep} {f = f} {left = left} {failed = failed} (suc n) more out room out_new r new
-    steps last p q bytes written legal runs none (m, k, d, g, counted, none_new, rest) wanted put part tells =
+fails_in_row {s = s} {asked = asked} {start = start} {out_old = out_old} {rep = rep} {f = f} {left = left} {failed = failed} (suc n) more {out} {room} {out_new} {r} {new}
+    steps last {p} q bytes {written} legal runs none (m, k, d, g, counted, none_new, rest) wanted put part tells =
     let parts = Appends-split out room (take (width s * s.block) bytes) (take (row_bytes s n) (drop (width s * s.block) bytes)) (subst (λ l. Appends out room l) (bytes_apart s n bytes) put) in
-    let here = one_on more out parts.0 r m steps k p d bytes written legal runs none g counted none_new (all_wanted asked written s.block (suc n) wanted) parts.1 in
+    let here = one_on more {out_new = parts.0} legal runs none g counted none_new (all_wanted asked written s.block (suc n) wanted) parts.1 in
     let own : width p.setting * p.setting.block ≡ width s * s.block = ap (λ t. width t * t.block) runs.at_block.setting in
     let tail = subst (λ c. GivesRow (suc n) m new k last d q (drop c bytes)) own rest in
     let all : s.block * suc n ≡ s.block + s.block * n = omega arith in
@@ -157,16 +157,16 @@ fails_in_row {s = s} {asked = asked} {start = start} {out_old = out_old} {rep = 
     (let e : width s * s.block * suc n ≡ width s * s.block + width s * s.block * n = omega arith in ap (λ c. drop c bytes) e ∙ sym (drop-drop (width s * s.block * n) (width s * s.block) bytes)) in
     let told = subst (λ x. Reports rep f left failed new x (last + (more + s.block + s.block * n)) (Some Write)) b
     (subst (λ x. Reports rep f left failed new (written + s.block * suc n) x (Some Write)) a tells) in
-    fails_in_row n (more + s.block) parts.0 room out_new m new k last d q (drop (width s * s.block) bytes) (written + s.block) legal here none_new tail
+    fails_in_row n (more + s.block) k last q (drop (width s * s.block) bytes) legal here none_new tail
     (more_wanted asked written s.block (suc n) wanted) parts.2
     (subst (λ l. TakesPart room out_new (take (row_bytes s 1) l)) bytes_on part) told
 
 -- a row that was cut
-pub row_cut : {I : Type 0} (s : Parameters) (all taken size : ℕ) (old new : Reader I) (steps steps_new : ℕ) (p q : DecoderState) (bytes row : List ℕ)
-    (out out_new : Option Room) → 1 ≤ size → size ≡ width s * s.block → row ≡ take (row_bytes s all) bytes → row_bytes s all ≤ length bytes
+pub row_cut : {I : Type 0} {s : Parameters} {all taken size : ℕ} {old new : Reader I} {steps steps_new : ℕ} {p q : DecoderState} {bytes row : List ℕ}
+    {out out_new : Option Room} → 1 ≤ size → size ≡ width s * s.block → row ≡ take (row_bytes s all) bytes → row_bytes s all ≤ length bytes
     → taken < length row → GivesRow (suc (taken / size)) old new steps steps_new p q bytes → Appends out out_new (take taken row)
     → FailsInRow s all old new steps steps_new p q bytes out out_new (s.block * (taken / size))
-row_cut s all taken size old new steps steps_new p q bytes row out out_new some wide is there short gives put =
+row_cut {s} {all} {taken} {size} {bytes} {row} {out} {out_new} some wide is there short gives put =
     let n = taken / size in
     let rest = taken % size in
     let below : rest < size = mod-lt taken (omega (arith, some)) in
@@ -208,16 +208,16 @@ record RowCosts {I : Type 0} (s : Parameters) (n : ℕ) (r new : Reader I) : Typ
   pub failures : new.failed ≡ r.failed
 
 -- the bits and steps of a row are those of its blocks
-row_costs : {I : Type 0} (n : ℕ) (s : Parameters) (r new : Reader I) (steps last : ℕ) (p q : DecoderState) (bytes : List ℕ) → p.setting ≡ s → p.stopped ≡ None
+row_costs : {I : Type 0} {n : ℕ} {s : Parameters} {r new : Reader I} (steps last : ℕ) (p q : DecoderState) (bytes : List ℕ) → p.setting ≡ s → p.stopped ≡ None
     → p.run ≡ 0 → GivesRow n r new steps last p q bytes → RowCosts s n r new
-row_costs {I} zero s r new steps last p q bytes setting going none (same, same_steps, same_state) =
+row_costs {I} {n = zero} {s} steps last p q bytes setting going none (same, same_steps, same_state) =
     let nothing : s.block * 0 ≡ 0 = omega arith in
     record { by_bits = omega (arith, nothing); forward = (let e = ap (λ (t : Reader I). t.taken) same in omega (arith, e)); failures = ap (λ (t : Reader I). t.failed) same }
-row_costs {I} (suc n) s r new steps last p q bytes setting going none (m, k, d, g, counted, none_new, rest) =
+row_costs {I} {n = suc n} {s} {new} steps last p q bytes setting going none (m, k, d, g, counted, none_new, rest) =
     let a = advances_spelled none g in
     let moves = moves_of going a in
     let block = samples_of_block s setting going a in
-    let on = row_costs n s m new k last d q (drop (width p.setting * p.setting.block) bytes) (ap (λ (t : DecoderState). t.setting) moves ∙ setting)
+    let on = row_costs {n = n} {r = m} {new = new} k last d q (drop (width p.setting * p.setting.block) bytes) (ap (λ (t : DecoderState). t.setting) moves ∙ setting)
     (ap (λ (t : DecoderState). t.stopped) moves ∙ going) none_new rest in
     let all : s.block * suc n ≡ s.block + s.block * n = omega arith in
     let by_bits = g.by_bits in
@@ -243,7 +243,7 @@ progress_with_row {s = s} {asked = asked} {start = start} {out_old = out_old} {o
     {steps = steps} {last = last} {written = written} {blocks = blocks} {count = count} {steps_next = steps_next} {bytes = bytes} legal runs none w wanted ticked =
     let zero_more : steps ≡ steps + 0 = omega arith in
     let begun = subst (λ k. DecodingProgress s asked start out_old out p r k written) zero_more runs in
-    let done = progress_on_row blocks 0 out out_new r new steps last p q bytes written legal begun none w.gives wanted w.put in
+    let done = progress_on_row blocks 0 {out_new = out_new} {new = new} steps last {q = q} bytes legal begun none w.gives wanted w.put in
     let c = w.count_is in
     let a : last + (0 + s.block * blocks) ≡ steps_next = omega (arith, ticked, c) in
     let b : written + s.block * blocks ≡ written + count = omega (arith, c) in
@@ -264,7 +264,7 @@ row_fails {s = s} {asked = asked} {start = start} {out_old = out_old} {out = out
     let a : steps_new ≡ last + (0 + s.block * w.blocks) = omega (arith, ticked, c) in
     let b : written + count ≡ written + s.block * w.blocks = omega (arith, c) in
     let told = subst (λ k. Reports rep f left failed new k (last + (0 + s.block * w.blocks)) (Some Write)) b (subst (λ k. Reports rep f left failed new (written + count) k (Some Write)) a tells) in
-    fails_in_row w.blocks 0 out w.room out_new r new steps last p q bytes written legal begun none w.gives (fewer_wanted asked written s.block (suc w.blocks) all w.within wanted) w.put w.part told
+    fails_in_row w.blocks 0 steps last q bytes legal begun none w.gives (fewer_wanted asked written s.block (suc w.blocks) all w.within wanted) w.put w.part told
 
 -- a row whose write fails is within the bounds
 pub row_fails_within : {I : Type 0} {s : Parameters} {asked : Option ℕ} {start : Reader I} {out_old out out_new : Option Room} {p q : DecoderState}
@@ -275,7 +275,7 @@ pub row_fails_within : {I : Type 0} {s : Parameters} {asked : Option ℕ} {start
 row_fails_within {s = s} {asked = asked} {p = p} {q = q} {r = r} {new = new} {steps = steps} {last = last} {written = written} {all = all} {count = count}
     {steps_new = steps_new} {bytes = bytes} {rep = rep} runs none w counted wanted ticked tells =
     let at = runs.at_block in
-    let costs = row_costs (suc w.blocks) s r new steps last p q bytes at.setting at.going none w.gives in
+    let costs = row_costs {n = suc w.blocks} {r = r} {new = new} steps last p q bytes at.setting at.going none w.gives in
     let more : s.block * suc w.blocks ≡ s.block + s.block * w.blocks = omega arith in
     let st = runs.has_steps in
     let c = w.count_is in
@@ -304,7 +304,7 @@ pub row_fails_so : {I : Type 0} {s : Parameters} {asked : Option ℕ} {start : R
     → Reports rep f left failed new (written + count) steps_new (Some Write) → Fails f start.failed failed writes writes_new
 row_fails_so {s = s} {start = start} {p = p} {q = q} {r = r} {new = new} {steps = steps} {last = last} {bytes = bytes} {failed = failed} writes writes_new runs none w more tells =
     let at = runs.at_block in
-    let costs = row_costs (suc w.blocks) s r new steps last p q bytes at.setting at.going none w.gives in
+    let costs = row_costs {n = suc w.blocks} {r = r} {new = new} steps last p q bytes at.setting at.going none w.gives in
     subst (λ g. Fails g start.failed failed writes writes_new) (sym tells.fault_is) (tells.failed_is ∙ (costs.failures ∙ runs.reads), more)
 
 -- bits are taken for a row
@@ -313,7 +313,7 @@ pub row_takes : {I : Type 0} {s : Parameters} {asked : Option ℕ} {start : Read
     → DecodingProgress s asked start out_old out p r steps written → p.run ≡ 0 → 1 ≤ blocks → WritesRow s blocks r new steps last p q bytes out out_new count → r.taken < new.taken
 row_takes {s = s} {p = p} {q = q} {r = r} {new = new} {steps = steps} {last = last} {blocks = blocks} {bytes = bytes} legal runs none some w =
     let at = runs.at_block in
-    let costs = row_costs blocks s r new steps last p q bytes at.setting at.going none w.gives in
+    let costs = row_costs {n = blocks} {r = r} {new = new} steps last p q bytes at.setting at.going none w.gives in
     let j : 2 ≤ s.block = grind (arith, legal.block) in
     let m : s.block * 1 ≤ s.block * blocks = mul-le-mul_left s.block some in
     let one : s.block * 1 ≡ s.block = omega arith in
@@ -328,12 +328,12 @@ in_block all taken size some short =
     lt_of_mul-lt-mul_left size (omega (arith, split, short))
 
 -- the row was cut in the block after these
-pub cut_behind : {I : Type 0} {s : Parameters} {old : Reader I} {steps more : ℕ} {p : DecoderState} {bytes : List ℕ} {out out_new : Option Room} (all taken size : ℕ) (row : List ℕ)
+pub cut_behind : {I : Type 0} {s : Parameters} {old : Reader I} {steps more : ℕ} {p : DecoderState} {bytes : List ℕ} {out out_new : Option Room} (all : ℕ) {taken size : ℕ} {row : List ℕ}
     → 1 ≤ size → size ≡ width s * s.block → row ≡ take (row_bytes s all) bytes → row_bytes s all ≤ length bytes → taken < length row
     → (b : StoodBehind (suc (taken / size)) old steps p bytes more) → Appends out out_new (take taken row)
     → FailsInRow s all old b.reader steps b.steps_there p b.state bytes out out_new (s.block * (taken / size))
-cut_behind {s = s} {old = old} {steps = steps} {p = p} {bytes = bytes} {out = out} {out_new = out_new} all taken size row some wide is there short b put =
-    row_cut s all taken size old b.reader steps b.steps_there p b.state bytes row out out_new some wide is there short b.row put
+cut_behind {s = s} {old = old} {steps = steps} {p = p} {bytes = bytes} {out = out} {out_new = out_new} all {taken} {size} {row} some wide is there short b put =
+    row_cut some wide is there short b.row put
 
 -- its bits and steps
 pub counted_behind : {I : Type 0} {n steps more : ℕ} {old : Reader I} {p : DecoderState} {bytes : List ℕ} → (b : StoodBehind n old steps p bytes more)
@@ -397,14 +397,14 @@ pub record FailsBehind {I : Type 0} (s : Parameters) (all : ℕ) (old : Reader I
   pub counted : AreCounted steps steps_there old.taken reader.taken
   pub tells : Reports rep f left failed reader (written + count) (steps_there + count) (Some Write)
 
-pub fails_behind : {I : Type 0} (s : Parameters) (all taken w size block written begin begun : ℕ) (old new : Reader I) (steps steps_new : ℕ) (p q : DecoderState) (bytes ends : List ℕ) (out out_new : Option Room)
-    (rep : Report) (f : Option Fault) (left : Option (List ℕ)) (failed : ℕ) → HasLanes s s.block w → size ≡ s.block → block ≡ s.block → w * s.block * all ≤ 480 → length bytes ≡ 512
+pub fails_behind : {I : Type 0} {s : Parameters} {all taken w size block written begin begun : ℕ} {old new : Reader I} {steps steps_new : ℕ} {p q : DecoderState} {bytes ends : List ℕ} {out out_new : Option Room}
+    {rep : Report} {f : Option Fault} {left : Option (List ℕ)} {failed : ℕ} → HasLanes s s.block w → size ≡ s.block → block ≡ s.block → w * s.block * all ≤ 480 → length bytes ≡ 512
     → GivesBlocks all old new steps steps_new p q bytes ends → begin ≡ old.taken → begun ≡ steps → length old.waiting ≤ 32768 → begin + length old.waiting ≤ 2 ^ 52
     → taken < length (take (w * size * all) bytes) → Appends out out_new (take taken (take (w * size * all) bytes))
     → (rep.samples ≡ written + block * (taken / (w * size))) × (rep.bits ≡ begin + slice_index_or ends (taken / (w * size)) 0)
     × (rep.steps ≡ begun + slice_index_or ends (taken / (w * size)) 0 + block * (taken / (w * size))) × (f ≡ Some Write)
     → left ≡ new.left → failed ≡ new.failed → FailsBehind s all old steps p bytes out out_new rep f left failed written
-fails_behind s all taken w size block written begin begun old new steps steps_new p q bytes ends out out_new rep f left failed has same own few long given at ticked waiting limit short put told left_is failed_is =
+fails_behind {s} {all} {taken} {w} {size} {block} {written} {old} {bytes} {ends} has same own few long given at ticked waiting limit short put told left_is failed_is =
     let row = lanes_row s w size all bytes has same few long in
     let n = taken / (w * size) in
     let more = slice_index_or ends n 0 in
@@ -416,16 +416,16 @@ fails_behind s all taken w size block written begin begun old new steps steps_ne
       steps_there = b.steps_there;
       state = b.state;
       count = s.block * n;
-      fails = cut_behind all taken (w * size) (take (w * size * all) bytes) row.some row.wide row.is row.there short b put;
+      fails = cut_behind all row.some row.wide row.is row.there short b put;
       counted = counted_behind b inside;
       tells = told_behind (written + s.block * n) (s.block * n) b given.waited waiting inside
           (told.0 ∙ ap (λ k. written + k) many, told.1 ∙ ap (λ k. k + more) at, told.2 ∙ (λ j. ticked j + more + many j), told.3) left_is failed_is;
     }
 
 -- all of it is written
-pub lanes_written : {I : Type 0} (s : Parameters) (all w size count : ℕ) (old new : Reader I) (steps steps_new : ℕ) (p q : DecoderState) (bytes ends : List ℕ) (out out_new : Option Room)
+pub lanes_written : {I : Type 0} {s : Parameters} {all w size count : ℕ} {old new : Reader I} {steps steps_new : ℕ} {p q : DecoderState} {bytes ends : List ℕ} (out out_new : Option Room)
     → HasLanes s s.block w → size ≡ s.block → w * s.block * all ≤ 480 → length bytes ≡ 512 → count ≡ s.block * all
     → GivesBlocks all old new steps steps_new p q bytes ends → Appends out out_new (take (w * size * all) bytes) → WritesRow s all old new steps steps_new p q bytes out out_new count
-lanes_written s all w size count old new steps steps_new p q bytes ends out out_new has same few long many given put =
+lanes_written {s} {all} {w} {size} {bytes} out out_new has same few long many given put =
     let row = lanes_row s w size all bytes has same few long in
     record { count_is = many; gives = given.row; put = subst (λ l. Appends out out_new l) row.is put }

@@ -124,11 +124,11 @@ more_wanted (Some k) written block n h = let le : written + block * suc n ≤ k 
 
 -- blocks of a run are written
 pub progress_on : {I : Type 0} {s : Parameters} {asked : Option ℕ} {start : Reader I} {out_old : Option Room} {r : Reader I} (blocks : ℕ)
-    (out out_new : Option Room) (p q : DecoderState) (steps written : ℕ) → IsLegal s
+    {out : Option Room} (out_new : Option Room) {p : DecoderState} (q : DecoderState) {steps written : ℕ} → IsLegal s
     → DecodingProgress s asked start out_old out p r steps written → RepeatsBlocks blocks p q → IfSome asked (λ n. written + s.block * blocks ≤ n)
     → Appends out out_new (spellings s (replicate (s.block * blocks) p.before))
     → DecodingProgress s asked start out_old out_new q r (steps + s.block * blocks) (written + s.block * blocks)
-progress_on {s = s} {asked = asked} {start = start} {out_old = out_old} {r = r} zero out out_new p q steps written legal runs same wanted put =
+progress_on {s = s} {asked = asked} {start = start} {out_old = out_old} {r = r} zero {out} out_new {p} q {steps} {written} legal runs same wanted put =
     let nothing : s.block * 0 ≡ 0 = omega arith in
     let none : spellings s (replicate (s.block * 0) p.before) ≡ [] = ap (λ n. spellings s (replicate n p.before)) nothing in
     let there = progress_put runs (subst (λ (l : List ℕ). Appends out out_new l) none put) in
@@ -136,7 +136,7 @@ progress_on {s = s} {asked = asked} {start = start} {out_old = out_old} {r = r} 
     let b : written ≡ written + s.block * 0 = omega (arith, nothing) in
     subst (λ (d : DecoderState). DecodingProgress s asked start out_old out_new d r (steps + s.block * 0) (written + s.block * 0)) (sym same)
     (subst (λ (n : ℕ). DecodingProgress s asked start out_old out_new p r n (written + s.block * 0)) a (subst (λ (n : ℕ). DecodingProgress s asked start out_old out_new p r steps n) b there))
-progress_on {s = s} {asked = asked} {start = start} {out_old = out_old} {r = r} (suc n) out out_new p q steps written legal runs (m, g, rest) wanted put =
+progress_on {s = s} {asked = asked} {start = start} {out_old = out_old} {r = r} (suc n) {out} out_new {p} q {steps} {written} legal runs (m, g, rest) wanted put =
     let x = p.before in
     let at = runs.at_block in
     let xs = replicate p.setting.block x in
@@ -153,11 +153,11 @@ progress_on {s = s} {asked = asked} {start = start} {out_old = out_old} {r = r} 
     let few : s.block + m.run * s.block ≤ p.run * s.block + 456 * (r.taken - r.taken) =
     (let e : p.run * s.block ≡ s.block + m.run * s.block = ap (λ k. k * s.block) more ∙ omega arith in omega (arith, e)) in
     let limit = runs.limit in
-    let here = progress_with_block s.block (steps + s.block) legal runs (sym is) (λ none. omega (arith, none, is, j)) (gains_block legal runs (advances_in_run r steps p m xs g)) g.moves
+    let here = progress_with_block {steps_next = steps + s.block} legal runs (sym is) (λ none. omega (arith, none, is, j)) (gains_block legal runs (advances_in_run r steps p m xs g)) g.moves
     (record { counted = record { forward = omega arith; limit = limit; least = omega arith; most = omega arith }; few = few }) refl first in
     let before : m.before ≡ x = ap (λ r. r.before) g.moves ∙ last_replicate x p.setting.block in
     let second = subst (λ (z : ℤ). Appends parts.0 out_new (spellings s (replicate (s.block * n) z))) (sym before) parts.2 in
-    let done = progress_on n parts.0 out_new m q (steps + s.block) (written + s.block) legal here rest (more_wanted asked written s.block n wanted) second in
+    let done = progress_on n out_new q legal here rest (more_wanted asked written s.block n wanted) second in
     let a : steps + s.block + s.block * n ≡ steps + s.block * suc n = omega (arith, all) in
     let b : written + s.block + s.block * n ≡ written + s.block * suc n = omega (arith, all) in
     subst (λ (k : ℕ). DecodingProgress s asked start out_old out_new q r k (written + s.block * suc n)) a
@@ -171,7 +171,7 @@ pub progress_with_run : {I : Type 0} {s : Parameters} {asked : Option ℕ} {star
 progress_with_run {s = s} {asked = asked} {start = start} {out_old = out_old} {out = out} {out_new = out_new} {p = p} {q = q} {r = r} {steps = steps}
     {written = written} {count = count} legal runs w ticked =
     let e = w.count_is in
-    let done = progress_on w.blocks out out_new p q steps written legal runs w.passes (subst (λ (n : ℕ). IfSome asked (λ k. written + n ≤ k)) e w.wanted)
+    let done = progress_on w.blocks out_new q legal runs w.passes (subst (λ (n : ℕ). IfSome asked (λ k. written + n ≤ k)) e w.wanted)
     (subst (λ (n : ℕ). Appends out out_new (spellings s (replicate n p.before))) e w.put) in
     let at = subst (λ (n : ℕ). DecodingProgress s asked start out_old out_new q r (steps + n) (written + n)) (sym e) done in
     subst (λ (n : ℕ). DecodingProgress s asked start out_old out_new q r n (written + count)) (sym ticked) at
@@ -186,7 +186,7 @@ run_fails {s = s} {asked = asked} {start = start} {out_old = out_old} {out = out
     let e = w.count_is in
     let middle = w.middle in
     let so_far : IfSome asked (λ k. written + s.block * w.blocks ≤ k) = by_asked asked w.wanted in
-    let done = progress_on w.blocks out w.room p middle steps written legal runs w.passes so_far (subst (λ (n : ℕ). Appends out w.room (spellings s (replicate n p.before))) e w.put) in
+    let done = progress_on w.blocks w.room middle legal runs w.passes so_far (subst (λ (n : ℕ). Appends out w.room (spellings s (replicate n p.before))) e w.put) in
     let at = subst (λ (n : ℕ). DecodingProgress s asked start out_old w.room middle r (steps + n) (written + n)) (sym e) done in
     let kept = stays_behind w.blocks p middle w.passes in
     let m = w.next.0 in
@@ -269,11 +269,11 @@ part_of old new bytes r short h = record {
 }
 
 -- an outlet failed behind so many bytes of the blocks of a run
-pub run_cut : (s : Parameters) (asked : Option ℕ) (written m taken w b : ℕ) (p q : DecoderState) (old new : Option Room) (spelled : List ℕ) → 1 ≤ s.block → 1 ≤ width s → w ≡ width s → b ≡ s.block
+pub run_cut : {s : Parameters} {asked : Option ℕ} {written : ℕ} (m : ℕ) {taken w b : ℕ} {p : DecoderState} (q : DecoderState) {old new : Option Room} {spelled : List ℕ} → 1 ≤ s.block → 1 ≤ width s → w ≡ width s → b ≡ s.block
     → RepeatsBlocks m p q → q.run + m ≡ p.run → IfSome asked (λ n. written + s.block * m ≤ n) → spelled ≡ spellings s (replicate (b * m) p.before)
     → taken < length spelled → Appends old new (take taken spelled)
     → FailsInRun s asked written p old new (taken / (w * b) * b)
-run_cut s asked written m taken w b p q old new spelled some some_bytes wide size passes left wanted is short put =
+run_cut {s} {asked} {written} m {taken} {w} {b} {p} q {old} {new} {spelled} some some_bytes wide size passes left wanted is short put =
     let x = p.before in
     let j = s.block in
     let each = width s * j in

@@ -102,11 +102,11 @@ few_steps_so_far s seam xs h =
     omega (arith, small, few_all (width s) (length xs) 0 (some_width s) (omega (arith, h.limit)))
 
 -- where the samples make whole segments, the encoding's place is a seam
-pub seam_of : {N : ℕ} (s : Parameters) (old : Beginning) (now : Option Room) (e : Encoding N) (seam : Seam) (xs : List ℤ) → IsEncodingOf s old now e xs
+pub seam_of : {N : ℕ} {s : Parameters} {old : Beginning} {now : Option Room} {e : Encoding N} {seam : Seam} {xs : List ℤ} → IsEncodingOf s old now e xs
     → cut s (length xs) ≡ length xs → width s * length xs ≤ 281474976710656 →
     seam.samples ≡ e.samples → seam.bits ≡ e.bits → seam.steps ≡ e.meter → seam.previous ≡ e.coder.previous → seam.start ≡ e.coder.start
     → seam.waiting_bits ≡ length e.sink → word (length e.sink) seam.waiting ≡ e.sink → seam.waiting < 2 ^ length e.sink → length e.sink < 8 → IsSeam s seam xs
-seam_of s old now e seam xs h all limit samples bits steps previous start count digits fits few =
+seam_of {s} {e} {seam} {xs} h all limit samples bits steps previous start count digits fits few =
     let nothing : e.coder ≡ state_between e.coder.setting e.coder.start e.coder.previous = holds_nothing e.coder xs h.counts.stands (ap (λ t. cut t (length xs)) h.counts.setting ∙ all) in
     let same : e.coder ≡ state_between s seam.start seam.previous = nothing ∙ (λ i. state_between (h.counts.setting i) (sym start i) (sym previous i)) in
     record {
@@ -150,11 +150,11 @@ cut_grows s seam xs n h le =
     omega (arith, up, k.1, all)
 
 -- an encoding that ends between two segments leaves a seam
-pub goes_on : {N : ℕ} (s : Parameters) (old new : Option Room) (e : Encoding N) (at seam : Seam) (xs : List ℤ) (bytes : List ℕ) (count : ℕ) → IsSeam s at xs
+pub goes_on : {N : ℕ} {s : Parameters} {old new : Option Room} {e : Encoding N} {at seam : Seam} {xs : List ℤ} {bytes : List ℕ} (count : ℕ) → IsSeam s at xs
     → TakesAll s (behind s xs old) new e xs (take (width s * count) bytes) →
     length xs + count ≡ samples_to_take s xs bytes → width s * count ≤ length bytes → bytes_in_all s xs bytes ≤ 281474976710656 →
     ((ys : List ℤ) → IsEncodingOf s (behind s xs old) new e ys → cut s (length ys) ≡ length ys → width s * length ys ≤ 281474976710656 → IsSeam s seam ys) → TakesPiece s xs bytes old new seam
-goes_on s old new e at seam xs bytes count h t is within limit stands =
+goes_on {s} {e} {xs} {bytes} count h t is within limit stands =
     let w = width s in
     let len = length-take-le (w * count) bytes within in
     let spelled = none_left s t.more (take (w * count) bytes) t.rest count t.reads t.few len in

@@ -8,11 +8,11 @@ use Rattle.rice_code.specs.code.Layout.{Lies, block_after, padding}
 use Rattle.rice_stream.specs.DecodingState.{HasSets}
 
 -- one more coded data set lies after others
-lies-push : (s : Parameters) (b at position place : ℕ) (ds : List CodedDataSet) (bits : List Bool) (d : CodedDataSet) (skipped : List Bool)
+lies-push : (s : Parameters) (b : ℕ) {at : ℕ} (position : ℕ) {place : ℕ} (ds : List CodedDataSet) (bits : List Bool) (d : CodedDataSet) (skipped : List Bool)
     → at ≡ b + length (blocks_in_all s b ds) → place ≡ position + length bits → Lies s b position ds bits
     → length skipped ≡ padding s (block_after s at d) (place + length (bits_of_set s d))
     → Lies s b position (ds ++ d ∷ []) (bits ++ (bits_of_set s d ++ skipped))
-lies-push s b at position place [] bits d skipped e f lies pads =
+lies-push s b {at} position {place} [] bits d skipped e f lies pads =
     let here : at ≡ b = omega (arith, e) in
     let there : place ≡ position = omega (arith, f, ap length lies) in
     let text = bits_of_set s d in (
@@ -22,7 +22,7 @@ lies-push s b at position place [] bits d skipped e f lies pads =
       (λ i. lies i ++ (text ++ skipped)) ∙ ap (λ v. text ++ v) (sym (append-nil skipped)),
       refl,
     )
-lies-push s b at position place (x ∷ ds) bits d skipped e f lies pads =
+lies-push s b {at} position {place} (x ∷ ds) bits d skipped e f lies pads =
     let more = bits_of_set s d ++ skipped in
     let text = bits_of_set s x in
     let ahead = text ++ lies.0 in
@@ -33,18 +33,18 @@ lies-push s b at position place (x ∷ ds) bits d skipped e f lies pads =
       lies.1 ++ more,
       lies.2,
       ap (λ v. v ++ more) lies.3 ∙ append_assoc text (lies.0 ++ lies.1) more ∙ ap (λ v. text ++ v) (append_assoc lies.0 lies.1 more),
-      lies-push s (block_after s b x) at (position + length ahead) place ds lies.1 d skipped at_is place_is lies.4 pads,
+      lies-push s (block_after s b x) (position + length ahead) ds lies.1 d skipped at_is place_is lies.4 pads,
     )
 
 -- one coded data set more is taken behind the others
-taken-push : (s : Parameters) (b at : ℕ) (ds : List CodedDataSet) (d : CodedDataSet) → at ≡ b + length (blocks_in_all s b ds) → AreTaken s None b ds
+taken-push : (s : Parameters) (b : ℕ) {at : ℕ} (ds : List CodedDataSet) (d : CodedDataSet) → at ≡ b + length (blocks_in_all s b ds) → AreTaken s None b ds
     → IsForm s at d → RunIsSound s at d → ResidualsAreSound s d → AreTaken s None b (ds ++ d ∷ [])
-taken-push s b at [] d e taken form run residuals =
+taken-push s b {at} [] d e taken form run residuals =
     let here : at ≡ b = omega (arith, e) in
     (tt, subst (λ n. IsForm s n d) here form, subst (λ n. RunIsSound s n d) here run, residuals, tt)
-taken-push s b at (x ∷ ds) d e taken form run residuals =
+taken-push s b {at} (x ∷ ds) d e taken form run residuals =
     let at_is : at ≡ block_after s b x + length (blocks_in_all s (block_after s b x) ds) = omega (arith, e, length-append (blocks_in s b x) (blocks_in_all s (block_after s b x) ds)) in
-    (tt, taken.1, taken.2, taken.3, taken-push s (block_after s b x) at ds d at_is taken.4 form run residuals)
+    (tt, taken.1, taken.2, taken.3, taken-push s (block_after s b x) ds d at_is taken.4 form run residuals)
 
 -- and its blocks stand behind theirs
 blocks-push : (s : Parameters) (b at : ℕ) (ds : List CodedDataSet) (d : CodedDataSet) → at ≡ b + length (blocks_in_all s b ds)
@@ -58,15 +58,15 @@ blocks-push s b at (x ∷ ds) d e =
     omega (arith, blocks-push s next at ds d at_is, length-append (blocks_in s b x) (blocks_in_all s next (ds ++ d ∷ [])), length-append (blocks_in s b x) (blocks_in_all s next ds))
 
 -- one more coded data set was read, with its padding
-pub sets-push : (s : Parameters) (sets : List CodedDataSet) (front skipped : List Bool) (b after : ℕ) (d : CodedDataSet) → HasSets s sets front b
+pub sets-push : {s : Parameters} {sets : List CodedDataSet} {front : List Bool} (skipped : List Bool) {b after : ℕ} (d : CodedDataSet) → HasSets s sets front b
     → IsForm s b d → RunIsSound s b d → ResidualsAreSound s d → length skipped ≡ padding s (block_after s b d) (length front + length (bits_of_set s d))
     → after ≡ b + length (blocks_in s b d) → HasSets s (sets ++ d ∷ []) (front ++ (bits_of_set s d ++ skipped)) after
-sets-push s sets front skipped b after d has form run residuals pads e =
+sets-push {s} {sets} {front} skipped {b} d has form run residuals pads e =
     let at : b ≡ 0 + length (blocks_in_all s 0 sets) = omega (arith, has.end) in
     let place : length front ≡ 0 + length front = omega arith in
     record {
-      lie = lies-push s 0 b 0 (length front) sets front d skipped at place has.lie pads;
-      sound = taken-push s 0 b sets d at has.sound form run residuals;
+      lie = lies-push s 0 0 sets front d skipped at place has.lie pads;
+      sound = taken-push s 0 sets d at has.sound form run residuals;
       end = blocks-push s 0 b sets d at ∙ omega (arith, has.end, e);
     }
 

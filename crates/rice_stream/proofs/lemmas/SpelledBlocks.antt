@@ -30,10 +30,10 @@ advances_spelled {p = p} none g = record {
 }
 
 -- the bytes that are written of it
-pub spelled_front : (s t : Parameters) (w count : ℕ) (samples : List ℤ) (bytes : List ℕ) → t ≡ s → w ≡ width s → count ≡ s.block → length samples ≡ s.block
+pub spelled_front : {s t : Parameters} (w count : ℕ) (samples : List ℤ) (bytes : List ℕ) → t ≡ s → w ≡ width s → count ≡ s.block → length samples ≡ s.block
     → take (width t * length samples) bytes ≡ spellings t samples
     → take (w * count) bytes ≡ spellings s (take count samples)
-spelled_front s t w count samples bytes same wide all len spelled =
+spelled_front {s} w count samples bytes same wide all len spelled =
     let many : count ≡ length samples = omega (arith, all, len) in
     let whole : take count samples ≡ samples = take_all count samples (omega (arith, many)) in
     (λ j. take (wide j * many j) bytes) ∙ (subst (λ (u : Parameters). take (width u * length samples) bytes ≡ spellings u samples) same spelled ∙ ap (spellings s) (sym whole))

@@ -64,25 +64,25 @@ nothing_more {s = s} {stand = stand} {next = next} {q = q} {r = r} {new = new} e
     }))
 
 -- the same stand by other numbers
-other_numbers : {I : Type 0} {s : Parameters} {stand : Stand} (q : DecoderState) {r new : Reader I} {xs : List ℤ} (samples bits steps samples_new bits_new steps_new : ℕ)
+other_numbers : {I : Type 0} {s : Parameters} {stand : Stand} {q : DecoderState} {r new : Reader I} {xs : List ℤ} {samples bits steps samples_new bits_new steps_new : ℕ}
     → samples ≡ samples_new → bits ≡ bits_new → steps ≡ steps_new → GivesMore s stand (stand_at samples bits steps q) q r new xs → GivesMore s stand (stand_at samples_new bits_new steps_new q) q r new xs
-other_numbers {s = s} {stand = stand} q {r = r} {new = new} {xs = xs} samples bits steps samples_new bits_new steps_new a b c g =
+other_numbers {s = s} {stand = stand} {q} {r = r} {new = new} {xs = xs} a b c g =
     subst (λ (n : Stand). GivesMore s stand n q r new xs) (λ i. stand_at (a i) (b i) (c i) q) g
 
 -- ---- a run
 
 -- blocks of a run
-pub run_on : {I : Type 0} (n : ℕ) (s : Parameters) (stand : Stand) (q : DecoderState) (r : Reader I) (o : Origin) (front : List Bool) (given : List ℤ)
+pub run_on : {I : Type 0} (n : ℕ) {s : Parameters} {stand : Stand} (q : DecoderState) {r : Reader I} {o : Origin} {front : List Bool} {given : List ℤ}
     → IsStand s o stand front given → IsReadFrom stand r → RepeatsBlocks n (state_of s stand) q
     → GivesMore s stand (stand_at (stand.samples + s.block * n) stand.bits (stand.steps + s.block * n) q) q r r (replicate (s.block * n) stand.previous)
-run_on zero s stand q r o front given h reads same =
+run_on zero {s} {stand} q {r} h reads same =
     let nothing : s.block * 0 ≡ 0 = omega arith in
     let a : stand.samples + s.block * 0 ≡ stand.samples = omega arith in
     let b : stand.steps + s.block * 0 ≡ stand.steps = omega arith in
     let here : stand_at (stand.samples + s.block * 0) stand.bits (stand.steps + s.block * 0) q ≡ stand = (λ i. stand_at (a i) stand.bits (b i) (same i)) in
     subst (λ n. GivesMore s stand (stand_at (stand.samples + s.block * 0) stand.bits (stand.steps + s.block * 0) q) q r r (replicate n stand.previous)) (sym nothing)
     (nothing_more here refl same reads)
-run_on (suc n) s stand q r o front given h reads (m, g, rest) =
+run_on (suc n) {s} {stand} q {r} {o} {front} {given} h reads (m, g, rest) =
     let x = stand.previous in
     let p = state_of s stand in
     let xs = replicate s.block x in
@@ -111,7 +111,7 @@ run_on (suc n) s stand q r o front given h reads (m, g, rest) =
     let first = gives_one o front given h same t in
     let known = first.gives o front given h in
     let rest_here = subst (λ (d : DecoderState). RepeatsBlocks n d q) same rest in
-    let second = run_on n s middle q r o (front ++ known.bits) (given ++ xs) known.stands first.goes_on.reads rest_here in
+    let second = run_on n q known.stands first.goes_on.reads rest_here in
     let both = one_and_more first second in
     let all : s.block + s.block * n ≡ s.block * suc n = omega arith in
     let text : xs ++ replicate (s.block * n) m.before ≡ replicate (s.block * suc n) x =
@@ -119,7 +119,7 @@ run_on (suc n) s stand q r o front given h reads (m, g, rest) =
     let samples : stand.samples + s.block + s.block * n ≡ stand.samples + s.block * suc n = omega (arith, all) in
     let steps : stand.steps + s.block + s.block * n ≡ stand.steps + s.block * suc n = omega (arith, all) in
     subst (λ (l : List ℤ). GivesMore s stand (stand_at (stand.samples + s.block * suc n) stand.bits (stand.steps + s.block * suc n) q) q r r l) text
-    (other_numbers q _ _ _ _ _ _ samples refl steps both)
+    (other_numbers samples refl steps both)
 
 -- ---- blocks that were spelled
 
@@ -132,12 +132,12 @@ pub record RowGiven {I : Type 0} (s : Parameters) (blocks : ℕ) (stand next : S
   pub forward : r.taken ≤ new.taken
 
 -- one of them
-pub spelled_on : {I : Type 0} (more : ℕ) (s : Parameters) (stand : Stand) (q : DecoderState) (r new : Reader I) (steps last : ℕ) (bytes : List ℕ) (o : Origin) (front : List Bool) (given : List ℤ)
+pub spelled_on : {I : Type 0} (more : ℕ) {s : Parameters} {stand : Stand} {q : DecoderState} {r new : Reader I} {steps last : ℕ} {bytes : List ℕ} {o : Origin} {front : List Bool} {given : List ℤ}
     → IsStand s o stand front given → IsReadFrom stand r → r.taken % 8 ≡ stand.bits % 8 → stand.run ≡ 0 → stand.steps ≡ steps + more
     → IsDecoderState s q.block q.before q.run None → q.setting ≡ s → q.stopped ≡ None
     → GivesBytes r new steps last (state_of s stand) q bytes → AreCounted steps last r.taken new.taken
     → RowGiven s 1 stand (stand_at (stand.samples + s.block) (stand.bits + (new.taken - r.taken)) (last + (more + s.block)) q) q r new bytes
-spelled_on more s stand q r new steps last bytes o front given h reads aligned none ticked state setting stopped g counted =
+spelled_on more {s} {stand} {q} {r} {new} {steps} {last} {bytes} {o} {front} {given} h reads aligned none ticked state setting stopped g counted =
     let p = state_of s stand in
     let b = gives_with_more_steps more r new steps last p q bytes g in
     let a = advances_spelled none b in
@@ -169,11 +169,11 @@ spelled_on more s stand q r new steps last bytes o front given h reads aligned n
     }
 
 -- several
-pub row_on : {I : Type 0} (n more : ℕ) (s : Parameters) (stand : Stand) (q : DecoderState) (r new : Reader I) (steps last : ℕ) (bytes : List ℕ) (o : Origin) (front : List Bool) (given : List ℤ)
+pub row_on : {I : Type 0} {n : ℕ} (more : ℕ) {s : Parameters} {stand : Stand} {q : DecoderState} {r new : Reader I} (steps last : ℕ) {bytes : List ℕ} {o : Origin} {front : List Bool} {given : List ℤ}
     → IsStand s o stand front given → IsReadFrom stand r → r.taken % 8 ≡ stand.bits % 8 → stand.run ≡ 0 → stand.steps ≡ steps + more
     → GivesRow n r new steps last (state_of s stand) q bytes
     → RowGiven s n stand (stand_at (stand.samples + s.block * n) (stand.bits + (new.taken - r.taken)) (last + (more + s.block * n)) q) q r new bytes
-row_on {I} zero more s stand q r new steps last bytes o front given h reads aligned none ticked (same_reader, same_steps, same) =
+row_on {I} {n = zero} more {s} {stand} {q} {r} {new} steps last {bytes} h reads aligned none ticked (same_reader, same_steps, same) =
     let nothing : s.block * 0 ≡ 0 = omega arith in
     let taken : new.taken ≡ r.taken = ap (λ (t : Reader I). t.taken) same_reader in
     let a : stand.samples + s.block * 0 ≡ stand.samples = omega arith in
@@ -188,7 +188,7 @@ row_on {I} zero more s stand q r new steps last bytes o front given h reads alig
       spelled = ap (λ k. take k bytes) no_bytes;
       forward = omega (arith, taken);
     }
-row_on {I} (suc n) more s stand q r new steps last bytes o front given h reads aligned none ticked (m, k, d, g, counted, none_new, rest) =
+row_on {I} {n = suc n} more {s} {stand} {q} {r} {new} steps last {bytes} {o} {front} {given} h reads aligned none ticked (m, k, d, g, counted, none_new, rest) =
     let p = state_of s stand in
     let a = advances_spelled none g in
     let moves = moves_of refl a in
@@ -200,11 +200,11 @@ row_on {I} (suc n) more s stand q r new steps last bytes o front given h reads a
     let state : IsDecoderState s d.block d.before d.run None =
     place_moves d.run d.before None h.state.legal h.state.within (ap (λ (t : DecoderState). t.block) moves)
     (subst (IsSample s) (sym before) last_is) (λ lt. absurd (omega (arith, lt, none_new))) h.state.no_block in
-    let one = spelled_on more s stand d r m steps k bytes o front given h reads aligned none ticked state setting stopped g counted in
+    let one = spelled_on more h reads aligned none ticked state setting stopped g counted in
     let known = one.more.gives o front given h in
     let middle = stand_at (stand.samples + s.block) (stand.bits + (m.taken - r.taken)) (k + (more + s.block)) d in
     let rest_here = subst (λ (t : DecoderState). GivesRow n m new k last t q (drop (width s * s.block) bytes)) one.more.goes_on.state rest in
-    let on = row_on n (more + s.block) s middle q m new k last (drop (width s * s.block) bytes) o (front ++ known.bits) (given ++ one.samples) known.stands
+    let on = row_on {n = n} (more + s.block) {q = q} {new = new} k last {bytes = drop (width s * s.block) bytes} known.stands
     one.more.goes_on.reads (one.more.goes_on.aligned aligned) none_new refl rest_here in
     let both = one_and_more one.more on.more in
     let all : s.block * suc n ≡ s.block + s.block * n = omega arith in
@@ -219,7 +219,7 @@ row_on {I} (suc n) more s stand q r new steps last bytes o front given h reads a
     let front_spelled : take (width s * s.block) bytes ≡ spellings s one.samples = ap (λ j. take (width s * j) bytes) (sym one_block) ∙ one.spelled in
     record {
       samples = one.samples ++ on.samples;
-      more = other_numbers q _ _ _ _ _ _ samples_are bits_are steps_are both;
+      more = other_numbers samples_are bits_are steps_are both;
       len = lens;
       spelled = ap (λ j. take j bytes) e ∙ take-add (width s * s.block) (width s * (s.block * n)) bytes
           ∙ (λ i. front_spelled i ++ on.spelled i) ∙ sym (spellings-append s one.samples on.samples);
@@ -237,17 +237,17 @@ pub record GivesStroke {I : Type 0} (s : Parameters) (stand next : Stand) (q : D
   pub spelled : take len bytes ≡ spellings s samples
 
 -- a run
-pub run_stroke : {I : Type 0} (s : Parameters) (stand next : Stand) (p q : DecoderState) (r : Reader I) (w b n at : ℕ) (x : ℤ) (out out_new : List ℕ) (o : Origin) (front : List Bool) (given : List ℤ)
+pub run_stroke : {I : Type 0} {s : Parameters} {stand next : Stand} {p q : DecoderState} {r : Reader I} {w b n at : ℕ} {x : ℤ} {out out_new : List ℕ} {o : Origin} {front : List Bool} {given : List ℤ}
     → IsStand s o stand front given → IsReadFrom stand r → p ≡ state_of s stand → RepeatsBlocks n p q → w ≡ width s → b ≡ s.block → 1 ≤ w → 1 ≤ b → 1 ≤ n
     → next ≡ stand_at (stand.samples + b * n) (stand.bits + (r.taken - r.taken)) (stand.steps + b * n) q → x ≡ p.before
     → out_new ≡ take at out ++ (spellings s (replicate (b * n) x) ++ drop (at + width s * (b * n)) out) → WritesStroke s stand next q r r (w * (b * n)) at out out_new
-run_stroke s stand next p q r w b n at x out out_new o front given h reads state passes wide many w_some b_some n_some is same wrote =
+run_stroke {s} {stand} {next} {q} {r} {w} {b} {n} {at} {x} {out} {o} {front} {given} h reads state passes wide many w_some b_some n_some is same wrote =
     let count : b * n ≡ s.block * n = ap (λ k. k * n) many in
     let size : w * (b * n) ≡ width s * (s.block * n) = (λ i. wide i * count i) in
     let bits : stand.bits + (r.taken - r.taken) ≡ stand.bits = omega arith in
     let there : next ≡ stand_at (stand.samples + s.block * n) stand.bits (stand.steps + s.block * n) q = is ∙ (λ i. stand_at (stand.samples + count i) (bits i) (stand.steps + count i) q) in
     let before : x ≡ stand.previous = same ∙ ap (λ (d : DecoderState). d.before) state in
-    let on = run_on n s stand q r o front given h reads (subst (λ (d : DecoderState). RepeatsBlocks n d q) state passes) in
+    let on = run_on n q h reads (subst (λ (d : DecoderState). RepeatsBlocks n d q) state passes) in
     record {
       samples = replicate (s.block * n) stand.previous;
       more = subst (λ (t : Stand). GivesMore s stand t q r r (replicate (s.block * n) stand.previous)) (sym there) on;
@@ -257,18 +257,18 @@ run_stroke s stand next p q r w b n at x out out_new o front given h reads state
     }
 
 -- a row
-pub row_stroke : {I : Type 0} (s : Parameters) (stand next : Stand) (p q : DecoderState) (r new : Reader I) (w b n steps last : ℕ) (bytes : List ℕ) (o : Origin) (front : List Bool) (given : List ℤ)
+pub row_stroke : {I : Type 0} {s : Parameters} {stand next : Stand} {p q : DecoderState} {r new : Reader I} {w b n steps : ℕ} (last : ℕ) {bytes : List ℕ} {o : Origin} {front : List Bool} {given : List ℤ}
     → IsStand s o stand front given → IsReadFrom stand r → (stand.run ≡ 0 → r.taken % 8 ≡ stand.bits % 8) → p ≡ state_of s stand → p.run ≡ 0 → steps ≡ stand.steps
     → GivesRow n r new steps last p q bytes → w ≡ width s → b ≡ s.block → 1 ≤ w → 1 ≤ b → 1 ≤ n
     → next ≡ stand_at (stand.samples + b * n) (stand.bits + (new.taken - r.taken)) (last + b * n) q → GivesStroke s stand next q r new (w * (b * n)) bytes
-row_stroke s stand next p q r new w b n steps last bytes o front given h reads aligned state none ticked row wide many w_some b_some n_some is =
+row_stroke {s} {stand} {next} {q} {r} {new} {w} {b} {n} {steps} last {bytes} {o} {front} {given} h reads aligned state none ticked row wide many w_some b_some n_some is =
     let run : stand.run ≡ 0 = sym (ap (λ (d : DecoderState). d.run) state) ∙ none in
     let count : b * n ≡ s.block * n = ap (λ k. k * n) many in
     let size : w * (b * n) ≡ width s * (s.block * n) = (λ i. wide i * count i) in
     let all : last + b * n ≡ last + (0 + s.block * n) = omega (arith, count) in
     let there : next ≡ stand_at (stand.samples + s.block * n) (stand.bits + (new.taken - r.taken)) (last + (0 + s.block * n)) q =
     is ∙ (λ i. stand_at (stand.samples + count i) (stand.bits + (new.taken - r.taken)) (all i) q) in
-    let on = row_on n 0 s stand q r new steps last bytes o front given h reads (aligned run) run (omega (arith, ticked)) (subst (λ (d : DecoderState). GivesRow n r new steps last d q bytes) state row) in
+    let on = row_on {n = n} 0 {q = q} {new = new} steps last {bytes = bytes} h reads (aligned run) run (omega (arith, ticked)) (subst (λ (d : DecoderState). GivesRow n r new steps last d q bytes) state row) in
     record {
       samples = on.samples;
       more = subst (λ (t : Stand). GivesMore s stand t q r new on.samples) (sym there) on.more;

@@ -22,7 +22,7 @@ returns c =
       takes = record { left = slice_left run.result.1; gave = happens.gave; left_is = sym happens.left };
       decodes = subst (λ (r : Report). Decodes s c.args.asked call.0 r run.result.0.fault) (sym c.tell.ensures.report) call.2;
       within = subst (λ (r : Report). DecodesWithin c.args.asked r) (sym c.tell.ensures.report) run.ensures.within;
-      writes = writes_front c.args.samples.now _ call.0.written c.new-arg-1.given out.failures (slice_state out) run.result.0.fault happens.took
+      writes = writes_front c.args.samples.now c.new-arg-1.given out.failures run.result.0.fault happens.took
           (tie ∙ sym (take-append-drop out.at out.room.now)) c.samples-1.given.1.0 run.ensures.failures c.taken-written.ensures.full;
       tells = record {
         status = c.tell.ensures.status;

@@ -22,7 +22,7 @@ returns c =
       takes = record { left = slice_left run.new.intake; gave = happens.gave; left_is = sym happens.left };
       encodes = subst (λ (r : Report). Encodes s call.0 r run.result.fault) (sym c.tell.ensures.report) call.2;
       within = subst (λ (r : Report). EncodesWithin s r) (sym c.tell.ensures.report) run.ensures.within;
-      writes = writes_front c.args.code.now _ call.0.written c.new-arg-1.given out.failures (slice_state out) run.result.fault happens.took
+      writes = writes_front c.args.code.now c.new-arg-1.given out.failures run.result.fault happens.took
           (tie ∙ sym (take-append-drop out.at out.room.now)) c.code-1.given.1.0 run.ensures.failures c.taken-written.ensures.full;
       tells = record {
         status = c.tell.ensures.status;

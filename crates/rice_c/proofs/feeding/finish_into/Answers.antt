@@ -24,7 +24,7 @@ returns c xs h =
       room = slice_state out;
       encodes = subst (λ (r : Report). EncodesRest s xs c.args.samples.now (Some start) (Some (slice_state out)) r run.result.fault) (sym c.tell.ensures.report) did;
       within = subst (λ (r : Report). EncodesWithin s r) (sym c.tell.ensures.report) run.ensures.within;
-      writes = all_in_front c.args.code.now _ name out.failures (slice_state out) run.result.fault
+      writes = all_in_front c.args.code.now name out.failures run.result.fault
           (rest_fills s xs c.args.samples.now start (slice_state out) run.result.report run.result.fault did)
           (tie ∙ sym (take-append-drop out.at out.room.now)) c.code-1.given.1.0 run.ensures.failures c.taken-written.ensures.full;
       tells = record {

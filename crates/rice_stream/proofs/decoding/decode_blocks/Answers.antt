@@ -28,7 +28,7 @@ write_block-requires-clause-legal g c =
     let mid = c.next_bytes-blocks.new in
     let same = c.next_bytes-blocks.ensures.none (omega (arith, c.if-blocks-gt0.false)) in
     let runs = progress_unchanged same.0 same.1 same.2 i.runs in
-    let a = decoder_advances mid.reader new.reader mid.meter new.meter mid.decoder new.self s new.levels.items runs.at_block.setting (ap Ok c.in-Block.is)
+    let a = decoder_advances {old = mid.reader} {new = new.reader} mid.meter new.meter mid.decoder new.self new.levels.items runs.at_block.setting (ap Ok c.in-Block.is)
     c.in-Ok-next_levels.ensures.in_run c.in-Ok-next_levels.ensures.reads in
     let block = samples_of_block s runs.at_block.setting runs.at_block.going a in
     few_legal s c.wanted-count.result new.levels.items _ c.as_slice.ensures.value block.legal
@@ -47,7 +47,7 @@ returns-in-Err-next_levels-clause-call g c =
     let mid = c.next_bytes-blocks.new in
     let same = c.next_bytes-blocks.ensures.none (omega (arith, c.if-blocks-gt0.false)) in
     let runs = progress_unchanged same.0 same.1 same.2 i.runs in
-    let a = decoder_advances mid.reader new.reader mid.meter new.meter mid.decoder new.self s new.levels.items runs.at_block.setting refl
+    let a = decoder_advances {old = mid.reader} {new = new.reader} mid.meter new.meter mid.decoder new.self new.levels.items runs.at_block.setting refl
     c.in-Err-next_levels.ensures.in_run c.in-Err-next_levels.ensures.reads in
     let some = block_is_wanted c.args.asked old.written c.wanted-count.ensures.value c.block-block.ensures.value c.if-count-eq0.false in
     let tells = reports_as (ap Some (c.fault_of-fault.ensures ∙ ap (refusal_fault c.in-Err-next_levels.fault old.written) c.block-block.ensures.value)) c.ended-in-Err-next_levels.ensures.reports in
@@ -63,7 +63,7 @@ returns-in-Err-next_levels-clause-failures g c =
     let mid = c.next_bytes-blocks.new in
     let same = c.next_bytes-blocks.ensures.none (omega (arith, c.if-blocks-gt0.false)) in
     let runs = progress_unchanged same.0 same.1 same.2 i.runs in
-    let a = decoder_advances mid.reader new.reader mid.meter new.meter mid.decoder new.self s new.levels.items runs.at_block.setting refl
+    let a = decoder_advances {old = mid.reader} {new = new.reader} mid.meter new.meter mid.decoder new.self new.levels.items runs.at_block.setting refl
     c.in-Err-next_levels.ensures.in_run c.in-Err-next_levels.ensures.reads in
     let tells = reports_as (ap Some (c.fault_of-fault.ensures ∙ ap (refusal_fault c.in-Err-next_levels.fault old.written) c.block-block.ensures.value)) c.ended-in-Err-next_levels.ensures.reports in
     refusal_fails c.in-Err-next_levels.fault runs (stops_in_no_run c.block-block.ensures.legal runs a) i.writes tells
@@ -77,7 +77,7 @@ returns-in-Done-clause-call g c =
     let mid = c.next_bytes-blocks.new in
     let same = c.next_bytes-blocks.ensures.none (omega (arith, c.if-blocks-gt0.false)) in
     let runs = progress_unchanged same.0 same.1 same.2 i.runs in
-    let a = decoder_advances mid.reader new.reader mid.meter new.meter mid.decoder new.self s new.levels.items runs.at_block.setting (ap Ok c.in-Done.is)
+    let a = decoder_advances {old = mid.reader} {new = new.reader} mid.meter new.meter mid.decoder new.self new.levels.items runs.at_block.setting (ap Ok c.in-Done.is)
     c.in-Ok-next_levels.ensures.in_run c.in-Ok-next_levels.ensures.reads in
     let some = block_is_wanted c.args.asked old.written c.wanted-count.ensures.value c.block-block.ensures.value c.if-count-eq0.false in
     let tells = reports_as c.end_of.ensures c.ended-in-Done.ensures.reports in
@@ -93,7 +93,7 @@ returns-in-Done-clause-failures g c =
     let mid = c.next_bytes-blocks.new in
     let same = c.next_bytes-blocks.ensures.none (omega (arith, c.if-blocks-gt0.false)) in
     let runs = progress_unchanged same.0 same.1 same.2 i.runs in
-    let a = decoder_advances mid.reader new.reader mid.meter new.meter mid.decoder new.self s new.levels.items runs.at_block.setting (ap Ok c.in-Done.is)
+    let a = decoder_advances {old = mid.reader} {new = new.reader} mid.meter new.meter mid.decoder new.self new.levels.items runs.at_block.setting (ap Ok c.in-Done.is)
     c.in-Ok-next_levels.ensures.in_run c.in-Ok-next_levels.ensures.reads in
     let tells = reports_as c.end_of.ensures c.ended-in-Done.ensures.reports in
     done_fails runs (decoding_is_done c.block-block.ensures.legal runs a) i.writes tells
@@ -107,7 +107,7 @@ returns-in-Err-write_block-clause-call g c =
     let mid = c.next_bytes-blocks.new in
     let same = c.next_bytes-blocks.ensures.none (omega (arith, c.if-blocks-gt0.false)) in
     let runs = progress_unchanged same.0 same.1 same.2 i.runs in
-    let a = decoder_advances mid.reader new.reader mid.meter new.meter mid.decoder new.self s new.levels.items runs.at_block.setting (ap Ok c.in-Block.is)
+    let a = decoder_advances {old = mid.reader} {new = new.reader} mid.meter new.meter mid.decoder new.self new.levels.items runs.at_block.setting (ap Ok c.in-Block.is)
     c.in-Ok-next_levels.ensures.in_run c.in-Ok-next_levels.ensures.reads in
     let some = block_is_wanted c.args.asked old.written c.wanted-count.ensures.value c.block-block.ensures.value c.if-count-eq0.false in
     let is = c.wanted-count.ensures.value ∙ ap (wanted_of c.args.asked old.written) c.block-block.ensures.value in
@@ -125,7 +125,7 @@ decode_all-smaller g c =
     let mid = c.next_bytes-blocks.new in
     let same = c.next_bytes-blocks.ensures.none (omega (arith, c.if-blocks-gt0.false)) in
     let runs = progress_unchanged same.0 same.1 same.2 i.runs in
-    let a = decoder_advances mid.reader new.reader mid.meter new.meter mid.decoder new.self s new.levels.items runs.at_block.setting (ap Ok c.in-Block.is)
+    let a = decoder_advances {old = mid.reader} {new = new.reader} mid.meter new.meter mid.decoder new.self new.levels.items runs.at_block.setting (ap Ok c.in-Block.is)
     c.in-Ok-next_levels.ensures.in_run c.in-Ok-next_levels.ensures.reads in
     let block = samples_of_block s runs.at_block.setting runs.at_block.going a in
     let counted = c.in-Ok-next_levels.ensures.steps in
@@ -150,7 +150,7 @@ decode_all-preserved g c =
     let mid = c.next_bytes-blocks.new in
     let same = c.next_bytes-blocks.ensures.none (omega (arith, c.if-blocks-gt0.false)) in
     let runs = progress_unchanged same.0 same.1 same.2 i.runs in
-    let a = decoder_advances mid.reader new.reader mid.meter new.meter mid.decoder new.self s new.levels.items runs.at_block.setting (ap Ok c.in-Block.is)
+    let a = decoder_advances {old = mid.reader} {new = new.reader} mid.meter new.meter mid.decoder new.self new.levels.items runs.at_block.setting (ap Ok c.in-Block.is)
     c.in-Ok-next_levels.ensures.in_run c.in-Ok-next_levels.ensures.reads in
     let some = block_is_wanted c.args.asked old.written c.wanted-count.ensures.value c.block-block.ensures.value c.if-count-eq0.false in
     let is = c.wanted-count.ensures.value ∙ ap (wanted_of c.args.asked old.written) c.block-block.ensures.value in
@@ -164,7 +164,7 @@ decode_all-preserved g c =
     let put = subst (λ (l : List ℕ). Appends (g.O.Outlet.taken old.outlet) (g.O.Outlet.taken c.write_block.new.outlet) l)
     (few_spelled s c.wanted-count.result new.levels.items _ c.as_slice.ensures.value) c.in-Ok-write_block.ensures.ok.0 in
     record {
-      runs = progress_with_block c.wanted-count.result c.tick-in-decode_all.new.self legal runs is some (gains_block legal runs a) (moves_of at.going a)
+      runs = progress_with_block legal runs is some (gains_block legal runs a) (moves_of at.going a)
           (record { counted = c.in-Ok-next_levels.ensures.steps; few = few }) c.tick-in-decode_all.ensures put;
       writes = c.in-Ok-write_block.ensures.ok.1 ∙ i.writes;
     }
@@ -199,9 +199,8 @@ returns-in-Err-write_blocks-clause-call g c =
     let all = c.next_bytes-blocks.result in
     let same : c.known_or-size.result ≡ s.block = c.known_or-size.ensures ∙ c.block-block.ensures.value in
     let err = c.in-Err-write_blocks.ensures.err in
-    let fails = fails_behind s all c.in-Err-write_blocks.taken g.row.WIDTH c.known_or-size.result c.block-block.result old.written c.taken-begin.result c.steps-steps.result
-    old.reader new.reader old.meter new.meter old.decoder new.decoder new.bytes new.ends (g.O.Outlet.taken old.outlet) (g.O.Outlet.taken c.write_blocks.new.outlet)
-    c.failed_behind.result.0.report c.failed_behind.result.0.fault (g.I.Intake.left c.failed_behind.result.1) (g.I.Intake.failed c.failed_behind.result.1)
+    let fails = fails_behind {written = old.written} {out = g.O.Outlet.taken old.outlet} {out_new = g.O.Outlet.taken c.write_blocks.new.outlet}
+    {rep = c.failed_behind.result.0.report}
     (c.requires.lanes (row.lanes some)) same c.block-block.ensures.value row.room c.next_bytes-blocks.array_long given.1 c.taken-begin.ensures.value c.steps-steps.ensures.value
     c.taken-begin.ensures.waiting c.taken-begin.ensures.limit err.0 err.1 c.failed_behind.ensures.told c.failed_behind.ensures.left c.failed_behind.ensures.failed in
     row_fails c.block-block.ensures.legal i.runs given.0 fails.fails (row.wanted some) refl fails.tells
@@ -218,9 +217,8 @@ returns-in-Err-write_blocks-clause-failures g c =
     let all = c.next_bytes-blocks.result in
     let same : c.known_or-size.result ≡ s.block = c.known_or-size.ensures ∙ c.block-block.ensures.value in
     let err = c.in-Err-write_blocks.ensures.err in
-    let fails = fails_behind s all c.in-Err-write_blocks.taken g.row.WIDTH c.known_or-size.result c.block-block.result old.written c.taken-begin.result c.steps-steps.result
-    old.reader new.reader old.meter new.meter old.decoder new.decoder new.bytes new.ends (g.O.Outlet.taken old.outlet) (g.O.Outlet.taken c.write_blocks.new.outlet)
-    c.failed_behind.result.0.report c.failed_behind.result.0.fault (g.I.Intake.left c.failed_behind.result.1) (g.I.Intake.failed c.failed_behind.result.1)
+    let fails = fails_behind {written = old.written} {out = g.O.Outlet.taken old.outlet} {out_new = g.O.Outlet.taken c.write_blocks.new.outlet}
+    {rep = c.failed_behind.result.0.report}
     (c.requires.lanes (row.lanes some)) same c.block-block.ensures.value row.room c.next_bytes-blocks.array_long given.1 c.taken-begin.ensures.value c.steps-steps.ensures.value
     c.taken-begin.ensures.waiting c.taken-begin.ensures.limit err.0 err.1 c.failed_behind.ensures.told c.failed_behind.ensures.left c.failed_behind.ensures.failed in
     row_fails_so (g.O.Outlet.failed c.args.outlet.now) (g.O.Outlet.failed c.write_blocks.new.outlet) i.runs given.0 fails.fails (err.2 ∙ ap (λ n. n + 1) i.writes) fails.tells
@@ -237,9 +235,8 @@ returns-in-Err-write_blocks-clause-bounds g c =
     let all = c.next_bytes-blocks.result in
     let same : c.known_or-size.result ≡ s.block = c.known_or-size.ensures ∙ c.block-block.ensures.value in
     let err = c.in-Err-write_blocks.ensures.err in
-    let fails = fails_behind s all c.in-Err-write_blocks.taken g.row.WIDTH c.known_or-size.result c.block-block.result old.written c.taken-begin.result c.steps-steps.result
-    old.reader new.reader old.meter new.meter old.decoder new.decoder new.bytes new.ends (g.O.Outlet.taken old.outlet) (g.O.Outlet.taken c.write_blocks.new.outlet)
-    c.failed_behind.result.0.report c.failed_behind.result.0.fault (g.I.Intake.left c.failed_behind.result.1) (g.I.Intake.failed c.failed_behind.result.1)
+    let fails = fails_behind {written = old.written} {out = g.O.Outlet.taken old.outlet} {out_new = g.O.Outlet.taken c.write_blocks.new.outlet}
+    {rep = c.failed_behind.result.0.report}
     (c.requires.lanes (row.lanes some)) same c.block-block.ensures.value row.room c.next_bytes-blocks.array_long given.1 c.taken-begin.ensures.value c.steps-steps.ensures.value
     c.taken-begin.ensures.waiting c.taken-begin.ensures.limit err.0 err.1 c.failed_behind.ensures.told c.failed_behind.ensures.left c.failed_behind.ensures.failed in
     row_fails_within i.runs given.0 fails.fails fails.counted (row.wanted some) refl fails.tells
@@ -256,7 +253,7 @@ decode_all-preserved-then-blocks-gt0 g c =
     let all = c.next_bytes-blocks.result in
     let same : c.known_or-size.result ≡ s.block = c.known_or-size.ensures ∙ c.block-block.ensures.value in
     let ok = c.in-Ok-write_blocks.ensures.ok in
-    let wrote = lanes_written s all g.row.WIDTH c.known_or-size.result (c.block-block.result * all) old.reader new.reader old.meter new.meter old.decoder new.decoder new.bytes new.ends
+    let wrote = lanes_written
     (g.O.Outlet.taken old.outlet) (g.O.Outlet.taken c.write_blocks.new.outlet) (c.requires.lanes (row.lanes some)) same row.room c.next_bytes-blocks.array_long
     (ap (λ k. k * all) c.block-block.ensures.value) given.1 ok.0 in
     record {
@@ -276,7 +273,7 @@ decode_all-smaller-then-blocks-gt0 g c =
     let all = c.next_bytes-blocks.result in
     let same : c.known_or-size.result ≡ s.block = c.known_or-size.ensures ∙ c.block-block.ensures.value in
     let ok = c.in-Ok-write_blocks.ensures.ok in
-    let wrote = lanes_written s all g.row.WIDTH c.known_or-size.result (c.block-block.result * all) old.reader new.reader old.meter new.meter old.decoder new.decoder new.bytes new.ends
+    let wrote = lanes_written
     (g.O.Outlet.taken old.outlet) (g.O.Outlet.taken c.write_blocks.new.outlet) (c.requires.lanes (row.lanes some)) same row.room c.next_bytes-blocks.array_long
     (ap (λ k. k * all) c.block-block.ensures.value) given.1 ok.0 in
     let more = row_takes c.block-block.ensures.legal i.runs given.0 some wrote in

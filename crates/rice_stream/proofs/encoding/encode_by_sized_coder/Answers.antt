@@ -36,9 +36,7 @@ pub returns-in-Err-clause-call : goal.returns-in-Err-clause-call
 returns-in-Err-clause-call g c =
     let i = c.encode_all.invariant in
     let fault = c.fault_at.ensures ∙ ap (fault_at c.in-Err.fault) c.taken.ensures in
-    reading_ends c.args.setting.now (g.I.Intake.left c.args.intake.now) (g.I.Intake.left c.encode_all.intake) (g.I.Intake.left c.next.new.intake)
-    (g.O.Outlet.taken c.args.outlet.now) (g.O.Outlet.taken c.encode_all.outlet) c.encode_all.encoding c.encode_all.samples c.next.new.self c.in-Err.fault
-    c.stopped.result.report c.stopped.result.fault i.runs c.in-Err.ensures.err c.in-Err.ensures.limits.0 c.in-Err.ensures.limits.1
+    reading_ends c.next.new.self c.in-Err.fault i.runs c.in-Err.ensures.err c.in-Err.ensures.limits.0 c.in-Err.ensures.limits.1
     (λ xs h. c.stopped.ensures.told c.args.setting.now xs h) (c.stopped.ensures.fault ∙ ap Some fault)
 
 pub returns-in-Err-clause-bounds : goal.returns-in-Err-clause-bounds
@@ -53,8 +51,7 @@ finish-requires g c =
     let s = c.args.setting.now in
     let i = c.encode_all.invariant in
     let start = g.O.Outlet.taken c.args.outlet.now in
-    let few = few_given s (g.I.Intake.left c.args.intake.now) (g.I.Intake.left c.encode_all.intake) (g.I.Intake.left c.next.new.intake) start
-    (g.O.Outlet.taken c.encode_all.outlet) c.encode_all.encoding c.encode_all.samples c.next.new.self _ i.runs c.in-Ok.ensures.gives in
+    let few = few_given i.runs c.in-Ok.ensures.gives in
     (search rules, ((s, afresh start, i.runs.samples, i.runs.holds, omega (arith, few, c.in-Ok.ensures.limits.1)), omega (arith, c.requires.writes, i.writes)))
 
 pub returns-then-count-eq0-clause-call : goal.returns-then-count-eq0-clause-call
@@ -65,12 +62,11 @@ returns-then-count-eq0-clause-call g c =
     let start = g.O.Outlet.taken c.args.outlet.now in
     let values = values_at c.encode_all.samples.setting c.next.new.levels in
     let gives = subst (λ (n : ℕ). GivesSamples c.encode_all.samples c.next.new.self left new (take n values)) c.if-count-eq0.true c.in-Ok.ensures.gives in
-    let runs = reads_none s (g.I.Intake.left c.args.intake.now) left new start (g.O.Outlet.taken c.encode_all.outlet) c.encode_all.encoding c.encode_all.samples c.next.new.self
+    let runs = reads_none
     c.encode_all.invariant.runs gives in
     let did = c.finish.ensures.did s (afresh start) runs.samples runs.holds in
     let end = c.in-Ok.ensures.end c.if-count-eq0.true in
-    finish_ends s (g.I.Intake.left c.args.intake.now) new start (g.O.Outlet.taken c.encode_all.outlet) (g.O.Outlet.taken c.finish.new.outlet) c.encode_all.encoding c.next.new.self
-    c.finish.result.report c.finish.result.fault runs end.1 end.0 c.in-Ok.ensures.limits.1 did.0 did.1
+    finish_ends runs end.1 end.0 c.in-Ok.ensures.limits.1 did.0 did.1
 
 pub returns-then-count-eq0-clause-bounds : goal.returns-then-count-eq0-clause-bounds
 returns-then-count-eq0-clause-bounds g c =
@@ -85,8 +81,7 @@ push_all_levels-requires g c =
     let i = c.encode_all.invariant in
     let start = g.O.Outlet.taken c.args.outlet.now in
     let says = c.in-Ok.ensures in
-    let few = few_given s (g.I.Intake.left c.args.intake.now) (g.I.Intake.left c.encode_all.intake) (g.I.Intake.left c.next.new.intake) start
-    (g.O.Outlet.taken c.encode_all.outlet) c.encode_all.encoding c.encode_all.samples c.next.new.self _ i.runs says.gives in
+    let few = few_given i.runs says.gives in
     let n = taken_count c.encode_all.samples.setting c.next.new.levels c.in-Ok.count says.count in (
       search rules,
       (
@@ -108,8 +103,7 @@ encode_all-smaller g c =
     let runs = c.encode_all.invariant.runs in
     let start = g.O.Outlet.taken c.args.outlet.now in
     let says = c.in-Ok.ensures in
-    let few = few_given s (g.I.Intake.left c.args.intake.now) (g.I.Intake.left c.encode_all.intake) (g.I.Intake.left c.next.new.intake) start
-    (g.O.Outlet.taken c.encode_all.outlet) c.encode_all.encoding c.encode_all.samples c.next.new.self _ runs says.gives in
+    let few = few_given runs says.gives in
     let n = taken_count c.encode_all.samples.setting c.next.new.levels c.in-Ok.count says.count in
     let more = take c.in-Ok.count c.next.new.levels in
     let all = c.in-Ok-push_all_levels.ensures.ok s (afresh start) runs.samples runs.holds in
@@ -130,8 +124,7 @@ encode_all-preserved g c =
     let holds = subst (λ (l : List ℤ). IsEncodingOf s (afresh start) taken c.push_all_levels.new.self (i.runs.samples ++ l)) (sym (take-map (value_at s) n levels))
     (c.in-Ok-push_all_levels.ensures.ok s (afresh start) i.runs.samples i.runs.holds) in
     record {
-      runs = reads_further s (g.I.Intake.left c.args.intake.now) left new start (g.O.Outlet.taken c.encode_all.outlet) taken c.encode_all.encoding c.push_all_levels.new.self
-          c.encode_all.samples c.next.new.self ys i.runs gives holds;
+      runs = reads_further i.runs gives holds;
       room = c.in-Ok.ensures.len ∙ i.room;
       reads = c.in-Ok.ensures.failures ∙ i.reads;
       writes = c.in-Ok-push_all_levels.ensures.calm ∙ i.writes;
@@ -157,8 +150,8 @@ returns-in-Err-push_all_levels-clause-call g c =
     let count : length ys ≡ n = (taken_count s levels n says.count).1 in
     let piece : width s * n + length c.next.new.self.waiting ≤ 4096 = subst (λ (s : Parameters). width s * n + length c.next.new.self.waiting ≤ 4096) runs.setting says.piece in
     subst (λ (f : Option Fault). EncodesBetween s left_old new start taken o.result.report f) (sym o.ensures.fault)
-    (writing_ends s left_old left new start (g.O.Outlet.taken c.encode_all.outlet) taken c.encode_all.encoding c.push_all_levels.new.self c.encode_all.samples c.next.new.self
-    o.result.report ys runs gives fails (omega (arith, piece, ap (λ n. width s * n) count)) says.limits.1 (λ xs h. o.ensures.told s xs h))
+    (writing_ends
+    o.result.report runs gives fails (omega (arith, piece, ap (λ n. width s * n) count)) says.limits.1 (λ xs h. o.ensures.told s xs h))
 
 pub returns-in-Err-push_all_levels-clause-bounds : goal.returns-in-Err-push_all_levels-clause-bounds
 returns-in-Err-push_all_levels-clause-bounds g c =
@@ -173,5 +166,4 @@ pub returns-in-Err-clause-failures : goal.returns-in-Err-clause-failures
 returns-in-Err-clause-failures g c =
     let i = c.encode_all.invariant in
     let fault = c.stopped.ensures.fault ∙ ap Some c.fault_at.ensures in
-    reading_fails c.in-Err.fault c.taken.result c.stopped.result.fault (g.I.Intake.failed c.args.intake.now) (g.I.Intake.failed c.encode_all.intake) (g.I.Intake.failed c.next.new.intake)
-    (g.O.Outlet.failed c.args.outlet.now) (g.O.Outlet.failed c.encode_all.outlet) fault c.in-Err.ensures.failures i.reads i.writes
+    reading_fails c.in-Err.fault c.taken.result (g.I.Intake.failed c.next.new.intake) fault c.in-Err.ensures.failures i.reads i.writes

@@ -86,7 +86,7 @@ returns-clause-did g c xs h =
     let per : length bytes / w ≡ length bytes / width s = (λ i. length bytes / c.width-width.ensures.value i) in
     let total : cut s (seam.samples + length bytes / w) ≡ cut s (length xs + length bytes / width s) = (λ i. cut s (h.samples i + per i)) in
     let grows = cut_grows s seam xs (length xs + length bytes / width s) h (omega arith) in
-    goes_on s now new e seam c.seam.result xs bytes count h t (omega (arith, c.in_whole_segments.ensures.value, total, grows, h.samples))
+    goes_on count h t (omega (arith, c.in_whole_segments.ensures.value, total, grows, h.samples))
     (fit_in (width s) (length bytes) count (omega (arith, c.in_whole_segments.ensures.limit, per))) limit (λ ys k whole few. c.seam.ensures s (behind s xs now) new ys k whole few)
 
 pub returns-in_err-push_samples_of_bytes-clause-did : goal.returns-in_err-push_samples_of_bytes-clause-did

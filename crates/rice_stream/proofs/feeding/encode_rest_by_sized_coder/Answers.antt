@@ -66,8 +66,8 @@ returns-in-Err-clause-failures g c =
     let s = c.args.setting.now in
     let xs = c.requires.seam.0 in
     let h = c.requires.seam.1 in
-    push_fails s (behind s xs now) new c.push_samples_of_bytes.new.self xs c.args.bytes.now c.in-Err.fault c.stopped-in-Err.result.fault 0 0
-    (g.O.Outlet.failed c.args.outlet.now) (g.O.Outlet.failed c.args.outlet.now) (g.O.Outlet.failed c.push_samples_of_bytes.new.outlet)
+    push_fails s (behind s xs now) new c.push_samples_of_bytes.new.self xs c.args.bytes.now {reads = 0} {reads_new = 0}
+    {writes = g.O.Outlet.failed c.args.outlet.now} {mid = g.O.Outlet.failed c.args.outlet.now} (g.O.Outlet.failed c.push_samples_of_bytes.new.outlet)
     refl refl (c.in-Err.ensures.did (behind s xs now) xs (c.put_bits_of_seam.ensures c.args.setting.now now xs c.resume-encoding.ensures h)) c.in-Err.ensures.failures c.stopped-in-Err.ensures.fault
 
 pub returns-then-bytes-width-gt0-clause-did : goal.returns-then-bytes-width-gt0-clause-did
@@ -137,7 +137,7 @@ returns-in-Err-clause-bounds g c =
     let new = g.O.Outlet.taken c.push_samples_of_bytes.new.outlet in
     let s = c.args.setting.now in
     let xs = c.requires.seam.0 in
-    push_within s (behind s xs now) new c.push_samples_of_bytes.new.self c.stopped-in-Err.result.report c.in-Err.fault xs c.args.bytes.now (λ ys k. c.stopped-in-Err.ensures.told s ys k)
+    push_within (behind s xs now) new c.push_samples_of_bytes.new.self c.in-Err.fault xs c.args.bytes.now (λ ys k. c.stopped-in-Err.ensures.told s ys k)
     (c.in-Err.ensures.did (behind s xs now) xs (c.put_bits_of_seam.ensures c.args.setting.now now xs c.resume-encoding.ensures c.requires.seam.1))
 
 pub returns-then-bytes-width-gt0-clause-bounds : goal.returns-then-bytes-width-gt0-clause-bounds

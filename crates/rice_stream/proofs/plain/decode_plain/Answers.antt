@@ -23,7 +23,7 @@ write_block-requires-clause-legal g c =
     let old = c.decode_all in
     let new = c.next_levels.new in
     let runs = i.runs in
-    let a = decoder_advances old.reader new.reader old.meter new.meter old.decoder new.self s new.levels.items runs.at_block.setting (ap Ok c.in-Block.is)
+    let a = decoder_advances {old = old.reader} {new = new.reader} old.meter new.meter old.decoder new.self new.levels.items runs.at_block.setting (ap Ok c.in-Block.is)
     c.in-Ok-next_levels.ensures.in_run c.in-Ok-next_levels.ensures.reads in
     let block = samples_of_block s runs.at_block.setting runs.at_block.going a in
     few_legal s c.wanted-count.result new.levels.items _ c.as_slice.ensures.value block.legal
@@ -40,7 +40,7 @@ returns-in-Err-next_levels-clause-call g c =
     let old = c.decode_all in
     let new = c.next_levels.new in
     let runs = i.runs in
-    let a = decoder_advances old.reader new.reader old.meter new.meter old.decoder new.self s new.levels.items runs.at_block.setting refl
+    let a = decoder_advances {old = old.reader} {new = new.reader} old.meter new.meter old.decoder new.self new.levels.items runs.at_block.setting refl
     c.in-Err-next_levels.ensures.in_run c.in-Err-next_levels.ensures.reads in
     let some = block_is_wanted c.args.asked old.written c.wanted-count.ensures.value c.block-block.ensures.value c.if-count-eq0.false in
     let tells = reports_as (ap Some (c.fault_of-fault.ensures ∙ ap (refusal_fault c.in-Err-next_levels.fault old.written) c.block-block.ensures.value)) c.ended-in-Err-next_levels.ensures.reports in
@@ -54,7 +54,7 @@ returns-in-Err-next_levels-clause-failures g c =
     let old = c.decode_all in
     let new = c.next_levels.new in
     let runs = i.runs in
-    let a = decoder_advances old.reader new.reader old.meter new.meter old.decoder new.self s new.levels.items runs.at_block.setting refl
+    let a = decoder_advances {old = old.reader} {new = new.reader} old.meter new.meter old.decoder new.self new.levels.items runs.at_block.setting refl
     c.in-Err-next_levels.ensures.in_run c.in-Err-next_levels.ensures.reads in
     let tells = reports_as (ap Some (c.fault_of-fault.ensures ∙ ap (refusal_fault c.in-Err-next_levels.fault old.written) c.block-block.ensures.value)) c.ended-in-Err-next_levels.ensures.reports in
     refusal_fails c.in-Err-next_levels.fault runs (stops_in_no_run c.block-block.ensures.legal runs a) i.writes tells
@@ -66,7 +66,7 @@ returns-in-Done-clause-call g c =
     let old = c.decode_all in
     let new = c.next_levels.new in
     let runs = i.runs in
-    let a = decoder_advances old.reader new.reader old.meter new.meter old.decoder new.self s new.levels.items runs.at_block.setting (ap Ok c.in-Done.is)
+    let a = decoder_advances {old = old.reader} {new = new.reader} old.meter new.meter old.decoder new.self new.levels.items runs.at_block.setting (ap Ok c.in-Done.is)
     c.in-Ok-next_levels.ensures.in_run c.in-Ok-next_levels.ensures.reads in
     let some = block_is_wanted c.args.asked old.written c.wanted-count.ensures.value c.block-block.ensures.value c.if-count-eq0.false in
     let tells = reports_as c.end_of.ensures c.ended-in-Done.ensures.reports in
@@ -80,7 +80,7 @@ returns-in-Done-clause-failures g c =
     let old = c.decode_all in
     let new = c.next_levels.new in
     let runs = i.runs in
-    let a = decoder_advances old.reader new.reader old.meter new.meter old.decoder new.self s new.levels.items runs.at_block.setting (ap Ok c.in-Done.is)
+    let a = decoder_advances {old = old.reader} {new = new.reader} old.meter new.meter old.decoder new.self new.levels.items runs.at_block.setting (ap Ok c.in-Done.is)
     c.in-Ok-next_levels.ensures.in_run c.in-Ok-next_levels.ensures.reads in
     let tells = reports_as c.end_of.ensures c.ended-in-Done.ensures.reports in
     done_fails runs (decoding_is_done c.block-block.ensures.legal runs a) i.writes tells
@@ -92,7 +92,7 @@ returns-in-Err-write_block-clause-call g c =
     let old = c.decode_all in
     let new = c.next_levels.new in
     let runs = i.runs in
-    let a = decoder_advances old.reader new.reader old.meter new.meter old.decoder new.self s new.levels.items runs.at_block.setting (ap Ok c.in-Block.is)
+    let a = decoder_advances {old = old.reader} {new = new.reader} old.meter new.meter old.decoder new.self new.levels.items runs.at_block.setting (ap Ok c.in-Block.is)
     c.in-Ok-next_levels.ensures.in_run c.in-Ok-next_levels.ensures.reads in
     let some = block_is_wanted c.args.asked old.written c.wanted-count.ensures.value c.block-block.ensures.value c.if-count-eq0.false in
     let is = c.wanted-count.ensures.value ∙ ap (wanted_of c.args.asked old.written) c.block-block.ensures.value in
@@ -108,7 +108,7 @@ decode_all-smaller g c =
     let old = c.decode_all in
     let new = c.next_levels.new in
     let runs = i.runs in
-    let a = decoder_advances old.reader new.reader old.meter new.meter old.decoder new.self s new.levels.items runs.at_block.setting (ap Ok c.in-Block.is)
+    let a = decoder_advances {old = old.reader} {new = new.reader} old.meter new.meter old.decoder new.self new.levels.items runs.at_block.setting (ap Ok c.in-Block.is)
     c.in-Ok-next_levels.ensures.in_run c.in-Ok-next_levels.ensures.reads in
     let block = samples_of_block s runs.at_block.setting runs.at_block.going a in
     let counted = c.in-Ok-next_levels.ensures.steps in
@@ -121,7 +121,7 @@ decode_all-preserved g c =
     let old = c.decode_all in
     let new = c.next_levels.new in
     let runs = i.runs in
-    let a = decoder_advances old.reader new.reader old.meter new.meter old.decoder new.self s new.levels.items runs.at_block.setting (ap Ok c.in-Block.is)
+    let a = decoder_advances {old = old.reader} {new = new.reader} old.meter new.meter old.decoder new.self new.levels.items runs.at_block.setting (ap Ok c.in-Block.is)
     c.in-Ok-next_levels.ensures.in_run c.in-Ok-next_levels.ensures.reads in
     let some = block_is_wanted c.args.asked old.written c.wanted-count.ensures.value c.block-block.ensures.value c.if-count-eq0.false in
     let is = c.wanted-count.ensures.value ∙ ap (wanted_of c.args.asked old.written) c.block-block.ensures.value in
@@ -135,7 +135,7 @@ decode_all-preserved g c =
     let put = subst (λ (l : List ℕ). Appends (g.O.Outlet.taken old.outlet) (g.O.Outlet.taken c.write_block.new.outlet) l)
     (few_spelled s c.wanted-count.result new.levels.items _ c.as_slice.ensures.value) c.in-Ok-write_block.ensures.ok.0 in
     record {
-      runs = progress_with_block c.wanted-count.result c.tick-in-decode_all.new.self legal runs is some (gains_block legal runs a) (moves_of at.going a)
+      runs = progress_with_block legal runs is some (gains_block legal runs a) (moves_of at.going a)
           (record { counted = c.in-Ok-next_levels.ensures.steps; few = few }) c.tick-in-decode_all.ensures put;
       writes = c.in-Ok-write_block.ensures.ok.1 ∙ i.writes;
     }

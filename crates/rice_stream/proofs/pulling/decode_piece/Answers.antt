@@ -35,7 +35,7 @@ decode_all-init g c =
       aligned = λ lt. omega (arith, reader.aligned took lt);
       within = omega arith;
       len = refl;
-      so_far = λ o front given h. none_so_far c.args.setting.now o front given piece stand c.args.samples.now (ahead c.skip_bits.new.reader) h (reader.bits took);
+      so_far = λ o front given h. none_so_far piece c.args.samples.now h (reader.bits took);
     }
 
 pub returns-then-here-eq0 : goal.returns-then-here-eq0
@@ -43,7 +43,7 @@ returns-then-here-eq0 g c = λ o front given h.
     let i = c.decode_all.invariant in
     let so = i.so_far o front given h in
     ends_so pauses.Blank so (
-      has_room c.args.setting.now c.decode_all.at (length c.decode_all.samples) (length c.args.samples.now) (length so.samples) c.width.ensures.value
+      has_room c.args.setting.now (length so.samples) c.width.ensures.value
           c.block.ensures.value c.decode_all-test.true i.within so.count i.len,
       c.if-here-eq0.true,
       nothing_ahead c.args.setting.now c.args.stand.now c.decode_all.here.block c.args.piece.now so.bits (ahead c.decode_all.reader) (let e : length c.args.piece.now ≡ 0 = search rules in e) so.parts,
@@ -77,8 +77,7 @@ decode_all-preserved-in-Some g c =
       len = says.len ∙ i.len;
       so_far = λ o front given h.
           let so = i.so_far o front given h in
-          more_so_far s o front given k.samples c.args.piece.now c.args.stand.now c.decode_all.here stroke.stand c.args.samples.now c.decode_all.samples
-          c.next_stroke.new.samples c.decode_all.reader c.next_stroke.new.reader c.decode_all.at stroke.len so (k.more.gives o (front ++ so.bits) (given ++ so.samples) so.stands) k.len_is k.wrote;
+          more_so_far so (k.more.gives o (front ++ so.bits) (given ++ so.samples) so.stands) k.len_is k.wrote;
     }
 
 pub next_stand-requires : goal.next_stand-requires
@@ -121,8 +120,7 @@ decode_all-preserved g c =
       len = c.write_at.auto.samples ∙ c.next_stroke.ensures.len ∙ i.len;
       so_far = λ o front given h.
           let so = still c.in-None.ensures.did.1 c.in-None.ensures.did.2 (i.so_far o front given h) in
-          more_so_far s o front given (values_at s levels) c.args.piece.now c.args.stand.now c.decode_all.here next c.args.samples.now out
-          c.write_at.new.samples c.next_stroke.new.reader c.next_stand.new.reader at n so
+          more_so_far {n = n} so
           (subst (λ (v : Option Stand). TakesNext s o (front ++ so.bits) (given ++ so.samples) here r new (values_at s levels) (Ok v)) c.in-Some-found.is
           (c.in-Ok.ensures.takes o (front ++ so.bits) (given ++ so.samples) so.stands)) (λ j. c.width.ensures.value j * (count ∙ sym (length-values s levels)) j) wrote;
     }
@@ -135,7 +133,7 @@ returns-in-None-found g c = λ o front given h.
     let t = subst (λ (v : Option Stand). TakesNext s o (front ++ so.bits) (given ++ so.samples) c.decode_all.here c.next_stroke.new.reader c.next_stand.new.reader
     (values_at s c.next_stand.new.levels.items) (Ok v)) c.in-None-found.is (c.in-Ok.ensures.takes o (front ++ so.bits) (given ++ so.samples) so.stands) in
     ends_so pauses.Blank so (
-      has_room c.args.setting.now c.decode_all.at (length c.decode_all.samples) (length c.args.samples.now) (length so.samples) c.width.ensures.value
+      has_room c.args.setting.now (length so.samples) c.width.ensures.value
           c.block.ensures.value c.decode_all-test.true i.within so.count i.len,
       t.0,
       t.1,
@@ -146,7 +144,7 @@ pause_of-requires-clause-read g c = λ read.
     let know = c.requires.stand in
     let so = still c.in-None.ensures.did.1 c.in-None.ensures.did.2 (c.decode_all.invariant.so_far know.0 know.1 know.2 know.3) in
     let failed = failed_once c.args.setting.now know.0 (know.1 ++ so.bits) (know.2 ++ so.samples) c.decode_all.here c.next_stroke.new.reader c.next_stand.new.reader
-    (values_at c.args.setting.now c.next_stand.new.levels.items) c.in-Err.fault read (c.in-Err.ensures.takes know.0 (know.1 ++ so.bits) (know.2 ++ so.samples) so.stands) in
+    (values_at c.args.setting.now c.next_stand.new.levels.items) read (c.in-Err.ensures.takes know.0 (know.1 ++ so.bits) (know.2 ++ so.samples) so.stands) in
     omega (arith, failed, c.into_inner-intake-in-Err.ensures.failed)
 
 pub pause_of-requires-clause-long : goal.pause_of-requires-clause-long
@@ -154,7 +152,7 @@ pause_of-requires-clause-long g c = λ long.
     let know = c.requires.stand in
     let so = still c.in-None.ensures.did.1 c.in-None.ensures.did.2 (c.decode_all.invariant.so_far know.0 know.1 know.2 know.3) in
     never_too_long c.args.setting.now know.0 (know.1 ++ so.bits) (know.2 ++ so.samples) c.decode_all.here c.next_stroke.new.reader c.next_stand.new.reader
-    (values_at c.args.setting.now c.next_stand.new.levels.items) c.in-Err.fault long (c.in-Err.ensures.takes know.0 (know.1 ++ so.bits) (know.2 ++ so.samples) so.stands)
+    (values_at c.args.setting.now c.next_stand.new.levels.items) long (c.in-Err.ensures.takes know.0 (know.1 ++ so.bits) (know.2 ++ so.samples) so.stands)
 
 pub returns-in-Err : goal.returns-in-Err
 returns-in-Err g c = λ o front given h.
@@ -162,8 +160,8 @@ returns-in-Err g c = λ o front given h.
     let i = c.decode_all.invariant in
     let so = still c.in-None.ensures.did.1 c.in-None.ensures.did.2 (i.so_far o front given h) in
     let never : c.in-Err.fault ≡ faults.Read → ⊥ = λ read. let failed = failed_once s o (front ++ so.bits) (given ++ so.samples) c.decode_all.here c.next_stroke.new.reader c.next_stand.new.reader
-    (values_at s c.next_stand.new.levels.items) c.in-Err.fault read (c.in-Err.ensures.takes o (front ++ so.bits) (given ++ so.samples) so.stands) in absurd (omega (arith, failed, c.into_inner-intake-in-Err.ensures.failed)) in
-    let room = has_room s c.decode_all.at (length c.decode_all.samples) (length c.args.samples.now) (length so.samples) c.width.ensures.value
+    (values_at s c.next_stand.new.levels.items) read (c.in-Err.ensures.takes o (front ++ so.bits) (given ++ so.samples) so.stands) in absurd (omega (arith, failed, c.into_inner-intake-in-Err.ensures.failed)) in
+    let room = has_room s (length so.samples) c.width.ensures.value
     c.block.ensures.value c.decode_all-test.true i.within so.count i.len in
     subst (λ (p : Pause). DecodesMore s o front given c.args.piece.now c.args.stand.now c.args.samples.now c.next_stroke.new.samples c.decode_all.here p) (sym c.pause_of.ensures)
     (refused_so (values_at s c.next_stand.new.levels.items) c.next_stroke.new.reader c.next_stand.new.reader c.in-Err.fault so room
@@ -173,7 +171,7 @@ pub returns : goal.returns
 returns g c = λ o front given h.
     let i = c.decode_all.invariant in
     let so = i.so_far o front given h in
-    ends_so pauses.Full so (has_none c.args.setting.now c.decode_all.at (length c.decode_all.samples) (length c.args.samples.now) (length so.samples)
+    ends_so pauses.Full so (has_none c.args.setting.now (length so.samples)
     c.width.ensures.value c.block.ensures.value c.decode_all-test.false i.within so.count i.len) (λ no. c.requires.fits)
 
 pub decode_all-smaller : goal.decode_all-smaller

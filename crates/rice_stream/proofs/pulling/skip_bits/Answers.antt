@@ -20,6 +20,6 @@ pub returns-in-Err-clause-never : goal.returns-in-Err-clause-never
 returns-in-Err-clause-never c _ none =
     let start = c.requires.fresh in
     let err = c.in-Err.ensures.err (ap (λ (r : Reader SliceIn). r.refusal) start) in
-    never_refused c.args.reader.now.intake c.args.piece.now c.args.skipped err.0 c.take.new.self c.in-Err.field-0 c.requires.few err.1
+    never_refused c.args.reader.now.intake c.args.piece.now c.in-Err.field-0 c.requires.few err.1
     (let e : length c.args.piece.now ≢ 0 = search rules in e) none
     (subst (λ (r : Reader SliceIn). Stops r c.take.new.self err.0 c.in-Err.field-0) start err.2)

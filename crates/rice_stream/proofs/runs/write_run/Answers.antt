@@ -29,7 +29,6 @@ returns-in-Err-clause-err g c =
     let block = c.block-block.ensures in
     let spelled = c.spell_copies_of_sample.ensures ∙ ap (λ x. spellings s (replicate (c.block-block.result * blocks.result) x)) same in
     let taken = c.in-Err.ensures.err in
-    run_cut s c.args.asked c.args.written blocks.result c.in-Err.taken c.width-width.result c.block-block.result p c.pass_blocks_of_run.new.self
-    (g.O.Outlet.taken c.args.outlet.now) (g.O.Outlet.taken c.write_counted.new.outlet) c.spell_copies_of_sample.new.bytes
+    run_cut blocks.result c.pass_blocks_of_run.new.self
     (omega (arith, block.value, block.range)) (omega (arith, width.value, width.range)) width.value block.value c.pass_blocks_of_run.ensures.gives
     c.pass_blocks_of_run.ensures.run blocks.ensures.wanted spelled taken.0 taken.1

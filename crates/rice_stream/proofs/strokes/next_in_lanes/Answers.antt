@@ -26,8 +26,8 @@ returns-clause-did g c =
     let fit : 0 + c.block.result * c.blocks_wanted-most.result ≤ (length c.args.samples.now - c.args.at) / w =
     subst (λ b. 0 + b * c.blocks_wanted-most.result ≤ (length c.args.samples.now - c.args.at) / w) (sym c.block.ensures.value) c.blocks_wanted-most.ensures.wanted in
     let inside : c.args.at ≤ length c.args.samples.now = omega (arith, c.requires.room) in
-    let k = row_stroke s stand c.stand_behind-behind.result c.args.decoder.now new.self r new.reader w c.block.result blocks c.tick.new.self new.meter
-    new.bytes know.0 know.1 know.2 know.3 c.requires.come.reads c.requires.come.aligned c.requires.come.state says.0 steps says.1.row (width_is s s.block w c.requires.lanes) c.block.ensures.value
+    let k = row_stroke {next = c.stand_behind-behind.result} {q = new.self} {new = new.reader} new.meter
+    {bytes = new.bytes} know.3 c.requires.come.reads c.requires.come.aligned c.requires.come.state says.0 steps says.1.row (width_is s s.block w c.requires.lanes) c.block.ensures.value
     (elim c.requires.lanes.samples.widths [ inl e ↦ omega (arith, e) | inr e ↦ omega (arith, e) ]) (omega (arith, c.block.ensures.range)) some
     (c.stand_behind-behind.ensures.numbers ∙ (λ i. stand_at (stand.samples + n) (stand.bits + taken i) (new.meter + n) new.self)) in
     (stroke_written (w * n) c.args.at new.bytes c.args.samples.now c.copy_at.new.samples k (omega (arith, few, c.next_bytes-blocks.auto.bytes, c.told-bytes)) c.copy_at.ensures, row_has_room w c.block.result blocks c.blocks_wanted-most.result c.args.at (length c.args.samples.now) c.next_bytes-blocks.ensures.most fit inside)

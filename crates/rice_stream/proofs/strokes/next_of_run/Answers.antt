@@ -17,8 +17,7 @@ returns-clause-gives c =
     let same : to_z w64 (of_z w64 z) ≡ p.before = to_z-of_z {w = w64} {z = z} (record { sfits = c.before-sample.type_inv }) ∙ c.before-sample.ensures in
     let taken : r.taken - c.taken.result ≡ r.taken - r.taken = omega (arith, c.taken.ensures.value) in
     let steps : c.tick.new.self + n ≡ stand.steps + n = omega (arith, c.tick.ensures, c.new-meter.ensures) in
-    run_stroke c.args.setting.now stand c.stand_behind-stand.result p q r c.width-width.result c.block-block.result blocks.result c.args.at (to_z w64 (of_z w64 z))
-    c.args.samples.now c.spell_again_at.new.samples know.0 know.1 know.2 know.3 c.requires.come.reads c.requires.come.state c.pass_blocks_of_run.ensures.gives c.width-width.ensures.value c.block-block.ensures.value
+    run_stroke know.3 c.requires.come.reads c.requires.come.state c.pass_blocks_of_run.ensures.gives c.width-width.ensures.value c.block-block.ensures.value
     (omega (arith, c.width-width.ensures.range)) (omega (arith, c.block-block.ensures.range)) blocks.ensures.some
     (c.stand_behind-stand.ensures.numbers ∙ (λ i. stand_at (stand.samples + n) (stand.bits + taken i) (steps i) q)) same c.spell_again_at.ensures
 

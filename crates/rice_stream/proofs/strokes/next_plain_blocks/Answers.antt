@@ -20,8 +20,8 @@ returns-clause-did g c =
     let least = mul-le-mul_left (w * s.block) c.spell_row_ahead-blocks.ensures.few in
     let same : w * n ≡ w * s.block * c.spell_row_ahead-blocks.result = ap (λ b. w * (b * c.spell_row_ahead-blocks.result)) c.block.ensures.value ∙ omega arith in
     let few : w * n ≤ 512 = omega (arith, same, least, c.requires.few.1) in
-    let k = row_stroke c.args.setting.now stand c.stand_behind-stand.result c.args.decoder.now new.self r new.reader g.row.WIDTH c.block.result c.spell_row_ahead-blocks.result c.tick.new.self new.meter
-    c.spell_row_ahead-blocks.new.bytes know.0 know.1 know.2 know.3 c.requires.come.reads c.requires.come.aligned c.requires.come.state (c.spell_row_ahead-blocks.ensures.run some) steps
+    let k = row_stroke {next = c.stand_behind-stand.result} {q = new.self} {new = new.reader} new.meter
+    {bytes = c.spell_row_ahead-blocks.new.bytes} know.3 c.requires.come.reads c.requires.come.aligned c.requires.come.state (c.spell_row_ahead-blocks.ensures.run some) steps
     c.pass_plain_blocks.ensures.gives (plain_width c.args.setting.now g.row.WIDTH c.requires.plain) c.block.ensures.value
     (elim c.requires.plain.widths [ inl e ↦ omega (arith, e) | inr e ↦ elim e [ inl f ↦ omega (arith, f) | inr f ↦ omega (arith, f) ] ])
     (omega (arith, c.block.ensures.range)) some

@@ -29,4 +29,4 @@ returns g c s old now xs h =
     let adds : AddsCode e.coder.setting (complete_samples e.coder.setting xs) xs e.sink f.new.sink f.result (fill_count_of e.coder.setting xs) e.meter c.steps.result =
     subst (AddsCode e.coder.setting (complete_samples e.coder.setting xs) xs e.sink f.new.sink f.result (fill_count_of e.coder.setting xs) e.meter)
     (sym c.steps.ensures.value) (f.ensures.adds xs h.counts.stands) in
-    samples_end s old now e r f.new.sink c.pad.new.self xs f.result h adds refl refl c.pad.ensures.bits
+    samples_end h adds refl refl c.pad.ensures.bits

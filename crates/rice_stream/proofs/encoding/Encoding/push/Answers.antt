@@ -19,7 +19,7 @@ returns-then-len-lt8-clause-ok g c s old xs h =
     let now = g.O.Outlet.taken c.args.outlet.now in
     let t = c.take-taken.ensures.took s old now xs h in
     let few : length c.take-taken.new.self.sink < 8 = omega (arith, c.len.ensures.value, c.if-len-lt8.true) in
-    none_whole s old now c.args.self.now c.take-taken.new.self xs (take c.take-taken.result (values_at s c.args.levels.now)) h t.counts t.code_is few
+    none_whole (take c.take-taken.result (values_at s c.args.levels.now)) h t.counts t.code_is few
 
 pub returns-clause-ok : goal.returns-clause-ok
 returns-clause-ok g c s old xs h =
@@ -27,7 +27,7 @@ returns-clause-ok g c s old xs h =
     let t = c.take-taken.ensures.took s old now xs h in
     let w = c.in_ok-write_whole.ensures.ok in
     let k = t.counts in
-    all_written s old now (g.O.Outlet.taken c.write_whole.new.outlet) c.args.self.now c.take-taken.new.self _ xs (take c.take-taken.result (values_at s c.args.levels.now)) h k t.code_is w.0 w.2
+    all_written (take c.take-taken.result (values_at s c.args.levels.now)) h k t.code_is w.0 w.2
     (record { setting = k.setting; stands = k.stands; samples = k.samples; bits = k.bits; least = k.least; most = k.most })
 
 pub returns-in_err-write_whole-clause-err : goal.returns-in_err-write_whole-clause-err
@@ -37,6 +37,5 @@ returns-in_err-write_whole-clause-err g c =
     let p = err_from_is_err_and c.from_residual.result c.from_residual.ensures.1 in
     rw (p.1) (λ s old xs h. (let t = taken.ensures.took s old now xs h in
     let k = t.counts in
-    fails_in s old now (g.O.Outlet.taken c.write_whole.new.outlet) c.args.self.now taken.new.self _ xs (values_at s c.args.levels.now)
-    taken.result h t (taken.ensures.some c.requires.some) (omega (arith, taken.ensures.count, length-values s c.args.levels.now)) c.in_err-write_whole.ensures.err.0
+    fails_in h t (taken.ensures.some c.requires.some) (omega (arith, taken.ensures.count, length-values s c.args.levels.now)) c.in_err-write_whole.ensures.err.0
     (record { setting = k.setting; stands = k.stands; samples = k.samples; bits = k.bits; least = k.least; most = k.most })))

@@ -17,5 +17,5 @@ returns g c s old now xs h all limit =
       waiting = c.waiting_number-waiting.result;
       waiting_bits = c.len-waiting_bits.result;
     } in
-    seam_of s old now e seam xs h all limit refl refl c.steps.ensures.value (to_z-of_z w64 c.previous.result fits ∙ c.previous.ensures) c.start.ensures
+    seam_of h all limit refl refl c.steps.ensures.value (to_z-of_z w64 c.previous.result fits ∙ c.previous.ensures) c.start.ensures
     c.len-waiting_bits.ensures.value c.waiting_number-waiting.ensures.digits c.waiting_number-waiting.ensures.fits c.requires

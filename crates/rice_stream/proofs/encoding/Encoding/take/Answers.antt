@@ -48,4 +48,4 @@ returns-clause-took g c s old now xs h =
     let len : length (take n samples) ≡ n = length-take-le n samples (omega (arith, p.ensures.taken, length-values own c.args.levels.now)) in
     let before : (m : ℕ) → m < length (take n samples) → CompletesNone e.coder (take m (take n samples)) =
     λ m lt. subst (CompletesNone e.coder) (sym (take-take m n samples (omega (arith, lt, len)))) (p.ensures.before_last m (omega (arith, lt, len))) in
-    of_setting s own _ xs c.args.levels.now n h.counts.setting (taken_on s old now e _ xs (take n samples) p.result.bits h p.ensures.pushes refl (ap (λ m. e.samples + m) (sym len)) before)
+    of_setting s own _ xs c.args.levels.now n h.counts.setting (taken_on h p.ensures.pushes refl (ap (λ m. e.samples + m) (sym len)) before)
