@@ -25,20 +25,25 @@ sequences-wait w skip count r (Some s) h there loaded found =
           ∙ sym (part-waits w skip s.len h (omega (arith, there, few))));
     }
 
+-- a word with what is near in a window, from which so many bytes behind `skip` are looked at
+pub record WordOfWindow (w : Window) (skip bytes r : ℕ) : Type 0 where
+  pub long : 57 ≤ length (window_bits w)
+  pub near : skip + 8 * bytes ≤ 57
+  pub word : word 64 r ≡ take (bits_near w) (window_bits w) ++ replicate (64 - bits_near w) false
+
 -- those behind some of the first bits, in a word that begins with all of these
-pub sequences-soon : (w : Window) (skip bytes count r : ℕ) (found : Option Sequences) → 57 ≤ length (window_bits w) → skip + 8 * bytes ≤ 57
-    → word 64 r ≡ take (bits_near w) (window_bits w) ++ replicate (64 - bits_near w) false
+pub sequences-soon : (w : Window) (skip bytes count r : ℕ) (found : Option Sequences) → WordOfWindow w skip bytes r
     → IfSome found (λ s. BeginWithSequences (word 64 (r * 2 ^ skip % 2 ^ 64)) count s.numbers s.len) → IfSome found (λ s. s.len ≤ 8 * bytes)
     → IfSome found (λ s. BeginWithSequences (drop skip (window_bits w)) count s.numbers s.len)
-sequences-soon w skip bytes count r None there inside loaded found short = tt
-sequences-soon w skip bytes count r (Some s) there inside loaded found short =
+sequences-soon w skip bytes count r None looked found short = tt
+sequences-soon w skip bytes count r (Some s) looked found short =
     let n = s.len in
     let x = r * 2 ^ skip % 2 ^ 64 in
     let few : n ≤ 8 * bytes = short in
-    let near : 57 ≤ bits_near w = omega (arith, there) in
+    let near : 57 ≤ bits_near w = omega (arith, looked.long) in
     let most : bits_near w ≤ 64 = omega arith in
-    let moved : take n (word 64 x) ≡ take n (drop skip (word 64 r)) = take-front 64 n x (omega (arith, few, inside)) ∙ word-behind 64 n skip r (omega (arith, few, inside)) in
+    let moved : take n (word 64 x) ≡ take n (drop skip (word 64 r)) = take-front 64 n x (omega (arith, few, looked.near)) ∙ word-behind 64 n skip r (omega (arith, few, looked.near)) in
     let front : take (skip + n) (word 64 r) ≡ take (skip + n) (window_bits w) =
-    front-ahead (window_bits w) (skip + n) (bits_near w) (64 - bits_near w) r (omega (arith, few, inside, near)) (omega (arith, most)) loaded in
+    front-ahead (window_bits w) (skip + n) (bits_near w) (64 - bits_near w) r (omega (arith, few, looked.near, near)) (omega (arith, most)) looked.word in
     let behind : take n (drop skip (word 64 r)) ≡ take n (drop skip (window_bits w)) = sym (drop-take skip n (word 64 r)) ∙ ap (drop skip) front ∙ drop-take skip n (window_bits w) in
     record { lanes = found.lanes; few = found.few; spelled = found.spelled ∙ moved ∙ behind }

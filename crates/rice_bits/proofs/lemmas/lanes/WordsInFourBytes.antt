@@ -99,7 +99,8 @@ whole_lanes bytes n fit =
 abbrev pub wide_lane : List ℕ → ℕ → ℕ → ℕ → ℕ
 wide_lane bytes w r j = quad_number bytes ((r + j * w) / 8) * 2 ^ ((r + j * w) % 8) % 4294967296 / 2 ^ (32 - w)
 
-lane_of : (bytes : List ℕ) {w : ℕ} (r j at : ℕ) → length bytes ≡ 16 → ((i : ℕ) → get_or bytes i 0 < 256) → w ≤ 24 → at ≡ r + j * w → at < 80 → word w (wide_lane bytes w r j) ≡ take w (drop at (bits_of bytes))
+lane_of : (bytes : List ℕ) {w : ℕ} (r j at : ℕ) → length bytes ≡ 16 → ((i : ℕ) → get_or bytes i 0 < 256) → w ≤ 24 → at ≡ r + j * w → at < 80
+    → word w (wide_lane bytes w r j) ≡ take w (drop at (bits_of bytes))
 lane_of bytes {w} r j at n fit few place inside =
     let bits = bits_of bytes in
     let q = (r + j * w) / 8 in
@@ -184,7 +185,7 @@ wide-loaded bytes at w h few =
 -- eight words, four from each of two vectors
 pub eight-words : (w at : ℕ) (bits : List Bool) (first second : List ℕ) → flat_map (word w) first ≡ take (4 * w) (drop at bits) → flat_map (word w) second ≡ take (4 * w) (drop (at + 4 * w) bits)
     → flat_map (word w) (first ++ second) ≡ take (8 * w) (drop at bits)
-eight-words w at bits first second e f = words-joined w bits at {at = at + 4 * w} 4 4 first second refl e f
+eight-words w at bits first second e f = words-joined w bits at {at = at + 4 * w} 4 4 first second (record { place = refl; front = e; behind = f })
 
 pub eight-lanes : (first second : List ℕ) → length first ≡ 4 → length second ≡ 4 → pick_l 0 (first ++ second) (range_with_len 0 8) ≡ first ++ second
 eight-lanes first second e f = pick_l_whole 0 (first ++ second) 8 (omega (arith, e, f, length-append first second))

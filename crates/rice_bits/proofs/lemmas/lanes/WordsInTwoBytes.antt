@@ -111,7 +111,8 @@ pieces-joined w bits at (suc n) =
 abbrev pub lane : List ℕ → ℕ → ℕ → ℕ → ℕ
 lane bytes w r j = pair_number bytes ((r + j * w) / 8) * 2 ^ ((r + j * w) % 8) % 65536 / 2 ^ (16 - w)
 
-lane_of : (bytes : List ℕ) {w : ℕ} (r j at : ℕ) → length bytes ≡ 16 → ((i : ℕ) → get_or bytes i 0 < 256) → w ≤ 9 → at ≡ r + j * w → at < 80 → word w (lane bytes w r j) ≡ take w (drop at (bits_of bytes))
+lane_of : (bytes : List ℕ) {w : ℕ} (r j at : ℕ) → length bytes ≡ 16 → ((i : ℕ) → get_or bytes i 0 < 256) → w ≤ 9 → at ≡ r + j * w → at < 80
+    → word w (lane bytes w r j) ≡ take w (drop at (bits_of bytes))
 lane_of bytes {w} r j at n fit few place inside =
     let bits = bits_of bytes in
     let q = (r + j * w) / 8 in

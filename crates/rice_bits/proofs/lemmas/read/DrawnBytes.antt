@@ -25,12 +25,18 @@ consumes-append (Some u) None c xs ys p q = absurd p
 consumes-append (Some u) (Some v) None xs ys p q = absurd q
 consumes-append (Some u) (Some v) (Some w) xs ys p q = p ∙ ap (λ z. xs ++ z) q ∙ sym (append_assoc xs ys w)
 
+-- two draws, one after the other: their bytes, the bits that they serve, and the bits between them
+record DrawnInTurn (old mid a b ab xs ys xys : ℕ) : Type 0 where
+  bytes : ab ≡ a + b
+  bits : xys ≡ xs + ys
+  between : old + 8 * a ≡ xs + mid
+
 -- what is needed for the bits of the second part alone is needed for both
-needed-append : (old mid a b : ℕ) {ab : ℕ} (xs ys : ℕ) {xys : ℕ} → ab ≡ a + b → xys ≡ xs + ys → old + 8 * a ≡ xs + mid
+needed-append : {old mid a b ab xs ys xys : ℕ} → DrawnInTurn old mid a b ab xs ys xys
     → (0 < a → old + 8 * (a - most_at_once) < xs) → (0 < b → mid + 8 * (b - most_at_once) < ys) → 0 < ab → old + 8 * (ab - most_at_once) < xys
-needed-append old mid a b xs ys e f n p q some = elim (cases_lt 0 b) [
-  | inl more ↦ (let second = q more in omega (arith, second, e, f, n))
-  | inr none ↦ (let first = p (omega (arith, e, some, none)) in omega (arith, first, e, f, none))
+needed-append {b} turns p q some = elim (cases_lt 0 b) [
+  | inl more ↦ (let second = q more in omega (arith, second, turns.bytes, turns.bits, turns.between))
+  | inr none ↦ (let first = p (omega (arith, turns.bytes, some, none)) in omega (arith, first, turns.bytes, turns.bits, none))
 ]
 
 pub draws-append : {a b c : Option (List ℕ)} {old mid new xs ys : List Bool} → Draws a b old mid xs → Draws b c mid new ys → Draws a c old new (xs ++ ys)
@@ -40,7 +46,7 @@ draws-append {a} {b} {c} {old} {mid} {new} {xs} {ys} p q =
     record {
       given = p.given ++ q.given;
       consumed = consumes-append a b c p.given q.given p.consumed q.consumed;
-      needed = λ some. needed-append _ _ _ _ _ _ (length-append p.given q.given) (length-append xs ys) lengths p.needed q.needed some;
+      needed = λ some. needed-append (record { bytes = length-append p.given q.given; bits = length-append xs ys; between = lengths }) p.needed q.needed some;
       split =
           rw (
             bits_of-append p.given q.given,

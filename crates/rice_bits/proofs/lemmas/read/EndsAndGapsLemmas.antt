@@ -258,7 +258,8 @@ searched-four front bytes old told found b first count e =
       ends = e ∙ (λ j. first j ++ ends_after 0 (bits j));
     }
 
-pub searched-seven : {front : ℕ} {bytes : List ℕ} (old middle : List ℕ) {told : List ℕ} {found all : ℕ} → bytes ≡ to_be_bytes w64 front → take 1 old ≡ 0 ∷ [] → found ≡ 0 + length (ends_after 0 (bits_of (take 4 bytes)))
+pub searched-seven : {front : ℕ} {bytes : List ℕ} (old middle : List ℕ) {told : List ℕ} {found all : ℕ} → bytes ≡ to_be_bytes w64 front → take 1 old ≡ 0 ∷ []
+    → found ≡ 0 + length (ends_after 0 (bits_of (take 4 bytes)))
     → take (found + 1) middle ≡ take 1 old ++ ends_after 0 (bits_of (take 4 bytes))
     → all ≡ found + length (ends_after 32 (bits_of (take 3 (drop 4 bytes))))
     → take (all + 1) told ≡ take (found + 1) middle ++ ends_after 32 (bits_of (take 3 (drop 4 bytes))) → IsSearched front told all

@@ -242,23 +242,27 @@ pub length-words : (width : ℕ) (xs : List ℕ) → length (flat_map (word widt
 length-words width [] = omega arith
 length-words width (x ∷ xs) = omega (arith, length-append (word width x) (flat_map (word width) xs), length-word width x, length-words width xs)
 
+-- words that were read from a place on, and words behind them
+pub record WordsInTurn (width : ℕ) (bits : List Bool) (from at m k : ℕ) (xs ys : List ℕ) : Type 0 where
+  pub place : at ≡ from + m * width
+  pub front : flat_map (word width) xs ≡ take (m * width) (drop from bits)
+  pub behind : flat_map (word width) ys ≡ take (k * width) (drop at bits)
+
 -- words, and those after them
-pub words-joined : (width : ℕ) (bits : List Bool) (from : ℕ) {at : ℕ} (m k : ℕ) (xs ys : List ℕ) → at ≡ from + m * width
-    → flat_map (word width) xs ≡ take (m * width) (drop from bits) → flat_map (word width) ys ≡ take (k * width) (drop at bits)
+pub words-joined : (width : ℕ) (bits : List Bool) (from : ℕ) {at : ℕ} (m k : ℕ) (xs ys : List ℕ) → WordsInTurn width bits from at m k xs ys
     → flat_map (word width) (xs ++ ys) ≡ take ((m + k) * width) (drop from bits)
-words-joined width bits from m k xs ys place first second =
+words-joined width bits from m k xs ys both =
     let n : m * width + k * width ≡ (m + k) * width = grind arith in
     let rest : flat_map (word width) ys ≡ take (k * width) (drop (m * width) (drop from bits)) =
-    second ∙ ap (take (k * width)) (ap (λ a. drop a bits) place ∙ sym (drop-drop (m * width) from bits)) in
-    flat_map-append (word width) xs ys ∙ ((λ j. first j ++ rest j) ∙ (sym (take-add (m * width) (k * width) (drop from bits)) ∙ ap (λ a. take a (drop from bits)) n))
+    both.behind ∙ ap (take (k * width)) (ap (λ a. drop a bits) both.place ∙ sym (drop-drop (m * width) from bits)) in
+    flat_map-append (word width) xs ys ∙ ((λ j. both.front j ++ rest j) ∙ (sym (take-add (m * width) (k * width) (drop from bits)) ∙ ap (λ a. take a (drop from bits)) n))
 
 -- some words more, which are written after the first `m`
-pub words-written : {k : ℕ} (width : ℕ) (bits : List Bool) (from : ℕ) {at : ℕ} (m : ℕ) (now words : List ℕ) → at ≡ from + m * width → length words ≡ k → m + k ≤ length now
-    → flat_map (word width) (take m now) ≡ take (m * width) (drop from bits)
-    → flat_map (word width) words ≡ take (k * width) (drop at bits)
+pub words-written : {k : ℕ} (width : ℕ) (bits : List Bool) (from : ℕ) {at : ℕ} (m : ℕ) (now words : List ℕ) → WordsInTurn width bits from at m k (take m now) words → length words ≡ k
+    → m + k ≤ length now
     → flat_map (word width) (take (m + k) (put_chunk m now words)) ≡ take ((m + k) * width) (drop from bits)
-words-written {k} width bits from {at} m now words place len room before next =
-    ap (flat_map (word width)) (take_more_put_chunk m now words (m + k) (omega (arith, len)) room) ∙ words-joined width bits from m k (take m now) words place before next
+words-written {k} width bits from {at} m now words both len room =
+    ap (flat_map (word width)) (take_more_put_chunk m now words (m + k) (omega (arith, len)) room) ∙ words-joined width bits from m k (take m now) words both
 
 pub all-written : (P : ℕ → Type 0) (k m : ℕ) (now words : List ℕ) → length words ≡ k → m + k ≤ length now
     → All P (take m now) → All P words → All P (take (m + k) (put_chunk m now words))
@@ -279,27 +283,34 @@ fours-last count now four len e h =
     let written = put_chunk (count - 4) now four in
     sym (take_all count written (omega (arith, len, length-put_chunk (count - 4) now four))) ∙ take_more_put_chunk (count - 4) now four count (omega (arith, e, h)) (omega (arith, len))
 
--- what holds of each word before the last four and of these holds of all
-pub all-last : (P : ℕ → Type 0) (m : ℕ) {count : ℕ} (now four : List ℕ) → length now ≡ count → length four ≡ 4 → 4 ≤ count → count ≤ m + 4
-    → All P (take m now) → All P four → All P (put_chunk (count - 4) now four)
-all-last P m {count} now four len e h reach before behind =
-    let part : count - 4 ≤ m = omega (arith, reach) in
-    let front : All P (take (count - 4) now) = subst (All P) (take-take (count - 4) m now part) (All-take P (count - 4) (take m now) before) in
-    subst (All P) (sym (fours-last count now four len e h)) (All-append P (take (count - 4) now) four front behind)
+-- four words go last, over some that are there before them: they begin at most behind these
+pub record FourLast (m count : ℕ) (now four : List ℕ) : Type 0 where
+  pub len : length now ≡ count
+  pub four_are : length four ≡ 4
+  pub room : 4 ≤ count
+  pub reach : count ≤ m + 4
 
-pub words-last : (width : ℕ) (bits : List Bool) (from : ℕ) {m count : ℕ} (now four : List ℕ) → length now ≡ count → length four ≡ 4 → 4 ≤ count → m ≤ count → count ≤ m + 4
+-- what holds of each word before the last four and of these holds of all
+pub all-last : (P : ℕ → Type 0) (m : ℕ) {count : ℕ} (now four : List ℕ) → FourLast m count now four
+    → All P (take m now) → All P four → All P (put_chunk (count - 4) now four)
+all-last P m {count} now four places before behind =
+    let part : count - 4 ≤ m = omega (arith, places.reach) in
+    let front : All P (take (count - 4) now) = subst (All P) (take-take (count - 4) m now part) (All-take P (count - 4) (take m now) before) in
+    subst (All P) (sym (fours-last count now four places.len places.four_are places.room)) (All-append P (take (count - 4) now) four front behind)
+
+pub words-last : (width : ℕ) (bits : List Bool) (from : ℕ) {m count : ℕ} (now four : List ℕ) → FourLast m count now four → m ≤ count
     → flat_map (word width) (take m now) ≡ take (m * width) (drop from bits)
     → flat_map (word width) four ≡ take (4 * width) (drop (from + (count - 4) * width) bits)
     → flat_map (word width) (put_chunk (count - 4) now four) ≡ take (length (put_chunk (count - 4) now four) * width) (drop from bits)
-words-last width bits from {m} {count} now four len e h within reach before behind =
+words-last width bits from {m} {count} now four places within before behind =
     let last = count - 4 in
-    let part : last ≤ m = omega (arith, reach) in
-    let n : last + 4 ≡ length (put_chunk last now four) = omega (arith, h, len, length-put_chunk last now four) in
+    let part : last ≤ m = omega (arith, places.reach) in
+    let n : last + 4 ≡ length (put_chunk last now four) = omega (arith, places.room, places.len, length-put_chunk last now four) in
     let front : flat_map (word width) (take last now) ≡ take (last * width) (drop from bits) =
-    ap (flat_map (word width)) (sym (take-take last m now part)) ∙ (words-front width last (take m now) (omega (arith, part, length-take-le m now (omega (arith, within, len))))
+    ap (flat_map (word width)) (sym (take-take last m now part)) ∙ (words-front width last (take m now) (omega (arith, part, length-take-le m now (omega (arith, within, places.len))))
     ∙ (ap (take (last * width)) before ∙ take-take (last * width) (m * width) (drop from bits) (mul-le-mul_right width part))) in
-    ap (flat_map (word width)) (fours-last count now four len e h)
-    ∙ (words-joined width bits from {at = from + last * width} last 4 (take last now) four refl front behind ∙ ap (λ k. take (k * width) (drop from bits)) n)
+    ap (flat_map (word width)) (fours-last count now four places.len places.four_are places.room)
+    ∙ (words-joined width bits from {at = from + last * width} last 4 (take last now) four (record { place = refl; front = front; behind = behind }) ∙ ap (λ k. take (k * width) (drop from bits)) n)
 
 -- one more word, from the place after the others
 pub words-more : (width : ℕ) (bits : List Bool) (from : ℕ) {at : ℕ} (now : List ℕ) {done : ℕ} (v : ℕ) → at ≡ from + done * width → done < length now
@@ -308,7 +319,7 @@ pub words-more : (width : ℕ) (bits : List Bool) (from : ℕ) {at : ℕ} (now :
 words-more width bits from {at} now {done} v place lt before step =
     let n : width ≡ 1 * width = omega arith in
     let one : flat_map (word width) (v ∷ []) ≡ take (1 * width) (drop at bits) = append-nil (word width v) ∙ (step ∙ ap (λ k. take k (drop at bits)) n) in
-    ap (flat_map (word width)) (take_more_set now done v lt) ∙ words-joined width bits from done 1 (take done now) (v ∷ []) place before one
+    ap (flat_map (word width)) (take_more_set now done v lt) ∙ words-joined width bits from done 1 (take done now) (v ∷ []) (record { place = place; front = before; behind = one })
 
 -- words of no digits have no bits
 pub words-none : (width : ℕ) (words : List ℕ) (bits : List Bool) → width ≡ 0 → flat_map (word width) words ≡ take (length words * width) bits
@@ -378,13 +389,20 @@ blank-more bits {a} {s} {n} r {v} from few fits ahead e before none =
     blank-parts bits a s (s + n) from (omega arith)
     ∙ ((λ j. before j && blank-ahead bits s n r v few fits ahead e j) ∙ ap (λ k. k == 0) none)
 
-pub blank-not : (bits : List Bool) {a s n : ℕ} (r : ℕ) {v : ℕ} (end : ℕ) → a ≤ s → n ≤ 57 → r < 2 ^ 64 → word 64 r ≡ take (64 - s % 8) (drop s bits) ++ replicate (s % 8) false
-    → v ≡ r / 2 ^ (64 - n) → is_blank (slice_range bits a s) ≡ true → v ≢ 0 → s + n ≤ end → is_blank (slice_range bits a end) ≡ false
-blank-not bits {a} {s} {n} r {v} end from few fits ahead e before some within =
+-- the first n bits of the word that stands at a place, as a number
+pub record FrontOfWord (bits : List Bool) (s n r v : ℕ) : Type 0 where
+  pub few : n ≤ 57
+  pub fits : r < 2 ^ 64
+  pub word : word 64 r ≡ take (64 - s % 8) (drop s bits) ++ replicate (s % 8) false
+  pub front : v ≡ r / 2 ^ (64 - n)
+
+pub blank-not : (bits : List Bool) {a s n : ℕ} (r : ℕ) {v : ℕ} (end : ℕ) → a ≤ s → FrontOfWord bits s n r v → is_blank (slice_range bits a s) ≡ true → v ≢ 0 → s + n ≤ end
+    → is_blank (slice_range bits a end) ≡ false
+blank-not bits {a} {s} {n} r {v} end from looked before some within =
     let one : (v == 0) ≡ false = grind (arith, nat_tests) in
     blank-parts bits a s end from (omega (arith, within))
     ∙ ((λ j. before j && blank-parts bits s (s + n) end (omega arith) within j)
-    ∙ ap (λ b. b && is_blank (slice_range bits (s + n) end)) (blank-ahead bits s n r v few fits ahead e ∙ one))
+    ∙ ap (λ b. b && is_blank (slice_range bits (s + n) end)) (blank-ahead bits s n r v looked.few looked.fits looked.word looked.front ∙ one))
 
 -- a sequence at the front of bits with zeros after them is one of those bits
 pub run-within : (m k : ℕ) (rest xs : List Bool) → fundamental_sequence m ++ rest ≡ xs ++ replicate k false → m + 1 ≤ length xs

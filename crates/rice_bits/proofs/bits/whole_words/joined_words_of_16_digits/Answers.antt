@@ -4,6 +4,6 @@ use Rattle.rice_bits.proofs.bits.whole_words.joined_words_of_16_digits.Goals as 
 pub returns : goal.returns
 returns c =
     four_words c.args.words.now c.args.at c.requires
-    c.low_digits.ensures.value c.low_digits-2.ensures.value c.low_digits-3.ensures.value c.low_digits-4.ensures.value
-    c.low_digits.ensures.fits c.low_digits-2.ensures.fits c.low_digits-3.ensures.fits c.low_digits-4.ensures.fits
-    c.join-first.ensures c.join-last.ensures c.join.ensures
+    (record { value = c.low_digits.ensures.value; fit = c.low_digits.ensures.fits }) (record { value = c.low_digits-2.ensures.value; fit = c.low_digits-2.ensures.fits })
+    (record { value = c.low_digits-3.ensures.value; fit = c.low_digits-3.ensures.fits }) (record { value = c.low_digits-4.ensures.value; fit = c.low_digits-4.ensures.fits })
+    (record { first_pair = c.join-first.ensures; last_pair = c.join-last.ensures; all = c.join.ensures })

@@ -26,17 +26,26 @@ loop-i-preserved c =
       fit = subst (λ m. All (λ d. d < 2 ^ w) (take m (put_chunk at l.words four))) n
           (all-written (λ d. d < 2 ^ w) 4 at l.words four c.four_words_from-four.ensures.len room l.invariant.fit c.four_words_from-four.ensures.fit);
       bits = subst (λ m. flat_map (word w) (take m (put_chunk at l.words four)) ≡ take (m * w) (drop c.args.at bits)) n
-          (words-written w bits c.args.at {at = c.args.at + at * w} at l.words four refl c.four_words_from-four.ensures.len room l.invariant.bits c.four_words_from-four.ensures.bits);
+          (words-written w bits c.args.at {at = c.args.at + at * w} at l.words four (record { place = refl; front = l.invariant.bits; behind = c.four_words_from-four.ensures.bits })
+          c.four_words_from-four.ensures.len room);
     }
 
 pub returns-clause-fit : goal.returns-clause-fit
 returns-clause-fit c =
     let l = c.loop-i in
-    all-last (λ d. d < 2 ^ c.args.width) (4 * l.i) l.words c.four_words_from-four-2.result l.invariant.len c.four_words_from-four-2.ensures.len c.requires.some
-    (omega (arith, c.loop-i-test.false)) l.invariant.fit c.four_words_from-four-2.ensures.fit
+    all-last (λ d. d < 2 ^ c.args.width) (4 * l.i) l.words c.four_words_from-four-2.result (record {
+      len = l.invariant.len;
+      four_are = c.four_words_from-four-2.ensures.len;
+      room = c.requires.some;
+      reach = omega (arith, c.loop-i-test.false);
+    }) l.invariant.fit c.four_words_from-four-2.ensures.fit
 
 pub returns-clause-bits : goal.returns-clause-bits
 returns-clause-bits c =
     let l = c.loop-i in
-    words-last c.args.width (bits_of c.args.bytes.now) c.args.at {m = 4 * l.i} l.words c.four_words_from-four-2.result l.invariant.len c.four_words_from-four-2.ensures.len c.requires.some
-    (omega (arith, l.auto, c.requires.some)) (omega (arith, c.loop-i-test.false)) l.invariant.bits c.four_words_from-four-2.ensures.bits
+    words-last c.args.width (bits_of c.args.bytes.now) c.args.at {m = 4 * l.i} l.words c.four_words_from-four-2.result (record {
+      len = l.invariant.len;
+      four_are = c.four_words_from-four-2.ensures.len;
+      room = c.requires.some;
+      reach = omega (arith, c.loop-i-test.false);
+    }) (omega (arith, l.auto, c.requires.some)) l.invariant.bits c.four_words_from-four-2.ensures.bits

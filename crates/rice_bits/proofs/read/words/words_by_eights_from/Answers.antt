@@ -22,5 +22,9 @@ loop-i-preserved c =
       fit = subst (λ m. All (λ d. d < 2 ^ w) (take m (put_chunk at l.words eight))) n
           (all-written (λ d. d < 2 ^ w) 8 at l.words eight c.eight_words_from-eight.ensures.len room l.invariant.fit c.eight_words_from-eight.ensures.fit);
       bits = subst (λ m. flat_map (word w) (take m (put_chunk at l.words eight)) ≡ take (m * w) (drop c.args.at bits)) n
-          (words-written w bits c.args.at at l.words eight l.invariant.place c.eight_words_from-eight.ensures.len room l.invariant.bits c.eight_words_from-eight.ensures.bits);
+          (words-written w bits c.args.at at l.words eight (record {
+            place = l.invariant.place;
+            front = l.invariant.bits;
+            behind = c.eight_words_from-eight.ensures.bits;
+          }) c.eight_words_from-eight.ensures.len room);
     })

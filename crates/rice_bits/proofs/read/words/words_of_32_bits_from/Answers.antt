@@ -17,7 +17,11 @@ loop-i-preserved c =
     record {
       len = length-put_chunk at l.words four ∙ l.invariant.len;
       bits = subst (λ m. flat_map (word 32) (take m (put_chunk at l.words four)) ≡ take (m * 32) (drop c.args.at bits)) n
-          (words-written 32 bits c.args.at {at = c.args.at + 128 * l.i} at l.words four (omega arith) c.four_words_of_32_bits_from.ensures.len room l.invariant.bits c.four_words_of_32_bits_from.ensures.bits);
+          (words-written 32 bits c.args.at {at = c.args.at + 128 * l.i} at l.words four (record {
+            place = omega arith;
+            front = l.invariant.bits;
+            behind = c.four_words_of_32_bits_from.ensures.bits;
+          }) c.four_words_of_32_bits_from.ensures.len room);
     }
 
 pub returns : goal.returns
@@ -25,6 +29,10 @@ returns c =
     let l = c.loop-i in
     let last = c.four_words_of_32_bits_from-2 in
     record {
-      bits = words-last 32 (bits_of c.args.bytes.now) c.args.at {m = 4 * l.i} l.words last.result l.invariant.len last.ensures.len c.requires.some
-          (omega (arith, l.auto, c.requires.some)) (omega (arith, c.loop-i-test.false)) l.invariant.bits last.ensures.bits;
+      bits = words-last 32 (bits_of c.args.bytes.now) c.args.at {m = 4 * l.i} l.words last.result (record {
+        len = l.invariant.len;
+        four_are = last.ensures.len;
+        room = c.requires.some;
+        reach = omega (arith, c.loop-i-test.false);
+      }) (omega (arith, l.auto, c.requires.some)) l.invariant.bits last.ensures.bits;
     }

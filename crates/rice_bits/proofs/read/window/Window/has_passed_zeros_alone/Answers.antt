@@ -26,7 +26,12 @@ pub returns-then-front_digits-ne0 : goal.returns-then-front_digits-ne0
 unfolding window_passed
 returns-then-front_digits-ne0 c =
     sym (blank-not (bits_of c.args.self.now.buffer) {n = c.min-count.result} c.at_least_57_bits_from.result c.args.self.now.at
-    c.loop-seen.invariant.from (omega arith) (omega arith) c.at_least_57_bits_from.ensures c.front_digits.ensures c.loop-seen.invariant.blank c.if-front_digits-ne0.true (omega (arith, c.loop-seen-test.true)))
+    c.loop-seen.invariant.from (record {
+      few = omega arith;
+      fits = omega arith;
+      word = c.at_least_57_bits_from.ensures;
+      front = c.front_digits.ensures;
+    }) c.loop-seen.invariant.blank c.if-front_digits-ne0.true (omega (arith, c.loop-seen-test.true)))
 
 pub returns : goal.returns
 unfolding window_passed
