@@ -42,8 +42,26 @@ one_sample s x y legal kx ky e =
     let below : word < 2 ^ (8 * k) = pattern_fits (record s { bits = 8 * k }) x (omega arith) vx in
     let spelled : spelling s x ≡ ordered_bytes s.msb (length (spelling s x)) word = ap (λ n. ordered_bytes s.msb n word) (sym len) in
     let fits : word < 2 ^ (8 * length (spelling s x)) = subst (λ (n : ℕ). word < 2 ^ (8 * n)) (sym len) below in
-    let lx = level_spelled {msb = s.msb} word {o = offset s} x legal refl refl refl len holds some few spelled fits kx refl in
-    let ly = level_spelled {msb = s.msb} word {o = offset s} y legal refl refl refl len holds some few spelled fits ky e in
+    let lx = level_spelled {msb = s.msb} word {o = offset s} x legal (record {
+      order = refl;
+      offset_is = refl;
+      width_is = refl;
+      len = len;
+      enough = holds;
+      some = some;
+      ordered = spelled;
+      fits = fits;
+    }) few kx refl in
+    let ly = level_spelled {msb = s.msb} word {o = offset s} y legal (record {
+      order = refl;
+      offset_is = refl;
+      width_is = refl;
+      len = len;
+      enough = holds;
+      some = some;
+      ordered = spelled;
+      fits = fits;
+    }) few ky e in
     same_level s x y kx ky (sym lx ∙ ly)
 
 -- and several spellings are of these samples alone

@@ -88,19 +88,25 @@ gives_taken {old} l {bytes} {xs} r all left given setting = record {
 pub bytes_between : (at end : ℕ) (l : List ℕ) → at ≤ end → take (end - at) (drop at l) ≡ drop at (take end l)
 bytes_between at end l le = let e : at + (end - at) ≡ end = omega arith in sym (drop-take at (end - at) l) ∙ ap (λ n. drop at (take n l)) e
 
+-- what waits, how much was given, and the setting are as they were
+pub record StaysAhead (old new : SamplesAhead) : Type 0 where
+  pub waiting : new.waiting ≡ old.waiting
+  pub given : new.given ≡ old.given
+  pub setting : new.setting ≡ old.setting
+
 -- a byte came that is one too many
-pub stops_long : (old new : SamplesAhead) (l m : Option (List ℕ)) (bytes : List ℕ) → Consumes l m bytes → length bytes ≡ 1 → old.given ≡ most_input → LacksSample old
-    → new.waiting ≡ old.waiting → new.given ≡ old.given → new.setting ≡ old.setting → StopsSamples TooLong old new l m
-stops_long old new l m bytes gave one full lacks waits given setting =
+pub stops_long : (old : SamplesAhead) {new : SamplesAhead} (l m : Option (List ℕ)) (bytes : List ℕ) → Consumes l m bytes → length bytes ≡ 1 → old.given ≡ most_input → LacksSample old
+    → StaysAhead old new → StopsSamples TooLong old new l m
+stops_long old {new} l m bytes gave one full lacks same =
     let byte = single bytes one in (
       record {
-        full = given ∙ full;
+        full = same.given ∙ full;
         left_then = l;
-        gives = gives_none old new l waits given setting;
+        gives = gives_none old new l same.waiting same.given same.setting;
         last = byte.0;
         gave = subst (Consumes l m) byte.1 gave;
       },
-      subst (λ (n : ℕ). length new.waiting < n) (ap width (sym setting)) (subst (λ (l : List ℕ). length l < width old.setting) (sym waits) lacks),
+      subst (λ (n : ℕ). length new.waiting < n) (ap width (sym same.setting)) (subst (λ (l : List ℕ). length l < width old.setting) (sym same.waiting) lacks),
     )
   where
     single : (l : List ℕ) → length l ≡ 1 → (x : ℕ) × (l ≡ x ∷ [])

@@ -36,12 +36,18 @@ one_read f value w {i} bytes levels l h e g =
 pub one_legal : {X : Type 0} (P : X → Type 0) (i : ℕ) (xs : List X) (x : X) → i < length xs → All P (take i xs) → P x → All P (take (i + 1) (slice_set xs i x))
 one_legal P i xs x h all p = subst (All P) (sym (take_more_set xs i x h)) (All-push P (take i xs) x all p)
 
+-- one more level, and the bytes of a sample where there are bytes for all levels
+pub record RoomForOne (w i : ℕ) (bytes ys levels : List ℕ) : Type 0 where
+  pub inside : i < length levels
+  pub bytes_are : length bytes ≡ w * length levels
+  pub one : length ys ≡ w
+
 -- the bytes of one more value, by its level
-pub one_written : (f : ℤ → List ℕ) (value : ℕ → ℤ) {w i : ℕ} (k : ℕ) (bytes : List ℕ) {ys : List ℕ} (levels : List ℕ) → i < length levels → length bytes ≡ w * length levels → length ys ≡ w
+pub one_written : (f : ℤ → List ℕ) (value : ℕ → ℤ) {w i : ℕ} (k : ℕ) (bytes : List ℕ) {ys : List ℕ} (levels : List ℕ) → RoomForOne w i bytes ys levels
     → take (w * i) bytes ≡ flat_map f (map value (take i levels)) →
     ys ≡ f (value (get_or levels i 0)) → take (w * (i + 1)) (put_mid (w * i) k bytes ys) ≡ flat_map f (map value (take (i + 1) levels))
-one_written f value {w} {i} k bytes {ys} levels h len one e g =
-    let n : w * (i + 1) ≡ w * i + length ys = omega (arith, one) in
+one_written f value {w} {i} k bytes {ys} levels room e g =
+    let n : w * (i + 1) ≡ w * i + length ys = omega (arith, room.one) in
     let more : w * i ≤ w * length levels = mul-le-mul_left w (omega arith) in
-    take-put_mid (w * i) k bytes ys (w * (i + 1)) n (omega (arith, more, len))
-    ∙ ((λ j. e j ++ g j) ∙ sym (ap (flat_map f) (map_more value levels i 0 h) ∙ flat_map-push f (map value (take i levels)) (value (get_or levels i 0))))
+    take-put_mid (w * i) k bytes ys (w * (i + 1)) n (omega (arith, more, room.bytes_are))
+    ∙ ((λ j. e j ++ g j) ∙ sym (ap (flat_map f) (map_more value levels i 0 room.inside) ∙ flat_map-push f (map value (take i levels)) (value (get_or levels i 0))))

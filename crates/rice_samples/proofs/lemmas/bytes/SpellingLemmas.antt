@@ -164,34 +164,45 @@ offset_limit s more h le = by_sign s.signed
     by_sign true = pow_mono {i = s.bits - 1} {j = more} (omega arith)
     by_sign false = omega arith
 
+-- bytes that are a word in an order, as many as a sample has, and the offset of the levels
+pub record OrderedWord (s : Parameters) (bytes : List ℕ) (msb : Bool) (k word o : ℕ) : Type 0 where
+  pub order : msb ≡ s.msb
+  pub offset_is : o ≡ offset s
+  pub width_is : k ≡ width s
+  pub len : length bytes ≡ width s
+  pub enough : s.bits ≤ 8 * k
+  pub some : 1 ≤ k
+  pub ordered : bytes ≡ ordered_bytes msb (length bytes) word
+  pub fits : word < 2 ^ (8 * length bytes)
+
 -- bytes that spell the word of a sample's pattern spell the sample
-pub spelled_level : {s : Parameters} {bytes : List ℕ} {msb : Bool} {k : ℕ} (word : ℕ) {o : ℕ} (x : ℤ) → IsLegal s → msb ≡ s.msb → o ≡ offset s → k ≡ width s → length bytes ≡ width s → s.bits ≤ 8 * k → 1 ≤ k →
-    bytes ≡ ordered_bytes msb (length bytes) word → word < 2 ^ (8 * length bytes) → IsSample s x → level s x ≡ (word + o) % 2 ^ (8 * k) → bytes ≡ spelling s x
-spelled_level {s} {bytes} {k} word x legal m f w n holds from b lt hx e =
-    let len : length bytes ≡ k = n ∙ sym w in
-    let fits : word < 2 ^ (8 * k) = subst (λ (v : ℕ). word < 2 ^ (8 * v)) len lt in
+pub spelled_level : {s : Parameters} {bytes : List ℕ} {msb : Bool} {k : ℕ} (word : ℕ) {o : ℕ} (x : ℤ) → IsLegal s → OrderedWord s bytes msb k word o → IsSample s x
+    → level s x ≡ (word + o) % 2 ^ (8 * k) → bytes ≡ spelling s x
+spelled_level {s} {bytes} {k} word x legal spells hx e =
+    let len : length bytes ≡ k = spells.len ∙ sym spells.width_is in
+    let fits : word < 2 ^ (8 * k) = subst (λ (v : ℕ). word < 2 ^ (8 * v)) len spells.fits in
     let wide : Parameters = record s { bits = 8 * k } in
-    let vx : IsValue (8 * k) s.signed x = wider_value s.bits (8 * k) s.signed x legal.bits_from holds hx in
+    let vx : IsValue (8 * k) s.signed x = wider_value s.bits (8 * k) s.signed x legal.bits_from spells.enough hx in
     let below : twos_complement (8 * k) x < 2 ^ (8 * k) = pattern_fits wide x (omega arith) vx in
     let same : word ≡ twos_complement (8 * k) x =
-    same_offset word (twos_complement (8 * k) x) (offset s) (2 ^ (8 * k)) fits below (offset_limit s (8 * k) legal.bits_from holds)
-    (ap (λ v. (word + v) % 2 ^ (8 * k)) (sym f) ∙ (sym e ∙ sym (level_from_pattern s (8 * k) x legal.bits_from holds hx)))
+    same_offset word (twos_complement (8 * k) x) (offset s) (2 ^ (8 * k)) fits below (offset_limit s (8 * k) legal.bits_from spells.enough)
+    (ap (λ v. (word + v) % 2 ^ (8 * k)) (sym spells.offset_is) ∙ (sym e ∙ sym (level_from_pattern s (8 * k) x legal.bits_from spells.enough hx)))
     in
-    b ∙ (ap (λ v. ordered_bytes v (length bytes) word) m
-    ∙ (ap (λ v. ordered_bytes s.msb v word) n ∙ (ap (λ v. ordered_bytes s.msb (width s) v) same ∙ ap (λ v. ordered_bytes s.msb (width s) (twos_complement (8 * v) x)) w)))
+    spells.ordered ∙ (ap (λ v. ordered_bytes v (length bytes) word) spells.order
+    ∙ (ap (λ v. ordered_bytes s.msb v word) spells.len ∙ (ap (λ v. ordered_bytes s.msb (width s) v) same ∙ ap (λ v. ordered_bytes s.msb (width s) (twos_complement (8 * v) x)) spells.width_is)))
 
 -- bytes that spell a sample tell its level
-pub level_spelled : {s : Parameters} {bytes : List ℕ} {msb : Bool} {k : ℕ} (word : ℕ) {o : ℕ} (y : ℤ) → IsLegal s → msb ≡ s.msb → o ≡ offset s → k ≡ width s
-    → length bytes ≡ width s → s.bits ≤ 8 * k → 1 ≤ k → k ≤ 4 →
-    bytes ≡ ordered_bytes msb (length bytes) word → word < 2 ^ (8 * length bytes) → IsSample s y → bytes ≡ spelling s y → (word + o) % 2 ^ (8 * k) ≡ level s y
-level_spelled {s} {bytes} {msb} {k} word {o} y legal m f w n holds from to b lt hy e =
-    let len : length bytes ≡ k = n ∙ sym w in
-    let fits : word < 2 ^ (8 * k) = subst (λ (v : ℕ). word < 2 ^ (8 * v)) len lt in
+pub level_spelled : {s : Parameters} {bytes : List ℕ} {msb : Bool} {k : ℕ} (word : ℕ) {o : ℕ} (y : ℤ) → IsLegal s → OrderedWord s bytes msb k word o → k ≤ 4 → IsSample s y → bytes ≡ spelling s y
+    → (word + o) % 2 ^ (8 * k) ≡ level s y
+level_spelled {s} {bytes} {msb} {k} word {o} y legal spells to hy e =
+    let len : length bytes ≡ k = spells.len ∙ sym spells.width_is in
+    let fits : word < 2 ^ (8 * k) = subst (λ (v : ℕ). word < 2 ^ (8 * v)) len spells.fits in
     let wide : Parameters = record s { bits = 8 * k } in
-    let vy : IsValue (8 * k) s.signed y = wider_value s.bits (8 * k) s.signed y legal.bits_from holds hy in
+    let vy : IsValue (8 * k) s.signed y = wider_value s.bits (8 * k) s.signed y legal.bits_from spells.enough hy in
     let below : twos_complement (8 * k) y < 2 ^ (8 * k) = pattern_fits wide y (omega arith) vy in
     let spelled : ordered_bytes s.msb k word ≡ ordered_bytes s.msb k (twos_complement (8 * k) y) =
-    ap (λ v. ordered_bytes v k word) (sym m) ∙ (ap (λ v. ordered_bytes msb v word) (sym len) ∙ (sym b ∙ (e ∙ ap (λ v. ordered_bytes s.msb v (twos_complement (8 * v) y)) (sym w))))
+    ap (λ v. ordered_bytes v k word) (sym spells.order) ∙ (ap (λ v. ordered_bytes msb v word) (sym len)
+    ∙ (sym spells.ordered ∙ (e ∙ ap (λ v. ordered_bytes s.msb v (twos_complement (8 * v) y)) (sym spells.width_is))))
     in
-    let same = same_word s.msb k word (twos_complement (8 * k) y) from to fits below spelled in
-    ap (λ v. (v + o) % 2 ^ (8 * k)) same ∙ (ap (λ v. (twos_complement (8 * k) y + v) % 2 ^ (8 * k)) f ∙ level_from_pattern s (8 * k) y legal.bits_from holds hy)
+    let same = same_word s.msb k word (twos_complement (8 * k) y) spells.some to fits below spelled in
+    ap (λ v. (v + o) % 2 ^ (8 * k)) same ∙ (ap (λ v. (twos_complement (8 * k) y + v) % 2 ^ (8 * k)) spells.offset_is ∙ level_from_pattern s (8 * k) y legal.bits_from spells.enough hy)

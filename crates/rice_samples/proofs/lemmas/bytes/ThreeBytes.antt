@@ -140,15 +140,22 @@ high_first s o levels h three order e len legal =
     (words_in_bytes o levels len)
     ∙ (high_threes (words_of 8 o levels) (length-words_of 8 o levels len) ∙ high-threes-spelled s levels h few three order e len legal)
 
+-- eight more levels, their spellings in a chunk, and bytes for the chunk
+pub record RoomForEight (i : ℕ) (levels bytes spelled : List ℕ) : Type 0 where
+  pub levels_left : 8 * i + 8 ≤ length levels
+  pub eight : length spelled ≡ 32
+  pub bytes_left : 24 * i + 32 ≤ length bytes
+
 -- eight samples more
-pub eight_more : (s : Parameters) (i : ℕ) (levels bytes spelled : List ℕ) {new : List ℕ} → 8 * i + 8 ≤ length levels → take (24 * i) bytes ≡ spellings s (values_at s (take (8 * i) levels))
-    → take 24 spelled ≡ spellings s (values_at s (take 8 (drop (8 * i) levels))) → length spelled ≡ 32 → 24 * i + 32 ≤ length bytes → new ≡ put_chunk (24 * i) bytes spelled
+pub eight_more : (s : Parameters) (i : ℕ) (levels bytes spelled : List ℕ) {new : List ℕ} → RoomForEight i levels bytes spelled → take (24 * i) bytes ≡ spellings s (values_at s (take (8 * i) levels))
+    → take 24 spelled ≡ spellings s (values_at s (take 8 (drop (8 * i) levels))) → new ≡ put_chunk (24 * i) bytes spelled
     → take (24 * (i + 1)) new ≡ spellings s (values_at s (take (8 * (i + 1)) levels))
-eight_more s i levels bytes spelled {new} inside before next len room is =
+eight_more s i levels bytes spelled {new} room before next is =
     let at : 24 * (i + 1) ≡ 24 * i + 24 = omega arith in
     let count : 8 * i + 8 ≡ 8 * (i + 1) = omega arith in
-    let all : take (24 * i + 32) new ≡ take (24 * i) bytes ++ spelled = ap (take (24 * i + 32)) is ∙ take_more_put_chunk (24 * i) bytes spelled (24 * i + 32) (omega (arith, len)) room in
-    let front : length (take (24 * i) bytes) ≡ 24 * i = length-take-le (24 * i) bytes (omega (arith, room)) in
+    let all : take (24 * i + 32) new ≡ take (24 * i) bytes ++ spelled = ap (take (24 * i + 32)) is ∙ take_more_put_chunk (24 * i) bytes spelled (24 * i + 32) (omega (arith, room.eight))
+    room.bytes_left in
+    let front : length (take (24 * i) bytes) ≡ 24 * i = length-take-le (24 * i) bytes (omega (arith, room.bytes_left)) in
     let both : take (24 * i + 24) new ≡ take (24 * i) bytes ++ take 24 spelled =
     sym (take-take (24 * i + 24) (24 * i + 32) new (omega arith)) ∙ (ap (take (24 * i + 24)) all ∙ take_in_second (24 * i) 24 (take (24 * i) bytes) spelled front) in
     ap (λ n. take n new) at

@@ -22,7 +22,8 @@ low_digits bits (negsuc v) few from below = negative (2 ^ (64 - bits)) (2 ^ bits
     negative zero p v e some lt = absurd (omega arith)
     negative (suc parts) p v e some lt = let f : 2 ^ 64 - suc v ≡ parts * p + (p - 1 - v) = omega arith in rw f (mod-mul-add parts p (p - 1 - v) (omega arith))
 
-same_signed : (n : ℕ) {half : ℕ} {x y : ℤ} → 2 ^ n ≡ half + half → 0 < half → neg_ℤ (pos half) ≤ℤ x → int_gap (neg_ℤ (pos half)) x < 2 ^ n → neg_ℤ (pos half) ≤ℤ y → int_gap (neg_ℤ (pos half)) y < 2 ^ n →
+same_signed : (n : ℕ) {half : ℕ} {x y : ℤ} → 2 ^ n ≡ half + half → 0 < half → neg_ℤ (pos half) ≤ℤ x → int_gap (neg_ℤ (pos half)) x < 2 ^ n → neg_ℤ (pos half) ≤ℤ y
+    → int_gap (neg_ℤ (pos half)) y < 2 ^ n →
     twos_complement n x ≡ twos_complement n y → x ≡ y
 same_signed n {half = zero} e lt h k l m f = absurd (omega arith)
 same_signed n {half = suc half} {x = pos v} {y = pos w} e lt h k l m f = ap (λ d. pos d) f

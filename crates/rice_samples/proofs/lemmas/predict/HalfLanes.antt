@@ -63,19 +63,31 @@ last_is p zero (x ∷ y ∷ xs) e = absurd (omega (arith, e))
 last_is p (suc n) (x ∷ []) e = absurd (omega (arith, e))
 last_is p (suc n) (x ∷ y ∷ xs) e = last_is x n (y ∷ xs) (omega (arith, e))
 
+-- parts of sixteen levels, and the levels in two halves
+pub record HalfLengths (highs lows first second : List ℕ) : Type 0 where
+  pub highs_are : length highs ≡ 16
+  pub lows_are : length lows ≡ 16
+  pub first_is : length first ≡ 8
+  pub second_is : length second ≡ 8
+
+-- the levels of both halves are levels
+pub record HalvesFit (greatest : ℕ) (first second : List ℕ) : Type 0 where
+  pub front : All (λ x. x ≤ greatest) first
+  pub back : All (λ x. x ≤ greatest) second
+
 -- the levels of both halves
-pub halves_are : {s : Parameters} {before width : ℕ} (greatest : ℕ) {last : ℕ} {highs lows : List ℕ} (first second : List ℕ) → greatest + 1 ≡ value_count s → length highs ≡ 16
-    → length lows ≡ 16 → length first ≡ 8 → length second ≡ 8
-    → last ≡ get_or first 7 0 → All (λ x. x ≤ greatest) first → All (λ x. x ≤ greatest) second
+pub halves_are : {s : Parameters} {before width : ℕ} (greatest : ℕ) {last : ℕ} {highs lows : List ℕ} (first second : List ℕ) → greatest + 1 ≡ value_count s → HalfLengths highs lows first second
+    → last ≡ get_or first 7 0 → HalvesFit greatest first second
     → ranks_below (greatest + 1) before first ≡ joined_parts width (take 8 highs) (take 8 lows) → ranks_below (greatest + 1) last second ≡ joined_parts width (drop 8 highs) (drop 8 lows)
     → AreLevelsOfParts s before width highs lows (first ++ second)
-halves_are {before} {width} greatest {highs} {lows} first second count h l f g e small few ranked more = record {
-  len = length-append first second ∙ omega (arith, f, g, h);
-  legal = λ i d lt. let x = All-append (λ x. x ≤ greatest) first second small few i d lt in omega (arith, x, count);
+halves_are {before} {width} greatest {highs} {lows} first second count lens e fit ranked more = record {
+  len = length-append first second ∙ omega (arith, lens.first_is, lens.second_is, lens.highs_are);
+  legal = λ i d lt. let x = All-append (λ x. x ≤ greatest) first second fit.front fit.back i d lt in omega (arith, x, count);
   ranked =
       ap (λ n. ranks_below n before (first ++ second)) (sym count)
       ∙ (ranks_below-append (greatest + 1) before first second
-      ∙ ((λ j. ranked j ++ (ap (λ p. ranks_below (greatest + 1) p second) (last_is before 7 first f ∙ sym e) ∙ more) j) ∙ joined-halves width 8 highs lows (h ∙ sym l)));
+      ∙ ((λ j. ranked j ++ (ap (λ p. ranks_below (greatest + 1) p second) (last_is before 7 first lens.first_is ∙ sym e) ∙ more) j) ∙ joined-halves width 8 highs lows
+      (lens.highs_are ∙ sym lens.lows_are)));
 }
 
 -- spellings

@@ -80,30 +80,31 @@ plus_four_before m xs n = eight_lanes (λ xs. zip2 (λ x y. (x + y) % m) xs (0 �
     ≡ sums_behind m 4 xs) (λ a b c d e f g h. refl) xs n
 
 -- in each lane the sum of all ways up to its own
-lane0 : (m p a : ℕ) → ((((a + 0) % m + 0) % m + 0) % m + p) % m ≡ (p + a) % m
+lane0 : (m p : ℕ) (a : ℕ → ℕ) → ((((a 0 + 0) % m + 0) % m + 0) % m + p) % m ≡ (p + a 0) % m
 lane0 m p a = simp mod-add-mod (ap (λ x. x % m) (omega arith))
 
-lane1 : (m p a b : ℕ) → ((((b + a) % m + 0) % m + 0) % m + p) % m ≡ ((p + a) % m + b) % m
-lane1 m p a b = simp mod-add-mod (ap (λ x. x % m) (omega arith))
+lane1 : (m p : ℕ) (a : ℕ → ℕ) → ((((a 1 + a 0) % m + 0) % m + 0) % m + p) % m ≡ ((p + a 0) % m + a 1) % m
+lane1 m p a = simp mod-add-mod (ap (λ x. x % m) (omega arith))
 
-lane2 : (m p a b c : ℕ) → ((((c + b) % m + (a + 0) % m) % m + 0) % m + p) % m ≡ (((p + a) % m + b) % m + c) % m
-lane2 m p a b c = simp (mod-add-mod, add-mod-mod) (ap (λ x. x % m) (omega arith))
+lane2 : (m p : ℕ) (a : ℕ → ℕ) → ((((a 2 + a 1) % m + (a 0 + 0) % m) % m + 0) % m + p) % m ≡ (((p + a 0) % m + a 1) % m + a 2) % m
+lane2 m p a = simp (mod-add-mod, add-mod-mod) (ap (λ x. x % m) (omega arith))
 
-lane3 : (m p a b c d : ℕ) → ((((d + c) % m + (b + a) % m) % m + 0) % m + p) % m ≡ ((((p + a) % m + b) % m + c) % m + d) % m
-lane3 m p a b c d = simp (mod-add-mod, add-mod-mod) (ap (λ x. x % m) (omega arith))
+lane3 : (m p : ℕ) (a : ℕ → ℕ) → ((((a 3 + a 2) % m + (a 1 + a 0) % m) % m + 0) % m + p) % m ≡ ((((p + a 0) % m + a 1) % m + a 2) % m + a 3) % m
+lane3 m p a = simp (mod-add-mod, add-mod-mod) (ap (λ x. x % m) (omega arith))
 
-lane4 : (m p a b c d e : ℕ) → ((((e + d) % m + (c + b) % m) % m + ((a + 0) % m + 0) % m) % m + p) % m ≡ (((((p + a) % m + b) % m + c) % m + d) % m + e) % m
-lane4 m p a b c d e = simp (mod-add-mod, add-mod-mod) (ap (λ x. x % m) (omega arith))
+lane4 : (m p : ℕ) (a : ℕ → ℕ) → ((((a 4 + a 3) % m + (a 2 + a 1) % m) % m + ((a 0 + 0) % m + 0) % m) % m + p) % m ≡ (((((p + a 0) % m + a 1) % m + a 2) % m + a 3) % m + a 4) % m
+lane4 m p a = simp (mod-add-mod, add-mod-mod) (ap (λ x. x % m) (omega arith))
 
-lane5 : (m p a b c d e f : ℕ) → ((((f + e) % m + (d + c) % m) % m + ((b + a) % m + 0) % m) % m + p) % m ≡ ((((((p + a) % m + b) % m + c) % m + d) % m + e) % m + f) % m
-lane5 m p a b c d e f = simp (mod-add-mod, add-mod-mod) (ap (λ x. x % m) (omega arith))
+lane5 : (m p : ℕ) (a : ℕ → ℕ) → ((((a 5 + a 4) % m + (a 3 + a 2) % m) % m + ((a 1 + a 0) % m + 0) % m) % m + p) % m ≡ ((((((p + a 0) % m + a 1) % m + a 2) % m + a 3) % m + a 4) % m + a 5) % m
+lane5 m p a = simp (mod-add-mod, add-mod-mod) (ap (λ x. x % m) (omega arith))
 
-lane6 : (m p a b c d e f g : ℕ) → ((((g + f) % m + (e + d) % m) % m + ((c + b) % m + (a + 0) % m) % m) % m + p) % m ≡ (((((((p + a) % m + b) % m + c) % m + d) % m + e) % m + f) % m + g) % m
-lane6 m p a b c d e f g = simp (mod-add-mod, add-mod-mod) (ap (λ x. x % m) (omega arith))
+lane6 : (m p : ℕ) (a : ℕ → ℕ)
+    → ((((a 6 + a 5) % m + (a 4 + a 3) % m) % m + ((a 2 + a 1) % m + (a 0 + 0) % m) % m) % m + p) % m ≡ (((((((p + a 0) % m + a 1) % m + a 2) % m + a 3) % m + a 4) % m + a 5) % m + a 6) % m
+lane6 m p a = simp (mod-add-mod, add-mod-mod) (ap (λ x. x % m) (omega arith))
 
-lane7 : (m p a b c d e f g h : ℕ) → ((((h + g) % m + (f + e) % m) % m + ((d + c) % m + (b + a) % m) % m) % m + p) % m
-    ≡ ((((((((p + a) % m + b) % m + c) % m + d) % m + e) % m + f) % m + g) % m + h) % m
-lane7 m p a b c d e f g h = simp (mod-add-mod, add-mod-mod) (ap (λ x. x % m) (omega arith))
+lane7 : (m p : ℕ) (a : ℕ → ℕ) → ((((a 7 + a 6) % m + (a 5 + a 4) % m) % m + ((a 3 + a 2) % m + (a 1 + a 0) % m) % m) % m + p) % m
+    ≡ ((((((((p + a 0) % m + a 1) % m + a 2) % m + a 3) % m + a 4) % m + a 5) % m + a 6) % m + a 7) % m
+lane7 m p a = simp (mod-add-mod, add-mod-mod) (ap (λ x. x % m) (omega arith))
 
 abbrev sums_from : ℕ → ℕ → List ℕ → List ℕ
 sums_from m p ds = zip2 (λ x y. (x + y) % m) (sums_behind m 4 (sums_behind m 2 (sums_behind m 1 (map (way m) ds)))) (replicate 8 p)
@@ -115,8 +116,9 @@ sums_are m p ds n = eight_lanes (λ ds. sums_from m p ds ≡ near_numbers m p ds
         zip2 (λ x y. (x + y) % m) (sums_behind m 4 (sums_behind m 2 (sums_behind m 1 (a ∷ b ∷ c ∷ d ∷ e ∷ f ∷ g ∷ h ∷ [])))) (replicate 8 p)
         ≡ (let x0 = (p + a) % m in let x1 = (x0 + b) % m in let x2 = (x1 + c) % m in let x3 = (x2 + d) % m in let x4 = (x3 + e) % m in let x5 = (x4 + f) % m in let x6 = (x5 + g) % m in
         x0 ∷ x1 ∷ x2 ∷ x3 ∷ x4 ∷ x5 ∷ x6 ∷ (x6 + h) % m ∷ [])
-    lanes a b c d e f g h = λ j. lane0 m p a j ∷ lane1 m p a b j ∷ lane2 m p a b c j ∷ lane3 m p a b c d j ∷ lane4 m p a b c d e j ∷ lane5 m p a b c d e f j
-        ∷ lane6 m p a b c d e f g j ∷ lane7 m p a b c d e f g h j ∷ []
+    lanes a b c d e f g h =
+        let ways = λ (i : ℕ). get_or (a ∷ b ∷ c ∷ d ∷ e ∷ f ∷ g ∷ h ∷ []) i 0 in
+        λ j. lane0 m p ways j ∷ lane1 m p ways j ∷ lane2 m p ways j ∷ lane3 m p ways j ∷ lane4 m p ways j ∷ lane5 m p ways j ∷ lane6 m p ways j ∷ lane7 m p ways j ∷ []
 
 pub length-near_numbers : (m p : ℕ) (ds : List ℕ) → length (near_numbers m p ds) ≡ length ds
 length-near_numbers m p [] = refl
@@ -244,12 +246,17 @@ all_near w {g} {p} {ds} {bs} {xs} {before} h k n fits numbers shifted bounds tes
     let near = near_ranks (2 ^ bits w) g p ds h k (subst (λ (ys : List ℕ). Each2 (λ d b. d ≤ b) ds ys) all each) in
     subst (λ (ys : List ℕ). All (λ x. x ≤ g) ys × (ranks_below (g + 1) p ys ≡ ds)) (sym numbers) ((λ i d lt. Each1-get_or (λ x. x ≤ g) (near_numbers (2 ^ bits w) p ds) i d lt near.0), near.1)
 
+-- as many levels as ranks, eight
+pub record EightOfEach (levels ds : List ℕ) : Type 0 where
+  pub same : length levels ≡ length ds
+  pub eight : length ds ≡ 8
+
 -- near numbers are restored
-pub near_restored : {count : ℕ} (greatest m p : ℕ) (levels : List ℕ) {ds numbers : List ℕ} → length levels ≡ length ds → length ds ≡ 8 → greatest + 1 ≡ count
+pub near_restored : {count : ℕ} (greatest m p : ℕ) (levels : List ℕ) {ds numbers : List ℕ} → EightOfEach levels ds → greatest + 1 ≡ count
     → numbers ≡ near_numbers m p (take 8 ds) → All (λ x. x ≤ greatest) numbers
     → ranks_below (greatest + 1) p numbers ≡ take 8 ds → All (λ l. l < count) (put_chunk 0 levels numbers) × (ranks_below count p (put_chunk 0 levels numbers) ≡ ds)
-near_restored {count} greatest m p levels {ds} {numbers} len n above near fit ranked =
+near_restored {count} greatest m p levels {ds} {numbers} lens above near fit ranked =
     let whole : take 8 ds ≡ ds = take_all 8 ds (omega arith) in
-    let many : length levels ≡ length numbers = len ∙ sym (ap length near ∙ (length-near_numbers m p (take 8 ds) ∙ ap length whole)) in
+    let many : length levels ≡ length numbers = lens.same ∙ sym (ap length near ∙ (length-near_numbers m p (take 8 ds) ∙ ap length whole)) in
     let stored = put_chunk_whole levels numbers many in
     (subst (All (λ l. l < count)) (sym stored) (λ k d lt. let x = fit k d lt in omega (arith, x, above)), (λ j. ranks_below (sym above j) p (stored j)) ∙ (ranked ∙ whole))

@@ -9,17 +9,22 @@ same_rest now xs i h k e =
     let heads : slice_index_or now i 0 ∷ drop (i + 1) now ≡ slice_index_or xs i 0 ∷ drop (i + 1) xs = sym (drop_more now i 0 h) ∙ (e ∙ drop_more xs i 0 k) in
     (cc, cc)
 
-pub one_rank : (count p before : ℕ) {r i : ℕ} (now xs : List ℕ) → i < length now → i < length xs
+-- a place in both lists
+pub record PlaceInBoth (i : ℕ) (now xs : List ℕ) : Type 0 where
+  pub here : i < length now
+  pub there : i < length xs
+
+pub one_rank : (count p before : ℕ) {r i : ℕ} (now xs : List ℕ) → PlaceInBoth i now xs
     → ranks_below count p xs ≡ take i now ++ ranks_below count before (drop i xs) → drop i now ≡ drop i xs → r ≡ rank_below count before (slice_index_or now i 0) →
     ranks_below count p xs ≡ take (i + 1) (slice_set now i r) ++ ranks_below count (slice_index_or now i 0) (drop (i + 1) xs)
-one_rank count p before {r} {i} now xs h k folded rest e =
+one_rank count p before {r} {i} now xs inside folded rest e =
     let x = slice_index_or xs i 0 in
     let more = ranks_below count x (drop (i + 1) xs) in
-    let same = same_rest now xs i h k rest in
-    let a : ranks_below count p xs ≡ take i now ++ rank_below count before x ∷ more = folded ∙ ap (λ v. take i now ++ ranks_below count before v) (drop_more xs i 0 k) in
+    let same = same_rest now xs i inside.here inside.there rest in
+    let a : ranks_below count p xs ≡ take i now ++ rank_below count before x ∷ more = folded ∙ ap (λ v. take i now ++ ranks_below count before v) (drop_more xs i 0 inside.there) in
     let b : rank_below count before x ≡ r = ap (λ v. rank_below count before v) (sym same.0) ∙ sym e in
     let c : take i now ++ rank_below count before x ∷ more ≡ take i now ++ r ∷ more = ap (λ v. take i now ++ v ∷ more) b in
-    let d : take (i + 1) (slice_set now i r) ++ more ≡ take i now ++ r ∷ more = ap (λ v. v ++ more) (take_more_set now i r h) ∙ append_assoc (take i now) (r ∷ []) more in
+    let d : take (i + 1) (slice_set now i r) ++ more ≡ take i now ++ r ∷ more = ap (λ v. v ++ more) (take_more_set now i r inside.here) ∙ append_assoc (take i now) (r ∷ []) more in
     let f : take (i + 1) (slice_set now i r) ++ more ≡ take (i + 1) (slice_set now i r) ++ ranks_below count (slice_index_or now i 0) (drop (i + 1) xs) = ap
     (λ v. take (i + 1) (slice_set now i r) ++ ranks_below count v (drop (i + 1) xs)) (sym same.0) in
     a ∙ (c ∙ (sym d ∙ f))

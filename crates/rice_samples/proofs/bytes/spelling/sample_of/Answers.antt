@@ -16,8 +16,16 @@ returns-then-level-number_of_values-clause-value c =
     let e : level s x.result ≡ (word.result + c.offset.result) % 2 ^ (8 * c.width.result) = rw shift at x.ensures.level in
     rw (to_z-of_z w64 x.result fits) (
       x.ensures.sample,
-      spelled_level word.result x.result w.legal c.msb.ensures
-          c.offset.ensures.value w.value c.requires w.holds_bits w.range.0 word.ensures.bytes word.ensures.fits x.ensures.sample e,
+      spelled_level word.result x.result w.legal (record {
+        order = c.msb.ensures;
+        offset_is = c.offset.ensures.value;
+        width_is = w.value;
+        len = c.requires;
+        enough = w.holds_bits;
+        some = w.range.0;
+        ordered = word.ensures.bytes;
+        fits = word.ensures.fits;
+      }) x.ensures.sample e,
     )
 
 pub returns-else-level-number_of_values-clause-none : goal.returns-else-level-number_of_values-clause-none
@@ -26,8 +34,16 @@ returns-else-level-number_of_values-clause-none c = λ y sample spells.
     let word = c.word_of-word in
     let w = c.width.ensures in
     let shift = one_shl (8 * c.width.result) 64 (omega arith) in
-    let e = level_spelled word.result y w.legal c.msb.ensures c.offset.ensures.value w.value
-    c.requires w.holds_bits w.range.0 w.range.1 word.ensures.bytes word.ensures.fits sample spells in
+    let e = level_spelled word.result y w.legal (record {
+      order = c.msb.ensures;
+      offset_is = c.offset.ensures.value;
+      width_is = w.value;
+      len = c.requires;
+      enough = w.holds_bits;
+      some = w.range.0;
+      ordered = word.ensures.bytes;
+      fits = word.ensures.fits;
+    }) w.range.1 sample spells in
     let below : level s y < value_count s = sample.1 in
     let far = rw shift at c.if-level-number_of_values.false in
     absurd (omega (arith, e, below, far, c.number_of_values.ensures.value))

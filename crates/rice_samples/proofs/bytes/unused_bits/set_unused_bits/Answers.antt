@@ -27,8 +27,7 @@ loop-i-preserved c =
     record {
       len = same_len_mid at (at + w - at) bytes one c.set_unused_bits_of_one.auto.bytes ∙ len;
       so_far = subst (λ (n : ℕ). SpelledSoFar s old (take at bytes ++ (one ++ drop (at + w - at) (drop at bytes))) n) next
-          (one_more w
-          c.loop-i.invariant.so_far inside len (ap (λ n. take n (drop at bytes)) count) c.set_unused_bits_of_one.ensures
+          (one_more w c.loop-i.invariant.so_far inside len (ap (λ n. take n (drop at bytes)) count) c.set_unused_bits_of_one.ensures
           (ap (λ l. take at bytes ++ (one ++ l)) (Post-is at (at + w) bytes (omega arith))));
     }
 

@@ -26,8 +26,12 @@ returns-clause-levels c =
     let second_len : length second ≡ 8 = ap length c.near_numbers-second.ensures ∙ (length-near_numbers (2 ^ 16) last c.join_parts-second_ranks.result ∙ c.join_parts-second_ranks.ensures.len) in
     let inside : last ≤ greatest = small 7 0 (omega (arith, first_len)) in
     let more = test.second refl in
-    halves_are greatest {last = last} first second count c.requires.len.0 c.requires.len.1 first_len second_len refl small
-    (c.excess_over_near-second_far.ensures.fit inside more)
+    halves_are greatest {last = last} first second count (record {
+      highs_are = c.requires.len.0;
+      lows_are = c.requires.len.1;
+      first_is = first_len;
+      second_is = second_len;
+    }) refl (record { front = small; back = c.excess_over_near-second_far.ensures.fit inside more })
     (c.excess_over_near-first_far.ensures.ranks legal none ∙ (c.join_parts-first_ranks.ensures.value ∙ (λ j. joined_parts a.width (c.first_eight_widened.ensures j) (c.first_eight_widened-2.ensures j))))
     (c.excess_over_near-second_far.ensures.ranks inside more ∙ (c.join_parts-second_ranks.ensures.value ∙ (λ j. joined_parts a.width (c.last_eight_widened.ensures j) (c.last_eight_widened-2.ensures j))))
 

@@ -23,7 +23,12 @@ returns-clause-levels c =
     let reached : one.result ≡ last = one.ensures.last ∙ last_at a.before 7 first one.ensures.len in
     let small : All (λ x. x ≤ greatest) first = λ i d lt. let f = one.ensures.fit i d lt in omega (arith, f) in
     let more : All (λ x. x ≤ greatest) second = λ i d lt. let f = two.ensures.fit i d lt in omega (arith, f) in
-    halves_are greatest {last = last} first second count c.requires.len.0 c.requires.len.1 one.ensures.len two.ensures.len refl small more
+    halves_are greatest {last = last} first second count (record {
+      highs_are = c.requires.len.0;
+      lows_are = c.requires.len.1;
+      first_is = one.ensures.len;
+      second_is = two.ensures.len;
+    }) refl (record { front = small; back = more })
     (one.ensures.ranks ∙ (c.join_parts-first_ranks.ensures.value ∙ (λ j. joined_parts a.width (c.first_eight_widened.ensures j) (c.first_eight_widened-2.ensures j))))
     (subst (λ p. ranks_below (greatest + 1) p second ≡ c.join_parts-second_ranks.result) reached two.ensures.ranks ∙ (c.join_parts-second_ranks.ensures.value ∙ (λ j. joined_parts a.width (c.last_eight_widened.ensures j) (c.last_eight_widened-2.ensures j))))
 
