@@ -130,17 +130,24 @@ never_reached_so statuses.RunPastSegment ended behind h e = absurd cc
 never_reached_so statuses.ResidualTooLarge ended behind h e = absurd cc
 never_reached_so _ ended behind h e = absurd h
 
+-- the last report is of the pause: of all samples, and its place
+record PausedLast (s : Parameters) (paused : Status) (xs : List ℤ) (last : RiceReport) : Type 0 where
+  samples : last.samples ≡ length xs
+  place : last.place ≡ pause_place (pause_of (status_number paused)) (length xs / s.block)
+
 -- what the status and the place of the whole call tell
-tells_end : (s : Parameters) (paused ended : Status) (behind : List ℕ) (xs : List ℤ) (fault : Option Fault) (last : RiceReport) → 1 ≤ s.block
-    → EndsAll paused behind ended → FaultOf s xs (ending_of paused) fault → last.samples ≡ length xs
-    → last.place ≡ pause_place (pause_of (status_number paused)) (length xs / s.block) → (status_number (fault_status fault) ≡ status_number ended) × (fault_place fault ≡ place_all paused last)
-tells_end s statuses.OnlyZeros ended behind xs fault last j h f count place = (ap (λ (v : Option Fault). status_number (fault_status v)) f ∙ ap status_number (sym h.1), ap fault_place f ∙ sym place)
-tells_end s statuses.MoreCode ended behind xs fault last j h f count place = (ap (λ (v : Option Fault). status_number (fault_status v)) f ∙ ap status_number (sym h.1), ap fault_place f ∙ sym count)
-tells_end s statuses.RunPastSegment ended behind xs fault last j h f count place =
-    (ap (λ (v : Option Fault). status_number (fault_status v)) f.2 ∙ ap status_number (sym h), ap fault_place f.2 ∙ sym (place ∙ ap (λ n. n / s.block) f.1 ∙ mul-div_cancel_left f.0 j))
-tells_end s statuses.ResidualTooLarge ended behind xs fault last j h f count place =
-    (ap (λ (v : Option Fault). status_number (fault_status v)) f.2 ∙ ap status_number (sym h), ap fault_place f.2 ∙ sym (place ∙ ap (λ n. n / s.block) f.1 ∙ mul-div_cancel_left f.0 j))
-tells_end s _ ended behind xs fault last j h f count place = absurd h
+tells_end : {s : Parameters} (paused ended : Status) (behind : List ℕ) {xs : List ℤ} (fault : Option Fault) (last : RiceReport) → 1 ≤ s.block
+    → EndsAll paused behind ended → FaultOf s xs (ending_of paused) fault → PausedLast s paused xs last
+    → (status_number (fault_status fault) ≡ status_number ended) × (fault_place fault ≡ place_all paused last)
+tells_end statuses.OnlyZeros ended behind fault last j h
+    f at_pause = (ap (λ (v : Option Fault). status_number (fault_status v)) f ∙ ap status_number (sym h.1), ap fault_place f ∙ sym at_pause.place)
+tells_end statuses.MoreCode ended behind fault last j h
+    f at_pause = (ap (λ (v : Option Fault). status_number (fault_status v)) f ∙ ap status_number (sym h.1), ap fault_place f ∙ sym at_pause.samples)
+tells_end {s} statuses.RunPastSegment ended behind fault last j h f at_pause =
+    (ap (λ (v : Option Fault). status_number (fault_status v)) f.2 ∙ ap status_number (sym h), ap fault_place f.2 ∙ sym (at_pause.place ∙ ap (λ n. n / s.block) f.1 ∙ mul-div_cancel_left f.0 j))
+tells_end {s} statuses.ResidualTooLarge ended behind fault last j h f at_pause =
+    (ap (λ (v : Option Fault). status_number (fault_status v)) f.2 ∙ ap status_number (sym h), ap fault_place f.2 ∙ sym (at_pause.place ∙ ap (λ n. n / s.block) f.1 ∙ mul-div_cancel_left f.0 j))
+tells_end _ ended behind fault last j h f at_pause = absurd h
 
 -- a drain stands for some bits and samples after each pull
 stands_at : (s : Parameters) (code : List ℕ) (o : Origin) (front : List Bool) (given : List ℤ) (drain : RiceDrain) (pulls : List Pull)
@@ -209,8 +216,11 @@ pulls_are_decoding s code o before setting first opened pulls last behind old ne
     let write = never_full legal p.decoded (never_reached_so paused ended behind ends) d
     (let fits : width s * length xs ≤ length old = (omega (arith, room, ap (λ n. width s * n) count)) in fits) in
     let same = decodes_as legal {c = d.call} {r = report_of report} {fault = d.fault} d.decodes.samples d.decodes.ending
-    p.decoded p.limit (inl refl) d.takes.gave d.takes.left_is d.decodes.ends d.writes.reads write in
-    let told = tells_end s paused ended behind xs d.fault last.report j ends same.fault_is count (end.place ∙ (λ i. pause_place (pause_of (paused_is i)) (p.count i / s.block))) in (
+    p.decoded p.limit (inl refl) (record { code_is = d.takes.gave; left_is = d.takes.left_is }) d.decodes.ends (record { read = d.writes.reads; write = write }) in
+    let told = tells_end {s = s} paused ended behind {xs = xs} d.fault last.report j ends same.fault_is (record {
+      samples = count;
+      place = end.place ∙ (λ i. pause_place (pause_of (paused_is i)) (p.count i / s.block));
+    }) in (
       bytes,
       wrote_in_parts code first (pulls ++ last ∷ []) p.samples begins (pulled-push s code first pulls last behind pulled last_pulled)
           (subst (λ (l : List stream.Pull). stream.GiveInParts s first.stand l p.samples) (engines-push pulls last) p.parts),
@@ -233,7 +243,8 @@ pulls_to_a_count_are_decoding s code o before setting first opened pulls n old n
     let bytes = spellings s p.samples in
     let write : d.fault ≢ Some faults.Write = λ full. decode_suffices s (o.samples + n) code old new report status d (omega (arith, room))
     (d.tells.status ∙ ap (λ (v : Option Fault). status_number (fault_status v)) full) in
-    let same = decodes_as legal {c = d.call} {r = report_of report} {fault = d.fault} d.decodes.samples d.decodes.ending p.decoded p.limit (inr refl) d.takes.gave d.takes.left_is d.decodes.ends d.writes.reads write in
+    let same = decodes_as legal {c = d.call} {r = report_of report} {fault = d.fault} d.decodes.samples d.decodes.ending p.decoded p.limit (inr refl)
+    (record { code_is = d.takes.gave; left_is = d.takes.left_is }) d.decodes.ends (record { read = d.writes.reads; write = write }) in
     let count : length part ≡ n = length-take-le n p.samples p.size in
     let size : length (spellings s part) ≡ width s * n = length-spellings s part ∙ ap (λ m. width s * m) count in
     let far = spellings s (drop n p.samples) in

@@ -115,7 +115,7 @@ never_reached s bits n xs ending used lt d =
       blocks = d.blocks;
       asked_for = d.asked_for ∙ sym (take_all (n - s.block * 0) d.all (omega (arith, ap length d.asked_for)));
       last = d.last;
-      ends = ends_there s None (Some n) b b d.rest ending d.last refl (λ k. below) (λ k. absurd k) d.ends;
+      ends = ends_there {s = s} None (Some n) b b d.rest ending d.last (record { place_is = refl; wanted = λ k. below; reached = λ k. absurd k }) d.ends;
       bits_used = d.bits_used;
     }
 
@@ -184,52 +184,69 @@ not_early {s} legal {asked} {code} front more {xs} {ys} {ending} {e} {used} {n} 
     not_cut f same (inr (inl g)) = absurd cc
     not_cut f same (inr (inr g)) = absurd cc
 
+-- a code whose front is as long as a call may take, and more
+record LongFront (code front more : List ℕ) : Type 0 where
+  joined : code ≡ front ++ more
+  long : length front ≡ 2 ^ 49
+  more_is : 0 < length more
+
 -- a code that decodes within the limit has no byte past it that is read
 never_long : {s : Parameters} → IsLegal s → {asked : Option ℕ} {code : List ℕ} (front more : List ℕ) {xs ys : List ℤ} {ending e : Ending} {used n : ℕ}
-    → Decoded s (bits_of code) asked xs ending used → used ≤ 2 ^ 52 → code ≡ front ++ more → length front ≡ 2 ^ 49 → 0 < length more
+    → Decoded s (bits_of code) asked xs ending used → used ≤ 2 ^ 52 → LongFront code front more
     → Decoded s (bits_of front) asked ys e n → RunsOut e → ⊥
-never_long {s} legal {asked} {code} front more {xs} {ys} {ending = Reached} {e} {used} {n} whole limit split full some d runs = not_early legal front more whole split (omega arith) d runs (inl refl)
-never_long {s} legal {asked} {code} front more {xs} {ys} {ending = Past} {e} {used} {n} whole limit split full some d runs = not_early legal front more
-    whole split (omega arith) d runs (inr (inl refl))
-never_long {s} legal {asked} {code} front more {xs} {ys} {ending = Large} {e} {used} {n} whole limit split full some d runs = not_early legal front more
-    whole split (omega arith) d runs (inr (inr refl))
-never_long legal {code} front more {ending = Ended} whole limit split full some d runs =
-    omega (arith, whole.bits_used, whole.ends.2, ap length whole.parts, length-append whole.front whole.rest, length-bits_of code, ap length split, length-append front more)
-never_long legal {code} front more {ending = CutOff} whole limit split full some d runs =
-    omega (arith, whole.bits_used, whole.ends.3, ap length whole.parts, length-append whole.front whole.rest, length-bits_of code, ap length split, length-append front more)
+never_long {s} legal {asked} {code} front more {xs} {ys} {ending = Reached} {e} {used} {n} whole limit parts d runs = not_early legal front more whole parts.joined (omega arith) d runs (inl refl)
+never_long {s} legal {asked} {code} front more {xs} {ys} {ending = Past} {e} {used} {n} whole limit parts d runs = not_early legal front more
+    whole parts.joined (omega arith) d runs (inr (inl refl))
+never_long {s} legal {asked} {code} front more {xs} {ys} {ending = Large} {e} {used} {n} whole limit parts d runs = not_early legal front more
+    whole parts.joined (omega arith) d runs (inr (inr refl))
+never_long legal {code} front more {ending = Ended} whole limit parts d runs =
+    omega (arith, whole.bits_used, whole.ends.2, ap length whole.parts, length-append whole.front whole.rest, length-bits_of code, ap length parts.joined, length-append front more)
+never_long legal {code} front more {ending = CutOff} whole limit parts d runs =
+    omega (arith, whole.bits_used, whole.ends.3, ap length whole.parts, length-append whole.front whole.rest, length-bits_of code, ap length parts.joined, length-append front more)
+
+-- what a call took of the code, and what is left
+pub record GivenOfCode (code left : List ℕ) (c : Call) : Type 0 where
+  pub code_is : code ≡ c.given ++ left
+  pub left_is : c.left ≡ Some left
+
+-- neither device fails
+pub record NoDeviceFails (fault : Option Fault) : Type 0 where
+  pub read : fault ≢ Some Read
+  pub write : fault ≢ Some Write
 
 -- a call of the decoder finds the one way in which its bytes decode
 pub decodes_as : {s : Parameters} → IsLegal s
     → {asked : Option ℕ} {code left : List ℕ} {c : Call} {r : Report} {fault : Option Fault} {xs : List ℤ} (ys : List ℤ) {ending : Ending} (e : Ending) {used : ℕ}
     → Decoded s (bits_of code) asked xs ending used → used ≤ 2 ^ 52
-    → (asked ≡ None) ⊎ (ending ≡ Reached) → code ≡ c.given ++ left → c.left ≡ Some left → EndsDecoding s asked fault c r ys e → fault ≢ Some Read
-    → fault ≢ Some Write → DecodesAs s xs ending used c r fault
-decodes_as {s} legal {asked} {code} {left} {c} {r} {fault = None} {xs} ys {ending} e {used} whole limit way split left_is (d, inl reached) read write =
-    decodes_so s legal asked code left c r xs ys ending e used whole split None d
-    (as_before s legal asked code left c r xs ys ending e used whole split (inl reached) d) (subst (λ (v : Ending). FaultOf s ys v None) (sym reached) refl)
-decodes_as {s} legal {asked} {code} {left} {c} {r} {fault = None} {xs} ys {ending} e {used} whole limit way split left_is (d, inr (ended, none, end)) read write =
-    decodes_so s legal asked code left c r xs ys ending e used whole split None d
-    (as_all s legal asked code left c r xs ys ending e used whole split (is_at_end c.left left left_is end) d) (subst (λ (v : Ending). FaultOf s ys v None) (sym ended) refl)
-decodes_as {s} legal {asked} {code} {left} {c} {r} {fault = Some (CodeEnds n)} {xs} ys {ending} e {used} whole limit way split left_is (d, inl cut, end, count) read write =
-    decodes_so s legal asked code left c r xs ys ending e used whole split (Some (CodeEnds n)) d
-    (as_all s legal asked code left c r xs ys ending e used whole split (is_at_end c.left left left_is end) d)
+    → (asked ≡ None) ⊎ (ending ≡ Reached) → GivenOfCode code left c → EndsDecoding s asked fault c r ys e → NoDeviceFails fault → DecodesAs s xs ending used c r fault
+decodes_as {s} legal {asked} {code} {left} {c} {r} {fault = None} {xs} ys {ending} e {used} whole limit way given (d, inl reached) device =
+    decodes_so s legal asked code left c r xs ys ending e used whole given.code_is None d
+    (as_before s legal asked code left c r xs ys ending e used whole given.code_is (inl reached) d) (subst (λ (v : Ending). FaultOf s ys v None) (sym reached) refl)
+decodes_as {s} legal {asked} {code} {left} {c} {r} {fault = None} {xs} ys {ending} e {used} whole limit way given (d, inr (ended, none, end)) device =
+    decodes_so s legal asked code left c r xs ys ending e used whole given.code_is None d
+    (as_all s legal asked code left c r xs ys ending e used whole given.code_is (is_at_end c.left left given.left_is end) d) (subst (λ (v : Ending). FaultOf s ys v None) (sym ended) refl)
+decodes_as {s} legal {asked} {code} {left} {c} {r} {fault = Some (CodeEnds n)} {xs} ys {ending} e {used} whole limit way given (d, inl cut, end, count) device =
+    decodes_so s legal asked code left c r xs ys ending e used whole given.code_is (Some (CodeEnds n)) d
+    (as_all s legal asked code left c r xs ys ending e used whole given.code_is (is_at_end c.left left given.left_is end) d)
     (subst (λ (v : Ending). FaultOf s ys v (Some (CodeEnds n))) (sym cut) (ap (λ m. Some (CodeEnds m)) count))
-decodes_as {s} legal {asked} {code} {left} {c} {r} {fault = Some (CodeEnds n)} {xs} ys {ending} e {used} whole limit way split left_is (d, inr (ended, some), end, count) read write =
-    let same = (as_all s legal asked code left c r xs ys ending e used whole split (is_at_end c.left left left_is end) d).1 in
+decodes_as {s} legal {asked} {code} {left} {c} {r} {fault = Some (CodeEnds n)} {xs} ys {ending} e {used} whole limit way given (d, inr (ended, some), end, count) device =
+    let same = (as_all s legal asked code left c r xs ys ending e used whole given.code_is (is_at_end c.left left given.left_is end) d).1 in
     elim way [ inl none ↦ absurd (let no : false ≡ true = subst (λ (a : Option ℕ). IsSome a) none some in cc) | inr reached ↦ absurd cc ]
-decodes_as {s} legal {asked} {code} {left} {c} {r} {fault = Some (RunPastSegment b)} {xs} ys {ending} e {used} whole limit way split left_is (d, past, count) read write =
-    decodes_so s legal asked code left c r xs ys ending e used whole split (Some (RunPastSegment b)) d (as_before s legal asked code left c r xs ys ending e used whole split (inr (inl past)) d)
+decodes_as {s} legal {asked} {code} {left} {c} {r} {fault = Some (RunPastSegment b)} {xs} ys {ending} e {used} whole limit way given (d, past, count) device =
+    decodes_so s legal asked code left c r xs ys ending e used whole given.code_is (Some (RunPastSegment b)) d
+    (as_before s legal asked code left c r xs ys ending e used whole given.code_is (inr (inl past)) d)
     (subst (λ (v : Ending). FaultOf s ys v (Some (RunPastSegment b))) (sym past) (b, count, refl))
-decodes_as {s} legal {asked} {code} {left} {c} {r} {fault = Some (ResidualTooLarge b)} {xs} ys {ending} e {used} whole limit way split left_is (d, large, count) read write =
-    decodes_so s legal asked code left c r xs ys ending e used whole split (Some (ResidualTooLarge b)) d (as_before s legal asked code left c r xs ys ending e used whole split (inr (inr large)) d)
+decodes_as {s} legal {asked} {code} {left} {c} {r} {fault = Some (ResidualTooLarge b)} {xs} ys {ending} e {used} whole limit way given (d, large, count) device =
+    decodes_so s legal asked code left c r xs ys ending e used whole given.code_is (Some (ResidualTooLarge b)) d
+    (as_before s legal asked code left c r xs ys ending e used whole given.code_is (inr (inr large)) d)
     (subst (λ (v : Ending). FaultOf s ys v (Some (ResidualTooLarge b))) (sym large) (b, count, refl))
-decodes_as {s} legal {asked} {code} {left} {fault = Some TooLong} {xs} ys {ending} e {used} whole limit way split left_is h read write =
+decodes_as {s} legal {asked} {code} {left} {fault = Some TooLong} {xs} ys {ending} e {used} whole limit way given h device =
     let front = h.0.0 in
     let passes = h.0.1 in
     let more = passes.last ∷ left in
-    let parts : code ≡ front ++ more = split ∙ ap (λ l. l ++ left) passes.split ∙ append_assoc front (passes.last ∷ []) left in
-    absurd (never_long legal front more whole limit parts passes.full (omega arith) h.0.2.1 h.1)
-decodes_as legal {fault = Some Read} ys e whole limit way split left_is h read write = absurd (read refl)
-decodes_as legal {fault = Some Write} ys e whole limit way split left_is h read write = absurd (write refl)
-decodes_as legal {fault = Some (SampleOutOfRange index)} ys e whole limit way split left_is h read write = absurd h
-decodes_as legal {fault = Some (SampleCut index)} ys e whole limit way split left_is h read write = absurd h
+    let parts : code ≡ front ++ more = given.code_is ∙ ap (λ l. l ++ left) passes.split ∙ append_assoc front (passes.last ∷ []) left in
+    absurd (never_long legal front more whole limit (record { joined = parts; long = passes.full; more_is = omega arith }) h.0.2.1 h.1)
+decodes_as legal {fault = Some Read} ys e whole limit way given h device = absurd (device.read refl)
+decodes_as legal {fault = Some Write} ys e whole limit way given h device = absurd (device.write refl)
+decodes_as legal {fault = Some (SampleOutOfRange index)} ys e whole limit way given h device = absurd h
+decodes_as legal {fault = Some (SampleCut index)} ys e whole limit way given h device = absurd h

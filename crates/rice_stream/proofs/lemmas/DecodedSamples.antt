@@ -89,15 +89,21 @@ run_blocks s b run p xs more cs gives of_run =
 last_both : (p : ℤ) (all xs more : List ℤ) → last_of p ((all ++ xs) ++ more) ≡ last_of (last_of p all) (xs ++ more)
 last_both p all xs more = ap (last_of p) (append_assoc all xs more) ∙ last_append p all (xs ++ more)
 
+-- a sound data set of a block
+pub record SoundSet (s : Parameters) (b : ℕ) (d : CodedDataSet) : Type 0 where
+  pub form : IsForm s b d
+  pub run : RunIsSound s b d
+  pub residuals : ResidualsAreSound s d
+
 -- a coded data set was taken, and its first block given
 pub decoded_with_set : {s : Parameters} {front : List Bool} (skipped : List Bool) {begun b run : ℕ} {all xs : List ℤ} (d : CodedDataSet) → IsLegal s
-    → DecodedSoFar s front begun b 0 all → begun ≤ b → IsForm s b d → RunIsSound s b d → ResidualsAreSound s d →
+    → DecodedSoFar s front begun b 0 all → begun ≤ b → SoundSet s b d →
     length skipped ≡ padding s (block_after s b d) (length front + length (bits_of_set s d)) → GivesBlock s b (last_of (pos 0) all) xs run (blocks_in s b d)
     → DecodedSoFar s (front ++ (bits_of_set s d ++ skipped)) (b + 1) (b + 1) run (all ++ xs)
-decoded_with_set {s} {front} skipped {b} {run} {all} {xs} d legal behind before form sound residuals skips gives =
+decoded_with_set {s} {front} skipped {b} {run} {all} {xs} d legal behind before sound skips gives =
     let p = last_of (pos 0) all in
     let more_one : s.block * b + s.block ≡ s.block * (b + 1) = omega arith in
-    let all_sound = subst (AreSoundBlocks s b) (sym gives.blocks_are) (blocks_are_sound s b d legal (form, sound, residuals)) in
+    let all_sound = subst (AreSoundBlocks s b) (sym gives.blocks_are) (blocks_are_sound s b d legal (sound.form, sound.run, sound.residuals)) in
     record {
       len = length-append all xs ∙ (λ i. behind.len i + gives.len i) ∙ more_one;
       legal = All-append (IsSample s) all xs behind.legal gives.legal;
@@ -126,8 +132,9 @@ decoded_with_set {s} {front} skipped {b} {run} {all} {xs} d legal behind before 
         subst (λ (n : ℕ). DecodedFrom s n (length front + length set) (last_of p zs) rest wanted ys ending used) place
         (subst (λ (n : ℕ). DecodedFrom s (b + 1 + run) n (last_of p zs) rest wanted ys ending used) position
         (subst (λ (x : ℤ). DecodedFrom s (b + 1 + run) (length (front ++ set)) x rest wanted ys ending used) (last_both (pos 0) all xs more) next)) in
-        let here = decoding_goes_on legal {b = b} {position = length front} {p = p} d skipped zs (goes b (omega arith)) form sound residuals skips
-        (All-append (IsSample s) xs more gives.legal run_of.legal) made.1 made.2 there in
+        let here = decoding_goes_on legal {b = b} {position = length front} {p = p} d skipped zs
+        (record { wanted = goes b (omega arith); form = sound.form; run = sound.run; residuals = sound.residuals }) skips
+        (record { legal = All-append (IsSample s) xs more gives.legal run_of.legal; len = made.1; blocks = made.2 }) there in
         let none : AreOfRun s b p 0 [] = record { len = omega arith; legal = λ k d lt. absurd (omega arith); blocks = refl } in
         let again = append-nil all in
         let at : b ≡ b + 0 = omega arith in

@@ -245,12 +245,24 @@ whole_steps {sets = sets} {front = front} waiting bytes has bits count steps =
       steps = omega (arith, steps);
     }
 
+-- the steps up to a data set, and those of the last one
+record StepsCounted (sets : List CodedDataSet) (front last : List Bool) (in_last steps new_steps taken new_taken written : ℕ) : Type 0 where
+  last_are : new_steps + taken ≡ steps + new_taken + in_last
+  before : steps ≡ taken + written + sum_by turns sets
+  taken_is : new_taken ≡ length (front ++ last)
+
+-- what the report says
+record ReportsThem (rep : Report) (new_steps new_taken written : ℕ) : Type 0 where
+  bits : rep.bits ≡ new_taken
+  samples : rep.samples ≡ written
+  steps_are : rep.steps ≡ new_steps
+
 -- the steps where it ends with bits that are no sound coded data set
-last_steps : {s : Parameters} {rep : Report} {sets : List CodedDataSet} {front : List Bool} {blocks : ℕ} (last waiting : List Bool) (bytes : List ℕ)
+last_steps : {s : Parameters} {rep : Report} {sets : List CodedDataSet} {front : List Bool} {blocks : ℕ} {last : List Bool} (waiting : List Bool) (bytes : List ℕ)
     {ending : Ending} (in_last : ℕ) {steps new_steps : ℕ} (taken : ℕ) {new_taken written : ℕ} → HasSets s sets front blocks → bits_of bytes ≡ (front ++ last) ++ waiting
-    → EndsInTurns s blocks last ending in_last → new_steps + taken ≡ steps + new_taken + in_last → steps ≡ taken + written + sum_by turns sets → new_taken ≡ length (front ++ last)
-    → rep.bits ≡ new_taken → rep.samples ≡ written → rep.steps ≡ new_steps → CountsSteps s (bits_of bytes) rep ending
-last_steps {s = s} {sets = sets} {front = front} last waiting bytes {ending} in_last {steps} taken has bits ends counted before count bits_are samples_are steps_are =
+    → EndsInTurns s blocks last ending in_last → StepsCounted sets front last in_last steps new_steps taken new_taken written
+    → ReportsThem rep new_steps new_taken written → CountsSteps s (bits_of bytes) rep ending
+last_steps {s = s} {sets = sets} {front = front} {last} waiting bytes {ending} in_last {steps} taken has bits ends steps_counted reported =
     record {
       sets = sets;
       front = front;
@@ -261,8 +273,8 @@ last_steps {s = s} {sets = sets} {front = front} last waiting bytes {ending} in_
       sound = has.sound;
       turns_in_last = in_last;
       ends = subst (λ (n : ℕ). EndsInTurns s n last ending in_last) (sym has.end) ends;
-      bits_taken = bits_are ∙ count;
-      steps = omega (arith, counted, before, bits_are, samples_are, steps_are);
+      bits_taken = reported.bits ∙ steps_counted.taken_is;
+      steps = omega (arith, steps_counted.last_are, steps_counted.before, reported.bits, reported.samples, reported.steps_are);
     }
 
 -- the samples that were asked for are reached
@@ -375,10 +387,14 @@ runs_dry {s = s} {asked = asked} {p = p} {r = r} {new = new} {steps = steps} {st
       bits = tells.bits_are ∙ sym used;
       samples = tells.samples_are ∙ so.count;
       count = so.count;
-      sets = λ more. last_steps bits (bits_of more) (read.bytes ++ more) {ending = ending_of blank} in_last r.taken has
+      sets = λ more. last_steps {last = bits} (bits_of more) (read.bytes ++ more) {ending = ending_of blank} in_last r.taken has
           (bits_of-append read.bytes more ∙ ap (λ l. l ++ bits_of more) whole)
           (turns_out s runs.blocks bits blank in_last told cut.none (omega (arith, counted.most, cut.stops.taken)) (λ zeros. omega (arith, cut.steps zeros, cut.stops.taken)))
-          (omega (arith, counted.least, cut.stops.taken)) runs.has_steps.count read.count tells.bits_are tells.samples_are tells.steps_are;
+          (record {
+            last_are = omega (arith, counted.least, cut.stops.taken);
+            before = runs.has_steps.count;
+            taken_is = read.count;
+          }) (record { bits = tells.bits_are; samples = tells.samples_are; steps_are = tells.steps_are });
     }
 
 -- no 1 is left, or no data set begins with what is left, where the intake has ended
@@ -446,45 +462,60 @@ long_ends {s = s} {asked = asked} {start = start} {new = new} {rep = rep} {left 
     } tells.left_is tells.fault_is (λ other. absurd (other refl))
     ((read.bytes, record { last = byte; split = refl; full = full }, (dry.used, dry.decoded, record { written = refl; samples = dry.samples; bits = dry.bits })), run_out blank)
 
+-- a block is asked for, and no run stands
+record AtWantedBlock (s : Parameters) (asked : Option ℕ) (p : DecoderState) (written : ℕ) : Type 0 where
+  legal : IsLegal s
+  wanted : wanted_of asked written s.block ≢ 0
+  run : p.run ≡ 0
+
+-- steps that are counted, and reported
+record CountedReport {I : Type 0} (r new : Reader I) (steps steps_new written : ℕ) (rep : Report) (f : Option Fault) (left : Option (List ℕ)) (failed : ℕ) (fault : Option Fault) : Type 0 where
+  counted : AreCounted steps steps_new r.taken new.taken
+  reports : Reports rep f left failed new written steps_new fault
+
 -- a coded data set was refused
 refused_ends : {I : Type 0} {s : Parameters} {asked : Option ℕ} {start : Reader I} {out_old out : Option Room} {p : DecoderState} {r new : Reader I}
     {steps steps_new written : ℕ} {rep : Report} {f : Option Fault} {left : Option (List ℕ)} {failed : ℕ} {P : CodedDataSet → Type 0} (ending : Ending) {fault : Option Fault}
-    → fault ≢ Some TooLong → IsLegal s → (runs : DecodingProgress s asked start out_old out p r steps written) → wanted_of asked written s.block ≢ 0 → p.run ≡ 0
+    → fault ≢ Some TooLong → AtWantedBlock s asked p written → (runs : DecodingProgress s asked start out_old out p r steps written)
     → SetRefused (with_mark r) new steps steps_new s runs.blocks P
     → ((asked : Option ℕ) (rest : List Bool) (used : ℕ) → IsWanted s asked runs.blocks → BeginsUnsound s runs.blocks rest used P → EndsWith s asked runs.blocks rest ending used)
     → ((last : List Bool) (count : ℕ) (unsound : BeginsUnsound s runs.blocks last (length last) P) → count ≡ turns unsound.refused → EndsInTurns s runs.blocks last ending count)
-    → AreCounted steps steps_new r.taken new.taken → Reports rep f left failed new written steps_new fault
+    → CountedReport r new steps steps_new written rep f left failed fault
     → ((c : Call) (ys : List ℤ) → DecodesBytes s asked c rep c.given ys ending → length ys ≡ s.block * (written / s.block)
     → EndsDecoding s asked fault c rep ys ending) → DecodesBetween s asked start.left left out_old out rep f
 refused_ends {s = s} {asked = asked} {start = start} {p = p} {r = r} {new = new} {steps = steps} {steps_new = steps_new} {written = written} {rep = rep}
-    {left = left} {P} ending {fault} other legal runs some none refused by_rule by_turns counted tells ends =
+    {left = left} {P} ending {fault} other at_block runs refused by_rule by_turns reported ends =
     let b = runs.blocks in
     let so = runs.has_written in
-    let j : 1 ≤ s.block = let k : 2 ≤ s.block = grind (arith, legal.block) in omega arith in
+    let j : 1 ≤ s.block = let k : 2 ≤ s.block = grind (arith, at_block.legal.block) in omega arith in
     let set = bits_of_set s refused.set in
     let rest = set ++ new.waiting in
     let read = has_read-append runs.has_read refused.takes.draws refused.takes.taken in
     let whole : bits_of read.bytes ≡ runs.front ++ rest = read.bits ∙ append_assoc runs.front set new.waiting in
-    let goes = goes_on s asked b written runs.given runs.decoded.len so.count some in
+    let goes = goes_on s asked b written runs.given runs.decoded.len so.count at_block.wanted in
     let so_far = all_written s asked b written runs.given runs.decoded.len so.count goes in
     let ys = cut_to s asked 0 runs.given in
     let refuses : BeginsUnsound s b rest (length set) P = record { refused = refused.set; more = new.waiting; form = refused.form; unsound = refused.unsound; begins = refl; bits = refl } in
     let alone : BeginsUnsound s b set (length set) P = record { refused = refused.set; more = []; form = refused.form; unsound = refused.unsound; begins = sym (append-nil set); bits = refl } in
-    let here = ends_here rest asked ending (length set) (at_set runs none) (begun_wanted runs) (by_rule asked rest (length set) goes refuses) in
-    let used : length runs.front + length set ≡ rep.bits = sym (tells.bits_are ∙ read.count ∙ length-append runs.front set) in
+    let here = ends_here rest asked ending (length set) (at_set runs at_block.run) (begun_wanted runs) (by_rule asked rest (length set) goes refuses) in
+    let used : length runs.front + length set ≡ rep.bits = sym (reported.reports.bits_are ∙ read.count ∙ length-append runs.front set) in
     let number : written / s.block ≡ b = ap (λ n. n / s.block) so_far.0 ∙ mul-div_cancel_left b j in
-    let few = given_is_limited read tells.ahead tells.limit in
-    let end : b + p.run ≡ b = omega (arith, none) in
+    let few = given_is_limited read reported.reports.ahead reported.reports.limit in
+    let end : b + p.run ≡ b = omega (arith, at_block.run) in
     let has = subst (λ (n : ℕ). HasSets s runs.sets runs.front n) end runs.has_sets in
     let decodes = subst (λ (l : List Bool). Decoded s l asked ys ending (length runs.front + length set)) (sym whole) here in
     call_ends_so left ys ending fault record {
       gave = read.gave;
       took = so.put;
-      ahead = omega (arith, few.0, tells.bits_are);
-      steps = last_steps set new.waiting read.bytes {ending = ending} (turns refused.set) r.taken has read.bits
-          (by_turns set (turns refused.set) alone refl) refused.steps runs.has_steps.count read.count tells.bits_are tells.samples_are tells.steps_are;
-    } tells.left_is tells.fault_is (λ _. few.1)
-    (ends _ ys (length runs.front + length set, decodes, record { written = refl; samples = tells.samples_are ∙ so.count; bits = sym used })
+      ahead = omega (arith, few.0, reported.reports.bits_are);
+      steps = last_steps {last = set} new.waiting read.bytes {ending = ending} (turns refused.set) r.taken has read.bits
+          (by_turns set (turns refused.set) alone refl) (record { last_are = refused.steps; before = runs.has_steps.count; taken_is = read.count }) (record {
+            bits = reported.reports.bits_are;
+            samples = reported.reports.samples_are;
+            steps_are = reported.reports.steps_are;
+          });
+    } reported.reports.left_is reported.reports.fault_is (λ _. few.1)
+    (ends _ ys (length runs.front + length set, decodes, record { written = refl; samples = reported.reports.samples_are ∙ so.count; bits = sym used })
     (sym so.count ∙ so_far.0 ∙ ap (λ n. s.block * n) (sym number)))
 
 -- the first of some elements, as many as the first of them are
@@ -571,20 +602,27 @@ pub refusal_ends : {I : Type 0} {s : Parameters} {asked : Option ℕ} {start : R
     → AreCounted steps steps_new r.taken new.taken → Reports rep f left failed new written steps_new (Some (refusal_fault fault written s.block)) → DecodesBetween s asked start.left left out_old out rep f
 refusal_ends faults.CodeEnds legal runs some stops counted tells = ended_ends false runs some stops.0 stops.1 counted tells
 refusal_ends {s = s} faults.RunPastSegment legal runs some stops counted tells =
-    refused_ends Past (λ e. cc) legal runs some stops.0 stops.1 (λ asked rest used goes h. (goes, h)) (λ last count h e. (h, e)) counted tells (λ c ys d n. (d, refl, n))
+    refused_ends Past (λ e. cc) (record { legal = legal; wanted = some; run = stops.0 }) runs stops.1 (λ asked rest used goes h. (goes, h)) (λ last count h e. (h, e))
+    (record { counted = counted; reports = tells }) (λ c ys d n. (d, refl, n))
 refusal_ends {s = s} faults.ResidualTooLarge legal runs some stops counted tells =
-    refused_ends Large (λ e. cc) legal runs some stops.0 stops.1 (λ asked rest used goes h. (goes, h)) (λ last count h e. (h, e)) counted tells (λ c ys d n. (d, refl, n))
+    refused_ends Large (λ e. cc) (record { legal = legal; wanted = some; run = stops.0 }) runs stops.1 (λ asked rest used goes h. (goes, h)) (λ last count h e. (h, e))
+    (record { counted = counted; reports = tells }) (λ c ys d n. (d, refl, n))
 refusal_ends faults.Read legal runs some stops counted tells = read_ends runs some stops.0 stops.1 counted tells
 refusal_ends faults.TooLong legal runs some stops counted tells = long_ends runs some stops.0 stops.1 counted tells
 
+-- decoding stops, and how many reads failed before
+record StopsBehind {I : Type 0} (s : Parameters) (b : ℕ) (r new : Reader I) (steps steps_new n : ℕ) (fault : CodeFault) : Type 0 where
+  stops : StopsBy (with_mark r) new steps steps_new s b (Err fault)
+  before : r.failed ≡ n
+
 -- a fault of the intake is its one failure
-stops_fail : {I : Type 0} (s : Parameters) (b : ℕ) (r new : Reader I) (steps steps_new : ℕ) {n : ℕ} (written block writes : ℕ) (fault : CodeFault)
-    → StopsBy (with_mark r) new steps steps_new s b (Err fault) → r.failed ≡ n → Fails (Some (refusal_fault fault written block)) n new.failed writes writes
-stops_fail s b r new steps steps_new written block writes faults.CodeEnds stops e = (stops.cut.stops.refuses.2 ∙ e, refl)
-stops_fail s b r new steps steps_new written block writes faults.RunPastSegment stops e = (stops.takes.failures ∙ e, refl)
-stops_fail s b r new steps steps_new written block writes faults.ResidualTooLarge stops e = (stops.takes.failures ∙ e, refl)
-stops_fail s b r new steps steps_new written block writes faults.Read stops e = (stops.stops.refuses.1 ∙ ap (λ m. m + 1) e, refl)
-stops_fail s b r new steps steps_new written block writes faults.TooLong stops e = (stops.stops.refuses.1 ∙ e, refl)
+stops_fail : {I : Type 0} (s : Parameters) (b : ℕ) (r new : Reader I) {steps steps_new n : ℕ} (written block writes : ℕ) (fault : CodeFault)
+    → StopsBehind s b r new steps steps_new n fault → Fails (Some (refusal_fault fault written block)) n new.failed writes writes
+stops_fail s b r new written block writes faults.CodeEnds stopped = (stopped.stops.cut.stops.refuses.2 ∙ stopped.before, refl)
+stops_fail s b r new written block writes faults.RunPastSegment stopped = (stopped.stops.takes.failures ∙ stopped.before, refl)
+stops_fail s b r new written block writes faults.ResidualTooLarge stopped = (stopped.stops.takes.failures ∙ stopped.before, refl)
+stops_fail s b r new written block writes faults.Read stopped = (stopped.stops.stops.refuses.1 ∙ ap (λ m. m + 1) stopped.before, refl)
+stops_fail s b r new written block writes faults.TooLong stopped = (stopped.stops.stops.refuses.1 ∙ stopped.before, refl)
 
 -- the failures where decoding ends with this fault
 reported_fails : {f fault : Option Fault} {reads_now failed writes writes_new : ℕ} (reads : ℕ) → f ≡ fault → failed ≡ reads_now → writes_new ≡ writes
@@ -599,7 +637,7 @@ pub refusal_fails : {I : Type 0} {s : Parameters} {asked : Option ℕ} {start : 
     → (runs : DecodingProgress s asked start out_old out p r steps written) → (p.run ≡ 0) × StopsBy (with_mark r) new steps steps_new s runs.blocks (Err fault) → writes_new ≡ writes
     → Reports rep f left failed new written steps_new (Some (refusal_fault fault written s.block)) → Fails f start.failed failed writes writes_new
 refusal_fails {s = s} {r = r} {new = new} {written = written} {writes = writes} fault runs stops same tells =
-    reported_fails _ tells.fault_is tells.failed_is same (stops_fail s runs.blocks r new _ _ written s.block writes fault stops.1 runs.reads)
+    reported_fails _ tells.fault_is tells.failed_is same (stops_fail s runs.blocks r new written s.block writes fault (record { stops = stops.1; before = runs.reads }))
 
 -- an end without a fault counts as none
 pub done_fails : {I : Type 0} {s : Parameters} {asked : Option ℕ} {start : Reader I} {out_old out : Option Room} {p : DecoderState} {r new : Reader I}

@@ -149,7 +149,7 @@ gains_set {I = I} {s} {r} {new} {b} {c} {begun} {run} {p} {front} {sets} {given}
       len = block.len;
       begun = b + 1;
       before = omega arith;
-      decoded = decoded_with_set skips.bits d legal behind before form run_sound set.residuals_sound pads
+      decoded = decoded_with_set skips.bits d legal behind before (record { form = form; run = run_sound; residuals = set.residuals_sound }) pads
           (subst (λ (q : ℤ). GivesBlock s b q xs run (blocks_in s b d)) previous block);
       more_sets = sets ++ d ∷ [];
       has_sets = sets-push skips.bits d has form run_sound set.residuals_sound pads after;
@@ -159,11 +159,16 @@ gains_set {I = I} {s} {r} {new} {b} {c} {begun} {run} {p} {front} {sets} {given}
     sums : (n t m k all : ℕ) → m ≡ n + t → {len : ℕ} → len ≡ k → all ≡ t + len → m + k ≡ n + all
     sums n t m k all e f g = omega arith
 
+-- nothing is taken
+pub record TakesNone {I : Type 0} (r new : Reader I) (steps steps_new : ℕ) : Type 0 where
+  pub reader : new ≡ r
+  pub steps_are : steps_new ≡ steps
+
 -- a block of a run
 pub gains_run : {I : Type 0} {s : Parameters} {r new : Reader I} {steps steps_new b c begun run run_new : ℕ} {p : ℤ} {front : List Bool} {sets : List CodedDataSet} {given xs : List ℤ}
-    → IsLegal s → place s b ≡ c → p ≡ last_of (pos 0) given → r.refusal ≡ None → begun ≤ b → HasSets s sets front (b + run) → DecodedSoFar s front begun b run given → new ≡ r → steps_new ≡ steps
+    → IsLegal s → place s b ≡ c → p ≡ last_of (pos 0) given → r.refusal ≡ None → begun ≤ b → HasSets s sets front (b + run) → DecodedSoFar s front begun b run given → TakesNone r new steps steps_new
     → GivesBlock s c p xs run_new (replicate run (zero_block s None)) → Gains s r new steps steps_new front sets b run_new given xs
-gains_run {I = I} {s} {r} {b} {c} {begun} {run} {run_new} {p} {front} {sets} {given} {xs} legal here previous going before has behind same same_steps gives =
+gains_run {I = I} {s} {r} {b} {c} {begun} {run} {run_new} {p} {front} {sets} {given} {xs} legal here previous going before has behind none gives =
     let j : 1 ≤ s.block = let k : 2 ≤ s.block = grind (arith, legal.block) in omega arith in
     let block = run_gives_there b run j (same_place s b c legal.interval_from here) gives in
     let all = decoded_with_run_block behind (subst (λ (q : ℤ). GivesBlock s b q xs run_new (replicate run (zero_block s None))) previous block) in
@@ -174,20 +179,20 @@ gains_run {I = I} {s} {r} {b} {c} {begun} {run} {run_new} {p} {front} {sets} {gi
       bits = [];
       draws = record {
         given = [];
-        consumed = subst (λ (v : Reader I). Consumes r.left v.left []) (sym same) (Consumes-nil r.left);
+        consumed = subst (λ (v : Reader I). Consumes r.left v.left []) (sym none.reader) (Consumes-nil r.left);
         needed = λ given. absurd (omega arith);
-        split = ap (λ l. r.waiting ++ l) bits_of-nil ∙ append-nil r.waiting ∙ ap (λ (v : Reader I). v.waiting) (sym same);
+        split = ap (λ l. r.waiting ++ l) bits_of-nil ∙ append-nil r.waiting ∙ ap (λ (v : Reader I). v.waiting) (sym none.reader);
       };
-      taken = ap (λ (v : Reader I). v.taken) same ∙ nothing;
-      going = ap (λ (v : Reader I). v.refusal) same ∙ going;
-      failures = ap (λ (v : Reader I). v.failed) same;
+      taken = ap (λ (v : Reader I). v.taken) none.reader ∙ nothing;
+      going = ap (λ (v : Reader I). v.refusal) none.reader ∙ going;
+      failures = ap (λ (v : Reader I). v.failed) none.reader;
       len = block.len;
       begun = begun;
       before = omega arith;
       decoded = subst (λ (l : List Bool). DecodedSoFar s l begun (b + 1) run_new (given ++ xs)) (sym (append-nil front)) all;
       more_sets = sets;
       has_sets = subst (λ (l : List Bool). HasSets s sets l (b + 1 + run_new)) (sym (append-nil front)) (subst (λ (n : ℕ). HasSets s sets front n) after has);
-      counted = omega (arith, same_steps, ap (λ (v : Reader I). v.taken) same);
+      counted = omega (arith, none.steps_are, ap (λ (v : Reader I). v.taken) none.reader);
     }
 
 -- a block that was given goes on with what was decoded so far
@@ -200,13 +205,12 @@ gains_block {s = s} {p = p} {q = q} {r = r} {new = new} {steps = steps} {steps_n
     elim (took_block at.going a) [
       | inl k ↦ let block = subst (λ (t : Parameters). GivesBlock t p.block p.before xs q.run (replicate p.run (zero_block t None))) at.setting k.gives.gives in
           gains_run legal at.here at.previous
-          runs.going runs.before runs.has_sets runs.decoded k.same k.steps_are block
+          runs.going runs.before runs.has_sets runs.decoded (record { reader = k.same; steps_are = k.steps_are }) block
       | inr k ↦ let set = subst (λ (t : Parameters). GivesSet (with_mark r) new steps steps_new t p.block p.before xs q.run) at.setting k.gives in
           let end : runs.blocks + p.run ≡ runs.blocks = omega (arith, k.none) in
           let has = subst (λ (n : ℕ). HasSets s runs.sets runs.front n) end runs.has_sets in
           let behind = subst (λ (n : ℕ). DecodedSoFar s runs.front runs.begun runs.blocks n runs.given) k.none runs.decoded in
-          gains_set legal at.here at.previous
-          (λ b n. ap (λ m. padding s b (m + n)) runs.has_read.count) runs.before has behind set
+          gains_set legal at.here at.previous (λ b n. ap (λ m. padding s b (m + n)) runs.has_read.count) runs.before has behind set
     ]
 
 -- of the block only its place matters where the decoder stops
@@ -220,21 +224,46 @@ pub ends_there : {I : Type 0} {old new : Reader I} {first last : ℕ} {s : Param
 unfolding cut_there
 ends_there {old} {new} {first} {last} {s} {b} {c} e ends = record { cut = cut_there {b = b} e ends.cut; told = ends.told }
 
+-- decoding stops at a block with the same place in its interval
+record StopsThere {I : Type 0} (old new : Reader I) (first last : ℕ) (s : Parameters) (b c : ℕ) (fault : CodeFault) : Type 0 where
+  place_is : place s c ≡ place s b
+  stops : StopsBy old new first last s c (Err fault)
+
 -- and so does a refusal
-stops_there : {I : Type 0} (old new : Reader I) (first last : ℕ) (s : Parameters) (b c : ℕ) (fault : CodeFault) → place s c ≡ place s b
-    → StopsBy old new first last s c (Err fault) → StopsBy old new first last s b (Err fault)
-stops_there old new first last s b c faults.CodeEnds e h = ends_there e h
-stops_there old new first last s b c faults.RunPastSegment e h =
-    record { set = h.set; form = form_there s c b h.set e h.form; takes = h.takes; unsound = λ g. h.unsound (run_there s b c h.set (sym e) g); steps = h.steps }
-stops_there old new first last s b c faults.ResidualTooLarge e h = record { set = h.set; form = form_there s c b h.set e h.form; takes = h.takes; unsound = h.unsound; steps = h.steps }
-stops_there old new first last s b c faults.Read e h = cut_there e h
-stops_there old new first last s b c faults.TooLong e h = cut_there e h
+stops_there : {I : Type 0} (old new : Reader I) (first last : ℕ) (s : Parameters) (b c : ℕ) (fault : CodeFault) → StopsThere old new first last s b c fault → StopsBy old new first last s b (Err fault)
+stops_there old new first last s b c faults.CodeEnds elsewhere = ends_there elsewhere.place_is elsewhere.stops
+stops_there old new first last s b c faults.RunPastSegment elsewhere =
+    record {
+      set = elsewhere.stops.set;
+      form = form_there s c b elsewhere.stops.set elsewhere.place_is elsewhere.stops.form;
+      takes = elsewhere.stops.takes;
+      unsound = λ g. elsewhere.stops.unsound (run_there s b c elsewhere.stops.set (sym elsewhere.place_is) g);
+      steps = elsewhere.stops.steps;
+    }
+stops_there old new first last s b c faults.ResidualTooLarge elsewhere = record {
+  set = elsewhere.stops.set;
+  form = form_there s c b elsewhere.stops.set elsewhere.place_is elsewhere.stops.form;
+  takes = elsewhere.stops.takes;
+  unsound = elsewhere.stops.unsound;
+  steps = elsewhere.stops.steps;
+}
+stops_there old new first last s b c faults.Read elsewhere = cut_there elsewhere.place_is elsewhere.stops
+stops_there old new first last s b c faults.TooLong elsewhere = cut_there elsewhere.place_is elsewhere.stops
+
+-- decoding stops at the block that is named by the place in its interval
+record StopsByPlace {I : Type 0} (old new : Reader I) (first last : ℕ) (s t : Parameters) (b c : ℕ) (fault : CodeFault) : Type 0 where
+  setting : t ≡ s
+  place_is : place s b ≡ c
+  stops : StopsBy old new first last t c (Err fault)
 
 -- a refusal at the decoder's place is one at the block of that number
-stops_here : {I : Type 0} (old new : Reader I) (first last : ℕ) {s t : Parameters} (b : ℕ) {c : ℕ} (fault : CodeFault) → 1 ≤ s.interval → t ≡ s → place s b ≡ c
-    → StopsBy old new first last t c (Err fault) → StopsBy old new first last s b (Err fault)
-stops_here old new first last {s} {t} b {c} fault some setting here h =
-    stops_there old new first last s b c fault (same_place s b c some here) (subst (λ (t : Parameters). StopsBy old new first last t c (Err fault)) setting h)
+stops_here : {I : Type 0} (old new : Reader I) (first last : ℕ) {s t : Parameters} (b : ℕ) {c : ℕ} (fault : CodeFault) → 1 ≤ s.interval → StopsByPlace old new first last s t b c fault
+    → StopsBy old new first last s b (Err fault)
+stops_here old new first last {s} {t} b {c} fault some elsewhere =
+    stops_there old new first last s b c fault (record {
+      place_is = same_place s b c some elsewhere.place_is;
+      stops = subst (λ (t : Parameters). StopsBy old new first last t c (Err fault)) elsewhere.setting elsewhere.stops;
+    })
 
 -- and an end at the decoder's place is one there
 ends_at : {I : Type 0} {old new : Reader I} {first last : ℕ} {s t : Parameters} (b : ℕ) {c : ℕ} {blank : Bool} → 1 ≤ s.interval → t ≡ s → place s b ≡ c
@@ -251,7 +280,7 @@ stops_in_no_run {s = s} {p = p} {r = r} {new = new} {steps = steps} {steps_new =
     let at = runs.at_block in
     elim (runs_or_not p) [
       | inl lt ↦ absurd (let e = (a.in_run at.going lt).0 in cc)
-      | inr none ↦ (none, stops_here (with_mark r) new steps steps_new runs.blocks fault legal.interval_from at.setting at.here (a.reads at.going none).0)
+      | inr none ↦ (none, stops_here (with_mark r) new steps steps_new runs.blocks fault legal.interval_from (record { setting = at.setting; place_is = at.here; stops = (a.reads at.going none).0 }))
     ]
 
 -- where the decoder finds the end, it is in no run, and what was decoded is all

@@ -95,8 +95,7 @@ reads_further {s} {left_old} {left} {left_new} {taken_old} {taken} {e} {r} {r_ne
 pub reads_none : {N : ℕ} {s : Parameters} {left_old left left_new : Option (List ℕ)} {taken_old taken : Option Room} {e : Encoding N} {r r_new : SamplesAhead}
     → EncodingProgress s left_old left taken_old taken e r → GivesSamples r r_new left left_new [] → EncodingProgress s left_old left_new taken_old taken e r_new
 reads_none {s} {left_old} {left} {left_new} {taken_old} {taken} {e} {r} {r_new} p g =
-    reads_further p g
-    (subst (λ (xs : List ℤ). IsEncodingOf s (afresh taken_old) taken e xs) (sym (append-nil p.samples)) p.holds)
+    reads_further p g (subst (λ (xs : List ℤ). IsEncodingOf s (afresh taken_old) taken e xs) (sym (append-nil p.samples)) p.holds)
 
 -- no more samples come
 pub reading_ends : {N : ℕ} {s : Parameters} {left_old left left_new : Option (List ℕ)} {taken_old taken : Option Room} {e : Encoding N} {r : SamplesAhead} (r_new : SamplesAhead)
@@ -161,7 +160,8 @@ reading_ends {N} {s} {left_old} {left} {left_new} {taken_old} {taken} {e} {r} r_
 -- and the failures then
 pub reading_fails : (fault : SampleFault) (index : ℕ) {f : Option Fault} {reads mid : ℕ} (reads_new : ℕ) {writes writes_new : ℕ} → f ≡ Some (fault_at fault index)
     → CountsReads {T = ℕ} mid reads_new (Err fault) → mid ≡ reads → writes_new ≡ writes → Fails f reads reads_new writes writes_new
-reading_fails fault index {f} {reads} {mid} reads_new {writes} {writes_new} is counts same calm = subst (λ (f : Option Fault). Fails f reads reads_new writes writes_new) (sym is) (by_fault fault counts)
+reading_fails fault index {f} {reads} {mid} reads_new {writes} {writes_new} is counts same calm = subst (λ (f : Option Fault). Fails f reads reads_new writes writes_new) (sym is)
+    (by_fault fault counts)
   where
     by_fault : (fault : SampleFault) → CountsReads {T = ℕ} mid reads_new (Err fault) → Fails (Some (fault_at fault index)) reads reads_new writes writes_new
     by_fault faults.Read e = (e ∙ ap (λ n. n + 1) same, calm)
@@ -267,12 +267,17 @@ writing_ends {s} {left_old} {left} {left_new} {taken_old} {taken_new} {e} {e_new
     ahead : (w n b g k : ℕ) → g ≡ w * n + b → b ≤ 4096 → 1 ≤ w → n < k → g < k * w + 4096
     ahead w n b g k e few some lt = let p = mul-le-mul_right w lt in omega arith
 
+-- a push failed
+pub record FailedPush (N : ℕ) (s : Parameters) (old : Beginning) (taken : Option Room) (e : Encoding N) (xs : List ℤ) (bytes : List ℕ) (f : Fault) (mid writes_new : ℕ) : Type 0 where
+  pub pushed : Pushes {T = Unit {0}} s old taken e xs bytes (Err f)
+  pub fails : PushFails {T = Unit {0}} mid writes_new (Err f)
+
 -- and the failures then
-pub push_fails : {N : ℕ} (s : Parameters) (old : Beginning) (taken : Option Room) (e : Encoding N) (xs : List ℤ) (bytes : List ℕ) {f : Fault} {g : Option Fault}
+pub push_fails : {N : ℕ} {s : Parameters} {old : Beginning} (taken : Option Room) (e : Encoding N) (xs : List ℤ) (bytes : List ℕ) {f : Fault} {g : Option Fault}
     {reads reads_new writes mid : ℕ} (writes_new : ℕ) → reads_new ≡ reads → mid ≡ writes →
-    Pushes {T = Unit {0}} s old taken e xs bytes (Err f) → PushFails {T = Unit {0}} mid writes_new (Err f) → g ≡ Some f → Fails g reads reads_new writes writes_new
-push_fails s old taken e xs bytes {f} {g} {reads} {reads_new} {writes} {mid} writes_new same before pushes fails is =
-    let result = by_fault f pushes fails in
+    FailedPush N s old taken e xs bytes f mid writes_new → g ≡ Some f → Fails g reads reads_new writes writes_new
+push_fails {s} {old} taken e xs bytes {f} {g} {reads} {reads_new} {writes} {mid} writes_new same before failed is =
+    let result = by_fault f failed.pushed failed.fails in
     subst (λ (g : Option Fault). Fails g reads reads_new writes writes_new) (sym is) result
   where
     by_fault : (f : Fault) → Pushes {T = Unit {0}} s old taken e xs bytes (Err f) → PushFails {T = Unit {0}} mid writes_new (Err f) → Fails (Some f) reads reads_new writes writes_new

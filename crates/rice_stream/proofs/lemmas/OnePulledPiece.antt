@@ -132,15 +132,21 @@ pub has_none : (s : Parameters) {at len len_old : ℕ} (k : ℕ) {w j : ℕ} →
     → (width s * k ≤ len_old) × (len_old < width s * k + width s * s.block)
 has_none s k {w} {j} e f lt within count same = let size : w * j ≡ width s * s.block = (λ i. e i * f i) in (omega arith, omega arith)
 
+-- nothing more is taken, for this fault
+pub record RefusedBy {I : Type 0} (why : CodeFault) (s : Parameters) (o : Origin) (front : List Bool) (given : List ℤ) (here : Stand) (r new : Reader I) (xs : List ℤ) (fault : CodeFault) : Type 0
+  where
+    pub fault_is : fault ≡ why
+    pub takes : TakesNext s o front given here r new xs (Err fault)
+
 -- where the decoder refuses, the intake has failed only if the fault says so
 pub failed_once : {I : Type 0} (s : Parameters) (o : Origin) (front : List Bool) (given : List ℤ) (here : Stand) (r new : Reader I) (xs : List ℤ)
-    {fault : CodeFault} → fault ≡ faults.Read → TakesNext s o front given here r new xs (Err fault) → new.failed ≡ 1
-failed_once s o front given here r new xs e t = subst (λ (f : CodeFault). TakesNext s o front given here r new xs (Err f)) e t
+    {fault : CodeFault} → RefusedBy faults.Read s o front given here r new xs fault → new.failed ≡ 1
+failed_once s o front given here r new xs refused = subst (λ (f : CodeFault). TakesNext s o front given here r new xs (Err f)) refused.fault_is refused.takes
 
 -- a reader of a piece within the limit never passes it
 pub never_too_long : {I : Type 0} (s : Parameters) (o : Origin) (front : List Bool) (given : List ℤ) (here : Stand) (r new : Reader I) (xs : List ℤ)
-    {fault : CodeFault} → fault ≡ faults.TooLong → TakesNext s o front given here r new xs (Err fault) → ⊥
-never_too_long s o front given here r new xs e t = subst (λ (f : CodeFault). TakesNext s o front given here r new xs (Err f)) e t
+    {fault : CodeFault} → RefusedBy faults.TooLong s o front given here r new xs fault → ⊥
+never_too_long s o front given here r new xs refused = subst (λ (f : CodeFault). TakesNext s o front given here r new xs (Err f)) refused.fault_is refused.takes
 
 -- ---- a reader of a piece
 

@@ -76,12 +76,11 @@ module _ {I : Type 0} (s : Parameters) (stand next : Stand) (r new : Reader I) (
       let legal = h.state.legal in
       elim (took_block refl t.advances) [
         | inl k ↦ gains_run legal h.here h.previous
-            t.reads.going h.before h.has_sets h.decoded k.same k.steps_are k.gives.gives
+            t.reads.going h.before h.has_sets h.decoded (record { reader = k.same; steps_are = k.steps_are }) k.gives.gives
         | inr k ↦
             let none : stand.run ≡ 0 = k.none in
             let end : h.blocks + stand.run ≡ h.blocks = omega arith in
-            gains_set legal h.here h.previous
-            (λ b n. pads_as s o r.taken (length front) b n h.begins (t.aligned none) h.bits) h.before
+            gains_set legal h.here h.previous (λ b n. pads_as s o r.taken (length front) b n h.begins (t.aligned none) h.bits) h.before
             (subst (λ (n : ℕ). HasSets s h.sets front n) end h.has_sets) (subst (λ (n : ℕ). DecodedSoFar s front h.begun h.blocks n given) none h.decoded) k.gives
       ]
 
@@ -177,15 +176,22 @@ never_long s b first last stand r new reads cut =
     one_left (Some xs) None byte told c = absurd c
     one_left (Some xs) (Some ys) byte told c = omega (arith, ap length c)
 
+-- decoding stops at the block at which it stands
+record StopsAtStand {I : Type 0} (s : Parameters) (stand : Stand) (r new : Reader I) (first last : ℕ) (fault : CodeFault) : Type 0 where
+  stands : IsReadFrom stand r
+  run : stand.run ≡ 0
+  stopped : StopsBy (with_mark r) new first last s stand.block (Err fault)
+
 -- the decoder refuses
-refuses_next : {I : Type 0} (s : Parameters) (o : Origin) {stand : Stand} {r : Reader I} (new : Reader I) (first last : ℕ) (front : List Bool) (given xs : List ℤ)
-    (fault : CodeFault) → IsReadFrom stand r → stand.run ≡ 0
-    → StopsBy (with_mark r) new first last s stand.block (Err fault) → TakesNext s o front given stand r new xs (Err fault)
-refuses_next s o {stand} {r} new first last front given xs faults.CodeEnds reads none h = (none, ends_cut s stand.block first last r new reads.told h)
-refuses_next s o {stand} {r} new first last front given xs faults.RunPastSegment reads none h = let u = begins_unsound s stand.block first last r new _ reads.told h in (none, u.0, (tt, u.1))
-refuses_next s o {stand} {r} new first last front given xs faults.ResidualTooLarge reads none h = let u = begins_unsound s stand.block first last r new _ reads.told h in (none, u.0, (tt, u.1))
-refuses_next s o new first last front given xs faults.Read reads none h = h.stops.refuses.1 ∙ ap (λ n. n + 1) reads.failed
-refuses_next s o {stand} {r} new first last front given xs faults.TooLong reads none h = never_long s stand.block first last stand r new reads h
+refuses_next : {I : Type 0} {s : Parameters} (o : Origin) {stand : Stand} {r : Reader I} (new : Reader I) (first last : ℕ) (front : List Bool) (given xs : List ℤ)
+    (fault : CodeFault) → StopsAtStand s stand r new first last fault → TakesNext s o front given stand r new xs (Err fault)
+refuses_next {s} o {stand} {r} new first last front given xs faults.CodeEnds stops = (stops.run, ends_cut s stand.block first last r new stops.stands.told stops.stopped)
+refuses_next {s} o {stand} {r} new first last front given xs faults.RunPastSegment stops = let u = begins_unsound s stand.block first last r new _ stops.stands.told
+    stops.stopped in (stops.run, u.0, (tt, u.1))
+refuses_next {s} o {stand} {r} new first last front given xs faults.ResidualTooLarge stops = let u = begins_unsound s stand.block first last r new _ stops.stands.told
+    stops.stopped in (stops.run, u.0, (tt, u.1))
+refuses_next o new first last front given xs faults.Read stops = stops.stopped.stops.refuses.1 ∙ ap (λ n. n + 1) stops.stands.failed
+refuses_next {s} o {stand} {r} new first last front given xs faults.TooLong stops = never_long s stand.block first last stand r new stops.stands stops.stopped
 
 -- a refusal leaves the stand where it was
 pub stops_next : {I : Type 0} (s : Parameters) (o : Origin) {stand : Stand} {r new : Reader I} {steps steps_new : ℕ} {q : DecoderState} (front : List Bool)
@@ -194,11 +200,12 @@ pub stops_next : {I : Type 0} (s : Parameters) (o : Origin) {stand : Stand} {r n
 stops_next s o {stand} {r} {new} {steps} {steps_new} front given {xs} {fault} reads a =
     elim (runs_or_not (state_of s stand)) [
       | inl lt ↦ absurd (let e = (a.in_run refl lt).0 in cc)
-      | inr none ↦ refuses_next s o new steps steps_new front given xs fault reads none (a.reads refl none).0
+      | inr none ↦ refuses_next {s = s} o new steps steps_new front given xs fault (record { stands = reads; run = none; stopped = (a.reads refl none).0 })
     ]
 
 -- and so does the end
-pub done_next : {I : Type 0} (s : Parameters) (o : Origin) {stand : Stand} {r new : Reader I} {steps steps_new : ℕ} {q : DecoderState} (front : List Bool) (given : List ℤ) {xs : List ℤ} → IsReadFrom stand r
+pub done_next : {I : Type 0} (s : Parameters) (o : Origin) {stand : Stand} {r new : Reader I} {steps steps_new : ℕ} {q : DecoderState} (front : List Bool) (given : List ℤ) {xs : List ℤ}
+    → IsReadFrom stand r
     → Advances r new steps steps_new (state_of s stand) q xs (Ok Done) → TakesNext s o front given stand r new xs (Ok None)
 done_next s o {stand} {r} {new} {steps} {steps_new} front given reads a =
     elim (runs_or_not (state_of s stand)) [

@@ -152,16 +152,21 @@ all_given encoding decoding consumed end = by_left decoding.left consumed end
     by_left None c end = absurd c
     by_left (Some rest) c end = sym (append-nil decoding.given) ∙ ap (λ l. decoding.given ++ l) (sym end) ∙ sym c
 
+-- what a call encoded, of no more bytes than a call may take
+record EncodedWithin (s : Parameters) (encoding : Call) (xs : List ℤ) : Type 0 where
+  written_is : encoding.written ≡ output s xs
+  given_is : encoding.given ≡ spellings s xs
+  within : length encoding.given ≤ 281474976710656
+
 -- an output does not pass the limit of a code
-not_too_long : {s : Parameters} (encoding decoding : Call) → IsLegal s → (xs : List ℤ) → All (IsSample s) xs → {front : List ℕ} → encoding.written ≡ output s xs
-    → encoding.given ≡ spellings s xs → length encoding.given ≤ 281474976710656
+not_too_long : {s : Parameters} (encoding decoding : Call) → IsLegal s → (xs : List ℤ) → All (IsSample s) xs → {front : List ℕ} → EncodedWithin s encoding xs
     → Consumes (Some encoding.written) decoding.left decoding.given → PassesLimit 562949953421312 decoding.given front → ⊥
-not_too_long {s} encoding decoding legal xs k {front} written bytes limit consumed passes =
+not_too_long {s} encoding decoding legal xs k {front} encoded consumed passes =
     let given = ap length passes.split ∙ length-append front (passes.last ∷ []) in
     let parts = given_of encoding decoding consumed in
-    let whole = ap length (sym written ∙ parts.1) ∙ length-append decoding.given parts.0 in
-    let spelled = ap length bytes ∙ length-spellings s xs in
-    let short = output_short s legal xs k (omega (arith, spelled, limit)) in
+    let whole = ap length (sym encoded.written_is ∙ parts.1) ∙ length-append decoding.given parts.0 in
+    let spelled = ap length encoded.given_is ∙ length-spellings s xs in
+    let short = output_short s legal xs k (omega (arith, spelled, encoded.within)) in
     omega (arith, given, passes.full, whole, short)
 
 pub returns_bytes : ReturnsBytes
@@ -209,7 +214,7 @@ returns_bytes s legal enc dec encoded decoded fault encodes consumed decodes = b
     by_fault None (d, inr (ended, none, end)) = absurd cc
     by_fault (Some Read) h = inr (inl refl)
     by_fault (Some Write) h = inr (inr refl)
-    by_fault (Some TooLong) h = absurd (not_too_long enc dec legal xs encodes.ends.0.legal written bytes encodes.limit consumed h.0.1)
+    by_fault (Some TooLong) h = absurd (not_too_long enc dec legal xs encodes.ends.0.legal (record { written_is = written; given_is = bytes; within = encodes.limit }) consumed h.0.1)
     by_fault (Some (CodeEnds samples)) (d, ends, end, count) = absurd (not_at_end end d ends)
     by_fault (Some (RunPastSegment block)) (d, past, count) = absurd (let reached = (at_front d (inr (inl past))).1 in cc)
     by_fault (Some (ResidualTooLarge block)) (d, large, count) = absurd (let reached = (at_front d (inr (inr large))).1 in cc)
@@ -254,7 +259,7 @@ returns_bytes_and_fill s legal enc dec encoded decoded fault encodes consumed de
         inl (refl, all.0, all.1, d.2.written ∙ ap (spellings s) (at_end end d).0 ∙ spellings-append s xs all.0 ∙ ap (λ l. l ++ spellings s all.0) (sym bytes))
     by_fault (Some Read) h = inr (inl refl)
     by_fault (Some Write) h = inr (inr refl)
-    by_fault (Some TooLong) h = absurd (not_too_long enc dec legal xs encodes.ends.0.legal written bytes encodes.limit consumed h.0.1)
+    by_fault (Some TooLong) h = absurd (not_too_long enc dec legal xs encodes.ends.0.legal (record { written_is = written; given_is = bytes; within = encodes.limit }) consumed h.0.1)
     by_fault (Some (CodeEnds samples)) (d, inl cut, end, count) = absurd (let ended = (at_end end d).1 in cc)
     by_fault (Some (CodeEnds samples)) (d, inr (ended, some), end, count) = absurd (let no : false ≡ true = some in cc)
     by_fault (Some (RunPastSegment block)) (d, past, count) = absurd (let ended = at_front d (inr (inl past)) in cc)

@@ -88,12 +88,18 @@ one_on {s = s} more {out} {out_new} {r} {m} {steps} {steps_m} {p} {d} {bytes} le
     progress_with_block legal runs (sym is) (λ e. omega (arith, e, is, j)) (gains_block legal runs a) (moves_of at.going a)
     (record { counted = ticks; few = few }) (omega arith) first
 
+-- no run stands, and all of the next n blocks are asked for
+pub record AsksForRow (s : Parameters) (asked : Option ℕ) (written n : ℕ) (p : DecoderState) : Type 0 where
+  pub run : p.run ≡ 0
+  pub wanted : IfSome asked (λ k. written + s.block * n ≤ k)
+
 -- a row that was written goes on with what was decoded so far
-pub progress_on_row : {I : Type 0} {s : Parameters} {asked : Option ℕ} {start : Reader I} {out_old : Option Room} (n more : ℕ) {out out_new : Option Room}
+pub progress_on_row : {I : Type 0} {s : Parameters} {asked : Option ℕ} {start : Reader I} {out_old : Option Room} {n : ℕ} (more : ℕ) {out out_new : Option Room}
     {r new : Reader I} (steps last : ℕ) {p q : DecoderState} (bytes : List ℕ) {written : ℕ} → IsLegal s
-    → DecodingProgress s asked start out_old out p r (steps + more) written → p.run ≡ 0 → GivesRow n r new steps last p q bytes → IfSome asked (λ k. written + s.block * n ≤ k)
+    → DecodingProgress s asked start out_old out p r (steps + more) written → AsksForRow s asked written n p → GivesRow n r new steps last p q bytes
     → Appends out out_new (take (row_bytes s n) bytes) → DecodingProgress s asked start out_old out_new q new (last + (more + s.block * n)) (written + s.block * n)
-progress_on_row {I} {s = s} {asked = asked} {start = start} {out_old = out_old} zero more {out} {out_new} {r} {new} steps last {p} bytes {written} legal runs none (same, same_steps, same_state) wanted put =
+progress_on_row {I} {s = s} {asked = asked} {start = start} {out_old = out_old} {n = zero} more {out} {out_new} {r} {new} steps last {p} bytes {written} legal runs asks
+    (same, same_steps, same_state) put =
     let nothing : s.block * 0 ≡ 0 = omega arith in
     let no_bytes : row_bytes s 0 ≡ 0 = omega arith in
     let there = progress_put runs (subst (λ k. Appends out out_new (take k bytes)) no_bytes put) in
@@ -102,52 +108,59 @@ progress_on_row {I} {s = s} {asked = asked} {start = start} {out_old = out_old} 
     subst (λ (d : DecoderState). DecodingProgress s asked start out_old out_new d new (last + (more + s.block * 0)) (written + s.block * 0)) (sym same_state)
     (subst (λ (t : Reader I). DecodingProgress s asked start out_old out_new p t (last + (more + s.block * 0)) (written + s.block * 0)) (sym same)
     (subst (λ k. DecodingProgress s asked start out_old out_new p r k (written + s.block * 0)) a (subst (λ k. DecodingProgress s asked start out_old out_new p r (steps + more) k) b there)))
-progress_on_row {s = s} {asked = asked} {start = start} {out_old = out_old} (suc n) more {out} {out_new} {r} {new} steps last {p} {q} bytes {written} legal runs none
-    (m, k, d, g, counted, none_new, rest) wanted put =
+progress_on_row {s = s} {asked = asked} {start = start} {out_old = out_old} {n = suc n} more {out} {out_new} {r} {new} steps last {p} {q} bytes {written} legal runs asks
+    (m, k, d, g, counted, none_new, rest) put =
     let parts = Appends-split out out_new (take (width s * s.block) bytes) (take (row_bytes s n) (drop (width s * s.block) bytes)) (subst (λ l. Appends out out_new l) (bytes_apart s n bytes) put) in
-    let here = one_on more {out_new = parts.0} legal runs none g counted none_new (all_wanted asked written s.block n wanted) parts.1 in
+    let here = one_on more {out_new = parts.0} legal runs asks.run g counted none_new (all_wanted asked written s.block n asks.wanted) parts.1 in
     let own : width p.setting * p.setting.block ≡ width s * s.block = ap (λ t. width t * t.block) runs.at_block.setting in
     let tail = subst (λ c. GivesRow n m new k last d q (drop c bytes)) own rest in
-    let done = progress_on_row n (more + s.block) {out_new = out_new} {new = new} k last {q = q} (drop (width s * s.block) bytes) legal here none_new tail
-    (more_wanted asked written s.block n wanted) parts.2 in
+    let done = progress_on_row {n = n} (more + s.block) {out_new = out_new} {new = new} k last {q = q} (drop (width s * s.block) bytes) legal here
+    (record { run = none_new; wanted = more_wanted asked written s.block n asks.wanted }) tail parts.2 in
     let all : s.block * suc n ≡ s.block + s.block * n = omega arith in
     let a : last + (more + s.block + s.block * n) ≡ last + (more + s.block * suc n) = omega (arith, all) in
     let b : written + s.block + s.block * n ≡ written + s.block * suc n = omega (arith, all) in
     subst (λ x. DecodingProgress s asked start out_old out_new q new x (written + s.block * suc n)) a
     (subst (λ x. DecodingProgress s asked start out_old out_new q new (last + (more + s.block + s.block * n)) x) b done)
 
+-- the bytes of all blocks of a row but the last are written, those of the last in part, and this is told
+pub record WritesPartOfRow {I : Type 0} (s : Parameters) (rep : Report) (f : Option Fault) (left : Option (List ℕ)) (failed n more : ℕ) (out room out_new : Option Room) (new : Reader I) (last : ℕ)
+    (bytes : List ℕ) (written : ℕ) : Type 0 where
+  pub front : Appends out room (take (row_bytes s n) bytes)
+  pub in_part : TakesPart room out_new (take (row_bytes s 1) (drop (row_bytes s n) bytes))
+  pub told : Reports rep f left failed new (written + s.block * n) (last + (more + s.block * n)) (Some Write)
+
 -- the outlet fails in a row
 pub fails_in_row : {I : Type 0} {s : Parameters} {asked : Option ℕ} {start : Reader I} {out_old : Option Room} {rep : Report} {f : Option Fault}
-    {left : Option (List ℕ)} {failed : ℕ} (n more : ℕ) {out room out_new : Option Room} {r new : Reader I} (steps last : ℕ)
+    {left : Option (List ℕ)} {failed : ℕ} (n : ℕ) {more : ℕ} {out room out_new : Option Room} {r new : Reader I} (steps : ℕ) {last : ℕ}
     {p : DecoderState} (q : DecoderState) (bytes : List ℕ) {written : ℕ} → IsLegal s
-    → DecodingProgress s asked start out_old out p r (steps + more) written → p.run ≡ 0 → GivesRow (suc n) r new steps last p q bytes → IfSome asked (λ k. written + s.block * suc n ≤ k)
-    → Appends out room (take (row_bytes s n) bytes) → TakesPart room out_new (take (row_bytes s 1) (drop (row_bytes s n) bytes))
-    → Reports rep f left failed new (written + s.block * n) (last + (more + s.block * n)) (Some Write) → DecodesBetween s asked start.left left out_old out_new rep f
-fails_in_row {I} {s = s} {asked = asked} {start = start} {out_old = out_old} {rep = rep} {f = f} {left = left} {failed = failed} zero more {out} {room} {out_new} {r}
-    {new} steps last {p} q bytes {written} legal runs none (m, k, d, g, counted, none_new, (same, same_steps, same_state)) wanted put part tells =
+    → DecodingProgress s asked start out_old out p r (steps + more) written → AsksForRow s asked written (suc n) p → GivesRow (suc n) r new steps last p q bytes
+    → WritesPartOfRow s rep f left failed n more out room out_new new last bytes written → DecodesBetween s asked start.left left out_old out_new rep f
+fails_in_row {I} {s = s} {asked = asked} {start = start} {out_old = out_old} {rep = rep} {f = f} {left = left} {failed = failed} zero {more} {out} {room} {out_new} {r}
+    {new} steps {last} {p} q bytes {written} legal runs asks (m, k, d, g, counted, none_new, (same, same_steps, same_state)) writes =
     let at = runs.at_block in
     let j : 2 ≤ s.block = grind (arith, legal.block) in
     let nothing : s.block * 0 ≡ 0 = omega arith in
     let no_bytes : row_bytes s 0 ≡ 0 = omega arith in
     let one : row_bytes s 1 ≡ width s * s.block = omega arith in
-    let there = progress_put runs (subst (λ x. Appends out room (take x bytes)) no_bytes put) in
+    let there = progress_put runs (subst (λ x. Appends out room (take x bytes)) no_bytes writes.front) in
     let b = gives_with_more_steps more r m steps k p d bytes g in
-    let a = advances_spelled none b in
+    let a = advances_spelled asks.run b in
     let block = samples_of_block s at.setting at.going a in
     let text = spelled_front (width s) s.block b.samples bytes at.setting refl refl block.len b.spelled in
     let front : take (row_bytes s 1) (drop (row_bytes s 0) bytes) ≡ spellings s (take s.block b.samples) = (λ i. take (one i) (drop (no_bytes i) bytes)) ∙ text in
-    let piece = subst (λ l. TakesPart room out_new l) front part in
-    let is = all_wanted asked written s.block 0 wanted in
+    let piece = subst (λ l. TakesPart room out_new l) front writes.in_part in
+    let is = all_wanted asked written s.block 0 asks.wanted in
     let same_written : written + s.block * 0 ≡ written = omega (arith, nothing) in
     let ticked : last + (more + s.block * 0) ≡ k + more = omega (arith, nothing, same_steps) in
     let told = subst (λ (t : Reader I). Reports rep f left failed t written (k + more) (Some Write)) same
     (subst (λ x. Reports rep f left failed new x (k + more) (Some Write)) same_written
-    (subst (λ x. Reports rep f left failed new (written + s.block * 0) x (Some Write)) ticked tells)) in
+    (subst (λ x. Reports rep f left failed new (written + s.block * 0) x (Some Write)) ticked writes.told)) in
     write_ends s.block d legal there (sym is) (λ e. omega (arith, e, is, j)) (gains_block legal there a) piece told
-fails_in_row {s = s} {asked = asked} {start = start} {out_old = out_old} {rep = rep} {f = f} {left = left} {failed = failed} (suc n) more {out} {room} {out_new} {r} {new}
-    steps last {p} q bytes {written} legal runs none (m, k, d, g, counted, none_new, rest) wanted put part tells =
-    let parts = Appends-split out room (take (width s * s.block) bytes) (take (row_bytes s n) (drop (width s * s.block) bytes)) (subst (λ l. Appends out room l) (bytes_apart s n bytes) put) in
-    let here = one_on more {out_new = parts.0} legal runs none g counted none_new (all_wanted asked written s.block (suc n) wanted) parts.1 in
+fails_in_row {s = s} {asked = asked} {start = start} {out_old = out_old} {rep = rep} {f = f} {left = left} {failed = failed} (suc n) {more} {out} {room} {out_new} {r} {new}
+    steps {last} {p} q bytes {written} legal runs asks (m, k, d, g, counted, none_new, rest) writes =
+    let parts = Appends-split out room (take (width s * s.block) bytes) (take (row_bytes s n) (drop (width s * s.block) bytes))
+    (subst (λ l. Appends out room l) (bytes_apart s n bytes) writes.front) in
+    let here = one_on more {out_new = parts.0} legal runs asks.run g counted none_new (all_wanted asked written s.block (suc n) asks.wanted) parts.1 in
     let own : width p.setting * p.setting.block ≡ width s * s.block = ap (λ t. width t * t.block) runs.at_block.setting in
     let tail = subst (λ c. GivesRow (suc n) m new k last d q (drop c bytes)) own rest in
     let all : s.block * suc n ≡ s.block + s.block * n = omega arith in
@@ -156,10 +169,13 @@ fails_in_row {s = s} {asked = asked} {start = start} {out_old = out_old} {rep = 
     let bytes_on : drop (row_bytes s (suc n)) bytes ≡ drop (row_bytes s n) (drop (width s * s.block) bytes) =
     (let e : width s * s.block * suc n ≡ width s * s.block + width s * s.block * n = omega arith in ap (λ c. drop c bytes) e ∙ sym (drop-drop (width s * s.block * n) (width s * s.block) bytes)) in
     let told = subst (λ x. Reports rep f left failed new x (last + (more + s.block + s.block * n)) (Some Write)) b
-    (subst (λ x. Reports rep f left failed new (written + s.block * suc n) x (Some Write)) a tells) in
-    fails_in_row n (more + s.block) k last q (drop (width s * s.block) bytes) legal here none_new tail
-    (more_wanted asked written s.block (suc n) wanted) parts.2
-    (subst (λ l. TakesPart room out_new (take (row_bytes s 1) l)) bytes_on part) told
+    (subst (λ x. Reports rep f left failed new (written + s.block * suc n) x (Some Write)) a writes.told) in
+    fails_in_row n {more = more + s.block} k {last = last} q (drop (width s * s.block) bytes) legal here (record { run = none_new; wanted = more_wanted asked written s.block (suc n) asks.wanted })
+    tail (record {
+      front = parts.2;
+      in_part = subst (λ l. TakesPart room out_new (take (row_bytes s 1) l)) bytes_on writes.in_part;
+      told = told;
+    })
 
 -- a row that was cut
 pub row_cut : {I : Type 0} {s : Parameters} {all taken size : ℕ} {old new : Reader I} {steps steps_new : ℕ} {p q : DecoderState} {bytes row : List ℕ}
@@ -243,7 +259,7 @@ progress_with_row {s = s} {asked = asked} {start = start} {out_old = out_old} {o
     {steps = steps} {last = last} {written = written} {blocks = blocks} {count = count} {steps_next = steps_next} {bytes = bytes} legal runs none w wanted ticked =
     let zero_more : steps ≡ steps + 0 = omega arith in
     let begun = subst (λ k. DecodingProgress s asked start out_old out p r k written) zero_more runs in
-    let done = progress_on_row blocks 0 {out_new = out_new} {new = new} steps last {q = q} bytes legal begun none w.gives wanted w.put in
+    let done = progress_on_row {n = blocks} 0 {out_new = out_new} {new = new} steps last {q = q} bytes legal begun (record { run = none; wanted = wanted }) w.gives w.put in
     let c = w.count_is in
     let a : last + (0 + s.block * blocks) ≡ steps_next = omega (arith, ticked, c) in
     let b : written + s.block * blocks ≡ written + count = omega (arith, c) in
@@ -264,7 +280,8 @@ row_fails {s = s} {asked = asked} {start = start} {out_old = out_old} {out = out
     let a : steps_new ≡ last + (0 + s.block * w.blocks) = omega (arith, ticked, c) in
     let b : written + count ≡ written + s.block * w.blocks = omega (arith, c) in
     let told = subst (λ k. Reports rep f left failed new k (last + (0 + s.block * w.blocks)) (Some Write)) b (subst (λ k. Reports rep f left failed new (written + count) k (Some Write)) a tells) in
-    fails_in_row w.blocks 0 steps last q bytes legal begun none w.gives (fewer_wanted asked written s.block (suc w.blocks) all w.within wanted) w.put w.part told
+    fails_in_row w.blocks {more = 0} steps {last = last} q bytes legal begun (record { run = none; wanted = fewer_wanted asked written s.block (suc w.blocks) all w.within wanted }) w.gives
+    (record { front = w.put; in_part = w.part; told = told })
 
 -- a row whose write fails is within the bounds
 pub row_fails_within : {I : Type 0} {s : Parameters} {asked : Option ℕ} {start : Reader I} {out_old out out_new : Option Room} {p q : DecoderState}
@@ -397,29 +414,48 @@ pub record FailsBehind {I : Type 0} (s : Parameters) (all : ℕ) (old : Reader I
   pub counted : AreCounted steps steps_there old.taken reader.taken
   pub tells : Reports rep f left failed reader (written + count) (steps_there + count) (Some Write)
 
-pub fails_behind : {I : Type 0} {s : Parameters} {all taken w size block written begin begun : ℕ} {old new : Reader I} {steps steps_new : ℕ} {p q : DecoderState} {bytes ends : List ℕ} {out out_new : Option Room}
-    {rep : Report} {f : Option Fault} {left : Option (List ℕ)} {failed : ℕ} → HasLanes s s.block w → size ≡ s.block → block ≡ s.block → w * s.block * all ≤ 480 → length bytes ≡ 512
-    → GivesBlocks all old new steps steps_new p q bytes ends → begin ≡ old.taken → begun ≡ steps → length old.waiting ≤ 32768 → begin + length old.waiting ≤ 2 ^ 52
-    → taken < length (take (w * size * all) bytes) → Appends out out_new (take taken (take (w * size * all) bytes))
+-- blocks whose samples have room among the bytes
+pub record BytesOfBlocks (s : Parameters) (all w size block : ℕ) (bytes : List ℕ) : Type 0 where
+  pub size_is : size ≡ s.block
+  pub block_is : block ≡ s.block
+  pub few : w * s.block * all ≤ 480
+  pub bytes_are : length bytes ≡ 512
+
+-- where the blocks begin, and how much waited there
+pub record BeganAt {I : Type 0} (begin begun : ℕ) (old : Reader I) (steps : ℕ) : Type 0 where
+  pub bits : begin ≡ old.taken
+  pub steps_are : begun ≡ steps
+  pub waiting : length old.waiting ≤ 32768
+  pub within : begin + length old.waiting ≤ 2 ^ 52
+
+-- a part of the bytes is appended
+pub record PartAppended (all taken w size : ℕ) (bytes : List ℕ) (out out_new : Option Room) : Type 0 where
+  pub short : taken < length (take (w * size * all) bytes)
+  pub appended : Appends out out_new (take taken (take (w * size * all) bytes))
+
+pub fails_behind : {I : Type 0} {s : Parameters} {all taken w size block written begin begun : ℕ} {old new : Reader I} {steps steps_new : ℕ} {p q : DecoderState} {bytes ends : List ℕ}
+    {out out_new : Option Room} {rep : Report} {f : Option Fault} {left : Option (List ℕ)} {failed : ℕ} → HasLanes s s.block w → BytesOfBlocks s all w size block bytes
+    → GivesBlocks all old new steps steps_new p q bytes ends → BeganAt begin begun old steps
+    → PartAppended all taken w size bytes out out_new
     → (rep.samples ≡ written + block * (taken / (w * size))) × (rep.bits ≡ begin + slice_index_or ends (taken / (w * size)) 0)
     × (rep.steps ≡ begun + slice_index_or ends (taken / (w * size)) 0 + block * (taken / (w * size))) × (f ≡ Some Write)
     → left ≡ new.left → failed ≡ new.failed → FailsBehind s all old steps p bytes out out_new rep f left failed written
-fails_behind {s} {all} {taken} {w} {size} {block} {written} {old} {bytes} {ends} has same own few long given at ticked waiting limit short put told left_is failed_is =
-    let row = lanes_row s w size all bytes has same few long in
+fails_behind {s} {all} {taken} {w} {size} {block} {written} {old} {bytes} {ends} has room given began part told left_is failed_is =
+    let row = lanes_row s w size all bytes has room.size_is room.few room.bytes_are in
     let n = taken / (w * size) in
     let more = slice_index_or ends n 0 in
-    let b = given.ends_are n (in_block all taken (w * size) row.some (omega (arith, short, row.long))) in
-    let many : block * n ≡ s.block * n = ap (λ k. k * n) own in
-    let inside : old.taken + length old.waiting ≤ 2 ^ 52 = omega (arith, at, limit) in
+    let b = given.ends_are n (in_block all taken (w * size) row.some (omega (arith, part.short, row.long))) in
+    let many : block * n ≡ s.block * n = ap (λ k. k * n) room.block_is in
+    let inside : old.taken + length old.waiting ≤ 2 ^ 52 = omega (arith, began.bits, began.within) in
     record {
       reader = b.reader;
       steps_there = b.steps_there;
       state = b.state;
       count = s.block * n;
-      fails = cut_behind all row.some row.wide row.is row.there short b put;
+      fails = cut_behind all row.some row.wide row.is row.there part.short b part.appended;
       counted = counted_behind b inside;
-      tells = told_behind (written + s.block * n) (s.block * n) b given.waited waiting inside
-          (told.0 ∙ ap (λ k. written + k) many, told.1 ∙ ap (λ k. k + more) at, told.2 ∙ (λ j. ticked j + more + many j), told.3) left_is failed_is;
+      tells = told_behind (written + s.block * n) (s.block * n) b given.waited began.waiting inside
+          (told.0 ∙ ap (λ k. written + k) many, told.1 ∙ ap (λ k. k + more) began.bits, told.2 ∙ (λ j. began.steps_are j + more + many j), told.3) left_is failed_is;
     }
 
 -- all of it is written

@@ -268,22 +268,29 @@ part_of old new bytes r short h = record {
   took = h;
 }
 
+-- the bytes of a sample and the samples of a block
+pub record SizesOfBlocks (s : Parameters) (w b : ℕ) : Type 0 where
+  pub block : 1 ≤ s.block
+  pub width_some : 1 ≤ width s
+  pub width_is : w ≡ width s
+  pub block_is : b ≡ s.block
+
 -- an outlet failed behind so many bytes of the blocks of a run
-pub run_cut : {s : Parameters} {asked : Option ℕ} {written : ℕ} (m : ℕ) {taken w b : ℕ} {p : DecoderState} (q : DecoderState) {old new : Option Room} {spelled : List ℕ} → 1 ≤ s.block → 1 ≤ width s → w ≡ width s → b ≡ s.block
+pub run_cut : {s : Parameters} {asked : Option ℕ} {written : ℕ} (m : ℕ) {taken w b : ℕ} {p : DecoderState} (q : DecoderState) {old new : Option Room} {spelled : List ℕ} → SizesOfBlocks s w b
     → RepeatsBlocks m p q → q.run + m ≡ p.run → IfSome asked (λ n. written + s.block * m ≤ n) → spelled ≡ spellings s (replicate (b * m) p.before)
     → taken < length spelled → Appends old new (take taken spelled)
     → FailsInRun s asked written p old new (taken / (w * b) * b)
-run_cut {s} {asked} {written} m {taken} {w} {b} {p} q {old} {new} {spelled} some some_bytes wide size passes left wanted is short put =
+run_cut {s} {asked} {written} m {taken} {w} {b} {p} q {old} {new} {spelled} sizes passes left wanted is short put =
     let x = p.before in
     let j = s.block in
     let each = width s * j in
-    let same : w * b ≡ each = (λ i. wide i * size i) in
+    let same : w * b ≡ each = (λ i. sizes.width_is i * sizes.block_is i) in
     let n = taken / (w * b) in
     let r = taken % (w * b) in
-    let positive : 1 ≤ each = mul_positive (width s) j some_bytes some in
+    let positive : 1 ≤ each = mul_positive (width s) j sizes.width_some sizes.block in
     let below : r < each = subst (λ k. r < k) same (mod-lt taken (omega (arith, same, positive))) in
     let split : each * n + r ≡ taken = ap (λ k. k * n + r) (sym same) ∙ div-add-mod taken (w * b) in
-    let many : spelled ≡ spellings s (replicate (j * m) x) = is ∙ ap (λ k. spellings s (replicate (k * m) x)) size in
+    let many : spelled ≡ spellings s (replicate (j * m) x) = is ∙ ap (λ k. spellings s (replicate (k * m) x)) sizes.block_is in
     let long : length spelled ≡ each * m = ap length many ∙ (length-repeat s (j * m) x ∙ product (width s) j m) in
     let inside : n < m = lt_of_mul-lt-mul_left each (omega (arith, split, short, long)) in
     let k = m - n - 1 in
@@ -300,7 +307,7 @@ run_cut {s} {asked} {written} m {taken} {w} {b} {p} q {old} {new} {spelled} some
     let cut : take taken spelled ≡ first ++ take r second = (λ i. take (place i) (text i))
     ∙ (take-append-add first (second ++ third) r ∙ ap (λ l. first ++ l) (take-append-le r second third (omega (arith, below, second_len)))) in
     let apart = Appends-split old new first (take r second) (subst (λ (l : List ℕ). Appends old new l) cut put) in
-    let count : n * b ≡ j * n = ap (λ z. n * z) size ∙ omega arith in
+    let count : n * b ≡ j * n = ap (λ z. n * z) sizes.block_is ∙ omega arith in
     let stop = repeats-split n k m p q all passes in
     record {
       blocks = n;

@@ -101,23 +101,33 @@ few_steps_so_far s seam xs h =
     let small = (counts_small s (encoding_at 0 s seam) xs (encoding_is_resumed 0 s seam xs None h).counts).1 in
     omega (arith, small, few_all (width s) (length xs) 0 (some_width s) (omega (arith, h.limit)))
 
+-- a seam has what the encoding has
+pub record IsSeamOf (N : ℕ) (e : Encoding N) (seam : Seam) : Type 0 where
+  pub samples : seam.samples ≡ e.samples
+  pub bits : seam.bits ≡ e.bits
+  pub steps : seam.steps ≡ e.meter
+  pub previous : seam.previous ≡ e.coder.previous
+  pub start : seam.start ≡ e.coder.start
+  pub waiting_bits : seam.waiting_bits ≡ length e.sink
+  pub waiting : word (length e.sink) seam.waiting ≡ e.sink
+  pub fits : seam.waiting < 2 ^ length e.sink
+
 -- where the samples make whole segments, the encoding's place is a seam
 pub seam_of : {N : ℕ} {s : Parameters} {old : Beginning} {now : Option Room} {e : Encoding N} {seam : Seam} {xs : List ℤ} → IsEncodingOf s old now e xs
     → cut s (length xs) ≡ length xs → width s * length xs ≤ 281474976710656 →
-    seam.samples ≡ e.samples → seam.bits ≡ e.bits → seam.steps ≡ e.meter → seam.previous ≡ e.coder.previous → seam.start ≡ e.coder.start
-    → seam.waiting_bits ≡ length e.sink → word (length e.sink) seam.waiting ≡ e.sink → seam.waiting < 2 ^ length e.sink → length e.sink < 8 → IsSeam s seam xs
-seam_of {s} {e} {seam} {xs} h all limit samples bits steps previous start count digits fits few =
+    IsSeamOf N e seam → length e.sink < 8 → IsSeam s seam xs
+seam_of {s} {e} {seam} {xs} h all limit holds few =
     let nothing : e.coder ≡ state_between e.coder.setting e.coder.start e.coder.previous = holds_nothing e.coder xs h.counts.stands (ap (λ t. cut t (length xs)) h.counts.setting ∙ all) in
-    let same : e.coder ≡ state_between s seam.start seam.previous = nothing ∙ (λ i. state_between (h.counts.setting i) (sym start i) (sym previous i)) in
+    let same : e.coder ≡ state_between s seam.start seam.previous = nothing ∙ (λ i. state_between (h.counts.setting i) (sym holds.start i) (sym holds.previous i)) in
     record {
       taken = subst (λ c. HasTaken c xs) same h.counts.stands;
-      samples = samples ∙ h.counts.samples;
-      bits = bits ∙ h.counts.bits;
-      least = omega (arith, steps, h.counts.least);
-      most = omega (arith, steps, h.counts.most);
-      waiting = ap (λ n. word n seam.waiting) count ∙ digits ∙ h.sink;
-      few = omega (arith, count, few);
-      fits = subst (λ n. seam.waiting < 2 ^ n) (sym count) fits;
+      samples = holds.samples ∙ h.counts.samples;
+      bits = holds.bits ∙ h.counts.bits;
+      least = omega (arith, holds.steps, h.counts.least);
+      most = omega (arith, holds.steps, h.counts.most);
+      waiting = ap (λ n. word n seam.waiting) holds.waiting_bits ∙ holds.waiting ∙ h.sink;
+      few = omega (arith, holds.waiting_bits, few);
+      fits = subst (λ n. seam.waiting < 2 ^ n) (sym holds.waiting_bits) holds.fits;
       limit = limit;
     }
 
@@ -195,23 +205,29 @@ refused_within s more part rest count r wide few =
       | inr le ↦ absurd (let p : w * k ≤ w * n = mul-le-mul_left w le in omega (arith, p, some, wide, few))
     ]
 
+-- the samples that are to be taken of bytes are pushed, and a push stops
+pub record StopsInBytes (N : ℕ) (s : Parameters) (old new : Option Room) (e : Encoding N) (xs : List ℤ) (bytes : List ℕ) (count : ℕ) (f : Fault) : Type 0 where
+  pub few : bytes_in_all s xs bytes ≤ 281474976710656
+  pub count_is : length xs + count ≡ samples_to_take s xs bytes
+  pub enough : width s * count ≤ length bytes
+  pub pushes : Pushes {T = Unit {0}} s (behind s xs old) new e xs (take (width s * count) bytes) (Err f)
+
 -- why a piece is not taken whole
 pub more_stops : {N : ℕ} (s : Parameters) (old new : Option Room) (e : Encoding N) (xs : List ℤ) (bytes : List ℕ) (count : ℕ) (f : Fault)
-    → bytes_in_all s xs bytes ≤ 281474976710656 → length xs + count ≡ samples_to_take s xs bytes → width s * count ≤ length bytes →
-    Pushes {T = Unit {0}} s (behind s xs old) new e xs (take (width s * count) bytes) (Err f) → EncodesMore s xs bytes old new (Err f)
-more_stops s old new e xs bytes count f limit is within h = by_fault f h (stopped_in s (behind s xs old) new e xs bytes (width s * count) f h)
+    → StopsInBytes N s old new e xs bytes count f → EncodesMore s xs bytes old new (Err f)
+more_stops s old new e xs bytes count f stops = by_fault f stops.pushes (stopped_in s (behind s xs old) new e xs bytes (width s * count) f stops.pushes)
   where
     by_fault : (f : Fault) → Pushes {T = Unit {0}} s (behind s xs old) new e xs (take (width s * count) bytes) (Err f)
         → Pushes {T = Unit {0}} s (behind s xs old) new e xs bytes (Err f) → EncodesMore s xs bytes old new (Err f)
     by_fault (SampleOutOfRange index) h m =
         let part = h.0 in
-        let len : length (take (width s * count) bytes) ≤ width s * count = omega (arith, length-take-le (width s * count) bytes within) in
+        let len : length (take (width s * count) bytes) ≤ width s * count = omega (arith, length-take-le (width s * count) bytes stops.enough) in
         let before = refused_within s part.more (take (width s * count) bytes) part.rest count part.reads part.none.0 len in (
           m.0.more,
-          record { limit = limit; rest = m.0.rest; reads = m.0.reads; none = m.0.none; index_is = m.1 ∙ m.0.holds.counts.samples; writes = m.0.holds.took },
-          omega (arith, h.1, part.holds.counts.samples, length-append xs part.more, before, is),
+          record { limit = stops.few; rest = m.0.rest; reads = m.0.reads; none = m.0.none; index_is = m.1 ∙ m.0.holds.counts.samples; writes = m.0.holds.took },
+          omega (arith, h.1, part.holds.counts.samples, length-append xs part.more, before, stops.count_is),
         )
-    by_fault Write h m = (m.more, m.last, record { limit = limit; rest = m.rest; reads = m.reads; writes = m.fails.takes })
+    by_fault Write h m = (m.more, m.last, record { limit = stops.few; rest = m.rest; reads = m.reads; writes = m.fails.takes })
     by_fault Read h bad = absurd bad
     by_fault TooLong h bad = absurd bad
     by_fault (SampleCut index) h bad = absurd bad

@@ -7,33 +7,38 @@ use Rattle.rice_code.specs.code.Forms.{IsForm, RunIsSound, ResidualsAreSound, bl
 use Rattle.rice_code.specs.code.Layout.{Lies, block_after, padding}
 use Rattle.rice_stream.specs.DecodingState.{HasSets}
 
+-- a data set behind others: at which block, at which bit, and what fills it
+record SetBehind (s : Parameters) (b at position place : ℕ) (ds : List CodedDataSet) (bits : List Bool) (d : CodedDataSet) (skipped : List Bool) : Type 0 where
+  at_is : at ≡ b + length (blocks_in_all s b ds)
+  place_is : place ≡ position + length bits
+  filled : length skipped ≡ padding s (block_after s at d) (place + length (bits_of_set s d))
+
 -- one more coded data set lies after others
 lies-push : (s : Parameters) (b : ℕ) {at : ℕ} (position : ℕ) {place : ℕ} (ds : List CodedDataSet) (bits : List Bool) (d : CodedDataSet) (skipped : List Bool)
-    → at ≡ b + length (blocks_in_all s b ds) → place ≡ position + length bits → Lies s b position ds bits
-    → length skipped ≡ padding s (block_after s at d) (place + length (bits_of_set s d))
+    → SetBehind s b at position place ds bits d skipped → Lies s b position ds bits
     → Lies s b position (ds ++ d ∷ []) (bits ++ (bits_of_set s d ++ skipped))
-lies-push s b {at} position {place} [] bits d skipped e f lies pads =
-    let here : at ≡ b = omega (arith, e) in
-    let there : place ≡ position = omega (arith, f, ap length lies) in
+lies-push s b {at} position {place} [] bits d skipped behind lies =
+    let here : at ≡ b = omega (arith, behind.at_is) in
+    let there : place ≡ position = omega (arith, behind.place_is, ap length lies) in
     let text = bits_of_set s d in (
       skipped,
       [],
-      pads ∙ (λ i. padding s (block_after s (here i) d) (there i + length text)),
+      behind.filled ∙ (λ i. padding s (block_after s (here i) d) (there i + length text)),
       (λ i. lies i ++ (text ++ skipped)) ∙ ap (λ v. text ++ v) (sym (append-nil skipped)),
       refl,
     )
-lies-push s b {at} position {place} (x ∷ ds) bits d skipped e f lies pads =
+lies-push s b {at} position {place} (x ∷ ds) bits d skipped behind lies =
     let more = bits_of_set s d ++ skipped in
     let text = bits_of_set s x in
     let ahead = text ++ lies.0 in
-    let at_is : at ≡ block_after s b x + length (blocks_in_all s (block_after s b x) ds) = omega (arith, e, length-append (blocks_in s b x) (blocks_in_all s (block_after s b x) ds)) in
+    let at_is : at ≡ block_after s b x + length (blocks_in_all s (block_after s b x) ds) = omega (arith, behind.at_is, length-append (blocks_in s b x) (blocks_in_all s (block_after s b x) ds)) in
     let place_is : place ≡ position + length ahead + length lies.1 = omega
-    (arith, f, ap length lies.3, length-append text (lies.0 ++ lies.1), length-append lies.0 lies.1, length-append text lies.0) in (
+    (arith, behind.place_is, ap length lies.3, length-append text (lies.0 ++ lies.1), length-append lies.0 lies.1, length-append text lies.0) in (
       lies.0,
       lies.1 ++ more,
       lies.2,
       ap (λ v. v ++ more) lies.3 ∙ append_assoc text (lies.0 ++ lies.1) more ∙ ap (λ v. text ++ v) (append_assoc lies.0 lies.1 more),
-      lies-push s (block_after s b x) (position + length ahead) ds lies.1 d skipped at_is place_is lies.4 pads,
+      lies-push s (block_after s b x) (position + length ahead) ds lies.1 d skipped (record { at_is = at_is; place_is = place_is; filled = behind.filled }) lies.4,
     )
 
 -- one coded data set more is taken behind the others
@@ -65,7 +70,7 @@ sets-push {s} {sets} {front} skipped {b} d has form run residuals pads e =
     let at : b ≡ 0 + length (blocks_in_all s 0 sets) = omega (arith, has.end) in
     let place : length front ≡ 0 + length front = omega arith in
     record {
-      lie = lies-push s 0 0 sets front d skipped at place has.lie pads;
+      lie = lies-push s 0 0 sets front d skipped (record { at_is = at; place_is = place; filled = pads }) has.lie;
       sound = taken-push s 0 sets d at has.sound form run residuals;
       end = blocks-push s 0 b sets d at ∙ omega (arith, has.end, e);
     }

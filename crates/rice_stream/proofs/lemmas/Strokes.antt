@@ -131,24 +131,30 @@ pub record RowGiven {I : Type 0} (s : Parameters) (blocks : ℕ) (stand next : S
   pub spelled : take (width s * (s.block * blocks)) bytes ≡ spellings s samples
   pub forward : r.taken ≤ new.taken
 
+-- the state behind the block
+pub record StateBehind (s : Parameters) (q : DecoderState) : Type 0 where
+  pub is_state : IsDecoderState s q.block q.before q.run None
+  pub setting : q.setting ≡ s
+  pub stopped : q.stopped ≡ None
+
 -- one of them
 pub spelled_on : {I : Type 0} (more : ℕ) {s : Parameters} {stand : Stand} {q : DecoderState} {r new : Reader I} {steps last : ℕ} {bytes : List ℕ} {o : Origin} {front : List Bool} {given : List ℤ}
     → IsStand s o stand front given → IsReadFrom stand r → r.taken % 8 ≡ stand.bits % 8 → stand.run ≡ 0 → stand.steps ≡ steps + more
-    → IsDecoderState s q.block q.before q.run None → q.setting ≡ s → q.stopped ≡ None
+    → StateBehind s q
     → GivesBytes r new steps last (state_of s stand) q bytes → AreCounted steps last r.taken new.taken
     → RowGiven s 1 stand (stand_at (stand.samples + s.block) (stand.bits + (new.taken - r.taken)) (last + (more + s.block)) q) q r new bytes
-spelled_on more {s} {stand} {q} {r} {new} {steps} {last} {bytes} {o} {front} {given} h reads aligned none ticked state setting stopped g counted =
+spelled_on more {s} {stand} {q} {r} {new} {steps} {last} {bytes} {o} {front} {given} h reads aligned none ticked behind g counted =
     let p = state_of s stand in
     let b = gives_with_more_steps more r new steps last p q bytes g in
     let a = advances_spelled none b in
     let block = samples_of_block s refl refl a in
     let next = stand_at (stand.samples + s.block) (stand.bits + (new.taken - r.taken)) (last + (more + s.block)) q in
-    let same : q ≡ state_of s next = (λ i. record { setting = setting i; block = q.block; before = q.before; run = q.run; stopped = stopped i }) in
-    let run : q.run * q.setting.block ≡ q.run * s.block = ap (λ (t : Parameters). q.run * t.block) setting in
+    let same : q ≡ state_of s next = (λ i. record { setting = behind.setting i; block = q.block; before = q.before; run = q.run; stopped = behind.stopped i }) in
+    let run : q.run * q.setting.block ≡ q.run * s.block = ap (λ (t : Parameters). q.run * t.block) behind.setting in
     let by_bits = b.by_bits in
     let none_waits : stand.run * s.block ≡ 0 = ap (λ k. k * s.block) none ∙ omega arith in
     let t : Steps s stand next r new (steps + more) (last + more) b.samples = record {
-      state = state;
+      state = behind.is_state;
       advances = subst (λ (d : DecoderState). Advances r new (steps + more) (last + more) p d b.samples (Ok Block)) same a;
       counted = record { forward = counted.forward; limit = counted.limit; least = omega (arith, counted.least); most = omega (arith, counted.most) };
       few = omega (arith, by_bits, run, none_waits);
@@ -200,7 +206,7 @@ row_on {I} {n = suc n} more {s} {stand} {q} {r} {new} steps last {bytes} {o} {fr
     let state : IsDecoderState s d.block d.before d.run None =
     place_moves d.run d.before None h.state.legal h.state.within (ap (λ (t : DecoderState). t.block) moves)
     (subst (IsSample s) (sym before) last_is) (λ lt. absurd (omega (arith, lt, none_new))) h.state.no_block in
-    let one = spelled_on more h reads aligned none ticked state setting stopped g counted in
+    let one = spelled_on more h reads aligned none ticked (record { is_state = state; setting = setting; stopped = stopped }) g counted in
     let known = one.more.gives o front given h in
     let middle = stand_at (stand.samples + s.block) (stand.bits + (m.taken - r.taken)) (k + (more + s.block)) d in
     let rest_here = subst (λ (t : DecoderState). GivesRow n m new k last t q (drop (width s * s.block) bytes)) one.more.goes_on.state rest in
@@ -236,14 +242,22 @@ pub record GivesStroke {I : Type 0} (s : Parameters) (stand next : Stand) (q : D
   pub len_is : len ≡ width s * length samples
   pub spelled : take len bytes ≡ spellings s samples
 
+-- n blocks of b samples of w bytes, some
+pub record BlocksOf (s : Parameters) (w b n : ℕ) : Type 0 where
+  pub width_is : w ≡ width s
+  pub block_is : b ≡ s.block
+  pub width_some : 1 ≤ w
+  pub block_some : 1 ≤ b
+  pub some : 1 ≤ n
+
 -- a run
 pub run_stroke : {I : Type 0} {s : Parameters} {stand next : Stand} {p q : DecoderState} {r : Reader I} {w b n at : ℕ} {x : ℤ} {out out_new : List ℕ} {o : Origin} {front : List Bool} {given : List ℤ}
-    → IsStand s o stand front given → IsReadFrom stand r → p ≡ state_of s stand → RepeatsBlocks n p q → w ≡ width s → b ≡ s.block → 1 ≤ w → 1 ≤ b → 1 ≤ n
+    → IsStand s o stand front given → IsReadFrom stand r → p ≡ state_of s stand → RepeatsBlocks n p q → BlocksOf s w b n
     → next ≡ stand_at (stand.samples + b * n) (stand.bits + (r.taken - r.taken)) (stand.steps + b * n) q → x ≡ p.before
     → out_new ≡ take at out ++ (spellings s (replicate (b * n) x) ++ drop (at + width s * (b * n)) out) → WritesStroke s stand next q r r (w * (b * n)) at out out_new
-run_stroke {s} {stand} {next} {q} {r} {w} {b} {n} {at} {x} {out} {o} {front} {given} h reads state passes wide many w_some b_some n_some is same wrote =
-    let count : b * n ≡ s.block * n = ap (λ k. k * n) many in
-    let size : w * (b * n) ≡ width s * (s.block * n) = (λ i. wide i * count i) in
+run_stroke {s} {stand} {next} {q} {r} {w} {b} {n} {at} {x} {out} {o} {front} {given} h reads state passes sizes is same wrote =
+    let count : b * n ≡ s.block * n = ap (λ k. k * n) sizes.block_is in
+    let size : w * (b * n) ≡ width s * (s.block * n) = (λ i. sizes.width_is i * count i) in
     let bits : stand.bits + (r.taken - r.taken) ≡ stand.bits = omega arith in
     let there : next ≡ stand_at (stand.samples + s.block * n) stand.bits (stand.steps + s.block * n) q = is ∙ (λ i. stand_at (stand.samples + count i) (bits i) (stand.steps + count i) q) in
     let before : x ≡ stand.previous = same ∙ ap (λ (d : DecoderState). d.before) state in
@@ -251,28 +265,35 @@ run_stroke {s} {stand} {next} {q} {r} {w} {b} {n} {at} {x} {out} {o} {front} {gi
     record {
       samples = replicate (s.block * n) stand.previous;
       more = subst (λ (t : Stand). GivesMore s stand t q r r (replicate (s.block * n) stand.previous)) (sym there) on;
-      some = mul-pos w_some (mul-pos b_some n_some);
+      some = mul-pos sizes.width_some (mul-pos sizes.block_some sizes.some);
       len_is = size ∙ ap (λ k. width s * k) (sym (length-replicate (s.block * n) stand.previous));
-      wrote = wrote ∙ (λ i. take at out ++ (spellings s (replicate (count i) (before i)) ++ drop (at + sym wide i * (b * n)) out));
+      wrote = wrote ∙ (λ i. take at out ++ (spellings s (replicate (count i) (before i)) ++ drop (at + sym sizes.width_is i * (b * n)) out));
     }
 
+-- a row begins where the stand says
+pub record BeginsAtStand (s : Parameters) (stand : Stand) (p : DecoderState) (steps : ℕ) : Type 0 where
+  pub state_is : p ≡ state_of s stand
+  pub steps_are : steps ≡ stand.steps
+
 -- a row
-pub row_stroke : {I : Type 0} {s : Parameters} {stand next : Stand} {p q : DecoderState} {r new : Reader I} {w b n steps : ℕ} (last : ℕ) {bytes : List ℕ} {o : Origin} {front : List Bool} {given : List ℤ}
-    → IsStand s o stand front given → IsReadFrom stand r → (stand.run ≡ 0 → r.taken % 8 ≡ stand.bits % 8) → p ≡ state_of s stand → p.run ≡ 0 → steps ≡ stand.steps
-    → GivesRow n r new steps last p q bytes → w ≡ width s → b ≡ s.block → 1 ≤ w → 1 ≤ b → 1 ≤ n
+pub row_stroke : {I : Type 0} {s : Parameters} {stand next : Stand} {p q : DecoderState} {r new : Reader I} {w b n steps : ℕ} (last : ℕ) {bytes : List ℕ}
+    {o : Origin} {front : List Bool} {given : List ℤ}
+    → IsStand s o stand front given → IsReadFrom stand r → (stand.run ≡ 0 → r.taken % 8 ≡ stand.bits % 8) → BeginsAtStand s stand p steps → p.run ≡ 0
+    → GivesRow n r new steps last p q bytes → BlocksOf s w b n
     → next ≡ stand_at (stand.samples + b * n) (stand.bits + (new.taken - r.taken)) (last + b * n) q → GivesStroke s stand next q r new (w * (b * n)) bytes
-row_stroke {s} {stand} {next} {q} {r} {new} {w} {b} {n} {steps} last {bytes} {o} {front} {given} h reads aligned state none ticked row wide many w_some b_some n_some is =
-    let run : stand.run ≡ 0 = sym (ap (λ (d : DecoderState). d.run) state) ∙ none in
-    let count : b * n ≡ s.block * n = ap (λ k. k * n) many in
-    let size : w * (b * n) ≡ width s * (s.block * n) = (λ i. wide i * count i) in
+row_stroke {s} {stand} {next} {q} {r} {new} {w} {b} {n} {steps} last {bytes} {o} {front} {given} h reads aligned begins none row sizes is =
+    let run : stand.run ≡ 0 = sym (ap (λ (d : DecoderState). d.run) begins.state_is) ∙ none in
+    let count : b * n ≡ s.block * n = ap (λ k. k * n) sizes.block_is in
+    let size : w * (b * n) ≡ width s * (s.block * n) = (λ i. sizes.width_is i * count i) in
     let all : last + b * n ≡ last + (0 + s.block * n) = omega (arith, count) in
     let there : next ≡ stand_at (stand.samples + s.block * n) (stand.bits + (new.taken - r.taken)) (last + (0 + s.block * n)) q =
     is ∙ (λ i. stand_at (stand.samples + count i) (stand.bits + (new.taken - r.taken)) (all i) q) in
-    let on = row_on {n = n} 0 {q = q} {new = new} steps last {bytes = bytes} h reads (aligned run) run (omega (arith, ticked)) (subst (λ (d : DecoderState). GivesRow n r new steps last d q bytes) state row) in
+    let on = row_on {n = n} 0 {q = q} {new = new} steps last {bytes = bytes} h reads (aligned run) run (omega (arith, begins.steps_are))
+    (subst (λ (d : DecoderState). GivesRow n r new steps last d q bytes) begins.state_is row) in
     record {
       samples = on.samples;
       more = subst (λ (t : Stand). GivesMore s stand t q r new on.samples) (sym there) on.more;
-      some = mul-pos w_some (mul-pos b_some n_some);
+      some = mul-pos sizes.width_some (mul-pos sizes.block_some sizes.some);
       len_is = size ∙ ap (λ k. width s * k) (sym on.len);
       spelled = ap (λ k. take k bytes) size ∙ on.spelled;
     }

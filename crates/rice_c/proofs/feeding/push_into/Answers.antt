@@ -55,8 +55,7 @@ returns-in-Err c xs h =
       encodes = did;
       feeds = refl;
       counts = c.tell-in-Err.ensures.report ∙ c.outcome_at-in-Err.ensures.report;
-      writes = all_in_front c.args.code.now name out.failures (Some c.in-Err.fault)
-          (more_fills s xs c.args.samples.now start (slice_state out) r did)
+      writes = all_in_front c.args.code.now name out.failures (Some c.in-Err.fault) (more_fills s xs c.args.samples.now start (slice_state out) r did)
           (tie ∙ sym (take-append-drop out.at out.room.now)) c.code-in-Err-1.given.1.0
           (more_fails s xs c.args.samples.now start (slice_state out) r out.failures did c.in-Err.ensures.failures) c.taken-written-in-Err.ensures.full;
       tells = record {

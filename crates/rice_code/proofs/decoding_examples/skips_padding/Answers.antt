@@ -42,5 +42,4 @@ returns-clause-all c = record {
 pub returns-clause-asked : goal.returns-clause-asked
 unfolding word bits_of
 returns-clause-asked c = decoded_by_one gives (replicate 3 true)
-    (bits_of_set (record defaults { interval = 1; pad = true }) run ++ replicate 3 false) refl refl
-    (lit< tt) 0 (lit≤ tt, refl)
+    (bits_of_set (record defaults { interval = 1; pad = true }) run ++ replicate 3 false) refl refl (lit< tt) 0 (lit≤ tt, refl)

@@ -3,4 +3,4 @@ use Rattle.rice_code.proofs.lemmas.meaning.DecodingGoesOn as decoding
 
 pub returns : goal.returns
 returns c s legal b position p d skipped rest asked xs ys ending used set made pads next =
-    decoding.decoding_goes_on legal d skipped xs set.wanted set.form set.run set.residuals pads made.legal made.len made.blocks next
+    decoding.decoding_goes_on legal d skipped xs set pads made next

@@ -91,20 +91,26 @@ same_blocks_in s b c (Split k v) e = refl
 same_blocks_in s b c (ZeroBlocks r z) e = refl
 same_blocks_in s b c (RemainderOfSegment r) e = ap (λ z. zero_blocks s r z) (same_left s b c e)
 
-same_laid : (s : Parameters) (end stop b c m : ℕ) (ds : List CodedDataSet) → place s b ≡ place s c → place s end ≡ place s stop → end + c ≡ stop + b → layout s end b m ds ≡ layout s stop c m ds
-same_laid s end stop b c m [] e f g = refl
-same_laid s end stop b c m (d ∷ ds) e f g =
-    let n = ap length (same_blocks_in s b c d e) in
-    let next : place s (block_after s b d) ≡ place s (block_after s c d) = place_on s b c (length (blocks_in s b d)) e ∙ ap (λ k. place s (c + k)) n in
+-- two stretches of blocks that begin and end at the same places of their intervals
+record SamePlaces (s : Parameters) (end stop b c : ℕ) : Type 0 where
+  begins : place s b ≡ place s c
+  ends : place s end ≡ place s stop
+  apart : end + c ≡ stop + b
+
+same_laid : (s : Parameters) (end stop b c m : ℕ) (ds : List CodedDataSet) → SamePlaces s end stop b c → layout s end b m ds ≡ layout s stop c m ds
+same_laid s end stop b c m [] same = refl
+same_laid s end stop b c m (d ∷ ds) same =
+    let n = ap length (same_blocks_in s b c d same.begins) in
+    let next : place s (block_after s b d) ≡ place s (block_after s c d) = place_on s b c (length (blocks_in s b d)) same.begins ∙ ap (λ k. place s (c + k)) n in
     let at : place s (min end (block_after s b d)) ≡ place s (min stop (block_after s c d)) =
     elim (cases_lt end (block_after s b d)) [
-      | inl lt ↦ let x : min end (block_after s b d) ≡ end = omega arith in let y : stop ≡ min stop (block_after s c d) = omega arith in ap (λ v. place s v) x ∙ (f ∙ ap (λ v. place s v) y)
+      | inl lt ↦ let x : min end (block_after s b d) ≡ end = omega arith in let y : stop ≡ min stop (block_after s c d) = omega arith in ap (λ v. place s v) x ∙ (same.ends ∙ ap (λ v. place s v) y)
       | inr le ↦ let x : min end (block_after s b d) ≡ block_after s b d = omega arith in
           let y : block_after s c d ≡ min stop (block_after s c d) = omega arith in ap (λ v. place s v) x ∙ (next ∙ ap (λ v. place s v) y)
     ] in
     let first : sent_first s end b m d ≡ sent_first s stop c m d = ap (λ v. bits_of_set s d ++ replicate (cond (s.pad && v == 0) (bits_to_byte (m + length (bits_of_set s d))) 0) false) at in
     let k = length (sent_first s end b m d) in
-    let rest = same_laid s end stop (block_after s b d) (block_after s c d) (m + k) ds next f (omega arith) in
+    let rest = same_laid s end stop (block_after s b d) (block_after s c d) (m + k) ds (record { begins = next; ends = same.ends; apart = omega arith }) in
     (λ i. sent_first s end b m d ++ rest i) ∙ (λ i. first i ++ layout s stop (block_after s c d) (m + length (first i)) ds)
 
 pub code_stands_in_intervals : (s : Parameters) → IsLegal s → (b c position : ℕ) (p : ℤ) (xs : List ℤ) → place s b ≡ place s c → code_from s b position p xs ≡ code_from s c position p xs
@@ -113,4 +119,4 @@ code_stands_in_intervals s legal b c position p xs e =
     let n = block_count s (length xs) in
     ap (λ v. layout s (b + n) b position (data_sets s b false v)) (same_blocks s b c p n (filled_samples s p xs) j e)
     ∙ (ap (λ v. layout s (b + n) b position v) (same_data_sets s b c false (blocks_of s c p xs) e)
-    ∙ same_laid s (b + n) (c + n) b c position (data_sets s c false (blocks_of s c p xs)) e (place_on s b c n e) (omega arith))
+    ∙ same_laid s (b + n) (c + n) b c position (data_sets s c false (blocks_of s c p xs)) (record { begins = e; ends = place_on s b c n e; apart = omega arith }))

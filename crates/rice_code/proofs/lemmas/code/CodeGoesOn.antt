@@ -91,23 +91,30 @@ sets_go_on s legal b q p xs ys len begins =
     ∙ (sets_of_segments s b false false first second legal.interval_from begins'
     ∙ (ap (λ m. data_sets s b false first ++ data_sets s (b + m) false second) count ∙ ap (λ v. data_sets s b false v ++ later) (sym (own_blocks s b q p xs j len))))
 
-pub code_goes_on : {s : Parameters} → IsLegal s → (b position blocks : ℕ) (p : ℤ) (xs ys : List ℤ) → IsSample s p → All (IsSample s) xs
-    → length xs ≡ s.block * blocks → begins_segment s (b + blocks) ≡ true →
+-- samples of whole blocks, behind which a segment begins
+pub record WholeSegments (s : Parameters) (b blocks : ℕ) (p : ℤ) (xs : List ℤ) : Type 0 where
+  pub before : IsSample s p
+  pub samples : All (IsSample s) xs
+  pub len : length xs ≡ s.block * blocks
+  pub segment : begins_segment s (b + blocks) ≡ true
+
+pub code_goes_on : {s : Parameters} → IsLegal s → (b position blocks : ℕ) (p : ℤ) (xs ys : List ℤ) → WholeSegments s b blocks p xs →
     let first = code_from s b position p xs in
     code_from s b position p (xs ++ ys) ≡ first ++ code_from s (b + blocks) (position + length first) (last_of p xs) ys
-code_goes_on {s} legal b position q p xs ys h k len begins =
+code_goes_on {s} legal b position q p xs ys sound =
     let j : 1 ≤ s.block = grind (arith, legal.block) in
     let sent = sets_from s b p xs in
     let later = sets_from s (b + q) (last_of p xs) ys in
     let n = block_count s (length ys) in
     let end = b + block_count s (length (xs ++ ys)) in
     let own = b + block_count s (length xs) in
-    let counted = (filled_behind s q p xs ys j len).1 in
-    let whole = (not_filled s q p xs j len).1 in
-    let place = ap (λ v. length (blocks_in_all s b (data_sets s b false v))) (own_blocks s b q p xs j len) ∙ no_zeros_past_segment b p q xs legal h k len begins in
+    let counted = (filled_behind s q p xs ys j sound.len).1 in
+    let whole = (not_filled s q p xs j sound.len).1 in
+    let place = ap (λ v. length (blocks_in_all s b (data_sets s b false v))) (own_blocks s b q p xs j sound.len) ∙ no_zeros_past_segment b p q xs legal sound.before sound.samples sound.len
+    sound.segment in
     let inside = laid_inside s end own b position sent (omega arith) (omega arith) in
     let same : end ≡ b + q + n = omega arith in
-    ap (λ v. layout s end b position v) (sets_go_on s legal b q p xs ys len begins)
+    ap (λ v. layout s end b position v) (sets_go_on s legal b q p xs ys sound.len sound.segment)
     ∙ (laid_append s end b position sent later
     ∙ (ap (λ m. layout s end b position sent ++ layout s end (b + m) (position + length (layout s end b position sent)) later) place
     ∙ ((λ i. inside i ++ layout s end (b + q) (position + length (inside i)) later)
@@ -123,7 +130,7 @@ code_grows s legal xs k m le =
     let here : 0 + b ≡ b = omega arith in
     let begins = ap (λ i. begins_segment s i) here ∙ start.2 in
     let samples = All-from_recursion (IsSample s) front (all_take (IsSample s) c xs (recursion_from_All (IsSample s) xs k)) in
-    let e = code_goes_on legal 0 0 b (pos 0) front (drop c xs) (zero_is_sample s legal.bits_from) samples len begins in
+    let e = code_goes_on legal 0 0 b (pos 0) front (drop c xs) (record { before = zero_is_sample s legal.bits_from; samples = samples; len = len; segment = begins }) in
     (code_from s (0 + b) (0 + length (code s front)) (last_of (pos 0) front) (drop c xs), ap (λ v. code s v) (sym (take-append-drop c xs)) ∙ e)
 
 pub bits_go_on : (s : Parameters) → IsLegal s → (b blocks : ℕ) (p : ℤ) (xs ys : List ℤ) → length xs ≡ s.block * blocks → begins_segment s (b + blocks) ≡ true →

@@ -99,7 +99,8 @@ inside_interval s start count lt at few =
     omega (arith, e)
 
 -- the code of blocks of a segment: their texts, and zeros up to a byte where they end an interval and intervals are padded
-pub code_lies : {s : Parameters} {start : ℕ} (position : ℕ) {count : ℕ} (cs : List BlockData) → length cs ≡ count → IsLegal s → place s start ≡ start → AreSoundBlocks s start cs → count ≤ blocks_left s start →
+pub code_lies : {s : Parameters} {start : ℕ} (position : ℕ) {count : ℕ} (cs : List BlockData) → length cs ≡ count → IsLegal s → place s start ≡ start → AreSoundBlocks s start cs
+    → count ≤ blocks_left s start →
     bits_of_sets s (data_sets s start false cs) ++ replicate
     (cond (s.pad && start + count == s.interval) (bits_to_byte (position + length (bits_of_sets s (data_sets s start false cs)))) 0) false ≡ layout s
     (start + count) start position (data_sets s start false cs)

@@ -30,7 +30,12 @@ added_code_is_bounded s legal xs ys h k whole =
     let b = start.0 in
     let here : 0 + b ≡ b = omega arith in
     let zero = zero_is_sample s legal.bits_from in
-    let goes = code_goes_on legal 0 0 b (pos 0) xs ys zero h (sym whole ∙ start.1) (ap (λ i. begins_segment s i) here ∙ start.2) in
+    let goes = code_goes_on legal 0 0 b (pos 0) xs ys (record {
+      before = zero;
+      samples = h;
+      len = sym whole ∙ start.1;
+      segment = ap (λ i. begins_segment s i) here ∙ start.2;
+    }) in
     let p = last_of (pos 0) xs in
     let sample = last_legal s (pos 0) xs zero (recursion_from_All (IsSample s) xs h) in
     let more = code_from s (0 + b) (0 + length (code s xs)) p ys in

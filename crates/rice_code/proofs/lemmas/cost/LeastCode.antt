@@ -38,15 +38,22 @@ record IsPaid (s : Parameters) (c x : BlockData) (d : CodedDataSet) : Type 0 whe
   pub chosen : cost s (shortest s c) ≤ cost s d
   pub run : id_len s + 2 + reference_len s x.reference ≤ cost s d
 
+-- a block, at most another one, is coded at no more than what the other's data set takes
+record PaidBlock (s : Parameters) (b : ℕ) (c x : BlockData) (d : CodedDataSet) : Type 0 where
+  below : IsAtMost c x
+  sound : IsSoundBlock s b x
+  form : IsForm s b d
+  paid : IsPaid s c x d
+
 -- one block by any option, and others after it
 one_block : {s : Parameters} {fill : ℕ → ℕ → ℕ} {b end p q others : ℕ} {c x : BlockData} (cs : List BlockData) {d : CodedDataSet} →
-    IsLegal s → IsFill s fill → IsAtMost c x → IsSoundBlock s b x → IsForm s b d → IsPaid s c x d → end ≡ b + suc (length cs) → p ≤ q →
+    IsLegal s → IsFill s fill → PaidBlock s b c x d → end ≡ b + suc (length cs) → p ≤ q →
     ((position : ℕ) → position ≤ fill (b + 1) (q + length (bits_of_set s d)) → code_end s fill end (b + 1) position (data_sets s (b + 1) false cs) ≤ others) →
     code_end s fill end b p (data_sets s b false (c ∷ cs)) ≤ others
-one_block {s} {fill} {b} {end} {p} {q} {others} {c} {x} cs {d} legal is below sound form paid e begins more =
+one_block {s} {fill} {b} {end} {p} {q} {others} {c} {x} cs {d} legal is paid_for e begins more =
     let j : 1 ≤ s.block = grind (arith, legal.block) in
-    let text = cost_is_length s b d j form in
-    let same = sound_at_most s b c x below sound in
+    let text = cost_is_length s b d j paid_for.form in
+    let same = sound_at_most s b c x paid_for.below paid_for.sound in
     elim (bool_cases (is_zero_block c)) [
       | inr plain ↦
           let rest = data_sets s (b + 1) false cs in
@@ -55,90 +62,128 @@ one_block {s} {fill} {b} {end} {p} {q} {others} {c} {x} cs {d} legal is below so
           let last : min end (b + 1) ≡ b + 1 = omega (arith, e) in
           let sent = ap (λ l. code_end s fill end b p l) (data_sets_plain s b false c cs plain)
           ∙ (ap (λ n. code_end s fill end n (fill (min end n) own) rest) next ∙ ap (λ n. code_end s fill end (b + 1) (fill n own) rest) last) in
-          let fewer : own ≤ q + length (bits_of_set s d) = omega (arith, cost_is_length s b (shortest s c) j (shortest_is_form s b c same), text, paid.chosen, begins) in
+          let fewer : own ≤ q + length (bits_of_set s d) = omega (arith, cost_is_length s b (shortest s c) j (shortest_is_form s b c same), text, paid_for.paid.chosen, begins) in
           omega (arith, sent, more (fill (b + 1) own) (is.rises (b + 1) own (q + length (bits_of_set s d)) fewer))
       | inl z ↦
           let here : b + 1 + 0 ≡ b + 1 = omega arith in
-          let fewer : q + (id_len s + 2 + reference_len s c.reference + 0) ≤ q + length (bits_of_set s d) = omega (arith, ap (reference_len s) below.reference, text, paid.run) in
+          let fewer : q + (id_len s + 2 + reference_len s c.reference + 0) ≤ q + length (bits_of_set s d) = omega (arith, ap (reference_len s) paid_for.below.reference, text, paid_for.paid.run) in
           let after = subst (λ (n : ℕ). (position : ℕ) → position ≤ fill n (q + length (bits_of_set s d)) → code_end s fill end n position (data_sets s n false cs) ≤ others) (sym here) more in
-          let run = run_and_more b {end = end} 0 {others = others} c.reference cs is legal.interval_from (some_left s b legal.interval_from).0 (inl (omega arith)) (omega (arith, e)) begins
-          (λ position le. after position (omega (arith, le, is.rises (b + 1 + 0) _ _ fewer))) in
+          let run = run_and_more b {end = end} 0 {others = others} c.reference cs is (record {
+            interval = legal.interval_from;
+            inside = (some_left s b legal.interval_from).0;
+            least = inl (omega arith);
+          }) (omega (arith, e)) begins (λ position le. after position (omega (arith, le, is.rises (b + 1 + 0) _ _ fewer))) in
           omega (arith, ap (λ (c : BlockData). code_end s fill end b p (data_sets s b false (c ∷ cs))) (zero_block_is s b c same.block z), run)
     ]
 
+-- a data set of n blocks of zeros, by its least codeword
+record RunSet (s : Parameters) (b n number : ℕ) (r : Option ℕ) (d : CodedDataSet) : Type 0 where
+  some : 1 ≤ n
+  inside : n ≤ blocks_left s b
+  least : IsLeastCodeword s b n number
+  bits : length (bits_of_set s d) ≡ id_len s + 2 + reference_len s r + number
+  blocks : blocks_in s b d ≡ zero_blocks s r n
+
+-- what follows a data set ends no later than the others do
+record OthersBehind (s : Parameters) (fill : ℕ → ℕ → ℕ) (b end q others : ℕ) (ys : List BlockData) (d : CodedDataSet) : Type 0 where
+  ends : fill (block_after s b d) (q + length (bits_of_set s d)) ≤ others
+  rest : ((rest : List BlockData) (position : ℕ) → BeginAtMost rest ys → end ≡ block_after s b d + length rest → position ≤ fill (block_after s b d) (q + length (bits_of_set s d))
+      → code_end s fill end (block_after s b d) position (data_sets s (block_after s b d) false rest) ≤ others)
+
 -- a run, and other coded data sets after it
-by_set : {s : Parameters} {fill : ℕ → ℕ → ℕ} (b : ℕ) {end p q n : ℕ} (number : ℕ) {others : ℕ} (r : Option ℕ) (cs ys : List BlockData) (d : CodedDataSet) →
-    IsLegal s → IsFill s fill → 1 ≤ n → n ≤ blocks_left s b → IsLeastCodeword s b n number
-    → length (bits_of_set s d) ≡ id_len s + 2 + reference_len s r + number → blocks_in s b d ≡ zero_blocks s r n →
-    end ≡ b + length cs → p ≤ q → BeginAtMost cs (zero_blocks s r n ++ ys) → fill (block_after s b d) (q + length (bits_of_set s d)) ≤ others →
-    ((rest : List BlockData) (position : ℕ) → BeginAtMost rest ys → end ≡ block_after s b d + length rest → position ≤ fill (block_after s b d) (q + length (bits_of_set s d)) →
-    code_end s fill end (block_after s b d) position (data_sets s (block_after s b d) false rest) ≤ others) →
+by_set : {s : Parameters} {fill : ℕ → ℕ → ℕ} {b end p q n number others : ℕ} {r : Option ℕ} (cs : List BlockData) {ys : List BlockData} (d : CodedDataSet) →
+    IsLegal s → IsFill s fill → RunSet s b n number r d →
+    end ≡ b + length cs → p ≤ q → BeginAtMost cs (zero_blocks s r n ++ ys) → OthersBehind s fill b end q others ys d →
     code_end s fill end b p (data_sets s b false cs) ≤ others
-by_set {s} {fill} b {end} {p} {q} {n} number {others} r cs ys d legal is some le word text blocks e begins below enough more =
-    let next : block_after s b d ≡ b + 1 + (n - 1) = omega (arith, ap length blocks, length-replicate (n - 1) (zero_block s None)) in
-    let count : n ≡ suc (n - 1) = omega (arith, some) in
+by_set {s} {fill} {b} {end} {p} {q} {n} {number} {others} {r} cs {ys} d legal is run e begins below behind =
+    let next : block_after s b d ≡ b + 1 + (n - 1) = omega (arith, ap length run.blocks, length-replicate (n - 1) (zero_block s None)) in
+    let count : n ≡ suc (n - 1) = omega (arith, run.some) in
     let theirs = id_len s + 2 + reference_len s r + number in
     let bits = length (bits_of_set s d) in
-    let first = subst (λ (m : ℕ). fill m (q + theirs) ≤ others) next (subst (λ (m : ℕ). fill (block_after s b d) (q + m) ≤ others) text enough) in
+    let first = subst (λ (m : ℕ). fill m (q + theirs) ≤ others) next (subst (λ (m : ℕ). fill (block_after s b d) (q + m) ≤ others) run.bits behind.ends) in
     let after = subst (λ (m : ℕ). (rest : List BlockData) (position : ℕ) → BeginAtMost rest ys → end ≡ m + length rest → position ≤ fill m (q + theirs)
     → code_end s fill end m position (data_sets s m false rest) ≤ others) next
     (subst (λ (t : ℕ). (rest : List BlockData) (position : ℕ) → BeginAtMost rest ys → end ≡ block_after s b d + length rest
-    → position ≤ fill (block_after s b d) (q + t) → code_end s fill end (block_after s b d) position (data_sets s (block_after s b d) false rest) ≤ others) text more) in
-    by_run b {w = n - 1} number r cs ys is legal.interval_from (omega (arith, some, le)) (subst (λ (m : ℕ). IsLeastCodeword s b m number) count word) e begins below first after
+    → position ≤ fill (block_after s b d) (q + t) → code_end s fill end (block_after s b d) position (data_sets s (block_after s b d) false rest) ≤ others) run.bits behind.rest) in
+    by_run {b = b} {w = n - 1} {number = number} r cs ys is (record {
+      interval = legal.interval_from;
+      inside = omega (arith, run.some, run.inside);
+      least = subst (λ (m : ℕ). IsLeastCodeword s b m number) count run.least;
+    }) e begins below (record { ends = first; rest = after })
+
+-- legal parameters of blocks of four samples or more, and a fill
+pub record FillsBlocks (s : Parameters) (fill : ℕ → ℕ → ℕ) : Type 0 where
+  pub legal : IsLegal s
+  pub block : 4 ≤ s.block
+  pub fill_is : IsFill s fill
 
 -- The coder's code of blocks ends no later than coded data sets that begin no earlier, and stand for blocks of which none is smaller, and perhaps for more.
-pub ends_no_later : {s : Parameters} {fill : ℕ → ℕ → ℕ} → IsLegal s → 4 ≤ s.block → IsFill s fill
+pub ends_no_later : {s : Parameters} {fill : ℕ → ℕ → ℕ} → FillsBlocks s fill
     → (b : ℕ) {end p q : ℕ} (cs : List BlockData) (ds : List CodedDataSet) → end ≡ b + length cs → p ≤ q → AreTaken s None b ds → BeginAtMost cs (blocks_in_all s b ds) →
     code_end s fill end b p (data_sets s b false cs) ≤ taken_end s fill b q ds
-ends_no_later {s} {fill} legal size is b {q} [] ds e begins taken below = omega (arith, begins, never_back s fill b q ds is)
-ends_no_later legal size is b (c ∷ cs) [] e begins taken below = absurd below
-ends_no_later {s} {fill} legal size is b {end} {p} {q} (c ∷ cs) (NoCompression x ∷ ds) e begins taken below =
+ends_no_later {s} {fill} fills b {q} [] ds e begins taken below = omega (arith, begins, never_back s fill b q ds fills.fill_is)
+ends_no_later fills b (c ∷ cs) [] e begins taken below = absurd below
+ends_no_later {s} {fill} fills b {end} {p} {q} (c ∷ cs) (NoCompression x ∷ ds) e begins taken below =
     let form = taken.1 in
     let sound : IsSoundBlock s b x = record { block = form.0; at_reference = form.1; fit = form.2 } in
     let paid : IsPaid s c x (NoCompression x) = record {
       chosen = omega (arith, choice_is_least s c 0 (NoCompression c) (omega arith), no_compression_at_most s c x below.0);
-      run = no_compression_exceeds s x (four_residuals s b x size sound) legal.bits_from;
+      run = no_compression_exceeds s x (four_residuals s b x fills.block sound) fills.legal.bits_from;
     } in
-    one_block cs legal is below.0 sound form paid e begins
-    (λ position le. ends_no_later legal size is (b + 1) {end = end} cs ds (omega (arith, e)) le taken.4 below.1)
-ends_no_later {s} {fill} legal size is b {end} {p} {q} (c ∷ cs) (SecondExtension x ∷ ds) e begins taken below =
+    one_block cs fills.legal fills.fill_is (record { below = below.0; sound = sound; form = form; paid = paid }) e begins
+    (λ position le. ends_no_later fills (b + 1) {end = end} cs ds (omega (arith, e)) le taken.4 below.1)
+ends_no_later {s} {fill} fills b {end} {p} {q} (c ∷ cs) (SecondExtension x ∷ ds) e begins taken below =
     let form = taken.1 in
     let sound : IsSoundBlock s b x = record { block = form; at_reference = taken.3.0; fit = taken.3.1 } in
     let paid : IsPaid s c x (SecondExtension x) = record {
       chosen = omega (arith, choice_is_least s c 1 (NoCompression c) (omega arith), second_extension_at_most s c x below.0);
-      run = second_extension_exceeds s x (four_residuals s b x size sound);
+      run = second_extension_exceeds s x (four_residuals s b x fills.block sound);
     } in
-    one_block cs legal is below.0 sound form paid e begins
-    (λ position le. ends_no_later legal size is (b + 1) {end = end} cs ds (omega (arith, e)) le taken.4 below.1)
-ends_no_later {s} {fill} legal size is b {end} {p} {q} (c ∷ cs) (Split k x ∷ ds) e begins taken below =
+    one_block cs fills.legal fills.fill_is (record { below = below.0; sound = sound; form = form; paid = paid }) e begins
+    (λ position le. ends_no_later fills (b + 1) {end = end} cs ds (omega (arith, e)) le taken.4 below.1)
+ends_no_later {s} {fill} fills b {end} {p} {q} (c ∷ cs) (Split k x ∷ ds) e begins taken below =
     let form = taken.1 in
     let sound : IsSoundBlock s b x = record { block = form.0; at_reference = form.1; fit = taken.3 } in
     let paid : IsPaid s c x (Split k x) = record {
       chosen = omega (arith, least_split s c k form.2, split_at_most s k c x below.0);
-      run = split_exceeds s k x (four_residuals s b x size sound);
+      run = split_exceeds s k x (four_residuals s b x fills.block sound);
     } in
-    one_block cs legal is below.0 sound form paid e begins
-    (λ position le. ends_no_later legal size is (b + 1) {end = end} cs ds (omega (arith, e)) le taken.4 below.1)
-ends_no_later {s} {fill} legal size is b {end} {p} {q} (c ∷ cs) (ZeroBlocks r n ∷ ds) e begins taken below =
+    one_block cs fills.legal fills.fill_is (record { below = below.0; sound = sound; form = form; paid = paid }) e begins
+    (λ position le. ends_no_later fills (b + 1) {end = end} cs ds (omega (arith, e)) le taken.4 below.1)
+ends_no_later {s} {fill} fills b {end} {p} {q} (c ∷ cs) (ZeroBlocks r n ∷ ds) e begins taken below =
     let d = ZeroBlocks r n in
     let next = block_after s b d in
     let bits = fill next (q + length (bits_of_set s d)) in
-    by_set b (run_number n) r (c ∷ cs) (blocks_in_all s next ds) d legal is taken.1.1 taken.2.0 (inl (omega arith))
-    (omega (arith, numbered_run_len s r n)) refl e begins below (never_back s fill next bits ds is)
-    (λ rest position under len le. ends_no_later legal size is next rest ds len le taken.4 under)
-ends_no_later {s} {fill} legal size is b {end} {p} {q} (c ∷ cs) (RemainderOfSegment r ∷ ds) e begins taken below =
+    by_set {b = b} {number = run_number n} {r = r} (c ∷ cs) {ys = blocks_in_all s next ds} d fills.legal fills.fill_is (record {
+      some = taken.1.1;
+      inside = taken.2.0;
+      least = inl (omega arith);
+      bits = omega (arith, numbered_run_len s r n);
+      blocks = refl;
+    }) e begins below (record {
+      ends = never_back s fill next bits ds fills.fill_is;
+      rest = λ rest position under len le. ends_no_later fills next rest ds len le taken.4 under;
+    })
+ends_no_later {s} {fill} fills b {end} {p} {q} (c ∷ cs) (RemainderOfSegment r ∷ ds) e begins taken below =
     let d = RemainderOfSegment r in
     let next = block_after s b d in
     let bits = fill next (q + length (bits_of_set s d)) in
-    by_set b 4 r (c ∷ cs) (blocks_in_all s next ds) d legal is (some_left s b legal.interval_from).0 (omega arith)
-    (inr (omega arith, refl)) (omega (arith, remainder_len s r)) refl e begins below (never_back s fill next bits ds is)
-    (λ rest position under len le. ends_no_later legal size is next rest ds len le taken.4 under)
+    by_set {b = b} {number = 4} {r = r} (c ∷ cs) {ys = blocks_in_all s next ds} d fills.legal fills.fill_is (record {
+      some = (some_left s b fills.legal.interval_from).0;
+      inside = omega arith;
+      least = inr (omega arith, refl);
+      bits = omega (arith, remainder_len s r);
+      blocks = refl;
+    }) e begins below (record {
+      ends = never_back s fill next bits ds fills.fill_is;
+      rest = λ rest position under len le. ends_no_later fills next rest ds len le taken.4 under;
+    })
 
 pub no_sets_are_shorter : NoSetsAreShorter
 no_sets_are_shorter s legal size b cs more ds taken e =
     omega (
       arith,
-      ends_no_later legal size (unfilled_is s) b {end = b + length cs} {p = 0} {q = 0} cs ds refl (omega arith) taken
+      ends_no_later (record { legal = legal; block = size; fill_is = unfilled_is s }) b {end = b + length cs} {p = 0} {q = 0} cs ds refl (omega arith) taken
           (subst (BeginAtMost cs) (sym e) (begin_with cs more)),
       sent_bits s (b + length cs) b 0 (data_sets s b false cs),
       taken_bits s b 0 ds,

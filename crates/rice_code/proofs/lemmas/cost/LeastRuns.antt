@@ -62,29 +62,35 @@ run_size s b r cs = let v = to_end s b cs in let z = run_len s b cs in omega (ar
 
 -- ---- where the coder goes on
 
+-- a block of zeros, and others up to the end
+record ZeroBlockFirst (s : Parameters) (b end : ℕ) (c : BlockData) (cs : List BlockData) : Type 0 where
+  interval : 1 ≤ s.interval
+  zero : is_zero_block c ≡ true
+  end_is : end ≡ b + suc (length cs)
+
 -- behind the last block of its run that there is
-run_laid : (s : Parameters) (fill : ℕ → ℕ → ℕ) (b : ℕ) {end : ℕ} (p : ℕ) (r : Option ℕ) (c : BlockData) (cs : List BlockData) → 1 ≤ s.interval → is_zero_block c ≡ true → end ≡ b + suc (length cs) →
+run_laid : (s : Parameters) (fill : ℕ → ℕ → ℕ) (b : ℕ) {end : ℕ} (p : ℕ) (r : Option ℕ) (c : BlockData) (cs : List BlockData) → ZeroBlockFirst s b end c cs →
     code_end s fill end b p (zero_run s b r (c ∷ cs) ∷ data_sets s (b + 1) true cs)
     ≡ (let next = b + run_len s b (c ∷ cs) in code_end s fill end next (fill next (p + length (bits_of_set s (zero_run s b r (c ∷ cs))))) (data_sets s (b + 1) true cs))
-run_laid s fill b {end} p r c cs h is_zero e =
+run_laid s fill b {end} p r c cs first =
     let z = run_len s b (c ∷ cs) in
     let run = zero_run s b r (c ∷ cs) in
     let bits = p + length (bits_of_set s run) in
     let later = data_sets s (b + 1) true cs in
-    let count = run_cons s b c cs h is_zero in
+    let count = run_cons s b c cs first.interval first.zero in
     let few : z ≤ suc (length cs) = omega (arith, prefix_len-le-length is_zero_block (take (blocks_left s b) (c ∷ cs)), length-take (blocks_left s b) (c ∷ cs)) in
     let behind = λ (n : ℕ) (f : block_after s b run ≡ b + length (zero_blocks s r n)) (g : z ≡ n).
     (let next : block_after s b run ≡ b + z = omega (arith, f, g, count, length-replicate (n - 1) (zero_block s None)) in
-    let last : min end (block_after s b run) ≡ b + z = omega (arith, next, few, e) in
+    let last : min end (block_after s b run) ≡ b + z = omega (arith, next, few, first.end_is) in
     ap (λ n. code_end s fill end n (fill (min end (block_after s b run)) bits) later) next ∙ ap (λ n. code_end s fill end (b + z) (fill n bits) later) last) in
     elim (zero_run_is s b r (c ∷ cs)) [
       | inl f ↦ behind z (ap (block_after s b) f) refl
       | inr f ↦ elim f.1 [
         | inl full ↦ behind (blocks_left s b) (ap (block_after s b) f.0) full
         | inr all ↦
-            let none = nothing_more s (b + 1) cs h (omega (arith, count, all)) in
+            let none = nothing_more s (b + 1) cs first.interval (omega (arith, count, all)) in
             let last : min end (block_after s b run) ≡ b + z = omega
-            (arith, ap (block_after s b) f.0, length-replicate (blocks_left s b - 1) (zero_block s None), run_inside s b (c ∷ cs), all, e, count) in
+            (arith, ap (block_after s b) f.0, length-replicate (blocks_left s b - 1) (zero_block s None), run_inside s b (c ∷ cs), all, first.end_is, count) in
             ap (λ l. code_end s fill end (block_after s b run) (fill (min end (block_after s b run)) bits) l) none
             ∙ (ap (λ n. fill n bits) last ∙ sym (ap (λ l. code_end s fill end (b + z) (fill (b + z) bits) l) none))
       ]
@@ -113,7 +119,8 @@ run_or_afresh s fill b (c ∷ cs) h =
               some = omega (arith, skipped_go s b true c cs h z (ap not e));
               count = sym (ap (λ v. cond (not v) (run_len s b (c ∷ cs)) 0) e);
               laid = λ end p f. ap (λ l. code_end s fill end b p l) (data_sets_start s b false c cs z refl)
-                  ∙ (run_laid s fill b p c.reference c cs h z f ∙ sym (ap (λ l. code_end s fill end next (fill next (p + length (bits_of_set s (zero_run s b c.reference (c ∷ cs))))) l) inside));
+                  ∙ (run_laid s fill b p c.reference c cs (record { interval = h; zero = z; end_is = f }) ∙ sym
+                  (ap (λ l. code_end s fill end next (fill next (p + length (bits_of_set s (zero_run s b c.reference (c ∷ cs))))) l) inside));
             })
       ]
     ]
@@ -142,14 +149,21 @@ front_laid s fill b {end} p {w} r rest h le e =
     let next = b + run_len s b all in
     let bits = fill next (p + length (bits_of_set s (zero_run s b r all))) in
     ap (λ l. code_end s fill end b p l) (data_sets_start s b false (zero_block s r) ahead (is_zero_zeros s r) refl)
-    ∙ (run_laid s fill b {end = end} p r (zero_block s r) ahead h (is_zero_zeros s r) (omega (arith, e, front_len s w r rest)) ∙ ap (λ l. code_end s fill end next bits l) (skip_zeros s b w rest h le))
+    ∙ (run_laid s fill b {end = end} p r (zero_block s r) ahead (record { interval = h; zero = is_zero_zeros s r; end_is = omega (arith, e, front_len s w r rest) }) ∙ ap
+    (λ l. code_end s fill end next bits l) (skip_zeros s b w rest h le))
+
+-- a run of blocks of zeros in one interval, and the least codeword of a run of as many
+pub record LeastRun (s : Parameters) (b n number : ℕ) : Type 0 where
+  pub interval : 1 ≤ s.interval
+  pub inside : n ≤ blocks_left s b
+  pub least : IsLeastCodeword s b n number
 
 -- by a run of these alone and then by the coder's choice for the others, or by the coder's choice for all
 pub run_and_more : {s : Parameters} {fill : ℕ → ℕ → ℕ} (b : ℕ) {end p q w : ℕ} (number : ℕ) {others : ℕ} (r : Option ℕ) (rest : List BlockData) →
-    IsFill s fill → 1 ≤ s.interval → suc w ≤ blocks_left s b → IsLeastCodeword s b (suc w) number → end ≡ b + 1 + w + length rest → p ≤ q →
+    IsFill s fill → LeastRun s b (suc w) number → end ≡ b + 1 + w + length rest → p ≤ q →
     ((position : ℕ) → position ≤ fill (b + 1 + w) (q + run_bits s r number) → code_end s fill end (b + 1 + w) position (data_sets s (b + 1 + w) false rest) ≤ others) →
     code_end s fill end b p (data_sets s b false (zeros_and s r w rest)) ≤ others
-run_and_more {s} {fill} b {end} {p} {q} {w} number r rest is h le word e begins more =
+run_and_more {s} {fill} b {end} {p} {q} {w} number r rest is run e begins more =
     let all = zeros_and s r w rest in
     let z = run_len s b all in
     let v = to_end s b all in
@@ -157,12 +171,12 @@ run_and_more {s} {fill} b {end} {p} {q} {w} number r rest is h le word e begins 
     let text = length (bits_of_set s (zero_run s b r all)) in
     let size = run_size s b r all in
     let later = data_sets s here true rest in
-    let count = front_count s b w r rest h le in
-    let laid = front_laid s fill b p r rest h le e in
-    elim (run_or_afresh s fill here rest h) [
+    let count = front_count s b w r rest run.interval run.inside in
+    let laid = front_laid s fill b p r rest run.interval run.inside e in
+    elim (run_or_afresh s fill here rest run.interval) [
       | inl none ↦
           let exact : z ≡ suc w = omega (arith, count, none.0) in
-          let few : zeros_of_run v z ≤ number = elim word [
+          let few : zeros_of_run v z ≤ number = elim run.least [
             | inl numbered ↦ omega (arith, as_numbered v z (omega (arith, exact)), ap run_number exact, numbered)
             | inr full ↦ omega (arith, to_the_end v z (omega (arith, exact)) (fills_segment z (blocks_left s b) (length all) (exact ∙ full.1)), full.0)
           ] in
@@ -174,8 +188,8 @@ run_and_more {s} {fill} b {end} {p} {q} {w} number r rest is h le word e begins 
           let v' = to_end s here rest in
           let joined : z ≡ suc w + z' = omega (arith, count, on.count) in
           let inside : suc w < blocks_left s b = omega (arith, run_inside s b all, count, on.some) in
-          let numbered : run_number (suc w) ≤ number = elim word [ inl numbered ↦ numbered | inr full ↦ absurd (omega (arith, full.1, inside)) ] in
-          let left : blocks_left s b ≡ blocks_left s here + suc w = (let n : b + suc w ≡ here = omega arith in omega (arith, left_inside s b (suc w) h inside, ap (blocks_left s) n)) in
+          let numbered : run_number (suc w) ≤ number = elim run.least [ inl numbered ↦ numbered | inr full ↦ absurd (omega (arith, full.1, inside)) ] in
+          let left : blocks_left s b ≡ blocks_left s here + suc w = (let n : b + suc w ≡ here = omega arith in omega (arith, left_inside s b (suc w) run.interval inside, ap (blocks_left s) n)) in
           let ends = both_to_end (length all) (suc w) z' (blocks_left s here) (length rest) joined left (front_len s w r rest) in
           let few = one_for_two v v' (suc w) z' (omega arith) (omega (arith, on.some, on.count)) ends in
           let theirs = fill here (q + run_bits s r number) in
@@ -188,23 +202,22 @@ run_and_more {s} {fill} b {end} {p} {q} {w} number r rest is h le word e begins 
     ]
 
 -- the last zero blocks, by a run of more
-last_run : {s : Parameters} {fill : ℕ → ℕ → ℕ} (b : ℕ) {end p q j n : ℕ} (number : ℕ) (r : Option ℕ) → IsFill s fill → 1 ≤ s.interval → suc j < n → n ≤ blocks_left s b
-    → IsLeastCodeword s b n number → end ≡ b + suc j → p ≤ q →
+last_run : {s : Parameters} {fill : ℕ → ℕ → ℕ} (b : ℕ) {end p q j n : ℕ} (number : ℕ) (r : Option ℕ) → IsFill s fill → LeastRun s b n number → suc j < n → end ≡ b + suc j → p ≤ q →
     code_end s fill end b p (data_sets s b false (zeros_and s r j [])) ≤ q + run_bits s r number
-last_run {s} {fill} b {end} {p} {j} {n} number r is h some le word e begins =
+last_run {s} {fill} b {end} {p} {j} {n} number r is run some e begins =
     let all = zeros_and s r j [] in
     let z = run_len s b all in
     let v = to_end s b all in
-    let inside : suc j ≤ blocks_left s b = omega (arith, some, le) in
-    let exact : z ≡ suc j = omega (arith, front_count s b j r [] h inside, skipped_nil s (b + 1 + j) true) in
+    let inside : suc j ≤ blocks_left s b = omega (arith, some, run.inside) in
+    let exact : z ≡ suc j = omega (arith, front_count s b j r [] run.interval inside, skipped_nil s (b + 1 + j) true) in
     let ends = fills_list z (blocks_left s b) (length all) (omega (arith, exact, front_len s j r [])) in
-    let few : zeros_of_run v z ≤ number = elim word [
+    let few : zeros_of_run v z ≤ number = elim run.least [
       | inl numbered ↦ omega (arith, last_of_fewer v z n ends (omega (arith, exact)) (omega (arith, exact, some)), numbered)
       | inr full ↦ omega (arith, to_the_end v z (omega (arith, exact)) ends, full.0)
     ] in
     let bits = p + length (bits_of_set s (zero_run s b r all)) in
-    let bare = is.inside b z bits (omega (arith, exact)) (omega (arith, exact, some, le)) in
-    omega (arith, front_laid s fill b {end = end} p r [] h inside (omega (arith, e)), bare, run_size s b r all, few, begins)
+    let bare = is.inside b z bits (omega (arith, exact)) (omega (arith, exact, some, run.inside)) in
+    omega (arith, front_laid s fill b {end = end} p r [] run.interval inside (omega (arith, e)), bare, run_size s b r all, few, begins)
 
 -- the first zero blocks are all there, or the list ends among them
 run_splits : (s : Parameters) (w : ℕ) (cs ys : List BlockData) → BeginAtMost cs (replicate w (zero_block s None) ++ ys) →
@@ -218,15 +231,19 @@ run_splits s (suc w) (c ∷ cs) ys h =
       | inr stop ↦ let same = stop.2 in inr (suc stop.0, omega (arith, stop.1), λ i. first i ∷ same i)
     ]
 
+-- what follows a run ends no later than the others do
+pub record OthersBehindRun (s : Parameters) (fill : ℕ → ℕ → ℕ) (b end q w number others : ℕ) (r : Option ℕ) (ys : List BlockData) : Type 0 where
+  pub ends : fill (b + 1 + w) (q + run_bits s r number) ≤ others
+  pub rest : ((rest : List BlockData) (position : ℕ) → BeginAtMost rest ys → end ≡ b + 1 + w + length rest → position ≤ fill (b + 1 + w) (q + run_bits s r number)
+      → code_end s fill end (b + 1 + w) position (data_sets s (b + 1 + w) false rest) ≤ others)
+
 -- blocks that another code begins with a run, where the coder's choice for those after the run ends no later than the other code
-pub by_run : {s : Parameters} {fill : ℕ → ℕ → ℕ} (b : ℕ) {end p q w : ℕ} (number : ℕ) {others : ℕ} (r : Option ℕ) (cs ys : List BlockData) →
-    IsFill s fill → 1 ≤ s.interval → suc w ≤ blocks_left s b → IsLeastCodeword s b (suc w) number → end ≡ b + length cs → p ≤ q →
-    BeginAtMost cs (zeros_and s r w ys) → fill (b + 1 + w) (q + run_bits s r number) ≤ others →
-    ((rest : List BlockData) (position : ℕ) → BeginAtMost rest ys → end ≡ b + 1 + w + length rest → position ≤ fill (b + 1 + w) (q + run_bits s r number) →
-    code_end s fill end (b + 1 + w) position (data_sets s (b + 1 + w) false rest) ≤ others) →
+pub by_run : {s : Parameters} {fill : ℕ → ℕ → ℕ} {b end p q w number others : ℕ} (r : Option ℕ) (cs ys : List BlockData) →
+    IsFill s fill → LeastRun s b (suc w) number → end ≡ b + length cs → p ≤ q →
+    BeginAtMost cs (zeros_and s r w ys) → OthersBehindRun s fill b end q w number others r ys →
     code_end s fill end b p (data_sets s b false cs) ≤ others
-by_run {s} b {q} {w} number r [] ys is h le word e begins below enough more = omega (arith, begins, is.more (b + 1 + w) (q + run_bits s r number), enough)
-by_run {s} {fill} b {end} {p} {q} {w} number {others} r (c ∷ cs) ys is h le word e begins below enough more =
+by_run {s} {b} {q} {w} {number} r [] ys is run e begins below behind = omega (arith, begins, is.more (b + 1 + w) (q + run_bits s r number), behind.ends)
+by_run {s} {fill} {b} {end} {p} {q} {w} {number} {others} r (c ∷ cs) ys is run e begins below behind =
     let first = zero_at_most s r c below.0 in
     let sent = λ (l : List BlockData). code_end s fill end b p (data_sets s b false l) in
     elim (run_splits s w cs ys below.1) [
@@ -234,10 +251,10 @@ by_run {s} {fill} b {end} {p} {q} {w} number {others} r (c ∷ cs) ys is h le wo
           let same = go.1 in
           let all : c ∷ cs ≡ zeros_and s r w go.0 = λ i. first i ∷ same i in
           let len : end ≡ b + 1 + w + length go.0 = omega (arith, e, ap length all, front_len s w r go.0) in
-          omega (arith, ap sent all, run_and_more b number {others = others} r go.0 is h le word len begins (λ position least. more go.0 position go.2 len least))
+          omega (arith, ap sent all, run_and_more b number {others = others} r go.0 is run len begins (λ position least. behind.rest go.0 position go.2 len least))
       | inr stop ↦
           let same = stop.2 ∙ sym (append-nil (replicate stop.0 (zero_block s None))) in
           let all : c ∷ cs ≡ zeros_and s r stop.0 [] = λ i. first i ∷ same i in
           let len : end ≡ b + suc stop.0 = omega (arith, e, ap length all, front_len s stop.0 r []) in
-          omega (arith, ap sent all, last_run b {j = stop.0} number r is h (omega (arith, stop.1)) le word len begins, is.more (b + 1 + w) (q + run_bits s r number), enough)
+          omega (arith, ap sent all, last_run b {j = stop.0} number r is run (omega (arith, stop.1)) len begins, is.more (b + 1 + w) (q + run_bits s r number), behind.ends)
     ]

@@ -68,18 +68,29 @@ first_is_kept f g a from (suc n) h =
     no : (m n : ℕ) → n ≤ m → nat_lt m n ≡ false
     no m n h = grind (arith, nat_tests)
 
+-- the first of the numbers from one on that is least
+pub record FirstLeast {A : Type 0} (f : A → ℕ) (g : ℕ → A) (from n k : ℕ) : Type 0 where
+  pub above : from ≤ k
+  pub below : k < from + n
+  pub before : ((j : ℕ) → from ≤ j → j < k → f (g k) < f (g j))
+  pub least : ((j : ℕ) → j < from + n → f (g k) ≤ f (g j))
+
 -- of numbered options the first of least length is the best, or what was best before
-pub best_numbered : {A : Type 0} (f : A → ℕ) (g : ℕ → A) (a : A) (from n k : ℕ) → from ≤ k → k < from + n →
-    ((j : ℕ) → from ≤ j → j < k → f (g k) < f (g j)) → ((j : ℕ) → j < from + n → f (g k) ≤ f (g j)) →
+pub best_numbered : {A : Type 0} (f : A → ℕ) (g : ℕ → A) (a : A) (from n k : ℕ) → FirstLeast f g from n k →
     best_of (λ x y. nat_lt (f x) (f y)) a (map g (range_with_len from n)) ≡ cond (nat_lt (f (g k)) (f a)) (g k) a
-best_numbered f g a from zero k h i first least = absurd (omega arith)
-best_numbered {A} f g a from (suc n) k h i first least =
+best_numbered f g a from zero k first_least = absurd (omega arith)
+best_numbered {A} f g a from (suc n) k first_least =
     let next = λ (b : A). best_of (λ x y. nat_lt (f x) (f y)) b (map g (range_with_len (from + 1) n)) in
     let step = λ (v : Bool) (e : nat_lt (f (g from)) (f a) ≡ v). ap (λ v. next (cond v (g from) a)) e in
     elim (cases_lt from k) [
       | inl lt ↦
-          let ih = λ (b : A). best_numbered f g b (from + 1) n k (omega arith) (omega arith) (λ j p q. first j (omega arith) q) (λ j p. least j (omega arith)) in
-          let less = first from (omega arith) lt in
+          let ih = λ (b : A). best_numbered f g b (from + 1) n k (record {
+            above = omega arith;
+            below = omega arith;
+            before = λ j p q. first_least.before j (omega arith) q;
+            least = λ j p. first_least.least j (omega arith);
+          }) in
+          let less = first_least.before from (omega arith) lt in
           elim (bool_cases (nat_lt (f (g from)) (f a))) [
             | inl e ↦
                 let one : nat_lt (f (g k)) (f (g from)) ≡ true = yes (f (g k)) (f (g from)) less in
@@ -91,11 +102,11 @@ best_numbered {A} f g a from (suc n) k h i first least =
           let same : from ≡ k = omega arith in
           elim (bool_cases (nat_lt (f (g from)) (f a))) [
             | inl e ↦
-                step true e ∙ (first_is_kept f g (g from) (from + 1) n (λ j p q. subst (λ n. f (g n) ≤ f (g j)) (sym same) (least j (omega arith)))
+                step true e ∙ (first_is_kept f g (g from) (from + 1) n (λ j p q. subst (λ n. f (g n) ≤ f (g j)) (sym same) (first_least.least j (omega arith)))
                 ∙ (sym (ap (λ v. cond v (g from) a) e) ∙ ap (λ n. cond (nat_lt (f (g n)) (f a)) (g n) a) same))
             | inr e ↦
                 let over : f a ≤ f (g from) = at_least (f (g from)) (f a) e in
-                step false e ∙ (first_is_kept f g a (from + 1) n (λ j p q. let l = subst (λ n. f (g n) ≤ f (g j)) (sym same) (least j (omega arith)) in omega arith)
+                step false e ∙ (first_is_kept f g a (from + 1) n (λ j p q. let l = subst (λ n. f (g n) ≤ f (g j)) (sym same) (first_least.least j (omega arith)) in omega arith)
                 ∙ (sym (ap (λ v. cond v (g from) a) e) ∙ ap (λ n. cond (nat_lt (f (g n)) (f a)) (g n) a) same))
           ]
     ]
@@ -152,7 +163,12 @@ pub shortest_is : (s : Parameters) (c : BlockData) (k : ℕ) → IsBestSplit s c
 shortest_is s c k h =
     let at = h.at_most in
     best_numbered (cost s) (λ k. Split k c) (cond (nat_lt (cost s (SecondExtension c)) (cost s (NoCompression c))) (SecondExtension c) (NoCompression c)) 0
-    (k_max s + 1) k (omega arith) (omega arith) (λ j p q. h.first j q) (λ j p. h.least j (omega arith))
+    (k_max s + 1) k (record {
+      above = omega arith;
+      below = omega arith;
+      before = λ j p q. h.first j q;
+      least = λ j p. h.least j (omega arith);
+    })
 
 -- where each split up to k is shorter than the one before, k is shorter than all before it
 shorter_than_before : (s : Parameters) (c : BlockData) (k : ℕ) → ((j : ℕ) → j < k → cost s (Split (j + 1) c) < cost s (Split j c)) → (j : ℕ) → j < k → cost s (Split k c) < cost s (Split j c)

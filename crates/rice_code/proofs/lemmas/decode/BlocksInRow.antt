@@ -68,19 +68,30 @@ block_bytes {p = p} {bytes = bytes} more same g =
 setting_of : {I : Type 0} {old new : Reader I} {steps steps_new : ℕ} {p q : DecoderState} {bytes : List ℕ} → GivesBytes old new steps steps_new p q bytes → q.setting ≡ p.setting
 setting_of g = ap (λ (d : DecoderState). d.setting) g.answers.1
 
+-- bytes that begin with the bytes of n blocks, as others do
+pub record SameRowBytes (n : ℕ) (p : DecoderState) (bytes more : List ℕ) : Type 0 where
+  pub front : take (width p.setting * p.setting.block * n) more ≡ take (width p.setting * p.setting.block * n) bytes
+
 -- the bytes of a row are its first
-pub row_bytes : {I : Type 0} (n : ℕ) (old new : Reader I) (steps steps_new : ℕ) (p q : DecoderState) (bytes more : List ℕ)
-    → take (width p.setting * p.setting.block * n) more ≡ take (width p.setting * p.setting.block * n) bytes
+pub row_bytes : {I : Type 0} (n : ℕ) (old new : Reader I) (steps steps_new : ℕ) {p : DecoderState} (q : DecoderState) {bytes more : List ℕ} → SameRowBytes n p bytes more
     → GivesRow n old new steps steps_new p q bytes → GivesRow n old new steps steps_new p q more
-row_bytes zero old new steps steps_new p q bytes more same row = row
-row_bytes {I} (suc n) old new steps steps_new p q bytes more same (m, k, d, g, counted, none, rest) =
+row_bytes zero old new steps steps_new q same row = row
+row_bytes {I} (suc n) old new steps steps_new {p} q {bytes} {more} same (m, k, d, g, counted, none, rest) =
     let c = width p.setting * p.setting.block in
     let all : c * suc n ≡ c + c * n = omega arith in
-    let both : take (c + c * n) more ≡ take (c + c * n) bytes = ap (λ t. take t more) (sym all) ∙ same ∙ ap (λ t. take t bytes) all in
+    let both : take (c + c * n) more ≡ take (c + c * n) bytes = ap (λ t. take t more) (sym all) ∙ same.front ∙ ap (λ t. take t bytes) all in
     let front : take c more ≡ take c bytes = sym (take-take c (c + c * n) more (omega arith)) ∙ ap (take c) both ∙ take-take c (c + c * n) bytes (omega arith) in
     let back : take (c * n) (drop c more) ≡ take (c * n) (drop c bytes) = sym (drop-take c (c * n) more) ∙ ap (drop c) both ∙ drop-take c (c * n) bytes in
-    let own : width d.setting * d.setting.block ≡ c = ap (λ (s : Parameters). width s * s.block) (setting_of g) in
-    (m, k, d, block_bytes more front g, counted, none, row_bytes n m new k steps_new d q (drop c bytes) (drop c more) (subst (λ t. take (t * n) (drop c more) ≡ take (t * n) (drop c bytes)) (sym own) back) rest)
+    let own : width d.setting * d.setting.block ≡ c = ap (λ (s : Parameters). width s * s.block) (setting_of g) in (
+      m,
+      k,
+      d,
+      block_bytes more front g,
+      counted,
+      none,
+      row_bytes n m new k steps_new {p = d} q {bytes = drop c bytes} {more = drop c more}
+          (record { front = subst (λ t. take (t * n) (drop c more) ≡ take (t * n) (drop c bytes)) (sym own) back }) rest,
+    )
 
 -- a block behind a row
 pub row_and_block : {I : Type 0} (n : ℕ) (old : Reader I) {middle new : Reader I} (steps : ℕ) {steps_middle steps_new : ℕ} (p : DecoderState) {m q : DecoderState} (bytes : List ℕ)
@@ -112,7 +123,7 @@ stood_with {count = count} {old = old} {steps = steps} {p = p} {bytes = bytes} m
   reader = s.reader;
   steps_there = s.steps_there;
   state = s.state;
-  row = row_bytes count old s.reader steps s.steps_there p s.state bytes more same s.row;
+  row = row_bytes count old s.reader steps s.steps_there {p = p} s.state {bytes = bytes} {more = more} (record { front = same }) s.row;
   waited = s.waited;
   taken = s.taken ∙ ap (λ k. old.taken + k) e;
   ticked = s.ticked ∙ ap (λ k. steps + k) e;
@@ -137,7 +148,7 @@ pub one_block_more : {I : Type 0} {n : ℕ} {old middle new : Reader I} {steps s
     → GivesBlocks (suc n) old new steps steps_new p q more (set ends n end)
 one_block_more {I} {n} {old} {middle} {new} {steps} {steps_middle} {steps_new} {p} {m} {q} {bytes} {more} {ends} end given one before counted front back end_is room =
     let c = width p.setting * p.setting.block in
-    let row = row_and_block n old steps p more (row_bytes n old middle steps steps_middle p m bytes more front given.row)
+    let row = row_and_block n old steps p more (row_bytes n old middle steps steps_middle {p = p} m {bytes = bytes} {more = more} (record { front = front }) given.row)
     (subst (λ l. GivesBytes middle new steps_middle steps_new m q l) (sym back) one.gives) counted one.run in
     let waited = waiting_more given.waited one.waited in
     let forward : old.taken ≤ new.taken = omega (arith, before.forward, counted.forward) in

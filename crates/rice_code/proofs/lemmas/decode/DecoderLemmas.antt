@@ -127,11 +127,18 @@ replicate-first : (run : ℕ) (z : BlockData) → 0 < run → z ∷ replicate (r
 replicate-first zero z h = absurd (omega arith)
 replicate-first (suc run) z h = let e : suc run - 1 ≡ run = omega arith in ap (λ n. z ∷ replicate n z) e
 
-pub goes_on : (s : Parameters) (b : ℕ) {next run : ℕ} (p : ℤ) {last : ℤ} (stopped : Option (Result NextBlock CodeFault)) {samples : List ℤ} → 0 < run → next ≡ next_block_place s b → last ≡ last_of p samples
-    → length samples ≡ s.block → All (IsSample s) samples → block_data s b p samples ≡ zero_block s None
+-- the samples of a block of zeros
+pub record ZeroBlock (s : Parameters) (b : ℕ) (p : ℤ) (samples : List ℤ) : Type 0 where
+  pub len : length samples ≡ s.block
+  pub legal : All (IsSample s) samples
+  pub block_is : block_data s b p samples ≡ zero_block s None
+
+pub goes_on : (s : Parameters) (b : ℕ) {next run : ℕ} (p : ℤ) {last : ℤ} (stopped : Option (Result NextBlock CodeFault)) {samples : List ℤ} → 0 < run → next ≡ next_block_place s b
+    → last ≡ last_of p samples
+    → ZeroBlock s b p samples
     → GivesFromRun (record { setting = s; block = b; before = p; run = run; stopped = stopped }) (record { setting = s; block = next; before = last; run = run - 1; stopped = stopped }) samples
-goes_on s b {run} p stopped pos e f len legal says = record {
-  gives = record { len = len; legal = legal; blocks_are = ap (λ c. c ∷ replicate (run - 1) (zero_block s None)) says ∙ replicate-first run (zero_block s None) pos };
+goes_on s b {run} p stopped pos e f zeros = record {
+  gives = record { len = zeros.len; legal = zeros.legal; blocks_are = ap (λ c. c ∷ replicate (run - 1) (zero_block s None)) zeros.block_is ∙ replicate-first run (zero_block s None) pos };
   moves = λ i. record { setting = s; block = e i; before = f i; run = run - 1; stopped = stopped };
 }
 
@@ -141,8 +148,11 @@ pub repeats_on : {s : Parameters} {b : ℕ} (next : ℕ) {run : ℕ} {p : ℤ} {
     → GivesFromRun (record { setting = s; block = b; before = p; run = run; stopped = stopped })
     (record { setting = s; block = next; before = p; run = run - 1; stopped = stopped }) (replicate s.block p)
 repeats_on {s} {b} next {run} {p} {stopped} state pos ways e =
-    goes_on s b p stopped pos e (sym (last_replicate p s.block)) (length-replicate s.block p) (All-replicate (IsSample s) s.block p state.sample)
-    (repeated_block s b p (sym (no_reference s b (state.run_begun pos)).there) (inl ways))
+    goes_on s b p stopped pos e (sym (last_replicate p s.block)) (record {
+      len = length-replicate s.block p;
+      legal = All-replicate (IsSample s) s.block p state.sample;
+      block_is = repeated_block s b p (sym (no_reference s b (state.run_begun pos)).there) (inl ways);
+    })
 
 -- a run goes no further than its interval
 pub inside_interval : (s : Parameters) (b count run : ℕ) (p : ℤ) (stopped : Option (Result NextBlock CodeFault)) → IsDecoderState s b p run stopped → count ≤ run → b + count ≤ s.interval

@@ -103,24 +103,30 @@ part_fits high low k h le lt =
     let n : 32 - k + k ≡ 32 = omega arith in
     join_fits high low (2 ^ k) (2 ^ (32 - k)) (pow_pos k) (sym (pow-add 2 (32 - k) k) ∙ ap (λ m. 2 ^ m) n) le lt
 
+-- as many low parts as high ones, before and now, and a place among them
+pub record AsManyParts (ms old now : List ℕ) (i : ℕ) : Type 0 where
+  pub old_are : length old ≡ length ms
+  pub now_are : length now ≡ length old
+  pub inside : i < length ms
+
 -- high parts are put before low parts, one more
-pub join-more : {k : ℕ} (ms old now : List ℕ) {i : ℕ} → length old ≡ length ms → length now ≡ length old → i < length ms → k ≤ 29 → All (λ h. h ≤ (2 ^ 32 - 1) / 2 ^ k) ms → All (λ l. l < 2 ^ k) old
+pub join-more : {k : ℕ} (ms old now : List ℕ) {i : ℕ} → AsManyParts ms old now i → k ≤ 29 → All (λ h. h ≤ (2 ^ 32 - 1) / 2 ^ k) ms → All (λ l. l < 2 ^ k) old
     → take i now ≡ take i (joined_parts k ms old) → drop i now ≡ drop i old
     → (get_or now i 0 + get_or ms i 0 * 2 ^ k % 2 ^ 32 < 2 ^ 32)
     × (take (i + 1) (set now i (get_or now i 0 + get_or ms i 0 * 2 ^ k % 2 ^ 32)) ≡ take (i + 1) (joined_parts k ms old))
     × (drop (i + 1) (set now i (get_or now i 0 + get_or ms i 0 * 2 ^ k % 2 ^ 32)) ≡ drop (i + 1) old)
     × (get_or now i 0 + get_or ms i 0 * 2 ^ k % 2 ^ 32 ≡ get_or (joined_parts k ms old) i 0)
-join-more {k} ms old now {i} same long lt few highs lows done rest =
+join-more {k} ms old now {i} lens few highs lows done rest =
     let v = get_or now i 0 + get_or ms i 0 * 2 ^ k % 2 ^ 32 in
-    let high : get_or ms i 0 ≤ (2 ^ 32 - 1) / 2 ^ k = highs i 0 lt in
-    let low : get_or old i 0 < 2 ^ k = lows i 0 (omega (arith, same, lt)) in
+    let high : get_or ms i 0 ≤ (2 ^ 32 - 1) / 2 ^ k = highs i 0 lens.inside in
+    let low : get_or old i 0 < 2 ^ k = lows i 0 (omega (arith, lens.old_are, lens.inside)) in
     let here : get_or now i 0 ≡ get_or old i 0 = at_rest now old i rest in
     let fits : get_or ms i 0 * 2 ^ k + get_or old i 0 < 2 ^ 32 = part_fits (get_or ms i 0) (get_or old i 0) k few high low in
     let whole : get_or ms i 0 * 2 ^ k % 2 ^ 32 ≡ get_or ms i 0 * 2 ^ k = mod-eq_of_lt (omega (arith, fits)) in
-    let n : length (joined_parts k ms old) ≡ length ms = length-joined k ms old same in
-    let value : v ≡ get_or (joined_parts k ms old) i 0 = omega (arith, here, whole, joined-at k ms old i lt same) in (
+    let n : length (joined_parts k ms old) ≡ length ms = length-joined k ms old lens.old_are in
+    let value : v ≡ get_or (joined_parts k ms old) i 0 = omega (arith, here, whole, joined-at k ms old i lens.inside lens.old_are) in (
       omega (arith, here, whole, fits),
-      take_more_set now i v (omega (arith, long, same, lt)) ∙ ((λ j. done j ++ value j ∷ []) ∙ sym (take_more (joined_parts k ms old) i 0 (omega (arith, n, lt)))),
+      take_more_set now i v (omega (arith, lens.now_are, lens.old_are, lens.inside)) ∙ ((λ j. done j ++ value j ∷ []) ∙ sym (take_more (joined_parts k ms old) i 0 (omega (arith, n, lens.inside)))),
       drop-set-lt (i + 1) now i v (omega arith) ∙ (drop_next now i ∙ (ap (λ zs. drop 1 zs) rest ∙ sym (drop_next old i))),
       value,
     )

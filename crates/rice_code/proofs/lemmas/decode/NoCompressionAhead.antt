@@ -26,7 +26,7 @@ use Rattle.rice_code.specs.decode.BlocksInOnePass.{BlockAhead, HasLanes, HasWidt
 use Rattle.rice_code.specs.decode.Decoder.{GivesBlock}
 use Rattle.rice_code.specs.decode.ReadSets.{reference_place}
 use Rattle.rice_code.specs.decode.FieldsAhead.{HeadAhead, LowsAhead, UncompressedAhead}
-use Rattle.rice_code.proofs.lemmas.decode.SplitAhead.{ranks_fit, take-ranks}
+use Rattle.rice_code.proofs.lemmas.decode.SplitAhead.{FirstLevel, ranks_fit, take-ranks}
 use Rattle.rice_code.proofs.lemmas.decode.OptionsRead.{coded-placed, zero-placed}
 use Rattle.rice_code.proofs.lemmas.decode.RestoredBlocks.{contents_restored}
 use Rattle.rice_code.proofs.lemmas.decode.SplitInSixteens.{RowsSpelled, row_spelled}
@@ -48,38 +48,55 @@ three-parts bits {b} {c} k l m p q r =
     let second : take (l + m) (drop k bits) ≡ b ++ c = take-add l m (drop k bits) ∙ (λ j. sym q j ++ (ap (take m) (drop-drop l k bits) ∙ sym r) j) in
     ap (λ i. take i bits) all ∙ (take-add k (l + m) bits ∙ (λ j. sym p j ++ second j))
 
+-- the bits of a block without compression wait: its identifier, its reference and words
+record UncompressedBits (waiting : List Bool) (s : Parameters) (r : Option ℕ) (sent : List ℕ) (a m : ℕ) : Type 0 where
+  id : word (id_len s) (2 ^ id_len s - 1) ≡ take (id_len s) waiting
+  reference : reference_bits s r ≡ take a (drop (id_len s) waiting)
+  words : flat_map (word s.bits) sent ≡ take m (drop (id_len s + a) waiting)
+  within : id_len s + a + m ≤ length waiting
+
+-- the levels of a block are restored from its reference and the words
+record BlockRestored (s : Parameters) (from : ℕ) (r : Option ℕ) (sent levels : List ℕ) : Type 0 where
+  len : length levels ≡ s.block
+  legal : All (λ l. l < value_count s) levels
+  ranks : ranks_below (value_count s) from levels ≡ reference_place r ++ sent
+
 -- the block of words that were found
-whole_block : {waiting : List Bool} {s : Parameters} {b : ℕ} (before : ℕ) {from : ℕ} {r : Option ℕ} (sent : List ℕ) {levels : List ℕ} (a m : ℕ)
+whole_block : {waiting : List Bool} {s : Parameters} {b before from : ℕ} {r : Option ℕ} (sent : List ℕ) {levels : List ℕ} (a m : ℕ)
     → s.preprocess ≡ true → 1 ≤ s.block → IsReference s b r
-    → word (id_len s) (2 ^ id_len s - 1) ≡ take (id_len s) waiting → reference_bits s r ≡ take a (drop (id_len s) waiting)
-    → flat_map (word s.bits) sent ≡ take m (drop (id_len s + a) waiting) → id_len s + a + m ≤ length waiting
-    → from < value_count s → IfSome r (λ v. pattern s (value_at s from) ≡ v) → IfNone r (value_at s from ≡ value_at s before)
-    → length levels ≡ s.block → All (λ l. l < value_count s) levels → ranks_below (value_count s) from levels ≡ reference_place r ++ sent
+    → UncompressedBits waiting s r sent a m
+    → FirstLevel s before from r
+    → BlockRestored s from r sent levels
     → BlockAhead waiting s b (value_at s before) levels (id_len s + a + m)
-whole_block {waiting} {s} {b} before {from} {r} sent {levels} a m pre some ref id first second there begins pat none size legal ranked =
+whole_block {waiting} {s} {b} {before} {from} {r} sent {levels} a m pre some ref ahead begins restored =
     let ds = reference_place r ++ sent in
     let c : BlockData = record { reference = r; residuals = ds } in
-    let len : length ds ≡ s.block = sym (ap length ranked) ∙ (length-ranks_below (value_count s) from levels ∙ size) in
+    let len : length ds ≡ s.block = sym (ap length restored.ranks) ∙ (length-ranks_below (value_count s) from levels ∙ restored.len) in
     let zero = zero-placed r sent in
-    let fit : All (λ d. d < value_count s) ds = subst (All (λ d. d < value_count s)) ranked (ranks_fit (value_count s) from levels begins legal) in
+    let fit : All (λ d. d < value_count s) ds = subst (All (λ d. d < value_count s)) restored.ranks (ranks_fit (value_count s) from levels begins.legal restored.legal) in
     let samples = values_at s levels in
-    let many : length samples ≡ s.block = length-values s levels ∙ size in
-    let contents = contents_restored (value_at s before) (value_at s from) samples ref pre len zero some (sample_at s from begins) pat none (legal_values s levels legal) many (ranks_of_values s from levels ∙ ranked) in
-    let all : take s.block levels ≡ levels = take_all s.block levels (omega (arith, size)) in
+    let many : length samples ≡ s.block = length-values s levels ∙ restored.len in
+    let contents = contents_restored (value_at s before) (value_at s from) samples ref pre (record { len = len; zero = zero; some = some })
+    (record { legal = sample_at s from begins.legal; some = begins.some; none = begins.none }) (record {
+      legal = legal_values s levels restored.legal;
+      len = many;
+      ranks = ranks_of_values s from levels ∙ restored.ranks;
+    }) in
+    let all : take s.block levels ≡ levels = take_all s.block levels (omega (arith, restored.len)) in
     record {
       set = NoCompression c;
       form = (record { reference = ref; len = len }, zero, fit);
       run_sound = tt;
       residuals_sound = tt;
-      within = there;
-      bits = three-parts waiting (id_len s) a m id first second
+      within = ahead.within;
+      bits = three-parts waiting (id_len s) a m ahead.id ahead.reference ahead.words
           ∙ ap (λ xs. word (id_len s) (2 ^ id_len s - 1) ++ (reference_bits s r ++ flat_map (word s.bits) xs)) (sym (coded-placed r sent));
       no_turns = refl;
-      enough = omega (arith, size);
-      legal = legal;
+      enough = omega (arith, restored.len);
+      legal = restored.legal;
       gives = subst (λ ls. GivesBlock s b (value_at s before) (values_at s ls) 0 (c ∷ [])) (sym all) (record {
         len = many;
-        legal = legal_values s levels legal;
+        legal = legal_values s levels restored.legal;
         blocks_are = ap (λ x. x ∷ []) contents;
       });
     }
@@ -109,34 +126,51 @@ whole_spelled {waiting} {s} {b} {before} {from} {omitted} {head} {size} has id b
       levels = whole.spelled.levels;
       ahead =
           subst (BlockAhead waiting s b (value_at s before) whole.spelled.levels) all
-          (whole_block {waiting = waiting} before sent {levels = whole.spelled.levels} a m has.preprocess (omega (arith, some, has.size_is)) begin.is id begin.bits words (omega (arith, within, all)) begin.begins begin.value begin.same len near.legal ranked);
+          (whole_block {waiting = waiting} {before = before} sent {levels = whole.spelled.levels} a m has.preprocess (omega (arith, some, has.size_is)) begin.is
+          (record { id = id; reference = begin.bits; words = words; within = omega (arith, within, all) }) (record { legal = begin.begins; some = begin.value; none = begin.same })
+          (record { len = len; legal = near.legal; ranks = ranked }));
       last_is = whole.spelled.last_is;
       spelled = whole.spelled.spelled;
     }
 
+-- the levels of a row of sixteen are restored from residuals
+pub record RowRestored (s : Parameters) (from : ℕ) (residuals levels : List ℕ) : Type 0 where
+  pub residuals_are : length residuals ≡ 16
+  pub len : length levels ≡ 16
+  pub legal : All (λ l. l < value_count s) levels
+  pub ranks : ranks_below (value_count s) from levels ≡ residuals
+
+-- the spellings of a row of levels in one byte each, and room for them
+pub record RowWritten (s : Parameters) (levels old spelled : List ℕ) : Type 0 where
+  pub room : 16 ≤ length old
+  pub len : length spelled ≡ 16
+  pub spells : spelled ≡ spellings s (values_at s levels)
+
 -- the bytes of a row of one byte each
-pub row_spelled_in_turn : {s : Parameters} {from size : ℕ} {residuals : List ℕ} (levels old : List ℕ) {spelled : List ℕ} → 1 ≤ s.bits → HasWidth s 1 → (1 ≤ size) × (size ≤ 16) → length residuals ≡ 16 → length levels ≡ 16 → All (λ l. l < value_count s) levels
-    → ranks_below (value_count s) from levels ≡ residuals → 16 ≤ length old → length spelled ≡ 16 → spelled ≡ spellings s (values_at s levels)
+pub row_spelled_in_turn : {s : Parameters} {from size : ℕ} {residuals : List ℕ} (levels old : List ℕ) {spelled : List ℕ} → 1 ≤ s.bits → HasWidth s 1 → (1 ≤ size) × (size ≤ 16)
+    → RowRestored s from residuals levels → RowWritten s levels old spelled
     → SpellsParts s from s.bits size (replicate size 0) (take size residuals) (slice_index_or levels (size - 1) 0) (put_chunk 0 old spelled)
-row_spelled_in_turn {s} {from} {size} {residuals} levels old {spelled} some has sizes many len legal ranked room count is =
+row_spelled_in_turn {s} {from} {size} {residuals} levels old {spelled} some has sizes row row_of_bytes =
     let most = sizes.1 in
     let least = sizes.0 in
     let narrow = has.narrow refl in
     let one : width s * size ≡ size = ap (λ w. w * size) (one_byte s narrow) ∙ omega arith in
-    let front : take size (put_chunk 0 old spelled) ≡ take size spelled = sym (take-take size 16 (put_chunk 0 old spelled) most) ∙ ap (take size) (take_more_put_chunk 0 old spelled 16 (omega (arith, count)) (omega (arith, room))) in
+    let front : take size (put_chunk 0 old spelled) ≡ take size spelled = sym (take-take size 16 (put_chunk 0 old spelled) most) ∙ ap (take size)
+    (take_more_put_chunk 0 old spelled 16 (omega (arith, row_of_bytes.len)) (omega (arith, row_of_bytes.room))) in
     let first = take size levels in
-    let first_len : length first ≡ size = length-take-le size levels (omega (arith, len, most)) in
-    let part_len : length (take size residuals) ≡ size = length-take-le size residuals (omega (arith, many, most)) in
+    let first_len : length first ≡ size = length-take-le size levels (omega (arith, row.len, most)) in
+    let part_len : length (take size residuals) ≡ size = length-take-le size residuals (omega (arith, row.residuals_are, most)) in
     let twice : take size first ≡ first = take_all size first (omega (arith, first_len)) in
     record {
       levels = first;
       near = record {
         len = first_len ∙ sym (length-replicate {A = ℕ} size 0);
-        legal = All-take (λ l. l < value_count s) size levels legal;
-        ranked = take-ranks size (value_count s) from levels ∙ (ap (take size) ranked ∙ sym (no_highs size s.bits (take size residuals) part_len));
+        legal = All-take (λ l. l < value_count s) size levels row.legal;
+        ranked = take-ranks size (value_count s) from levels ∙ (ap (take size) row.ranks ∙ sym (no_highs size s.bits (take size residuals) part_len));
       };
       last_is = sym (get_or-take size levels (size - 1) 0 (omega (arith, least)));
-      spelled = ap (λ n. take n (put_chunk 0 old spelled)) one ∙ (front ∙ (ap (take size) is ∙ (bytes-front s size levels some narrow legal ∙ ap (λ ls. spellings s (values_at s ls)) (sym twice))));
+      spelled = ap (λ n. take n (put_chunk 0 old spelled)) one
+          ∙ (front ∙ (ap (take size) row_of_bytes.spells ∙ (bytes-front s size levels some narrow row.legal ∙ ap (λ ls. spellings s (values_at s ls)) (sym twice))));
     }
 
 -- the first of some words
@@ -156,7 +190,8 @@ lows-first waiting skip o k n lows few inside ahead =
     }
 
 -- one row more of one byte each
-pub row_turned : {s : Parameters} {from k row n last l : ℕ} {residuals bytes : List ℕ} (now : List ℕ) → HasWidth s 1 → row < 4 → 1 ≤ n → n ≤ 16 → length residuals ≡ 64 → take (16 * row) now ≡ take (16 * row) bytes
+pub row_turned : {s : Parameters} {from k row n last l : ℕ} {residuals bytes : List ℕ} (now : List ℕ) → HasWidth s 1 → row < 4 → 1 ≤ n → n ≤ 16 → length residuals ≡ 64
+    → take (16 * row) now ≡ take (16 * row) bytes
     → RowsSpelled s from k (16 * row) (replicate 64 0) residuals last bytes → SpellsParts s last k n (replicate n 0) (take n (take 16 (drop (16 * row) residuals))) l (drop (16 * row) now)
     → RowsSpelled s from k (16 * row + n) (replicate 64 0) residuals l now
 row_turned {s} {from} {k} {row} {n} {last} {l} {residuals} {bytes} now has lt some most len front before more =

@@ -171,13 +171,19 @@ all-suffix : (P : ℕ → Type 0) (r : Option ℕ) (vs : List ℕ) → All P (re
 all-suffix P None vs h = h
 all-suffix P (Some v) vs h = λ i d lt. h (suc i) d (omega arith)
 
+-- a split of a block, with so many parts behind its reference
+pub record IsSplitOf (s : Parameters) (b k : ℕ) (r : Option ℕ) (count : ℕ) : Type 0 where
+  pub reference : IsReference s b r
+  pub small : k ≤ k_max s
+  pub parts : count + length (reference_place r) ≡ s.block
+
 pub split_read : {I : Type 0} {old mid new : Reader I} {first last : ℕ} {s : Parameters} {b k : ℕ} {r : Option ℕ} {count most : ℕ} {small : Bool} {told items : List ℕ} (sound : Bool)
-    → IsReference s b r → k ≤ k_max s → count + length (reference_place r) ≡ s.block → Takes old mid (reference_bits s r)
+    → IsSplitOf s b k r count → Takes old mid (reference_bits s r)
     → (p : PartsRead mid new most k small count told) → last + old.taken ≡ first + new.taken
     → (sound ≡ true → All (λ d. d < value_count s) (joined_parts k p.highs p.lows)) → (sound ≡ true → items ≡ reference_place r ++ joined_parts k p.highs p.lows)
     → (sound ≡ false → All (λ d. d < value_count s) (joined_parts k p.highs p.lows) → ⊥)
     → BlockRead old new first last s b (Split k) (record { reference = r; sound = sound }) items
-split_read {old} {mid} {new} {s} {k} {r} {count} {told} sound h le n t p steps fit same refused =
+split_read {old} {mid} {new} {s} {k} {r} {count} {told} sound split t p steps fit same refused =
     let ds = joined_parts k p.highs p.lows in
     let same_len : length p.lows ≡ length p.highs = p.as_many_lows ∙ sym p.as_many_highs in
     let nd : length ds ≡ count = length-joined k p.highs p.lows same_len ∙ p.as_many_highs in
@@ -185,7 +191,7 @@ split_read {old} {mid} {new} {s} {k} {r} {count} {told} sound h le n t p steps f
     let lp : flat_map (word k) ds ≡ flat_map (word k) p.lows = low_pieces k p.highs p.lows same_len in
     record {
       contents = record { reference = r; residuals = reference_place r ++ ds };
-      form = (record { reference = h; len = omega (arith, length-append (reference_place r) ds) }, zero-placed r ds, le);
+      form = (record { reference = split.reference; len = omega (arith, length-append (reference_place r) ds) }, zero-placed r ds, split.small);
       reference_is = refl;
       takes = rw (coded-placed r ds, hp, lp) (takes-append old mid new _ _ t p.takes);
       told = λ e. (let q = all-placed (λ d. d < value_count s) r ds (pow_pos s.bits) (fit e) in (q, q, sym (same e)));
@@ -199,20 +205,19 @@ pub split_large : {I : Type 0} {old mid new : Reader I} {first last : ℕ} {s : 
     → PartsRead mid new ((value_count s - 1) / 2 ^ k) k small count told → small ≡ false → last + old.taken ≡ first + new.taken
     → BlockRead old new first last s b (Split k) (record { reference = r; sound = false }) items
 split_large {old} {mid} {new} {first} {last} {s} {b} {k} {r} {count} {small} {told} {items} h le n t p e steps =
-    split_read false h le n t p steps (λ f. absurd cc) (λ f. absurd cc)
+    split_read false (record { reference = h; small = le; parts = n }) t p steps (λ f. absurd cc) (λ f. absurd cc)
     (λ f all. p.refused e (highs_small k (value_count s) p.highs p.lows (p.as_many_lows ∙ sym p.as_many_highs) (pow_pos s.bits) all))
 
 -- high parts stand in their places
 pub split_joined : {I : Type 0} {old mid new : Reader I} {first last : ℕ} {s : Parameters} {b k : ℕ} {r : Option ℕ} {count : ℕ} {small : Bool} {told items : List ℕ} (sound : Bool)
-    → IsReference s b r → k ≤ k_max s → count + length (reference_place r) ≡ s.block → Takes old mid (reference_bits s r)
+    → IsSplitOf s b k r count → Takes old mid (reference_bits s r)
     → PartsRead mid new ((value_count s - 1) / 2 ^ k) k small count told → small ≡ true → last + old.taken ≡ first + new.taken
     → items ≡ reference_place r ++ told
     → (sound ≡ true → All (λ d. d < value_count s) told) → (sound ≡ false → All (λ d. d < value_count s) told → ⊥)
     → BlockRead old new first last s b (Split k) (record { reference = r; sound = sound }) items
-split_joined {old} {mid} {new} {first} {last} {s} {b} {k} {r} {count} {small} {told} {items} sound h le n t p e steps placed_so below above =
+split_joined {old} {mid} {new} {first} {last} {s} {b} {k} {r} {count} {small} {told} {items} sound split t p e steps placed_so below above =
     let is : told ≡ joined_parts k p.highs p.lows = (p.told e).1 in
-    split_read sound h le n t p steps
-    (λ f. subst (λ xs. All (λ d. d < value_count s) xs) is (below f))
+    split_read sound split t p steps (λ f. subst (λ xs. All (λ d. d < value_count s) xs) is (below f))
     (λ f. placed_so ∙ ap (λ xs. reference_place r ++ xs) is)
     (λ f all. above f (subst (λ xs. All (λ d. d < value_count s) xs) (sym is) all))
 

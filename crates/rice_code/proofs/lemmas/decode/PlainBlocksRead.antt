@@ -160,17 +160,30 @@ block_words waiting s w n bytes plain h le =
               absurd (omega (arith, m, x, y, h, some))
         ]
 
+-- samples of whole bytes
+record WholeBytes (s : Parameters) (w : ℕ) : Type 0 where
+  some : 1 ≤ s.bits
+  whole : s.bits ≡ 8 * w
+
+-- words that are the patterns of samples
+record PatternsOfSamples (s : Parameters) (w i : ℕ) (words : List ℕ) (samples : List ℤ) : Type 0 where
+  words_are : length words ≡ suc i
+  len : length samples ≡ suc i
+  fit : All (λ v. v < 2 ^ (8 * w)) words
+  legal : All (IsSample s) samples
+  same : map (pattern s) samples ≡ words
+
 -- the sample at a level is the last one if it has its word
-last_is_at : (waiting : List Bool) (s : Parameters) (w : ℕ) {i l : ℕ} (p : ℤ) {words : List ℕ} (samples : List ℤ) → 1 ≤ s.bits → s.bits ≡ 8 * w → length words ≡ suc i → length samples ≡ suc i
-    → All (λ v. v < 2 ^ (8 * w)) words → All (IsSample s) samples → map (pattern s) samples ≡ words → flat_map (word (8 * w)) words ≡ take (8 * (w * suc i)) (drop (id_len s) waiting)
+last_is_at : (waiting : List Bool) {s : Parameters} (w : ℕ) {i l : ℕ} (p : ℤ) {words : List ℕ} (samples : List ℤ) → WholeBytes s w → PatternsOfSamples s w i words samples
+    → flat_map (word (8 * w)) words ≡ take (8 * (w * suc i)) (drop (id_len s) waiting)
     → l < value_count s → word (8 * w) (pattern s (value_at s l)) ≡ take (8 * w) (drop (id_len s + 8 * (w * suc i - w)) waiting) → value_at s l ≡ last_of p samples
-last_is_at waiting s w {i} {l} p {words} samples some whole many len fit legal patterns bits small last =
+last_is_at waiting {s} w {i} {l} p {words} samples bytes of_samples bits small last =
     let n = 8 * w in
     let rest = drop (id_len s) waiting in
     let z = slice_index_or words i 0 in
     let x = slice_index_or samples i (pos 0) in
-    let inside : i < length words = omega (arith, many) in
-    let within : i < length samples = omega (arith, len) in
+    let inside : i < length words = omega (arith, of_samples.words_are) in
+    let within : i < length samples = omega (arith, of_samples.len) in
     let all : 8 * (w * suc i) ≡ n * i + n = omega arith in
     let at : id_len s + 8 * (w * suc i - w) ≡ id_len s + n * i = (let d : w * suc i ≡ w * i + w = omega arith in omega (arith, d)) in
     let read : word n z ≡ take n (drop (n * i) rest) =
@@ -178,11 +191,12 @@ last_is_at waiting s w {i} {l} p {words} samples some whole many len fit legal p
     ∙ (ap (λ b. take n (drop (n * i) b)) (bits ∙ ap (λ m. take m rest) all) ∙ (ap (take n) (drop-take (n * i) n rest) ∙ take-take n n (drop (n * i) rest) (omega arith))) in
     let same : word n (pattern s (value_at s l)) ≡ word n z = last ∙ (ap (λ m. take n (drop m waiting)) at ∙ (ap (take n) (sym (drop-drop (n * i) (id_len s) waiting)) ∙ sym read)) in
     let sample = sample_at s l small in
-    let fits : pattern s (value_at s l) < 2 ^ n = subst (λ m. pattern s (value_at s l) < 2 ^ m) whole (pattern_fits s (value_at s l) some sample) in
-    let told : pattern s (value_at s l) ≡ z = sym (number_of-word n (pattern s (value_at s l)) fits) ∙ (ap number_of same ∙ number_of-word n z (fit i 0 inside)) in
-    let pat : pattern s x ≡ z = sym (get_or-map (pattern s) samples i (pos 0) 0 within) ∙ ap (λ ws. slice_index_or ws i 0) patterns in
-    let end : length samples - 1 ≡ i = omega (arith, len) in
-    same_pattern s (value_at s l) x some sample (legal i (pos 0) within) (told ∙ sym pat) ∙ sym (last_at p (pos 0) samples (omega (arith, len)) ∙ ap (λ m. slice_index_or samples m (pos 0)) end)
+    let fits : pattern s (value_at s l) < 2 ^ n = subst (λ m. pattern s (value_at s l) < 2 ^ m) bytes.whole (pattern_fits s (value_at s l) bytes.some sample) in
+    let told : pattern s (value_at s l) ≡ z = sym (number_of-word n (pattern s (value_at s l)) fits) ∙ (ap number_of same ∙ number_of-word n z (of_samples.fit i 0 inside)) in
+    let pat : pattern s x ≡ z = sym (get_or-map (pattern s) samples i (pos 0) 0 within) ∙ ap (λ ws. slice_index_or ws i 0) of_samples.same in
+    let end : length samples - 1 ≡ i = omega (arith, of_samples.len) in
+    same_pattern s (value_at s l) x bytes.some sample (of_samples.legal i (pos 0) within) (told ∙ sym pat) ∙ sym
+    (last_at p (pos 0) samples (omega (arith, of_samples.len)) ∙ ap (λ m. slice_index_or samples m (pos 0)) end)
 
 -- the samples of a block
 samples_in : (s : Parameters) (w : ℕ) (words : List ℕ) → IsLegal s → IsPlain s w → All (λ v. v < 2 ^ (8 * w)) words → SamplesOfWords s w words
@@ -271,7 +285,8 @@ block_kept waiting s w old new same h = record {
 pub no_row : (waiting : List Bool) (s : Parameters) (w : ℕ) (bytes : List ℕ) → PlainRow waiting s w 0 bytes
 no_row waiting s w bytes i lt = absurd (omega (arith, lt))
 
-pub row_more : (waiting : List Bool) {s : Parameters} {w : ℕ} (i : ℕ) (old : List ℕ) {new more : List ℕ} → PlainRow waiting s w i old → new ≡ take (w * s.block * i) old ++ more → w * s.block * i ≤ length old
+pub row_more : (waiting : List Bool) {s : Parameters} {w : ℕ} (i : ℕ) (old : List ℕ) {new more : List ℕ} → PlainRow waiting s w i old → new ≡ take (w * s.block * i) old ++ more
+    → w * s.block * i ≤ length old
     → PlainBlock (drop (plain_bits s w * i) waiting) s w more → PlainRow waiting s w (i + 1) new
 row_more waiting {s} {w} i old {new} {more} row is within last k lt =
     let c = w * s.block in
@@ -413,15 +428,25 @@ row_there waiting s w n bytes row =
     let some : 0 < plain_bits s w = (let id = long_id s in omega (arith, id)) in
     omega (arith, last.there, length-drop (plain_bits s w * n) waiting, some)
 
+-- a row of plain blocks is taken, at a step for each bit
+pub record TakesRow {I : Type 0} (n : ℕ) (r new : Reader I) (first last : ℕ) (p : DecoderState) (w : ℕ) : Type 0 where
+  pub bits : Takes (with_mark r) new (take (plain_bits p.setting w * suc n) r.waiting)
+  pub steps : last ≡ first + plain_bits p.setting w * suc n
+  pub within : new.taken ≤ 2 ^ 52
+
+-- the level of the last sample of a row, and the state behind the row
+pub record RowLeaves {I : Type 0} (n : ℕ) (r : Reader I) (p q : DecoderState) (l w : ℕ) : Type 0 where
+  pub legal : l < value_count p.setting
+  pub pattern_is : word (8 * w) (pattern p.setting (value_at p.setting l)) ≡ take (8 * w) (drop (plain_bits p.setting w * n + (id_len p.setting + 8 * (w * p.setting.block - w))) r.waiting)
+  pub state : q ≡ record p { block = (p.block + suc n) % p.setting.interval; before = value_at p.setting l; run = 0 }
+
 -- blocks in a row that are taken together
-pub row_given : {I : Type 0} (n : ℕ) (r : Reader I) {new : Reader I} (first : ℕ) {last : ℕ} (p : DecoderState) {q : DecoderState} {l w : ℕ} (bytes : List ℕ) → IsLegal p.setting
+pub row_given : {I : Type 0} (n : ℕ) {r new : Reader I} {first last : ℕ} {p q : DecoderState} {l w : ℕ} (bytes : List ℕ) → IsLegal p.setting
     → IsPlain p.setting w → p.block < p.setting.interval → r.refusal ≡ None
-    → PlainRow r.waiting p.setting w (suc n) bytes → Takes (with_mark r) new (take (plain_bits p.setting w * suc n) r.waiting) → last ≡ first + plain_bits p.setting w * suc n → new.taken ≤ 2 ^ 52
-    → l < value_count p.setting → word (8 * w) (pattern p.setting (value_at p.setting l)) ≡ take (8 * w)
-    (drop (plain_bits p.setting w * n + (id_len p.setting + 8 * (w * p.setting.block - w))) r.waiting)
-    → q ≡ record p { block = (p.block + suc n) % p.setting.interval; before = value_at p.setting l; run = 0 }
+    → PlainRow r.waiting p.setting w (suc n) bytes → TakesRow n r new first last p w
+    → RowLeaves n r p q l w
     → GivesRow (suc n) r new first last p q bytes
-row_given zero r {new} first {last} p {q} {l} {w} bytes legal plain within going row takes steps limit small spelled moves =
+row_given zero {r} {new} {first} {last} {p} {q} {l} {w} bytes legal plain within going row taken leaves =
     let s = p.setting in
     let len = plain_bits s w in
     let block = row_first r.waiting s w 0 bytes row in
@@ -433,26 +458,31 @@ row_given zero r {new} first {last} p {q} {l} {w} bytes legal plain within going
     ∙ ap (λ n. take (8 * (w * n)) (drop (id_len s) r.waiting)) (sym size) in
     let at : len * 0 + (id_len s + 8 * (w * s.block - w)) ≡ id_len s + 8 * (w * s.block - w) = omega arith in
     let end : word (8 * w) (pattern s (value_at s l)) ≡ take (8 * w) (drop (id_len s + 8 * (w * suc (s.block - 1) - w)) r.waiting) =
-    spelled ∙ (ap (λ n. take (8 * w) (drop n r.waiting)) at ∙ ap (λ n. take (8 * w) (drop (id_len s + 8 * (w * n - w)) r.waiting)) (sym size)) in
+    leaves.pattern_is ∙ (ap (λ n. take (8 * w) (drop n r.waiting)) at ∙ ap (λ n. take (8 * w) (drop (id_len s + 8 * (w * n - w)) r.waiting)) (sym size)) in
     let value : value_at s l ≡ last_of p.before given.samples =
-    last_is_at r.waiting s w p.before given.samples legal.bits_from plain.whole (count ∙ sym size) (given.len ∙ (count ∙ sym size))
-    words.fit given.legal given.patterns read small end in
+    last_is_at r.waiting {s = s} w p.before given.samples (record { some = legal.bits_from; whole = plain.whole }) (record {
+      words_are = count ∙ sym size;
+      len = given.len ∙ (count ∙ sym size);
+      fit = words.fit;
+      legal = given.legal;
+      same = given.patterns;
+    }) read leaves.legal end in
     let one : len * 1 ≡ len = omega arith in
     let next : (p.block + 1) % s.interval ≡ next_block_place s p.block = sym (next_by_mod s p.block within) in
     let long : length (take (len * 1) r.waiting) ≡ len = ap (λ k. length (take k r.waiting)) one ∙ length-take-le len r.waiting block.there in
-    let took = takes.taken in
+    let took = taken.bits.taken in
     let counted : AreCounted first last r.taken new.taken =
-    record { forward = omega (arith, took, long); limit = limit; least = omega (arith, took, long, steps, one); most = omega (arith, took, long, steps, one) } in (
+    record { forward = omega (arith, took, long); limit = taken.within; least = omega (arith, took, long, taken.steps, one); most = omega (arith, took, long, taken.steps, one) } in (
       new,
       last,
       q,
-      plain_step {start = r} {first = first} {last = last} p legal plain block value (subst (λ k. Takes (with_mark r) new (take k r.waiting)) one takes) (omega (arith, steps, one))
-          (moves ∙ ap (λ b. record p { block = b; before = value_at s l; run = 0 }) next),
+      plain_step {start = r} {first = first} {last = last} p legal plain block value (subst (λ k. Takes (with_mark r) new (take k r.waiting)) one taken.bits) (omega (arith, taken.steps, one))
+          (leaves.state ∙ ap (λ b. record p { block = b; before = value_at s l; run = 0 }) next),
       counted,
-      ap (λ (d : DecoderState). d.run) moves,
+      ap (λ (d : DecoderState). d.run) leaves.state,
       (refl, refl, refl),
     )
-row_given (suc n) r {new} first {last} p {q} {l} {w} bytes legal plain within going row takes steps limit small spelled moves =
+row_given (suc n) {r} {new} {first} {last} {p} {q} {l} {w} bytes legal plain within going row taken leaves =
     let s = p.setting in
     let len = plain_bits s w in
     let block = row_first r.waiting s w (suc n) bytes row in
@@ -472,19 +502,23 @@ row_given (suc n) r {new} first {last} p {q} {l} {w} bytes legal plain within go
     let inside : id_len s ≤ len * suc n = (let e : len * suc n ≡ len + len * n = omega arith in omega (arith, e, head)) in
     let rest = begins_with_one s w (len * suc n) (drop len r.waiting) plain second.id inside in
     let front = takes_front r len block.there going one in
-    let later = takes_behind r new len (len * suc n) enough (subst (λ k. Takes (with_mark r) new (take k r.waiting)) all takes) whole rest in
+    let later = takes_behind r new len (len * suc n) enough (subst (λ k. Takes (with_mark r) new (take k r.waiting)) all taken.bits) whole rest in
     let here : len * suc n + (id_len s + 8 * (w * s.block - w)) ≡ len + (len * n + (id_len s + 8 * (w * s.block - w))) = (let e : len * suc n ≡ len + len * n = omega arith in omega (arith, e)) in
     let end : word (8 * w) (pattern s (value_at s l)) ≡ take (8 * w) (drop (len * n + (id_len s + 8 * (w * s.block - w))) (drop len r.waiting)) =
-    spelled ∙ (ap (λ k. take (8 * w) (drop k r.waiting)) here ∙ ap (take (8 * w)) (sym (drop-drop (len * n + (id_len s + 8 * (w * s.block - w))) len r.waiting))) in
+    leaves.pattern_is ∙ (ap (λ k. take (8 * w) (drop k r.waiting)) here ∙ ap (take (8 * w)) (sym (drop-drop (len * n + (id_len s + 8 * (w * s.block - w))) len r.waiting))) in
     let place_is : (p.block + suc (suc n)) % s.interval ≡ (next_block_place s p.block + suc n) % s.interval =
     (let e : p.block + suc (suc n) ≡ p.block + 1 + suc n = omega arith in ap (λ b. b % s.interval) e
     ∙ (sym (mod-add-mod (p.block + 1) s.interval (suc n)) ∙ ap (λ b. (b + suc n) % s.interval) (sym (next_by_mod s p.block within)))) in
     let tail : GivesRow (suc n) m new (first + len) last p1 q (drop (w * s.block) bytes) =
-    row_given n m (first + len) {last = last} p1 (drop (w * s.block) bytes) legal plain (next_within s p.block within) going more later (omega (arith, steps, all)) limit small end
-    (moves ∙ ap (λ b. record p { block = b; before = value_at s l; run = 0 }) place_is) in
+    row_given n {r = m} {first = first + len} {last = last} {p = p1} (drop (w * s.block) bytes) legal plain (next_within s p.block within) going more
+    (record { bits = later; steps = omega (arith, taken.steps, all); within = taken.within }) (record {
+      legal = leaves.legal;
+      pattern_is = end;
+      state = leaves.state ∙ ap (λ b. record p { block = b; before = value_at s l; run = 0 }) place_is;
+    }) in
     let long : length (take (len * suc (suc n)) r.waiting) ≡ len * suc (suc n) = length-take-le (len * suc (suc n)) r.waiting (omega (arith, enough, all)) in
-    let took = takes.taken in
-    let counted : AreCounted first (first + len) r.taken m.taken = record { forward = omega arith; limit = omega (arith, took, long, all, limit); least = omega arith; most = omega arith } in (
+    let took = taken.bits.taken in
+    let counted : AreCounted first (first + len) r.taken m.taken = record { forward = omega arith; limit = omega (arith, took, long, all, taken.within); least = omega arith; most = omega arith } in (
       m,
       first + len,
       p1,

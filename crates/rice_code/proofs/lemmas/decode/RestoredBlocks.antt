@@ -80,16 +80,22 @@ reference_preprocesses s b v h = at s.preprocess (place s b == 0) h.there
     at true first e = refl
     at false first e = absurd (let f : true ≡ false = e in cc)
 
+-- residuals of a block, of which the first is in the place of the reference
+pub record BehindReference (s : Parameters) (ds : List ℕ) (ys : List ℤ) : Type 0 where
+  pub len : length ds ≡ s.block
+  pub more : length ds ≡ suc (length ys)
+  pub zero : slice_index ds 0 ≡ 0
+
 -- the samples after a reference sample
-pub contents_behind : {s : Parameters} {b : ℕ} (p x : ℤ) {v : ℕ} (ds : List ℕ) (ys : List ℤ) → IsReference s b (Some v) → length ds ≡ s.block
-    → length ds ≡ suc (length ys) → slice_index ds 0 ≡ 0 → ranks s x ys ≡ drop 1 ds → pattern s x ≡ v
+pub contents_behind : {s : Parameters} {b : ℕ} (p x : ℤ) {v : ℕ} (ds : List ℕ) (ys : List ℤ) → IsReference s b (Some v) → BehindReference s ds ys → ranks s x ys ≡ drop 1 ds → pattern s x ≡ v
     → block_data s b p (x ∷ ys) ≡ record { reference = Some v; residuals = ds }
-contents_behind p x [] ys h n len first r pat = absurd (omega arith)
-contents_behind {s} {b} p x {v} (d ∷ ds) ys h n len first r pat =
+contents_behind p x [] ys h behind r pat = absurd (omega arith)
+contents_behind {s} {b} p x {v} (d ∷ ds) ys h behind r pat =
     let e = reference_preprocesses s b v h in
     let at : s.block * b ≡ s.block * b + 0 = omega arith in
-    let one : residual s (s.block * b) p x ≡ d = ap (λ j. residual s j p x) at ∙ (residual_within s b 0 (Some v) p x (omega (arith, n)) h ∙ ((λ i. cond (e i) 0 (pattern s x)) ∙ sym first)) in
-    let rest : residuals s (s.block * b + 1) x ys ≡ ds = ranks_within 1 x ys h e refl (omega (arith, n, len)) ∙ r in
+    let one : residual s (s.block * b) p x ≡ d = ap (λ j. residual s j p x) at
+    ∙ (residual_within s b 0 (Some v) p x (omega (arith, behind.len)) h ∙ ((λ i. cond (e i) 0 (pattern s x)) ∙ sym behind.zero)) in
+    let rest : residuals s (s.block * b + 1) x ys ≡ ds = ranks_within 1 x ys h e refl (omega (arith, behind.len, behind.more)) ∙ r in
     contents_are s b p (Some v) (d ∷ ds) (x ∷ ys) h (λ i. one i ∷ rest i) pat
 
 pub refill_all : {A : Type 0} (xs ys : List A) → length ys ≡ length xs → refill (length xs) xs ys ≡ ys
@@ -129,19 +135,37 @@ zeros_restored s b p x r h j res ref = contents_are s b p r (replicate s.block 0
 same_first : (s : Parameters) (x y : ℤ) → IsSample s x → IsSample s y → rank s x y ≡ 0 → y ≡ x
 same_first s x y h k e = same_level s y x k h (rank_injective (value_count s) (level s x) (level s y) (level s x) h.1 k.1 h.1 (e ∙ sym (same_rank (value_count s) (level s x))))
 
+-- residuals of a block, with a zero in the place of the reference
+pub record ResidualsOfBlock (s : Parameters) (r : Option ℕ) (ds : List ℕ) : Type 0 where
+  pub len : length ds ≡ s.block
+  pub zero : OnSome r (slice_index ds 0 ≡ 0)
+  pub some : 1 ≤ s.block
+
+-- the sample after which the first one is restored: the reference, or the sample before the block
+pub record FirstSample (s : Parameters) (p x : ℤ) (r : Option ℕ) : Type 0 where
+  pub legal : IsSample s x
+  pub some : IfSome r (λ v. pattern s x ≡ v)
+  pub none : IfNone r (x ≡ p)
+
+-- the samples of a block that are restored from residuals
+pub record SamplesRestored (s : Parameters) (x : ℤ) (ds : List ℕ) (xs : List ℤ) : Type 0 where
+  pub legal : All (IsSample s) xs
+  pub len : length xs ≡ s.block
+  pub ranks : ranks s x xs ≡ ds
+
 -- samples restored from all residuals of a block, after its reference sample or the sample before it
 pub contents_restored : {s : Parameters} {b : ℕ} (p x : ℤ) {r : Option ℕ} {ds : List ℕ} (xs : List ℤ) → IsReference s b r → s.preprocess ≡ true
-    → length ds ≡ s.block → OnSome r (slice_index ds 0 ≡ 0) → 1 ≤ s.block
-    → IsSample s x → IfSome r (λ v. pattern s x ≡ v) → IfNone r (x ≡ p) → All (IsSample s) xs → length xs ≡ s.block → ranks s x xs ≡ ds → block_data s b p xs ≡ record { reference = r; residuals = ds }
-contents_restored {s} {b} p x {r = None} {ds} xs h pre n none some hx pat same all len e = contents_of_ranks s b p ds xs h pre len (ap (λ q. ranks s q xs) (sym same) ∙ e)
-contents_restored p x {r = Some v} [] h pre n none some hx pat same all len e = absurd (omega arith)
-contents_restored p x {r = Some v} {ds = []} (y ∷ ys) h pre n none some hx pat same all len e = absurd (omega arith)
-contents_restored {s} {b} p x {r = Some v} {ds = d ∷ ds} (y ∷ ys) h pre n none some hx pat same all len e =
+    → ResidualsOfBlock s r ds
+    → FirstSample s p x r → SamplesRestored s x ds xs → block_data s b p xs ≡ record { reference = r; residuals = ds }
+contents_restored {s} {b} p x {r = None} {ds} xs h pre of_block begins restored = contents_of_ranks s b p ds xs h pre restored.len (ap (λ q. ranks s q xs) (sym begins.none) ∙ restored.ranks)
+contents_restored p x {r = Some v} [] h pre of_block begins restored = absurd (omega arith)
+contents_restored p x {r = Some v} {ds = []} (y ∷ ys) h pre of_block begins restored = absurd (omega arith)
+contents_restored {s} {b} p x {r = Some v} {ds = d ∷ ds} (y ∷ ys) h pre of_block begins restored =
     let first : rank s x y ≡ d = cc in
     let rest : ranks s y ys ≡ ds = cc in
-    let at : y ≡ x = same_first s x y hx (all 0 x (omega arith)) (first ∙ none) in
+    let at : y ≡ x = same_first s x y begins.legal (restored.legal 0 x (omega arith)) (first ∙ of_block.zero) in
     let rest_behind : ranks s x ys ≡ ds = ap (λ q. ranks s q ys) (sym at) ∙ rest in
-    ap (λ q. block_data s b p (q ∷ ys)) at ∙ contents_behind p x (d ∷ ds) ys h n (omega arith) none rest_behind pat
+    ap (λ q. block_data s b p (q ∷ ys)) at ∙ contents_behind p x (d ∷ ds) ys h (record { len = of_block.len; more = omega arith; zero = of_block.zero }) rest_behind begins.some
 
 -- without preprocessing a block has no reference
 pub contents_plain : (s : Parameters) (b : ℕ) (p : ℤ) (r : Option ℕ) (ds : List ℕ) (xs : List ℤ) → IsReference s b r → s.preprocess ≡ false

@@ -260,14 +260,19 @@ pairs-none r steps h = record {
   turns = omega arith;
 }
 
+-- a pair of numbers, by its code
+pub record IsPairOf (g a b : ℕ) : Type 0 where
+  pub code : pair_code a b ≡ g
+  pub most : a + b ≤ g
+
 pub pairs-more : {I : Type 0} {old mid new : Reader I} {count : ℕ} {front after : List ℕ} {g : ℕ} (a b : ℕ) {first second : ℕ} (third : ℕ) {fourth : ℕ}
-    → PairRow old mid count front first second → Takes mid new (fundamental_sequence g) → pair_code a b ≡ g → a + b ≤ g
+    → PairRow old mid count front first second → Takes mid new (fundamental_sequence g) → IsPairOf g a b
     → third + mid.taken ≡ second + new.taken → fourth ≡ third + (a + b) → after ≡ (front ++ a ∷ []) ++ b ∷ []
     → PairRow old new (count + 1) after first fourth
-pairs-more {old} {mid} {new} {count} {front} {g} a b {first} third {fourth} r t e le steps turns is =
+pairs-more {old} {mid} {new} {count} {front} {g} a b {first} third {fourth} r t pair steps turns is =
     subst (λ xs. PairRow old new (count + 1) xs first fourth) (sym is)
     (let codes : flat_map fundamental_sequence (pair_codes ((front ++ a ∷ []) ++ b ∷ [])) ≡ flat_map fundamental_sequence (pair_codes front) ++ fundamental_sequence g =
-    ap (flat_map fundamental_sequence) (pair_codes-push count front a b r.len ∙ ap (λ c. pair_codes front ++ c ∷ []) e) ∙ flat_map-push fundamental_sequence (pair_codes front) g in
+    ap (flat_map fundamental_sequence) (pair_codes-push count front a b r.len ∙ ap (λ c. pair_codes front ++ c ∷ []) pair.code) ∙ flat_map-push fundamental_sequence (pair_codes front) g in
     record {
       len = omega (arith, length-append (front ++ a ∷ []) (b ∷ []), length-append front (a ∷ []), r.len);
       takes = rw codes (takes-append old mid new _ _ r.takes t);
@@ -364,19 +369,24 @@ pairs-room old new some values first second r room limit = (
   record { limit = limit; room = omega (arith, r.steps, r.turns, r.takes.taken, room.room) },
 )
 
+-- the first pairs of those whose codes were read, and their sum
+pub record PairsInLanes (some : ℕ) (read out : List ℕ) (total : ℕ) : Type 0 where
+  pub enough : some ≤ length read
+  pub room : length read ≤ length out / 2
+  pub codes : pair_codes (take (length (take some read) + length (take some read)) out) ≡ take some read
+  pub sum_is : total ≡ sum (take (length (take some read) + length (take some read)) out)
+  pub fit : All (λ d. d < 64) (take (length (take some read) + length (take some read)) out)
+
 pub pairs-taken : {I : Type 0} {old new : Reader I} {some : ℕ} (read out : List ℕ) {total first : ℕ} (second : ℕ) {third : ℕ}
-    → some ≤ length read → length read ≤ length out / 2
-    → pair_codes (take (length (take some read) + length (take some read)) out) ≡ take some read
-    → total ≡ sum (take (length (take some read) + length (take some read)) out)
-    → All (λ d. d < 64) (take (length (take some read) + length (take some read)) out)
+    → PairsInLanes some read out total
     → Takes old new (flat_map fundamental_sequence (take some read)) → second + old.taken ≡ first + new.taken → third ≡ second + total
     → HasRoom first old.taken → new.taken ≤ 2 ^ 52 → PairsTaken old new some (take (some + some) out) first third
-pairs-taken {old} {new} {some} read out {total} {first} second {third} within half pairs is few t steps more room limit =
+pairs-taken {old} {new} {some} read out {total} {first} second {third} in_lanes t steps more room limit =
     let codes = take some read in
-    let len : length codes ≡ some = length-take-le some read within in
-    let row = pairs-waiting out first second (omega (arith, len, within, half)) pairs is t steps more in
+    let len : length codes ≡ some = length-take-le some read in_lanes.enough in
+    let row = pairs-waiting out first second (omega (arith, len, in_lanes.enough, in_lanes.room)) in_lanes.codes in_lanes.sum_is t steps more in
     let here = pairs-room old new (length codes) (take (length codes + length codes) out) first third row room limit in
-    subst (λ k. PairsTaken old new k (take (k + k) out) first third) len (record { row = row; few = few; counted = here.0; room = here.1 })
+    subst (λ k. PairsTaken old new k (take (k + k) out) first third) len (record { row = row; few = in_lanes.fit; counted = here.0; room = here.1 })
 
 pub counted-both : (a b c p q r : ℕ) → AreCounted a b p q → AreCounted b c q r → AreCounted a c p r
 counted-both a b c p q r h k = record {

@@ -31,7 +31,8 @@ cut_identifier s b bits lt d more form e =
       length-word (id_len s) (identifier s d),
     )
 
-cut_plain : (s : Parameters) (b : ℕ) {id : ℕ} {bits : List Bool} → id ≡ 2 ^ id_len s - 1 → ((c : BlockData) (more : List Bool) → IsForm s b (NoCompression c) → bits ≡ no_compression_tail s c ++ more → ⊥)
+cut_plain : (s : Parameters) (b : ℕ) {id : ℕ} {bits : List Bool} → id ≡ 2 ^ id_len s - 1
+    → ((c : BlockData) (more : List Bool) → IsForm s b (NoCompression c) → bits ≡ no_compression_tail s c ++ more → ⊥)
     → (d : CodedDataSet) (more : List Bool) → IsForm s b d → id ≡ identifier s d → bits ≡ tail s d ++ more → ⊥
 unfolding identifier tail
 cut_plain s b e none (NoCompression c) more form i t = none c more form t
@@ -40,17 +41,23 @@ cut_plain s b e none (Split k c) more form i t = let w = wide_id s in let le : k
 cut_plain s b e none (ZeroBlocks r z) more form i t = let w = wide_id s in omega arith
 cut_plain s b e none (RemainderOfSegment r) more form i t = let w = wide_id s in omega arith
 
-cut_split : (s : Parameters) (b : ℕ) {id : ℕ} (k : ℕ) {bits : List Bool} → id ≡ k + 1 → id < 2 ^ id_len s - 1 → ((c : BlockData) (more : List Bool) → IsForm s b (Split k c) → bits ≡ split_tail s k c ++ more → ⊥)
+-- bits behind the identifier of a split that begin with no split
+record CutBehindId (s : Parameters) (b id k : ℕ) (bits : List Bool) : Type 0 where
+  id_is : id ≡ k + 1
+  below : id < 2 ^ id_len s - 1
+  none : ((c : BlockData) (more : List Bool) → IsForm s b (Split k c) → bits ≡ split_tail s k c ++ more → ⊥)
+
+cut_split : (s : Parameters) (b : ℕ) {id : ℕ} (k : ℕ) {bits : List Bool} → CutBehindId s b id k bits
     → (d : CodedDataSet) (more : List Bool) → IsForm s b d → id ≡ identifier s d → bits ≡ tail s d ++ more → ⊥
 unfolding identifier tail
-cut_split s b k e lt none (NoCompression c) more form i t = omega arith
-cut_split s b k e lt none (SecondExtension c) more form i t = omega arith
-cut_split s b k {bits} e lt none (Split m c) more form i t =
+cut_split s b k cut (NoCompression c) more form i t = omega arith
+cut_split s b k cut (SecondExtension c) more form i t = omega arith
+cut_split s b k {bits} cut (Split m c) more form i t =
     let same : m ≡ k = omega arith in
     let T : ℕ → Type 0 = λ j. IsForm s b (Split j c) × (bits ≡ split_tail s j c ++ more) in
-    let q = subst T same (form, t) in none c more q.0 q.1
-cut_split s b k e lt none (ZeroBlocks r z) more form i t = omega arith
-cut_split s b k e lt none (RemainderOfSegment r) more form i t = omega arith
+    let q = subst T same (form, t) in cut.none c more q.0 q.1
+cut_split s b k cut (ZeroBlocks r z) more form i t = omega arith
+cut_split s b k cut (RemainderOfSegment r) more form i t = omega arith
 
 cut_low : (s : Parameters) (b : ℕ) {id : ℕ} {bits : List Bool} → id ≡ 0 → ((d : CodedDataSet) (more : List Bool) → IsForm s b d → IsLowEntropy d → bits ≡ low_entropy_tail s d ++ more → ⊥)
     → (d : CodedDataSet) (more : List Bool) → IsForm s b d → id ≡ identifier s d → bits ≡ tail s d ++ more → ⊥
@@ -87,7 +94,7 @@ no_compression_set_cut {old} {mid} {new} first last {s} {b} {id} {f} lt e t cut 
 pub split_set_cut : {I : Type 0} {old mid new : Reader I} (first last : ℕ) {s : Parameters} {b : ℕ} (id k : ℕ) {f : BitFault}
     → id < 2 ^ id_len s - 1 → id ≡ k + 1 → Takes old mid (word (id_len s) id) → BlockCut mid new s b (Split k) f → SetCut old new first last s b f
 split_set_cut {old} {mid} {new} first last {s} {b} id k {f} lt e t cut =
-    cut_after_id id (omega arith) t cut.stops (cut_split s b k {bits = cut.bits} e lt cut.none)
+    cut_after_id id (omega arith) t cut.stops (cut_split s b k {bits = cut.bits} (record { id_is = e; below = lt; none = cut.none }))
     (λ blank. absurd (not_blank (id_len s) id cut.bits (omega arith) (omega arith) blank))
 
 pub low_set_cut : {I : Type 0} {old mid new : Reader I} (first : ℕ) {second last : ℕ} {s : Parameters} {b id : ℕ} {f : BitFault}

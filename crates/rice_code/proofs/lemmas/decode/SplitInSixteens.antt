@@ -128,7 +128,8 @@ row-lows {waiting} skip (suc zero) k words {row} few len low bits is =
 row-lows skip (suc (suc o)) k words few len low bits is = absurd (omega (arith, few))
 
 -- one row more of words
-pub lows-row : {waiting : List Bool} {skip omitted k at count : ℕ} {lows : List ℕ} (row : List ℕ) → omitted ≤ length lows → LowsAhead waiting skip omitted k lows → at ≡ skip + (length lows - omitted) * k
+pub lows-row : {waiting : List Bool} {skip omitted k at count : ℕ} {lows : List ℕ} (row : List ℕ) → omitted ≤ length lows → LowsAhead waiting skip omitted k lows
+    → at ≡ skip + (length lows - omitted) * k
     → length row ≡ count → All (λ l. l < 2 ^ k) row → flat_map (word k) row ≡ take (count * k) (drop at waiting) → LowsAhead waiting skip omitted k (lows ++ row)
 lows-row {waiting} {skip} {omitted} {k} {count} {lows} row few before place len low bits =
     let part = length lows - omitted in
@@ -195,8 +196,14 @@ rows_parts {waiting} {s} {b} {before} {k} {from} {omitted} {head} {n} {size} {by
           ∙ (near.ranked ∙ (zeros-joined omitted k highs lows same (omega (arith, few, some, many)) high.zeros low.zeros
           ∙ ap (λ xs. xs ++ joined_parts k ms ls) (sym begin.place))) in
           subst (BlockAhead waiting s b (value_at s before) levels) all
-          (split_ahead {waiting = waiting} before ms ls {lanes = levels} a n m has.preprocess (omega (arith, some, has.size_is)) begin.is split.0 id begin.bits first second (omega (arith, within, all)) as_many
-          (All-drop (λ l. l < 2 ^ k) omitted lows low.low) begin.begins begin.value begin.same (omega (arith, whole)) near.legal ranked));
+          (split_ahead {waiting = waiting} {before = before} {ms = ms} {ls = ls} {lanes = levels} {a = a} {n = n} {m = m} has.preprocess (omega (arith, some, has.size_is)) begin.is split.0 (record {
+            id = id;
+            reference = begin.bits;
+            sequences = first;
+            words = second;
+            within = omega (arith, within, all);
+          }) (record { same = as_many; fit = All-drop (λ l. l < 2 ^ k) omitted lows low.low }) (record { legal = begin.begins; some = begin.value; none = begin.same })
+          (record { enough = omega (arith, whole); legal = near.legal; ranks = ranked })));
     }
 
 -- the width of samples that go in lanes

@@ -19,7 +19,7 @@ use Rattle.rice_code.specs.decode.BlocksInOnePass.{BlockAhead}
 use Rattle.rice_code.specs.decode.FieldsAhead.{HeadAhead, HighsAhead, LowsAhead}
 use Rattle.rice_code.specs.decode.ReadSets.{reference_place}
 use Rattle.rice_code.specs.decode.WideAhead.{EightLevels, LevelsAhead, RestoredAhead}
-use Rattle.rice_code.proofs.lemmas.decode.SplitAhead.{split_ahead}
+use Rattle.rice_code.proofs.lemmas.decode.SplitAhead.{LowWords, split_ahead}
 use Rattle.rice_code.proofs.lemmas.decode.SplitInSixteens.{last-append, lows-row, rows_near, zeros-joined}
 
 -- identifiers of samples of more than 16 bits
@@ -68,7 +68,8 @@ eight-lows waiting skip {o} k words {row} few len low bits is =
     zeros_low o few = λ i d lt. All-replicate (λ l. l < 2 ^ k) o 0 (pow_pos k) i d lt
 
 -- the levels of the first eight samples
-pub first_levels : {waiting : List Bool} {s : Parameters} {from k skip o last : ℕ} (words : List ℕ) {row : List ℕ} (highs : List ℕ) {old new : List ℕ} → o ≤ 1 → length words ≡ 8 → All (λ l. l < 2 ^ k) words
+pub first_levels : {waiting : List Bool} {s : Parameters} {from k skip o last : ℕ} (words : List ℕ) {row : List ℕ} (highs : List ℕ) {old new : List ℕ} → o ≤ 1 → length words ≡ 8
+    → All (λ l. l < 2 ^ k) words
     → flat_map (word k) words ≡ take (8 * k) (drop skip waiting) → row ≡ take 8 (replicate o 0 ++ words) → 8 ≤ length highs
     → (w : EightLevels s from k 0 (take 8 highs) row old new last) → LevelsAhead waiting s from k skip o (take 8 highs) (take 8 new) × (last ≡ last_number from (take 8 new))
 first_levels {waiting} {s} {from} {k} {skip} {o} words {row} highs {new} few len low bits is room w =
@@ -85,20 +86,20 @@ first_levels {waiting} {s} {from} {k} {skip} {o} words {row} highs {new} few len
 
 -- those of eight samples more
 pub more_levels : {waiting : List Bool} {s : Parameters} {from k skip o at count before last : ℕ} {words : List ℕ} (highs : List ℕ) {old new : List ℕ} → o ≤ 1 → 8 ≤ count → count + 8 ≤ length highs
-    → length words ≡ 8 → All (λ l. l < 2 ^ k) words → flat_map (word k) words ≡ take (8 * k) (drop at waiting) → at ≡ skip + (count - o) * k
+    → LowWords waiting k 8 at words → at ≡ skip + (count - o) * k
     → LevelsAhead waiting s from k skip o (take count highs) (take count old) → before ≡ last_number from (take count old)
     → (w : EightLevels s before k count (take 8 (drop count highs)) words old new last)
     → LevelsAhead waiting s from k skip o (take (count + 8) highs) (take (count + 8) new) × (last ≡ last_number from (take (count + 8) new))
-more_levels {waiting} {s} {from} {k} {skip} {o} {at} {count} {before} {words} highs {old} {new} few some room len low bits place ahead before_is w =
+more_levels {waiting} {s} {from} {k} {skip} {o} {at} {count} {before} {words} highs {old} {new} few some room low_words place ahead before_is w =
     let as_many : length ahead.lows ≡ count = ahead.count ∙ length-take-le count highs (omega (arith, room)) in
     let behind : length (drop count highs) ≡ length highs - count = length-drop count highs in
     let eight : length (take 8 (drop count highs)) ≡ 8 = length-take-le 8 (drop count highs) (omega (arith, behind, room)) in
     let joint = rows_near ahead.count before_is ahead.near w.near in
     let both : length (ahead.lows ++ words) ≡ length (take (count + 8) highs) =
-    length-append ahead.lows words ∙ ((λ j. as_many j + len j) ∙ sym (length-take-le (count + 8) highs room)) in (
+    length-append ahead.lows words ∙ ((λ j. as_many j + low_words.len j) ∙ sym (length-take-le (count + 8) highs room)) in (
       record {
         lows = ahead.lows ++ words;
-        words = lows-row words (omega (arith, few, some, as_many)) ahead.words (place ∙ ap (λ n. skip + (n - o) * k) (sym as_many)) len low bits;
+        words = lows-row words (omega (arith, few, some, as_many)) ahead.words (place ∙ ap (λ n. skip + (n - o) * k) (sym as_many)) low_words.len low_words.fit low_words.bits;
         count = both;
         near =
             subst (λ hs. AreLevelsOfParts s from k hs (ahead.lows ++ words) (take (count + 8) new)) (sym (take-add count 8 highs))
@@ -123,13 +124,13 @@ eight_written {from} {levels} near eight written =
 -- a block of eight samples
 pub restored_eight : {waiting : List Bool} {s : Parameters} {from k skip o n : ℕ} {numbers highs : List ℕ} (words : List ℕ) {lows levels : List ℕ} → o ≤ 1 → skip + 64 ≤ length waiting
     → BeginWithSequences (drop skip waiting) (8 - o) numbers n → highs ≡ take 8 (replicate o 0 ++ numbers)
-    → length words ≡ 8 → All (λ l. l < 2 ^ k) words → flat_map (word k) words ≡ take (8 * k) (drop (skip + n) waiting) → lows ≡ take 8 (replicate o 0 ++ words)
+    → LowWords waiting k 8 (skip + n) words → lows ≡ take 8 (replicate o 0 ++ words)
     → skip + n + 8 * k ≤ length waiting → AreLevelsOfParts s from k highs lows levels
     → RestoredAhead waiting s from k skip o levels (slice_index_or levels 7 0) (skip + n + (8 - o) * k)
-restored_eight {waiting} {from} {k} {skip} {o} {n} {numbers} {highs} words {lows} {levels} few there found high_is len low bits low_is within near =
+restored_eight {waiting} {from} {k} {skip} {o} {n} {numbers} {highs} words {lows} {levels} few there found high_is low_words low_is within near =
     let lanes = found.lanes in
     let high = eight-behind o numbers highs few (omega (arith, lanes)) high_is in
-    let lower = eight-behind o words lows few (omega (arith, len)) low_is in
+    let lower = eight-behind o words lows few (omega (arith, low_words.len)) low_is in
     let many : length levels ≡ 8 = near.len ∙ high.2 in
     let part : (8 - o) * k ≤ 8 * k = mul-le-mul_right k (omega arith) in
     record {
@@ -138,7 +139,7 @@ restored_eight {waiting} {from} {k} {skip} {o} {n} {numbers} {highs} words {lows
       sequences = eight-highs waiting skip few there found high_is;
       rest = record {
         lows = lows;
-        words = eight-lows waiting (skip + n) k words few len low bits low_is;
+        words = eight-lows waiting (skip + n) k words few low_words.len low_words.fit low_words.bits low_is;
         count = lower.2 ∙ sym high.2;
         near = near;
       };
@@ -201,7 +202,13 @@ wide_block {waiting} {s} {b} {before} {k} {from} {omitted} {len} {levels} pre so
     ∙ (near.ranked ∙ (zeros-joined omitted k highs lows same room found.sequences.zeros found.rest.words.zeros ∙ ap (λ xs. xs ++ joined_parts k ms ls) (sym begin.place))) in
     let end : length levels ≡ suc (s.block - 1) = omega (arith, size, some) in (
       subst (BlockAhead waiting s b (value_at s before) levels) all
-          (split_ahead {waiting = waiting} before ms ls {lanes = levels} a n m pre some begin.is split id begin.bits first second (omega (arith, within, all)) as_many
-          (All-drop (λ l. l < 2 ^ k) omitted lows found.rest.words.low) begin.begins begin.value begin.same (omega (arith, size)) near.legal ranked),
+          (split_ahead {waiting = waiting} {before = before} {ms = ms} {ls = ls} {lanes = levels} {a = a} {n = n} {m = m} pre some begin.is split (record {
+            id = id;
+            reference = begin.bits;
+            sequences = first;
+            words = second;
+            within = omega (arith, within, all);
+          }) (record { same = as_many; fit = All-drop (λ l. l < 2 ^ k) omitted lows found.rest.words.low }) (record { legal = begin.begins; some = begin.value; none = begin.same })
+          (record { enough = omega (arith, size); legal = near.legal; ranks = ranked })),
       found.last_is ∙ last_at from (s.block - 1) levels end,
     )

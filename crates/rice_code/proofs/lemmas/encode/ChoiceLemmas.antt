@@ -31,7 +31,12 @@ best_split_is s c k h = sym (ap (λ ks. best_of (shorter s c) 0 ks) (map_same (r
     mapped (suc k) h =
         let at = h.at_most in
         let less = h.first 0 (omega arith) in
-        best_numbered (λ k. cost s (Split k c)) (λ k. k) 0 1 (k_max s) (suc k) (omega arith) (omega arith) (λ j p q. h.first j q) (λ j p. h.least j (omega arith))
+        best_numbered (λ k. cost s (Split k c)) (λ k. k) 0 1 (k_max s) (suc k) (record {
+          above = omega arith;
+          below = omega arith;
+          before = λ j p q. h.first j q;
+          least = λ j p. h.least j (omega arith);
+        })
         ∙ ap (λ v. cond v (suc k) 0) (yes (cost s (Split (suc k) c)) (cost s (Split 0 c)) less)
 
 pub takes_no_compression : (s : Parameters) (c : BlockData) (k : ℕ) → IsBestSplit s c k → cost s (NoCompression c) ≤ cost s (SecondExtension c)

@@ -82,22 +82,27 @@ pub all_first : (s : Parameters) (xs ys : List ℤ) → AllByRecursion (IsSample
 all_first s [] ys h = (tt, h)
 all_first s (x ∷ xs) ys h = let r = all_first s xs ys h.1 in ((h.0, r.0), r.1)
 
+-- the samples that a coder holds of a segment that is not whole, and their residuals
+record HeldAt (coder : CoderState) (b : ℕ) (held : List ℤ) (p : ℤ) : Type 0 where
+  start : place coder.setting b ≡ coder.start
+  room : length held < coder.setting.block * blocks_left coder.setting b
+  residuals_are : coder.residuals ≡ residuals coder.setting (coder.setting.block * b) p held
+
 -- the residual of the next sample
 the_residual : (coder : CoderState) (b : ℕ) (held : List ℤ) (p x : ℤ) → 1 ≤ coder.setting.interval → 1 ≤ coder.setting.block
-    → place coder.setting b ≡ coder.start → length held < coder.setting.block * blocks_left coder.setting b →
-    coder.residuals ≡ residuals coder.setting (coder.setting.block * b) p held → residual coder.setting (coder.setting.block * b + length held) coder.previous x ≡ next_residual coder x
-the_residual coder b [] p x h j e k f =
+    → HeldAt coder b held p → residual coder.setting (coder.setting.block * b + length held) coder.previous x ≡ next_residual coder x
+the_residual coder b [] p x h j held_at =
     let s = coder.setting in
-    ap (λ r. cond s.preprocess (cond r 0 (rank s coder.previous x)) (pattern s x)) (first_reference s b j ∙ ap (λ q. s.preprocess && q == 0) e)
-    ∙ (cases s.preprocess (coder.start == 0) ∙ ap (λ ds. cond s.preprocess (cond (is_empty ds && coder.start == 0) 0 (rank s coder.previous x)) (pattern s x)) (sym f))
+    ap (λ r. cond s.preprocess (cond r 0 (rank s coder.previous x)) (pattern s x)) (first_reference s b j ∙ ap (λ q. s.preprocess && q == 0) held_at.start)
+    ∙ (cases s.preprocess (coder.start == 0) ∙ ap (λ ds. cond s.preprocess (cond (is_empty ds && coder.start == 0) 0 (rank s coder.previous x)) (pattern s x)) (sym held_at.residuals_are))
   where
     cases : (v w : Bool) → cond v (cond (v && w) 0 (rank coder.setting coder.previous x)) (pattern coder.setting x) ≡ cond v (cond w 0 (rank coder.setting coder.previous x)) (pattern coder.setting x)
     cases true w = refl
     cases false w = refl
-the_residual coder b (y ∷ ys) p x h j e k f =
+the_residual coder b (y ∷ ys) p x h j held_at =
     let s = coder.setting in
-    ap (λ r. cond s.preprocess (cond r 0 (rank s coder.previous x)) (pattern s x)) (later_reference s b (length ys) h j k)
-    ∙ ap (λ ds. cond s.preprocess (cond (is_empty ds && coder.start == 0) 0 (rank s coder.previous x)) (pattern s x)) (sym f)
+    ap (λ r. cond s.preprocess (cond r 0 (rank s coder.previous x)) (pattern s x)) (later_reference s b (length ys) h j held_at.room)
+    ∙ ap (λ ds. cond s.preprocess (cond (is_empty ds && coder.start == 0) 0 (rank s coder.previous x)) (pattern s x)) (sym held_at.residuals_are)
 
 residuals_append : (s : Parameters) (i : ℕ) (p : ℤ) (xs ys : List ℤ) → residuals s i p (xs ++ ys) ≡ residuals s i p xs ++ residuals s (i + length xs) (last_of p xs) ys
 residuals_append s i p [] ys = let e : i ≡ i + 0 = omega arith in ap (λ n. residuals s n p ys) e
@@ -193,7 +198,7 @@ one_more coder b coded held x h k legal =
       previous = sym (ap (last_of (pos 0)) (sym more) ∙ last_append (pos 0) (coded ++ held) (x ∷ []));
       residuals = sym (residuals_append s (s.block * b) p held (x ∷ [])
           ∙ ((λ i. sym h.residuals i ++ residual s (s.block * b + length held) (before i) x ∷ [])
-          ∙ ap (λ d. coder.residuals ++ d ∷ []) (the_residual coder b held p x h.legal.interval_from j h.place k h.residuals)));
+          ∙ ap (λ d. coder.residuals ++ d ∷ []) (the_residual coder b held p x h.legal.interval_from j (record { start = h.place; room = k; residuals_are = h.residuals }))));
       reference = the_reference coder b held p x h.place h.residuals h.reference;
     }
 

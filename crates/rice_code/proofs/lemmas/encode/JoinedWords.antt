@@ -38,15 +38,19 @@ high_small width more v l h k few =
 pub joined_words : (width more v l : ℕ) {all : ℕ} {bits last : List Bool} → l < 2 ^ more → word width v ≡ bits → word more l ≡ last → all ≡ v * 2 ^ more + l → word (width + more) all ≡ bits ++ last
 joined_words width more v l k e f g = ap (word (width + more)) g ∙ (word-cat width more v l k ∙ (λ i. e i ++ f i))
 
+-- a number of so many bits, and these bits
+pub record IsPiece (width number : ℕ) (bits : List Bool) : Type 0 where
+  pub fits : number < 2 ^ width
+  pub bits_are : word width number ≡ bits
+
 -- and three
-pub four_words : (w0 w1 w2 w3 : ℕ) {n : ℕ} (v0 v1 v2 v3 : ℕ) {two three all : ℕ} {b0 b1 b2 b3 : List Bool} → v0 < 2 ^ w0 → v1 < 2 ^ w1 → v2 < 2 ^ w2 → v3 < 2 ^ w3
-    → two ≡ v0 * 2 ^ w1 + v1 → three ≡ two * 2 ^ w2 + v2 → all ≡ three * 2 ^ w3 + v3 →
-    word w0 v0 ≡ b0 → word w1 v1 ≡ b1 → word w2 v2 ≡ b2 → word w3 v3 ≡ b3 → n ≡ w0 + w1 + w2 + w3 → (all < 2 ^ n) × (word n all ≡ b0 ++ b1 ++ b2 ++ b3)
-four_words w0 w1 w2 w3 v0 v1 v2 v3 {two} {three} {all} {b0} {b1} {b2} {b3} h0 h1 h2 h3 e2 e3 e4 f0 f1 f2 f3 g =
-    let x = joined_fits w0 w1 v0 v1 two h0 h1 e2 in
-    let y = joined_fits (w0 + w1) w2 two v2 three x h2 e3 in
-    let z = joined_fits (w0 + w1 + w2) w3 three v3 all y h3 e4 in
-    let i = joined_words w0 w1 v0 v1 h1 f0 f1 e2 in
-    let j = joined_words (w0 + w1) w2 two v2 h2 i f2 e3 in
-    let k = joined_words (w0 + w1 + w2) w3 three v3 h3 j f3 e4 in
+pub four_words : {w0 w1 w2 w3 n v0 v1 v2 v3 two three all : ℕ} {b0 b1 b2 b3 : List Bool} → IsPiece w0 v0 b0 → IsPiece w1 v1 b1 → IsPiece w2 v2 b2 → IsPiece w3 v3 b3
+    → two ≡ v0 * 2 ^ w1 + v1 → three ≡ two * 2 ^ w2 + v2 → all ≡ three * 2 ^ w3 + v3 → n ≡ w0 + w1 + w2 + w3 → (all < 2 ^ n) × (word n all ≡ b0 ++ b1 ++ b2 ++ b3)
+four_words {w0} {w1} {w2} {w3} {v0} {v1} {v2} {v3} {two} {three} {all} {b0} {b1} {b2} {b3} first second third fourth e2 e3 e4 g =
+    let x = joined_fits w0 w1 v0 v1 two first.fits second.fits e2 in
+    let y = joined_fits (w0 + w1) w2 two v2 three x third.fits e3 in
+    let z = joined_fits (w0 + w1 + w2) w3 three v3 all y fourth.fits e4 in
+    let i = joined_words w0 w1 v0 v1 second.fits first.bits_are second.bits_are e2 in
+    let j = joined_words (w0 + w1) w2 two v2 third.fits i third.bits_are e3 in
+    let k = joined_words (w0 + w1 + w2) w3 three v3 fourth.fits j fourth.bits_are e4 in
     (subst (λ m. all < 2 ^ m) (sym g) z, ap (λ m. word m all) g ∙ k)

@@ -233,7 +233,7 @@ held_part {coder} {b} {n} {coded} {held} {full} h shape counted len =
     record {
       sound = sound;
       blocks = size ∙ ap (λ v. s.block * v) (sym q);
-      code_is = λ position place. code_goes_on h.legal 0 0 b (pos 0) coded held zero all_coded h.whole begins
+      code_is = λ position place. code_goes_on h.legal 0 0 b (pos 0) coded held (record { before = zero; samples = all_coded; len = h.whole; segment = begins })
           ∙ ap (λ v. code s coded ++ v) (goes_on (0 + length (code s coded))
           ∙ same_position s (coder.start + blocks_held coder) coder.start (0 + length (code s coded)) position (sets_held coder)
           (λ e. place e ∙ ap (λ m. m % 8) (none (length (code s coded)))));

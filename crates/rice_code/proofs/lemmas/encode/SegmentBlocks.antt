@@ -28,9 +28,15 @@ pub length-pending_bits : (s : Parameters) (to_end : Bool) (r : Option ℕ) (run
 length-pending_bits s to_end r zero h = absurd (omega arith)
 length-pending_bits s to_end r (suc w) h = omega (arith, length-append (bits_of_set s (run_of_blocks to_end r (suc w))) [], run_text_len s to_end r (suc w))
 
+-- a meter behind some steps, bounded in two ways, and behind n more
+pub record StepsOfTwo (j k limit m0 m1 m2 n : ℕ) : Type 0 where
+  pub by_split : m1 ≤ m0 + j * (k + 3)
+  pub by_limit : m1 ≤ m0 + j * (limit + 2)
+  pub more : m2 ≤ m1 + n + 2 * j
+
 -- the steps of coding a block
-pub steps_least : (j k limit m0 m1 m2 n : ℕ) → m1 ≤ m0 + j * (k + 3) → m1 ≤ m0 + j * (limit + 2) → m2 ≤ m1 + n + 2 * j → m2 ≤ m0 + n + j * (min (k + 1) limit + 4)
-steps_least j k limit m0 m1 m2 n p q h =
+pub steps_least : (j k limit m0 m1 m2 n : ℕ) → StepsOfTwo j k limit m0 m1 m2 n → m2 ≤ m0 + n + j * (min (k + 1) limit + 4)
+steps_least j k limit m0 m1 m2 n steps =
     elim (cases_lt (k + 1) limit) [
       | inl lt ↦ let e : min (k + 1) limit ≡ k + 1 = omega arith in let f = ap (λ v. j * (v + 4)) e in omega (arith, f)
       | inr le ↦ let e : min (k + 1) limit ≡ limit = omega arith in let f = ap (λ v. j * (v + 4)) e in omega (arith, f)
@@ -155,34 +161,57 @@ looks_other s c e = (ap (λ v. cond v s.block (s.block * (best_split s c + 3) - 
 pub shortest_len : (s : Parameters) (b : ℕ) (c : BlockData) → 1 ≤ s.block → IsSoundBlock s b c → length (bits_of_set s (shortest s c)) ≡ cost s (shortest s c)
 shortest_len s b c j h = cost_is_length s b (shortest s c) j (shortest_is_form s b c h)
 
+-- a block of a segment, behind a run
+pub record BlockBehindRun (s : Parameters) (start n i run : ℕ) : Type 0 where
+  pub inside : n ≤ blocks_left s start
+  pub run_before : run ≤ i
+  pub below : i < n
+
+-- intervals of blocks, and blocks of samples
+pub record SomeBlocks (s : Parameters) : Type 0 where
+  pub interval : 1 ≤ s.interval
+  pub block : 1 ≤ s.block
+
+-- sound blocks, of which this one is no block of zeros
+pub record OtherBlock (s : Parameters) (start : ℕ) (r : Option ℕ) (n : ℕ) (ds : List ℕ) (i : ℕ) : Type 0 where
+  pub sound : AreSoundBlocks s start (held_blocks s r n ds)
+  pub no_zeros : is_zero_block (held s r ds i) ≡ false
+
 -- what is put has room
-pub room_other : (s : Parameters) (start : ℕ) (r : Option ℕ) {n : ℕ} (ds : List ℕ) {i run : ℕ} (sink before all : List Bool) → 1 ≤ s.interval → 1 ≤ s.block
-    → n ≤ blocks_left s start → run ≤ i → i < n →
-    AreSoundBlocks s start (held_blocks s r n ds) → is_zero_block (held s r ds i) ≡ false → sink ++ to_come s start r n ds i run ≡ before ++ all →
+pub room_other : {s : Parameters} {start : ℕ} (r : Option ℕ) {n : ℕ} (ds : List ℕ) {i run : ℕ} (sink before all : List Bool) → SomeBlocks s
+    → BlockBehindRun s start n i run →
+    OtherBlock s start r n ds i → sink ++ to_come s start r n ds i run ≡ before ++ all →
     length sink + length (bits_of_sets s (pending_run false (reference_at r (i - run)) run)) + cost s (shortest s (held s r ds i)) ≤ length before + length all
-room_other s start r {n} ds {i} {run} sink before all h j m l k sound z same =
+room_other {s} {start} r {n} ds {i} {run} sink before all some place other same =
     let c = held s r ds i in
     let w = bits_of_sets s (pending_run false (reference_at r (i - run)) run) in
     let rest = to_come s start r n ds (i + 1) 0 in
-    let e = ap length (sym same ∙ ap (λ v. sink ++ v) (next_other s start r ds h m l k z)) in
+    let e = ap length (sym same ∙ ap (λ v. sink ++ v) (next_other s start r ds some.interval place.inside place.run_before place.below other.no_zeros)) in
     let a = length-append before all in
     let b = length-append sink (w ++ (bits_of_set s (shortest s c) ++ rest)) in
     let d = length-append w (bits_of_set s (shortest s c) ++ rest) in
     let f = length-append (bits_of_set s (shortest s c)) rest in
-    let g = shortest_len s (start + i) c j (held_sound s start r n ds i k sound) in
+    let g = shortest_len s (start + i) c some.block (held_sound s start r n ds i place.below other.sound) in
     omega (arith, e, a, b, d, f, g)
 
 pub room_within : (sink more before all : List Bool) → sink ++ more ≡ before ++ all → length sink + length more ≡ length before + length all
 room_within sink more before all e = omega (arith, ap length e, length-append sink more, length-append before all)
 
+-- a meter and a sink behind i of n blocks: the meter grew by no more than what was put and x for each block
+pub record MeterBehind (m m0 a a0 t put total i n x : ℕ) : Type 0 where
+  pub grown : m + a0 ≤ m0 + a + total
+  pub by_blocks : total ≤ i * x
+  pub put_is : a + put ≤ a0 + t
+  pub fits : m0 + t + n * x < 2 ^ 62
+
 -- the meter has room for one block more
-pub meter_fits : (m m0 a a0 t put total : ℕ) {i n : ℕ} (x : ℕ) → m + a0 ≤ m0 + a + total → total ≤ i * x → i < n → a + put ≤ a0 + t → m0 + t + n * x < 2 ^ 62 → m + put + x < 2 ^ 62
-meter_fits m m0 a a0 t put total {i} {n} x p q h k l =
+pub meter_fits : {m m0 a a0 t put total i n : ℕ} (x : ℕ) → MeterBehind m m0 a a0 t put total i n x → i < n → m + put + x < 2 ^ 62
+meter_fits {i} {n} x meter h =
     let e : suc i * x ≤ n * x = mul-le-mul_right x h in
     omega (arith, e)
 
-pub meter_ends : (m m0 a a0 t put total : ℕ) {i n : ℕ} (x : ℕ) → m + a0 ≤ m0 + a + total → total ≤ i * x → i ≤ n → a + put ≤ a0 + t → m0 + t + n * x < 2 ^ 62 → m + put < 2 ^ 62
-meter_ends m m0 a a0 t put total {i} {n} x p q h k l =
+pub meter_ends : {m m0 a a0 t put total i n : ℕ} (x : ℕ) → MeterBehind m m0 a a0 t put total i n x → i ≤ n → m + put < 2 ^ 62
+meter_ends {i} {n} x meter h =
     let e : i * x ≤ n * x = mul-le-mul_right x h in
     omega (arith, e)
 
@@ -193,15 +222,27 @@ pub other_same : (sink new w x y total : List Bool) → new ≡ sink ++ w ++ x �
 other_same sink new w x y total e f =
     ap (λ v. v ++ y) e ∙ (append_assoc (sink ++ w) x y ∙ (append_assoc sink w (x ++ y) ∙ f))
 
+-- a meter that had grown by some, and grows by more
+pub record GrowsAtLeast (j k m0 m m' a a' a0 put total : ℕ) : Type 0 where
+  pub before : m0 + a + total ≤ m + a0
+  pub more : m + put + j * (k + 4) ≤ m' + 1
+  pub put_is : a' ≡ a + put
+
 -- the steps of one block more
-pub least_more : {j : ℕ} (k : ℕ) {least : ℕ} (m0 m m' a : ℕ) {a' : ℕ} (a0 put total : ℕ) → 1 ≤ j → m0 + a + total ≤ m + a0 → m + put + j * (k + 4) ≤ m' + 1 → a' ≡ a + put
+pub least_more : {j k least m0 m m' a a' : ℕ} (a0 put total : ℕ) → 1 ≤ j → GrowsAtLeast j k m0 m m' a a' a0 put total
     → least ≡ j * (k + 3) - 1 → m0 + a' + (total + least) ≤ m' + a0
-least_more {j} k m0 m m' a a0 put total h p q e f =
+least_more {j} {k} a0 put total h grows f =
     let r : j * (k + 4) ≡ j * (k + 3) + j = omega arith in
     omega (arith, r)
 
-pub most_more : {most : ℕ} (m0 m m' a : ℕ) {a' : ℕ} (a0 put total : ℕ) {x : ℕ} → m + a0 ≤ m0 + a + total → m' ≤ m + put + x → a' ≡ a + put → most ≡ x → m' + a0 ≤ m0 + a' + (total + most)
-most_more m0 m m' a a0 put total p q e f = omega arith
+-- a meter that had grown by no more, and grows by no more
+pub record GrowsAtMost (m0 m m' a a' a0 put total x : ℕ) : Type 0 where
+  pub before : m + a0 ≤ m0 + a + total
+  pub more : m' ≤ m + put + x
+  pub put_is : a' ≡ a + put
+
+pub most_more : {most : ℕ} (m0 m m' a : ℕ) {a' : ℕ} (a0 put total : ℕ) {x : ℕ} → GrowsAtMost m0 m m' a a' a0 put total x → most ≡ x → m' + a0 ≤ m0 + a' + (total + most)
+most_more m0 m m' a a0 put total grows f = omega arith
 
 pub length_both : (new old more : List Bool) → new ≡ old ++ more → length new ≡ length old + length more
 length_both new old more e = ap length e ∙ length-append old more

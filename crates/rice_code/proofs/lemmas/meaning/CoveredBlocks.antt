@@ -216,15 +216,21 @@ run_fills s r {j} {left} cs h n f g =
     append-nil (zero_blocks s r left) ∙ (run_blocks s r left (j + (left - suc j)) m ∙ (ap (λ v. zero_block s r ∷ v) (sym (replicate-append-replicate j (left - suc j) z))
     ∙ (λ i. sym f i ∷ (sym whole i ++ replicate (left - suc j) z))))
 
+-- a data set of a block of zeros and of k more, which are the next ones
+record RunOfSet (s : Parameters) (b k : ℕ) (d : CodedDataSet) (c : BlockData) (cs : List BlockData) : Type 0 where
+  blocks : blocks_in s (b + 0) d ≡ zero_block s c.reference ∷ replicate k (zero_block s None)
+  first : c ≡ zero_block s c.reference
+  zeros : take k cs ≡ replicate k (zero_block s None)
+
 -- the blocks of a run that has z blocks, before what follows it
 run_covers : (s : Parameters) (b k : ℕ) (d : CodedDataSet) (ds : List CodedDataSet) {c : BlockData} (cs tail : List BlockData) →
-    blocks_in s (b + 0) d ≡ zero_block s c.reference ∷ replicate k (zero_block s None) → c ≡ zero_block s c.reference → take k cs ≡ replicate k (zero_block s None) →
+    RunOfSet s b k d c cs →
     blocks_in_all s (b + 1 + k) ds ≡ drop k cs ++ tail → blocks_in_all s (b + 0) (d ∷ ds) ≡ (c ∷ cs) ++ tail
-run_covers s b k d ds {c} cs tail e f g ih =
+run_covers s b k d ds {c} cs tail run ih =
     let zs = zero_block s c.reference ∷ replicate k (zero_block s None) in
     let n : b + 0 + length zs ≡ b + 1 + k = omega (arith, length-replicate k (zero_block s None)) in
-    let front : zs ≡ c ∷ take k cs = λ i. sym f i ∷ sym g i in
-    cons_covers s (b + 0) d ds zs e ∙ (ap (λ m. zs ++ blocks_in_all s m ds) n ∙ (ap (λ t. zs ++ t) ih ∙ (ap (λ v. v ++ (drop k cs ++ tail)) front
+    let front : zs ≡ c ∷ take k cs = λ i. sym run.first i ∷ sym run.zeros i in
+    cons_covers s (b + 0) d ds zs run.blocks ∙ (ap (λ m. zs ++ blocks_in_all s m ds) n ∙ (ap (λ t. zs ++ t) ih ∙ (ap (λ v. v ++ (drop k cs ++ tail)) front
     ∙ (sym (append_assoc (c ∷ take k cs) (drop k cs) tail) ∙ ap (λ v. (c ∷ v) ++ tail) (take-append-drop k cs)))))
 
 -- none of so many blocks from block b on begins a segment
@@ -332,7 +338,7 @@ covers_blocks s b behind (c ∷ cs) h k =
                   | inl e ↦ covers_one_more s b behind true c cs ih
                       (start (ZeroBlocks c.reference (run_len s b (c ∷ cs))) e ih.fill
                       (run_covers s b j (ZeroBlocks c.reference (run_len s b (c ∷ cs))) rest cs (replicate ih.fill (zero_block s None))
-                      (run_blocks s c.reference (run_len s b (c ∷ cs)) j len) zc zcs ih.blocks))
+                      (record { blocks = run_blocks s c.reference (run_len s b (c ∷ cs)) j len; first = zc; zeros = zcs }) ih.blocks))
                   | inr e ↦
                       let here : b + 0 ≡ b = omega arith in
                       let left = ap (λ i. blocks_left s i) here in
@@ -340,7 +346,11 @@ covers_blocks s b behind (c ∷ cs) h k =
                         | inl full ↦ covers_one_more s b behind true c cs ih
                             (start (RemainderOfSegment c.reference) e.0 ih.fill
                             (run_covers s b j (RemainderOfSegment c.reference) rest cs (replicate ih.fill (zero_block s None))
-                            (run_blocks s c.reference (blocks_left s (b + 0)) j (left ∙ (sym full ∙ len))) zc zcs ih.blocks))
+                            (record {
+                              blocks = run_blocks s c.reference (blocks_left s (b + 0)) j (left ∙ (sym full ∙ len));
+                              first = zc;
+                              zeros = zcs;
+                            }) ih.blocks))
                         | inr all ↦
                             let n : j ≡ length cs = omega arith in
                             let inside : suc j ≤ blocks_left s b = omega (arith, run_inside s b (c ∷ cs)) in

@@ -56,14 +56,19 @@ same_refusal s b rest m n P legal h k =
     let same = forms_read_in_one_way b h.refused k.refused h.more k.more legal h.form k.form (sym h.begins ∙ k.begins) in
     h.bits ∙ (ap (λ d. length (bits_of_set s d)) same.0 ∙ sym k.bits)
 
+-- legal parameters, and where decoding ends
+record EndsThere (s : Parameters) (asked : Option ℕ) (b : ℕ) (rest : List Bool) (ending : Ending) (used : ℕ) : Type 0 where
+  legal : IsLegal s
+  ending_is : EndsWith s asked b rest ending used
+
 -- where decoding ends, no coded data set is taken
-takes_no_set : {s : Parameters} (asked : Option ℕ) (b : ℕ) {rest : List Bool} (ending : Ending) (used : ℕ) → IsLegal s → EndsWith s asked b rest ending used →
+takes_no_set : {s : Parameters} {asked : Option ℕ} (b : ℕ) {rest : List Bool} (ending : Ending) (used : ℕ) → EndsThere s asked b rest ending used →
     (d : CodedDataSet) (more : List Bool) → IsWanted s asked b → IsSound s b d → rest ≡ bits_of_set s d ++ more → ⊥
-takes_no_set {s} asked b Reached used legal h d more go sound e = reached_or_not asked (s.block * b) h.0 go
-takes_no_set {s} asked b {rest} Ended used legal h d more go sound e = zeros_or_one rest h.1 (begins_with_one s b d rest more legal sound.0 e)
-takes_no_set asked b CutOff used legal h d more go sound e = h.2 d more sound.0 e
-takes_no_set {s} asked b {rest} Past used legal h d more go sound e = refused_here (RunIsSound s b) d more legal h.1 sound.0 e sound.1
-takes_no_set {s} asked b {rest} Large used legal h d more go sound e = refused_here (ResidualsAreSound s) d more legal h.1 sound.0 e sound.2
+takes_no_set {s} {asked} b Reached used ends d more go sound e = reached_or_not asked (s.block * b) ends.ending_is.0 go
+takes_no_set {s} b {rest} Ended used ends d more go sound e = zeros_or_one rest ends.ending_is.1 (begins_with_one s b d rest more ends.legal sound.0 e)
+takes_no_set b CutOff used ends d more go sound e = ends.ending_is.2 d more sound.0 e
+takes_no_set {s} b {rest} Past used ends d more go sound e = refused_here (RunIsSound s b) d more ends.legal ends.ending_is.1 sound.0 e sound.1
+takes_no_set {s} b {rest} Large used ends d more go sound e = refused_here (ResidualsAreSound s) d more ends.legal ends.ending_is.1 sound.0 e sound.2
 
 -- decoding ends in one way
 same_ending : {s : Parameters} (asked : Option ℕ) (b : ℕ) (rest : List Bool) (p q : Ending) {m n : ℕ} → IsLegal s → EndsWith s asked b rest p m → EndsWith s asked b rest q n → (p ≡ q) × (m ≡ n)
@@ -97,47 +102,63 @@ same_ending {s} asked b rest Large Past {m} {n} legal h k = absurd (past_and_lar
 abbrev NothingFollows : Parameters → Option ℕ → ℕ → List Bool → Type 0
 NothingFollows s asked b rest = (d : CodedDataSet) (more : List Bool) → IsWanted s asked b → IsSound s b d → rest ≡ bits_of_set s d ++ more → ⊥
 
+-- data sets up to block m that are all taken of bits, and nothing follows them
+record TakesAllSets (s : Parameters) (asked : Option ℕ) (b position m : ℕ) (ds : List CodedDataSet) (bits rest : List Bool) : Type 0 where
+  end_is : b + length (blocks_in_all s b ds) ≡ m
+  lie : Lies s b position ds bits
+  taken : AreTaken s asked b ds
+  nothing : NothingFollows s asked m rest
+
 same_sets : {s : Parameters} (asked : Option ℕ) (b position : ℕ) {m n : ℕ} {ds es : List CodedDataSet} {f g r q : List Bool} → IsLegal s →
-    b + length (blocks_in_all s b ds) ≡ m → b + length (blocks_in_all s b es) ≡ n →
-    Lies s b position ds f → Lies s b position es g → f ++ r ≡ g ++ q → AreTaken s asked b ds → AreTaken s asked b es → NothingFollows s asked m r → NothingFollows s asked n q → (ds ≡ es) × (f ≡ g) × (r ≡ q)
-same_sets asked b position {ds = []} {es = []} {r} {q} legal bm bn lf lg e tf tg sr sq =
-    (refl, lf ∙ sym lg, ap (λ v. v ++ r) (sym lf) ∙ (e ∙ ap (λ v. v ++ q) lg))
-same_sets {s} asked b position {m} {ds = []} {es = d ∷ es} {r} {q} legal bm bn lf lg e tf tg sr sq =
+    TakesAllSets s asked b position m ds f r → TakesAllSets s asked b position n es g q → f ++ r ≡ g ++ q → (ds ≡ es) × (f ≡ g) × (r ≡ q)
+same_sets asked b position {ds = []} {es = []} {r} {q} legal this_way that_way e =
+    (refl, this_way.lie ∙ sym that_way.lie, ap (λ v. v ++ r) (sym this_way.lie) ∙ (e ∙ ap (λ v. v ++ q) that_way.lie))
+same_sets {s} asked b position {m} {ds = []} {es = d ∷ es} {r} {q} legal this_way that_way e =
     let P : ℕ → Type 0 = λ i. NothingFollows s asked i r in
     let here : m ≡ b = omega arith in
-    let all : r ≡ bits_of_set s d ++ ((lg.0 ++ lg.1) ++ q) = ap (λ v. v ++ r) (sym lf) ∙ (e ∙ (ap (λ v. v ++ q) lg.3 ∙ append_assoc (bits_of_set s d) (lg.0 ++ lg.1) q)) in
-    absurd (subst P here sr d ((lg.0 ++ lg.1) ++ q) tg.0 (tg.1, tg.2, tg.3) all)
-same_sets {s} asked b position {n} {ds = d ∷ ds} {es = []} {r} {q} legal bm bn lf lg e tf tg sr sq =
+    let all : r ≡ bits_of_set s d ++ ((that_way.lie.0 ++ that_way.lie.1) ++ q) = ap (λ v. v ++ r) (sym this_way.lie)
+    ∙ (e ∙ (ap (λ v. v ++ q) that_way.lie.3 ∙ append_assoc (bits_of_set s d) (that_way.lie.0 ++ that_way.lie.1) q)) in
+    absurd (subst P here this_way.nothing d ((that_way.lie.0 ++ that_way.lie.1) ++ q) that_way.taken.0 (that_way.taken.1, that_way.taken.2, that_way.taken.3) all)
+same_sets {s} asked b position {n} {ds = d ∷ ds} {es = []} {r} {q} legal this_way that_way e =
     let P : ℕ → Type 0 = λ i. NothingFollows s asked i q in
     let here : n ≡ b = omega arith in
-    let all : q ≡ bits_of_set s d ++ ((lf.0 ++ lf.1) ++ r) = ap (λ v. v ++ q) (sym lg) ∙ (sym e ∙ (ap (λ v. v ++ r) lf.3 ∙ append_assoc (bits_of_set s d) (lf.0 ++ lf.1) r)) in
-    absurd (subst P here sq d ((lf.0 ++ lf.1) ++ r) tf.0 (tf.1, tf.2, tf.3) all)
-same_sets {s} asked b position {m} {n} {ds = d ∷ ds} {es = c ∷ es} {f} {g} {r} {q} legal bm bn lf lg e tf tg sr sq =
-    let left : f ++ r ≡ bits_of_set s d ++ (lf.0 ++ (lf.1 ++ r)) = ap (λ v. v ++ r) lf.3
-    ∙ (append_assoc (bits_of_set s d) (lf.0 ++ lf.1) r ∙ ap (λ v. bits_of_set s d ++ v) (append_assoc lf.0 lf.1 r)) in
-    let right : g ++ q ≡ bits_of_set s c ++ (lg.0 ++ (lg.1 ++ q)) = ap (λ v. v ++ q) lg.3
-    ∙ (append_assoc (bits_of_set s c) (lg.0 ++ lg.1) q ∙ ap (λ v. bits_of_set s c ++ v) (append_assoc lg.0 lg.1 q)) in
-    let one = forms_read_in_one_way b d c (lf.0 ++ (lf.1 ++ r)) (lg.0 ++ (lg.1 ++ q)) legal tf.1 tg.1 (sym left ∙ (e ∙ right)) in
+    let all : q ≡ bits_of_set s d ++ ((this_way.lie.0 ++ this_way.lie.1) ++ r) = ap (λ v. v ++ q) (sym that_way.lie)
+    ∙ (sym e ∙ (ap (λ v. v ++ r) this_way.lie.3 ∙ append_assoc (bits_of_set s d) (this_way.lie.0 ++ this_way.lie.1) r)) in
+    absurd (subst P here that_way.nothing d ((this_way.lie.0 ++ this_way.lie.1) ++ r) this_way.taken.0 (this_way.taken.1, this_way.taken.2, this_way.taken.3) all)
+same_sets {s} asked b position {m} {n} {ds = d ∷ ds} {es = c ∷ es} {f} {g} {r} {q} legal this_way that_way e =
+    let left : f ++ r ≡ bits_of_set s d ++ (this_way.lie.0 ++ (this_way.lie.1 ++ r)) = ap (λ v. v ++ r) this_way.lie.3
+    ∙ (append_assoc (bits_of_set s d) (this_way.lie.0 ++ this_way.lie.1) r ∙ ap (λ v. bits_of_set s d ++ v) (append_assoc this_way.lie.0 this_way.lie.1 r)) in
+    let right : g ++ q ≡ bits_of_set s c ++ (that_way.lie.0 ++ (that_way.lie.1 ++ q)) = ap (λ v. v ++ q) that_way.lie.3
+    ∙ (append_assoc (bits_of_set s c) (that_way.lie.0 ++ that_way.lie.1) q ∙ ap (λ v. bits_of_set s c ++ v) (append_assoc that_way.lie.0 that_way.lie.1 q)) in
+    let one = forms_read_in_one_way b d c (this_way.lie.0 ++ (this_way.lie.1 ++ r)) (that_way.lie.0 ++ (that_way.lie.1 ++ q)) legal this_way.taken.1 that_way.taken.1 (sym left ∙ (e ∙ right)) in
     let same = one.0 in
-    let two = bits_read lf.0 lg.0 (lf.1 ++ r) (lg.1 ++ q) (lf.2 ∙ (ap (λ x. padding s (block_after s b x) (position + length (bits_of_set s x))) same ∙ sym lg.2)) one.1 in
+    let two = bits_read this_way.lie.0 that_way.lie.0 (this_way.lie.1 ++ r) (that_way.lie.1 ++ q)
+    (this_way.lie.2 ∙ (ap (λ x. padding s (block_after s b x) (position + length (bits_of_set s x))) same ∙ sym that_way.lie.2)) one.1 in
     let skipped = two.0 in
-    let P : CodedDataSet → Type 0 = λ x. Lies s (block_after s b x) (position + length (bits_of_set s x ++ lg.0)) es lg.1 in
-    let Q : List Bool → Type 0 = λ v. Lies s (block_after s b d) (position + length (bits_of_set s d ++ v)) es lg.1 in
+    let P : CodedDataSet → Type 0 = λ x. Lies s (block_after s b x) (position + length (bits_of_set s x ++ that_way.lie.0)) es that_way.lie.1 in
+    let Q : List Bool → Type 0 = λ v. Lies s (block_after s b d) (position + length (bits_of_set s d ++ v)) es that_way.lie.1 in
     let R : CodedDataSet → Type 0 = λ x. AreTaken s asked (block_after s b x) es in
-    let lies : Lies s (block_after s b d) (position + length (bits_of_set s d ++ lf.0)) es lg.1 = subst Q (sym skipped) (subst P (sym same) lg.4) in
-    let taken : AreTaken s asked (block_after s b d) es = subst R (sym same) tg.4 in
+    let lies : Lies s (block_after s b d) (position + length (bits_of_set s d ++ this_way.lie.0)) es that_way.lie.1 = subst Q (sym skipped) (subst P (sym same) that_way.lie.4) in
+    let taken : AreTaken s asked (block_after s b d) es = subst R (sym same) that_way.taken.4 in
     let next = ap (λ x. block_after s b x + length (blocks_in_all s (block_after s b x) es)) same in
     let bm' : block_after s b d + length (blocks_in_all s (block_after s b d) ds) ≡ m = omega (arith, length-append (blocks_in s b d) (blocks_in_all s (block_after s b d) ds)) in
     let bn' : block_after s b c + length (blocks_in_all s (block_after s b c) es) ≡ n = omega (arith, length-append (blocks_in s b c) (blocks_in_all s (block_after s b c) es)) in
-    let rest = same_sets asked (block_after s b d) (position + length (bits_of_set s d ++ lf.0)) {ds = ds} {es = es} {f = lf.1} {g = lg.1} {r = r} {q = q} legal bm' (next ∙ bn') lf.4 lies two.1 tf.4 taken sr sq in
-    ((λ i. same i ∷ rest.0 i), lf.3 ∙ ((λ i. bits_of_set s (same i) ++ (skipped i ++ rest.1 i)) ∙ sym lg.3), rest.2)
+    let rest = same_sets asked (block_after s b d) (position + length (bits_of_set s d ++ this_way.lie.0)) {ds = ds} {es = es} {f = this_way.lie.1} {g = that_way.lie.1} {r = r} {q = q} legal
+    (record { end_is = bm'; lie = this_way.lie.4; taken = this_way.taken.4; nothing = this_way.nothing }) (record { end_is = next ∙ bn'; lie = lies; taken = taken; nothing = that_way.nothing })
+    two.1 in
+    ((λ i. same i ∷ rest.0 i), this_way.lie.3 ∙ ((λ i. bits_of_set s (same i) ++ (skipped i ++ rest.1 i)) ∙ sym that_way.lie.3), rest.2)
+
+-- so many samples
+record AreSamples (s : Parameters) (count : ℕ) (xs : List ℤ) : Type 0 where
+  legal : AllByRecursion (IsSample s) xs
+  len : length xs ≡ count
 
 -- a block says its samples
-same_block : {s : Parameters} (b : ℕ) (p : ℤ) {xs ys : List ℤ} → IsLegal s → 1 ≤ s.block → IsSample s p → AllByRecursion (IsSample s) xs → AllByRecursion (IsSample s) ys →
-    length xs ≡ s.block → length ys ≡ s.block → block_data s b p xs ≡ block_data s b p ys → xs ≡ ys
-same_block b p {xs = []} legal j h k l m n e = absurd (omega arith)
-same_block b p {xs = x ∷ xs} {ys = []} legal j h k l m n e = absurd (omega arith)
-same_block {s} b p {xs = x ∷ xs} {ys = y ∷ ys} legal j h k l m n e =
+same_block : {s : Parameters} (b : ℕ) (p : ℤ) {xs ys : List ℤ} → IsLegal s → 1 ≤ s.block → IsSample s p → AreSamples s s.block xs → AreSamples s s.block ys
+    → block_data s b p xs ≡ block_data s b p ys → xs ≡ ys
+same_block b p {xs = []} legal j h these those e = absurd (omega arith)
+same_block b p {xs = x ∷ xs} {ys = []} legal j h these those e = absurd (omega arith)
+same_block {s} b p {xs = x ∷ xs} {ys = y ∷ ys} legal j h these those e =
     let i = s.block * b in
     let ds : residual s i p x ∷ residuals s (i + 1) x xs ≡ residual s i p y ∷ residuals s (i + 1) y ys = ap (λ c. c.residuals) e in
     let one : residual s i p x ≡ residual s i p y = cc in
@@ -145,27 +166,33 @@ same_block {s} b p {xs = x ∷ xs} {ys = y ∷ ys} legal j h k l m n e =
     let reference = λ (v : Bool) (f : is_reference s b ≡ v). ap (λ u. cond u (Some (pattern s x)) None) (sym f) ∙ (ap (λ c. c.reference) e ∙ ap (λ u. cond u (Some (pattern s y)) None) f) in
     let first : x ≡ y =
     elim (bool_cases (is_reference s b)) [
-      | inl f ↦ let g : Some (pattern s x) ≡ Some (pattern s y) = reference true f in same_pattern s x y legal.bits_from k.0 l.0 cc
-      | inr f ↦ same_residual s i p {x = x} {y = y} legal.bits_from h k.0 l.0 (no_reference_at s b j f) one
+      | inl f ↦ let g : Some (pattern s x) ≡ Some (pattern s y) = reference true f in same_pattern s x y legal.bits_from these.legal.0 those.legal.0 cc
+      | inr f ↦ same_residual s i p {x = x} {y = y} legal.bits_from h these.legal.0 those.legal.0 (no_reference_at s b j f) one
     ] in
     let inside = λ (t : ℕ) (lt : t < length xs). (let z : i + 1 + t ≡ i + (1 + t) = omega arith in ap (λ v. is_reference_sample s v) z) ∙ inside_block s b (1 + t) (omega arith) (omega arith) in
-    let rest = same_residuals s (i + 1) x {xs = xs} {ys = ys} legal.bits_from k.0 k.1 l.1 inside (others ∙ ap (λ v. residuals s (i + 1) v ys) (sym first)) in
+    let rest = same_residuals s (i + 1) x {xs = xs} {ys = ys} legal.bits_from these.legal.0 these.legal.1 those.legal.1 inside (others ∙ ap (λ v. residuals s (i + 1) v ys) (sym first)) in
     λ t. first t ∷ rest t
 
-same_samples : {s : Parameters} (b : ℕ) (p : ℤ) (n : ℕ) {xs ys : List ℤ} → IsLegal s → 1 ≤ s.block → IsSample s p → AllByRecursion (IsSample s) xs → AllByRecursion (IsSample s) ys →
-    length xs ≡ s.block * n → length ys ≡ s.block * n → blocks_from s b p n xs ≡ blocks_from s b p n ys → xs ≡ ys
-same_samples b p zero {xs = []} {ys = []} legal j h k l m n e = refl
-same_samples b p zero {xs = []} {ys = y ∷ ys} legal j h k l m n e = absurd (omega arith)
-same_samples b p zero {xs = x ∷ xs} legal j h k l m n e = absurd (omega arith)
-same_samples {s} b p (suc count) {xs} {ys} legal j h k l m n e =
+same_samples : {s : Parameters} (b : ℕ) (p : ℤ) (n : ℕ) {xs ys : List ℤ} → IsLegal s → 1 ≤ s.block → IsSample s p → AreSamples s (s.block * n) xs → AreSamples s (s.block * n) ys
+    → blocks_from s b p n xs ≡ blocks_from s b p n ys → xs ≡ ys
+same_samples b p zero {xs = []} {ys = []} legal j h these those e = refl
+same_samples b p zero {xs = []} {ys = y ∷ ys} legal j h these those e = absurd (omega arith)
+same_samples b p zero {xs = x ∷ xs} legal j h these those e = absurd (omega arith)
+same_samples {s} b p (suc count) {xs} {ys} legal j h these those e =
     let one : block_data s b p (take s.block xs) ≡ block_data s b p (take s.block ys) = first_of_two _ _ _ _ e in
     let others : blocks_from s (b + 1) (last_of p (take s.block xs)) count (drop s.block xs) ≡ blocks_from s (b + 1) (last_of p (take s.block ys)) count (drop s.block ys) = second_of_two _ _ _ _ e in
-    let kf = all_take (IsSample s) s.block xs k in
-    let lf = all_take (IsSample s) s.block ys l in
-    let front = same_block b p {xs = take s.block xs} {ys = take s.block ys} legal j h kf lf (length-take-le s.block xs (omega arith)) (length-take-le s.block ys (omega arith)) one in
+    let kf = all_take (IsSample s) s.block xs these.legal in
+    let lf = all_take (IsSample s) s.block ys those.legal in
+    let front = same_block b p {xs = take s.block xs} {ys = take s.block ys} legal j h (record { legal = kf; len = length-take-le s.block xs (omega arith) })
+    (record { legal = lf; len = length-take-le s.block ys (omega arith) }) one in
     let back = same_samples (b + 1) (last_of p (take s.block xs)) count {xs = drop s.block xs} {ys = drop s.block ys} legal j (last_legal s p (take s.block xs) h kf)
-    (all_drop (IsSample s) s.block xs k) (all_drop (IsSample s) s.block ys l)
-    (omega (arith, length-drop s.block xs)) (omega (arith, length-drop s.block ys)) (others ∙ ap (λ v. blocks_from s (b + 1) (last_of p v) count (drop s.block ys)) (sym front)) in
+    (record {
+      legal = all_drop (IsSample s) s.block xs these.legal;
+      len = omega (arith, length-drop s.block xs);
+    }) (record {
+      legal = all_drop (IsSample s) s.block ys those.legal;
+      len = omega (arith, length-drop s.block ys);
+    }) (others ∙ ap (λ v. blocks_from s (b + 1) (last_of p v) count (drop s.block ys)) (sym front)) in
     sym (take-append-drop s.block xs) ∙ ((λ i. front i ++ back i) ∙ take-append-drop s.block ys)
   where
     first_of_two : (c d : BlockData) (cs ds : List BlockData) → c ∷ cs ≡ d ∷ ds → c ≡ d
@@ -180,14 +207,25 @@ decoded_is_one {s} legal {b} {position} {t} sample {asked} {p} {q} h k =
     let j : 1 ≤ s.block = grind (arith, legal.block) in
     let cs = blocks_in_all s b h.sets in
     let ds = blocks_in_all s b k.sets in
-    let same = same_sets asked b position {m = b + length cs} {n = b + length ds} {ds = h.sets} {es = k.sets} {f = h.front} {g = k.front} {r = h.rest} {q = k.rest} legal refl refl h.lie k.lie (sym h.parts ∙ k.parts) h.taken k.taken
-    (takes_no_set asked (b + length cs) {rest = h.rest} p h.last legal h.ends) (takes_no_set asked (b + length ds) {rest = k.rest} q k.last legal k.ends) in
+    let same = same_sets asked b position {m = b + length cs} {n = b + length ds} {ds = h.sets} {es = k.sets} {f = h.front} {g = k.front} {r = h.rest} {q = k.rest} legal (record {
+      end_is = refl;
+      lie = h.lie;
+      taken = h.taken;
+      nothing = takes_no_set {asked = asked} (b + length cs) {rest = h.rest} p h.last (record { legal = legal; ending_is = h.ends });
+    }) (record {
+      end_is = refl;
+      lie = k.lie;
+      taken = k.taken;
+      nothing = takes_no_set {asked = asked} (b + length ds) {rest = k.rest} q k.last (record { legal = legal; ending_is = k.ends });
+    }) (sym h.parts ∙ k.parts) in
     let blocks : cs ≡ ds = ap (λ v. blocks_in_all s b v) same.0 in
     let count = ap length blocks in
     let P : ℕ → Type 0 = λ i. EndsWith s asked (b + i) k.rest q k.last in
     let Q : List Bool → Type 0 = λ v. EndsWith s asked (b + length cs) v q k.last in
     let ending = same_ending asked (b + length cs) h.rest p q {m = h.last} {n = k.last} legal h.ends (subst Q (sym same.2) (subst P (sym count) k.ends)) in
-    let all = same_samples b t (length cs) {xs = h.all} {ys = k.all} legal j sample (recursion_from_All (IsSample s) h.all h.legal) (recursion_from_All (IsSample s) k.all k.legal)
-    h.len (k.len ∙ ap (λ i. s.block * i) (sym count)) (h.blocks ∙ (blocks ∙ (sym k.blocks ∙ ap (λ i. blocks_from s b t i k.all) (sym count)))) in
+    let all = same_samples b t (length cs) {xs = h.all} {ys = k.all} legal j sample (record { legal = recursion_from_All (IsSample s) h.all h.legal; len = h.len }) (record {
+      legal = recursion_from_All (IsSample s) k.all k.legal;
+      len = k.len ∙ ap (λ i. s.block * i) (sym count);
+    }) (h.blocks ∙ (blocks ∙ (sym k.blocks ∙ ap (λ i. blocks_from s b t i k.all) (sym count)))) in
     let front = ap length same.1 in
     (h.asked_for ∙ (ap (λ v. cut_to s asked b v) all ∙ sym k.asked_for), ending.0, h.bits_used ∙ ((λ i. front i + ending.1 i) ∙ sym k.bits_used))

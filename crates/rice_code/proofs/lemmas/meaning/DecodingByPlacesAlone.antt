@@ -64,21 +64,36 @@ taken_there s asked there b c (d ∷ ds) e w h =
           h.4,
     )
 
+-- two blocks at one place of their intervals, and what is asked for at one is asked for at the other
+pub record WantedThere (s : Parameters) (asked there : Option ℕ) (b c : ℕ) : Type 0 where
+  pub place_is : place s b ≡ place s c
+  pub wanted : (IsWanted s asked b → IsWanted s there c)
+  pub reached : (IsSomeAnd asked (λ n. n ≤ s.block * b) → IsSomeAnd there (λ n. n ≤ s.block * c))
+
 -- and what ends decoding at one ends it at the other
-pub ends_there : (s : Parameters) (asked there : Option ℕ) (b c : ℕ) (rest : List Bool) (ending : Ending) (used : ℕ) → place s b ≡ place s c → (IsWanted s asked b → IsWanted s there c)
-    → (IsSomeAnd asked (λ n. n ≤ s.block * b) → IsSomeAnd there (λ n. n ≤ s.block * c)) → EndsWith s asked b rest ending used → EndsWith s there c rest ending used
-ends_there s asked there b c rest Reached used e w r h = (r h.0, h.1)
-ends_there s asked there b c rest Ended used e w r h = (w h.0, h.1, h.2)
-ends_there s asked there b c rest CutOff used e w r h = (w h.0, h.1, (λ d more f g. h.2 d more (form_there s c b d (sym e) f) g), h.3)
-ends_there s asked there b c rest Past used e w r h =
+pub ends_there : {s : Parameters} (asked there : Option ℕ) (b c : ℕ) (rest : List Bool) (ending : Ending) (used : ℕ) → WantedThere s asked there b c → EndsWith s asked b rest ending used
+    → EndsWith s there c rest ending used
+ends_there asked there b c rest Reached used alike h = (alike.reached h.0, h.1)
+ends_there asked there b c rest Ended used alike h = (alike.wanted h.0, h.1, h.2)
+ends_there {s} asked there b c rest CutOff used alike h = (alike.wanted h.0, h.1, (λ d more f g. h.2 d more (form_there s c b d (sym alike.place_is) f) g), h.3)
+ends_there {s} asked there b c rest Past used alike h =
+    let u = h.1 in (
+      alike.wanted h.0,
+      record {
+        refused = u.refused;
+        more = u.more;
+        form = form_there s b c u.refused alike.place_is u.form;
+        unsound = λ g. u.unsound (run_there s c b u.refused (sym alike.place_is) g);
+        begins = u.begins;
+        bits = u.bits;
+      },
+    )
+ends_there {s} asked there b c rest Large used alike h =
     let u = h.1 in
-    (w h.0, record { refused = u.refused; more = u.more; form = form_there s b c u.refused e u.form; unsound = λ g. u.unsound (run_there s c b u.refused (sym e) g); begins = u.begins; bits = u.bits })
-ends_there s asked there b c rest Large used e w r h =
-    let u = h.1 in
-    (w h.0, record { refused = u.refused; more = u.more; form = form_there s b c u.refused e u.form; unsound = u.unsound; begins = u.begins; bits = u.bits })
+    (alike.wanted h.0, record { refused = u.refused; more = u.more; form = form_there s b c u.refused alike.place_is u.form; unsound = u.unsound; begins = u.begins; bits = u.bits })
 
 pub end_there : (s : Parameters) (b c : ℕ) (rest : List Bool) (ending : Ending) (used : ℕ) → place s b ≡ place s c → EndsWith s None b rest ending used → EndsWith s None c rest ending used
-end_there s b c rest ending used e h = ends_there s None None b c rest ending used e (λ k. k) (λ k. absurd k) h
+end_there s b c rest ending used e h = ends_there {s = s} None None b c rest ending used (record { place_is = e; wanted = λ k. k; reached = λ k. absurd k }) h
 
 pub decoding_stands : {s : Parameters} → IsLegal s → {b c m n : ℕ} (p : ℤ) (bits : List Bool) (xs : List ℤ) (ending : Ending) (used : ℕ) → place s b ≡ place s c → m % 8 ≡ n % 8 →
     DecodedFrom s b m p bits None xs ending used → DecodedFrom s c n p bits None xs ending used

@@ -10,6 +10,7 @@ use Rattle.rice_code.specs.code.Forms.{IsForm, RunIsSound, ResidualsAreSound, bl
 use Rattle.rice_code.specs.code.Layout.{block_after, padding}
 use Rattle.rice_code.specs.code.Decoded.{DecodedFrom, Ending, IsWanted, EndsWith, cut_to}
 use Rattle.rice_code.proofs.lemmas.code.FilledBlocks.{blocks_append}
+use Rattle.rice_code.specs.Laws.{IsWantedSet, MakeBlocks}
 
 take_parts : (n : ℕ) (xs ys : List ℤ) → take n xs ++ take (n - length xs) ys ≡ take n (xs ++ ys)
 take_parts n [] ys = let e : n - 0 ≡ n = omega arith in ap (λ m. take n (let v : List ℤ = [] in v) ++ take m ys) e ∙ nothing n
@@ -24,12 +25,13 @@ pub cut_parts : (s : Parameters) (asked : Option ℕ) (b n : ℕ) (xs ys : List 
 cut_parts s None b n xs ys e = refl
 cut_parts s (Some m) b n xs ys e = let f : m - s.block * (b + n) ≡ m - s.block * b - length xs = omega arith in ap (λ k. take (m - s.block * b) xs ++ take k ys) f ∙ take_parts (m - s.block * b) xs ys
 
-pub decoding_goes_on : {s : Parameters} → IsLegal s → {b position : ℕ} {p : ℤ} (d : CodedDataSet) (skipped : List Bool) {rest : List Bool} {asked : Option ℕ} (xs : List ℤ) {ys : List ℤ} {ending : Ending} {used : ℕ} →
-    IsWanted s asked b → IsForm s b d → RunIsSound s b d → ResidualsAreSound s d → length skipped ≡ padding s (block_after s b d) (position + length (bits_of_set s d)) →
-    All (IsSample s) xs → length xs ≡ s.block * length (blocks_in s b d) → blocks_from s b p (length (blocks_in s b d)) xs ≡ blocks_in s b d →
+pub decoding_goes_on : {s : Parameters} → IsLegal s
+    → {b position : ℕ} {p : ℤ} (d : CodedDataSet) (skipped : List Bool) {rest : List Bool} {asked : Option ℕ} (xs : List ℤ) {ys : List ℤ} {ending : Ending} {used : ℕ} →
+    IsWantedSet s asked b d → length skipped ≡ padding s (block_after s b d) (position + length (bits_of_set s d)) →
+    MakeBlocks s b p d xs →
     DecodedFrom s (block_after s b d) (position + length (bits_of_set s d ++ skipped)) (last_of p xs) rest asked ys ending used →
     DecodedFrom s b position p (bits_of_set s d ++ (skipped ++ rest)) asked (cut_to s asked b xs ++ ys) ending (length (bits_of_set s d ++ skipped) + used)
-decoding_goes_on {s} legal {b} {p} d skipped {rest} {asked} xs {ending} go form run residuals len all xlen made h =
+decoding_goes_on {s} legal {b} {p} d skipped {rest} {asked} xs {ending} set len makes h =
     let n = length (blocks_in s b d) in
     let next = block_after s b d in
     let more = blocks_in_all s next h.sets in
@@ -52,12 +54,12 @@ decoding_goes_on {s} legal {b} {p} d skipped {rest} {asked} xs {ending} go form 
       rest = h.rest;
       parts = whole;
       lie = (skipped, h.front, len, refl, h.lie);
-      taken = (go, form, run, residuals, h.taken);
+      taken = (set.wanted, set.form, set.run, set.residuals, h.taken);
       all = xs ++ h.all;
-      legal = All-append (IsSample s) xs h.all all h.legal;
-      len = lengths s.block _ _ _ n _ _ l4 xlen l5 count;
-      blocks = ap (λ m. blocks_from s b p m (xs ++ h.all)) count ∙ (blocks_append s b p n (length more) xs h.all xlen ∙ (λ i. made i ++ h.blocks i));
-      asked_for = ap (λ v. cut_to s asked b xs ++ v) h.asked_for ∙ cut_parts s asked b n xs h.all xlen;
+      legal = All-append (IsSample s) xs h.all makes.legal h.legal;
+      len = lengths s.block _ _ _ n _ _ l4 makes.len l5 count;
+      blocks = ap (λ m. blocks_from s b p m (xs ++ h.all)) count ∙ (blocks_append s b p n (length more) xs h.all makes.len ∙ (λ i. makes.blocks i ++ h.blocks i));
+      asked_for = ap (λ v. cut_to s asked b xs ++ v) h.asked_for ∙ cut_parts s asked b n xs h.all makes.len;
       last = h.last;
       ends = subst P place h.ends;
       bits_used = omega arith;

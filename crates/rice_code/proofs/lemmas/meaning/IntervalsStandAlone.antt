@@ -155,7 +155,12 @@ intervals_are_joined s legal count xs ys h =
     let w = intervals_are_whole s legal count xs h in
     let first = code s xs in
     let n = block_count s (length ys) in
-    let goes = code_goes_on legal 0 0 w.blocks (pos 0) xs ys (zero_is_sample s legal.bits_from) h.legal w.len (interval_begins_segment s (0 + w.blocks) w.begins) in
+    let goes = code_goes_on legal 0 0 w.blocks (pos 0) xs ys (record {
+      before = zero_is_sample s legal.bits_from;
+      samples = h.legal;
+      len = w.len;
+      segment = interval_begins_segment s (0 + w.blocks) w.begins;
+    }) in
     let alone = stands_alone s legal (0 + w.blocks) (0 + length first) (last_of (pos 0) xs) ys w.begins in
     goes ∙ ap (λ l. first ++ l) (alone ∙ elim (bool_cases s.pad) [
       | inl pads ↦ let byte : (0 + length first) % 8 ≡ 0 % 8 = omega (arith, code_to_byte s xs pads w) in laid_at s (0 + n) 0 (0 + length first) 0 (sets_of s ys) byte

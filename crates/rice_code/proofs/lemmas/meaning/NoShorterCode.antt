@@ -60,31 +60,45 @@ first_block s b n p xs zs le =
     let back = drop-append-le s.block xs zs le in
     λ i. block_data s b p (front i) ∷ blocks_from s (b + 1) (last_of p (front i)) n (back i)
 
+-- samples that are filled to whole blocks, and those with more samples
+record FilledBlocks (s : Parameters) (m count k : ℕ) (xs ys : List ℤ) : Type 0 where
+  block : 1 ≤ s.block
+  least : FillsLeast s k
+  few : k < s.block
+  first : length xs + k ≡ s.block * m
+  all : length xs + length ys ≡ s.block * count
+
 -- the blocks of samples that are filled up are at most those of any samples that begin with them
-blocks_begin : (s : Parameters) (b m count : ℕ) {k : ℕ} (p : ℤ) (xs ys : List ℤ) → 1 ≤ s.block → FillsLeast s k → k < s.block → length xs + k ≡ s.block * m → length xs + length ys ≡ s.block * count →
+blocks_begin : (s : Parameters) (b m count : ℕ) {k : ℕ} (p : ℤ) (xs ys : List ℤ) → FilledBlocks s m count k xs ys →
     BeginAtMost (blocks_from s b p m (xs ++ replicate k (last_of p xs))) (blocks_from s b p count (xs ++ ys))
-blocks_begin s b zero count p xs ys j way few len all = tt
-blocks_begin s b (suc m) zero p xs ys j way few len all = absurd (omega (arith, few, len, all))
-blocks_begin s b (suc zero) (suc count) {k} p xs ys j way few len all =
+blocks_begin s b zero count p xs ys filled = tt
+blocks_begin s b (suc m) zero p xs ys filled = absurd (omega (arith, filled.few, filled.first, filled.all))
+blocks_begin s b (suc zero) (suc count) {k} p xs ys filled =
     let fill = replicate k (last_of p xs) in
-    let one : s.block ≡ length xs + k = omega (arith, len) in
+    let one : s.block ≡ length xs + k = omega (arith, filled.first) in
     let size : s.block ≡ length (xs ++ fill) = omega (arith, one, length-append xs fill, length-replicate k (last_of p xs)) in
     let own : take s.block (xs ++ fill) ≡ xs ++ fill = ap (λ n. take n (xs ++ fill)) size ∙ take-length (xs ++ fill) in
     let other : take s.block (xs ++ ys) ≡ xs ++ take k ys = ap (λ n. take n (xs ++ ys)) one ∙ take-append-add xs ys k in
-    let count : length (take k ys) ≡ k = length-take-le k ys (omega (arith, one, all)) in
-    let below = data_at_most s b k p xs (take k ys) (omega (arith, one, few)) way count in (
+    let count : length (take k ys) ≡ k = length-take-le k ys (omega (arith, one, filled.all)) in
+    let below = data_at_most s b k p xs (take k ys) (omega (arith, one, filled.few)) filled.least count in (
       subst (λ (l : List ℤ). IsAtMost (block_data s b p l) (block_data s b p (take s.block (xs ++ ys)))) (sym own)
           (subst (λ (l : List ℤ). IsAtMost (block_data s b p (xs ++ fill)) (block_data s b p l)) (sym other) below),
       tt,
     )
-blocks_begin s b (suc (suc m)) (suc count) {k} p xs ys j way few len all =
-    let whole : s.block ≤ length xs = omega (arith, few, len) in
+blocks_begin s b (suc (suc m)) (suc count) {k} p xs ys filled =
+    let whole : s.block ≤ length xs = omega (arith, filled.few, filled.first) in
     let next = last_of p (take s.block xs) in
     let rest = drop s.block xs in
     let last = last_behind p s.block xs in
     let own = ap (λ v. blocks_from s b p (suc (suc m)) (xs ++ replicate k v)) (sym last) ∙ first_block s b (suc m) p xs (replicate k (last_of next rest)) whole in
     let other = first_block s b count p xs ys whole in
-    let ih = blocks_begin s (b + 1) (suc m) count next rest ys j way few (omega (arith, len, length-drop s.block xs, whole)) (omega (arith, all, length-drop s.block xs, whole)) in
+    let ih = blocks_begin s (b + 1) (suc m) count next rest ys (record {
+      block = filled.block;
+      least = filled.least;
+      few = filled.few;
+      first = omega (arith, filled.first, length-drop s.block xs, whole);
+      all = omega (arith, filled.all, length-drop s.block xs, whole);
+    }) in
     let same : IsAtMost (block_data s b p (take s.block xs)) (block_data s b p (take s.block xs)) =
     record { reference = refl; residuals = at_most_itself (residuals s (s.block * b) p (take s.block xs)) } in
     subst (λ l. BeginAtMost l (blocks_from s b p (suc count) (xs ++ ys))) (sym own)
@@ -125,13 +139,13 @@ sets_are_no_shorter {s} legal size xs more way {asked} h =
     let least_fill : FillsLeast s k = elim way [ inl on ↦ inl on | inr whole ↦ inr (filled.1 whole) ] in
     let len : length xs + k ≡ s.block * m = omega (arith, filled_len s (pos 0) xs j, length-append xs (replicate k last), length-replicate k last) in
     let all : length xs + length parted.0 ≡ s.block * count = omega (arith, h.len, ap length parted.1, length-append xs parted.0) in
-    let below = blocks_begin s 0 m count (pos 0) xs parted.0 j least_fill filled.0 len all in
+    let below = blocks_begin s 0 m count (pos 0) xs parted.0 (record { block = j; least = least_fill; few = filled.0; first = len; all = all }) in
     let theirs = ap (λ l. blocks_from s 0 (pos 0) count l) (sym parted.1) ∙ h.blocks in
     let cs = blocks_of s 0 (pos 0) xs in
     let end : 0 + m ≡ 0 + length cs = omega (arith, count_blocks s 0 (pos 0) m (filled_samples s (pos 0) xs)) in
     omega (
       arith,
-      ends_no_later legal size (padded_is s legal.interval_from) 0 {p = 0} {q = 0} cs h.sets end (omega arith) (taken_at_will s asked 0 h.sets h.taken)
+      ends_no_later (record { legal = legal; block = size; fill_is = padded_is s legal.interval_from }) 0 {p = 0} {q = 0} cs h.sets end (omega arith) (taken_at_will s asked 0 h.sets h.taken)
           (subst (λ l. BeginAtMost cs l) theirs below),
       sent_padded s (0 + m) 0 0 (sets_of s xs),
       taken_padded s 0 0 h.sets h.front h.lie,

@@ -200,9 +200,17 @@ returns-in-Err-write_blocks-clause-call g c =
     let same : c.known_or-size.result ≡ s.block = c.known_or-size.ensures ∙ c.block-block.ensures.value in
     let err = c.in-Err-write_blocks.ensures.err in
     let fails = fails_behind {written = old.written} {out = g.O.Outlet.taken old.outlet} {out_new = g.O.Outlet.taken c.write_blocks.new.outlet}
-    {rep = c.failed_behind.result.0.report}
-    (c.requires.lanes (row.lanes some)) same c.block-block.ensures.value row.room c.next_bytes-blocks.array_long given.1 c.taken-begin.ensures.value c.steps-steps.ensures.value
-    c.taken-begin.ensures.waiting c.taken-begin.ensures.limit err.0 err.1 c.failed_behind.ensures.told c.failed_behind.ensures.left c.failed_behind.ensures.failed in
+    {rep = c.failed_behind.result.0.report} (c.requires.lanes (row.lanes some)) (record {
+      size_is = same;
+      block_is = c.block-block.ensures.value;
+      few = row.room;
+      bytes_are = c.next_bytes-blocks.array_long;
+    }) given.1 (record {
+      bits = c.taken-begin.ensures.value;
+      steps_are = c.steps-steps.ensures.value;
+      waiting = c.taken-begin.ensures.waiting;
+      within = c.taken-begin.ensures.limit;
+    }) (record { short = err.0; appended = err.1 }) c.failed_behind.ensures.told c.failed_behind.ensures.left c.failed_behind.ensures.failed in
     row_fails c.block-block.ensures.legal i.runs given.0 fails.fails (row.wanted some) refl fails.tells
 
 pub returns-in-Err-write_blocks-clause-failures : goal.returns-in-Err-write_blocks-clause-failures
@@ -218,9 +226,17 @@ returns-in-Err-write_blocks-clause-failures g c =
     let same : c.known_or-size.result ≡ s.block = c.known_or-size.ensures ∙ c.block-block.ensures.value in
     let err = c.in-Err-write_blocks.ensures.err in
     let fails = fails_behind {written = old.written} {out = g.O.Outlet.taken old.outlet} {out_new = g.O.Outlet.taken c.write_blocks.new.outlet}
-    {rep = c.failed_behind.result.0.report}
-    (c.requires.lanes (row.lanes some)) same c.block-block.ensures.value row.room c.next_bytes-blocks.array_long given.1 c.taken-begin.ensures.value c.steps-steps.ensures.value
-    c.taken-begin.ensures.waiting c.taken-begin.ensures.limit err.0 err.1 c.failed_behind.ensures.told c.failed_behind.ensures.left c.failed_behind.ensures.failed in
+    {rep = c.failed_behind.result.0.report} (c.requires.lanes (row.lanes some)) (record {
+      size_is = same;
+      block_is = c.block-block.ensures.value;
+      few = row.room;
+      bytes_are = c.next_bytes-blocks.array_long;
+    }) given.1 (record {
+      bits = c.taken-begin.ensures.value;
+      steps_are = c.steps-steps.ensures.value;
+      waiting = c.taken-begin.ensures.waiting;
+      within = c.taken-begin.ensures.limit;
+    }) (record { short = err.0; appended = err.1 }) c.failed_behind.ensures.told c.failed_behind.ensures.left c.failed_behind.ensures.failed in
     row_fails_so (g.O.Outlet.failed c.args.outlet.now) (g.O.Outlet.failed c.write_blocks.new.outlet) i.runs given.0 fails.fails (err.2 ∙ ap (λ n. n + 1) i.writes) fails.tells
 
 pub returns-in-Err-write_blocks-clause-bounds : goal.returns-in-Err-write_blocks-clause-bounds
@@ -236,9 +252,17 @@ returns-in-Err-write_blocks-clause-bounds g c =
     let same : c.known_or-size.result ≡ s.block = c.known_or-size.ensures ∙ c.block-block.ensures.value in
     let err = c.in-Err-write_blocks.ensures.err in
     let fails = fails_behind {written = old.written} {out = g.O.Outlet.taken old.outlet} {out_new = g.O.Outlet.taken c.write_blocks.new.outlet}
-    {rep = c.failed_behind.result.0.report}
-    (c.requires.lanes (row.lanes some)) same c.block-block.ensures.value row.room c.next_bytes-blocks.array_long given.1 c.taken-begin.ensures.value c.steps-steps.ensures.value
-    c.taken-begin.ensures.waiting c.taken-begin.ensures.limit err.0 err.1 c.failed_behind.ensures.told c.failed_behind.ensures.left c.failed_behind.ensures.failed in
+    {rep = c.failed_behind.result.0.report} (c.requires.lanes (row.lanes some)) (record {
+      size_is = same;
+      block_is = c.block-block.ensures.value;
+      few = row.room;
+      bytes_are = c.next_bytes-blocks.array_long;
+    }) given.1 (record {
+      bits = c.taken-begin.ensures.value;
+      steps_are = c.steps-steps.ensures.value;
+      waiting = c.taken-begin.ensures.waiting;
+      within = c.taken-begin.ensures.limit;
+    }) (record { short = err.0; appended = err.1 }) c.failed_behind.ensures.told c.failed_behind.ensures.left c.failed_behind.ensures.failed in
     row_fails_within i.runs given.0 fails.fails fails.counted (row.wanted some) refl fails.tells
 
 pub decode_all-preserved-then-blocks-gt0 : goal.decode_all-preserved-then-blocks-gt0

@@ -62,8 +62,7 @@ returns-then-count-eq0-clause-call g c =
     let start = g.O.Outlet.taken c.args.outlet.now in
     let values = values_at c.encode_all.samples.setting c.next.new.levels in
     let gives = subst (λ (n : ℕ). GivesSamples c.encode_all.samples c.next.new.self left new (take n values)) c.if-count-eq0.true c.in-Ok.ensures.gives in
-    let runs = reads_none
-    c.encode_all.invariant.runs gives in
+    let runs = reads_none c.encode_all.invariant.runs gives in
     let did = c.finish.ensures.did s (afresh start) runs.samples runs.holds in
     let end = c.in-Ok.ensures.end c.if-count-eq0.true in
     finish_ends runs end.1 end.0 c.in-Ok.ensures.limits.1 did.0 did.1
@@ -150,8 +149,7 @@ returns-in-Err-push_all_levels-clause-call g c =
     let count : length ys ≡ n = (taken_count s levels n says.count).1 in
     let piece : width s * n + length c.next.new.self.waiting ≤ 4096 = subst (λ (s : Parameters). width s * n + length c.next.new.self.waiting ≤ 4096) runs.setting says.piece in
     subst (λ (f : Option Fault). EncodesBetween s left_old new start taken o.result.report f) (sym o.ensures.fault)
-    (writing_ends
-    o.result.report runs gives fails (omega (arith, piece, ap (λ n. width s * n) count)) says.limits.1 (λ xs h. o.ensures.told s xs h))
+    (writing_ends o.result.report runs gives fails (omega (arith, piece, ap (λ n. width s * n) count)) says.limits.1 (λ xs h. o.ensures.told s xs h))
 
 pub returns-in-Err-push_all_levels-clause-bounds : goal.returns-in-Err-push_all_levels-clause-bounds
 returns-in-Err-push_all_levels-clause-bounds g c =

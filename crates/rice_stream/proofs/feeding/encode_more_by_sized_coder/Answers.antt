@@ -108,5 +108,9 @@ returns-in_err-push_samples_of_bytes-clause-did g c xs h =
     let total : cut s (seam.samples + length bytes / w) ≡ cut s (length xs + length bytes / width s) = (λ i. cut s (h.samples i + per i)) in
     let grows = cut_grows s seam xs (length xs + length bytes / width s) h (omega arith) in
     let p = err_from_is_err_and c.from_residual.result c.from_residual.ensures.1 in
-    rw (p.1, p.2) (more_stops s now new e xs bytes count fault limit (omega (arith, c.in_whole_segments.ensures.value, total, grows, h.samples))
-    (fit_in (width s) (length bytes) count (omega (arith, c.in_whole_segments.ensures.limit, per))) stops)
+    rw (p.1, p.2) (more_stops s now new e xs bytes count fault (record {
+      few = limit;
+      count_is = omega (arith, c.in_whole_segments.ensures.value, total, grows, h.samples);
+      enough = fit_in (width s) (length bytes) count (omega (arith, c.in_whole_segments.ensures.limit, per));
+      pushes = stops;
+    }))

@@ -43,8 +43,7 @@ returns-then-here-eq0 g c = λ o front given h.
     let i = c.decode_all.invariant in
     let so = i.so_far o front given h in
     ends_so pauses.Blank so (
-      has_room c.args.setting.now (length so.samples) c.width.ensures.value
-          c.block.ensures.value c.decode_all-test.true i.within so.count i.len,
+      has_room c.args.setting.now (length so.samples) c.width.ensures.value c.block.ensures.value c.decode_all-test.true i.within so.count i.len,
       c.if-here-eq0.true,
       nothing_ahead c.args.setting.now c.args.stand.now c.decode_all.here.block c.args.piece.now so.bits (ahead c.decode_all.reader) (let e : length c.args.piece.now ≡ 0 = search rules in e) so.parts,
     ) (λ no. c.requires.fits)
@@ -133,8 +132,7 @@ returns-in-None-found g c = λ o front given h.
     let t = subst (λ (v : Option Stand). TakesNext s o (front ++ so.bits) (given ++ so.samples) c.decode_all.here c.next_stroke.new.reader c.next_stand.new.reader
     (values_at s c.next_stand.new.levels.items) (Ok v)) c.in-None-found.is (c.in-Ok.ensures.takes o (front ++ so.bits) (given ++ so.samples) so.stands) in
     ends_so pauses.Blank so (
-      has_room c.args.setting.now (length so.samples) c.width.ensures.value
-          c.block.ensures.value c.decode_all-test.true i.within so.count i.len,
+      has_room c.args.setting.now (length so.samples) c.width.ensures.value c.block.ensures.value c.decode_all-test.true i.within so.count i.len,
       t.0,
       t.1,
     ) (λ no. c.requires.fits)
@@ -144,7 +142,10 @@ pause_of-requires-clause-read g c = λ read.
     let know = c.requires.stand in
     let so = still c.in-None.ensures.did.1 c.in-None.ensures.did.2 (c.decode_all.invariant.so_far know.0 know.1 know.2 know.3) in
     let failed = failed_once c.args.setting.now know.0 (know.1 ++ so.bits) (know.2 ++ so.samples) c.decode_all.here c.next_stroke.new.reader c.next_stand.new.reader
-    (values_at c.args.setting.now c.next_stand.new.levels.items) read (c.in-Err.ensures.takes know.0 (know.1 ++ so.bits) (know.2 ++ so.samples) so.stands) in
+    (values_at c.args.setting.now c.next_stand.new.levels.items) (record {
+      fault_is = read;
+      takes = c.in-Err.ensures.takes know.0 (know.1 ++ so.bits) (know.2 ++ so.samples) so.stands;
+    }) in
     omega (arith, failed, c.into_inner-intake-in-Err.ensures.failed)
 
 pub pause_of-requires-clause-long : goal.pause_of-requires-clause-long
@@ -152,7 +153,10 @@ pause_of-requires-clause-long g c = λ long.
     let know = c.requires.stand in
     let so = still c.in-None.ensures.did.1 c.in-None.ensures.did.2 (c.decode_all.invariant.so_far know.0 know.1 know.2 know.3) in
     never_too_long c.args.setting.now know.0 (know.1 ++ so.bits) (know.2 ++ so.samples) c.decode_all.here c.next_stroke.new.reader c.next_stand.new.reader
-    (values_at c.args.setting.now c.next_stand.new.levels.items) long (c.in-Err.ensures.takes know.0 (know.1 ++ so.bits) (know.2 ++ so.samples) so.stands)
+    (values_at c.args.setting.now c.next_stand.new.levels.items) (record {
+      fault_is = long;
+      takes = c.in-Err.ensures.takes know.0 (know.1 ++ so.bits) (know.2 ++ so.samples) so.stands;
+    })
 
 pub returns-in-Err : goal.returns-in-Err
 returns-in-Err g c = λ o front given h.
@@ -160,9 +164,11 @@ returns-in-Err g c = λ o front given h.
     let i = c.decode_all.invariant in
     let so = still c.in-None.ensures.did.1 c.in-None.ensures.did.2 (i.so_far o front given h) in
     let never : c.in-Err.fault ≡ faults.Read → ⊥ = λ read. let failed = failed_once s o (front ++ so.bits) (given ++ so.samples) c.decode_all.here c.next_stroke.new.reader c.next_stand.new.reader
-    (values_at s c.next_stand.new.levels.items) read (c.in-Err.ensures.takes o (front ++ so.bits) (given ++ so.samples) so.stands) in absurd (omega (arith, failed, c.into_inner-intake-in-Err.ensures.failed)) in
-    let room = has_room s (length so.samples) c.width.ensures.value
-    c.block.ensures.value c.decode_all-test.true i.within so.count i.len in
+    (values_at s c.next_stand.new.levels.items) (record {
+      fault_is = read;
+      takes = c.in-Err.ensures.takes o (front ++ so.bits) (given ++ so.samples) so.stands;
+    }) in absurd (omega (arith, failed, c.into_inner-intake-in-Err.ensures.failed)) in
+    let room = has_room s (length so.samples) c.width.ensures.value c.block.ensures.value c.decode_all-test.true i.within so.count i.len in
     subst (λ (p : Pause). DecodesMore s o front given c.args.piece.now c.args.stand.now c.args.samples.now c.next_stroke.new.samples c.decode_all.here p) (sym c.pause_of.ensures)
     (refused_so (values_at s c.next_stand.new.levels.items) c.next_stroke.new.reader c.next_stand.new.reader c.in-Err.fault so room
     (c.in-Err.ensures.takes o (front ++ so.bits) (given ++ so.samples) so.stands) never (c.requires.fits))

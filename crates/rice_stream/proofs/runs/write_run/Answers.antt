@@ -30,5 +30,9 @@ returns-in-Err-clause-err g c =
     let spelled = c.spell_copies_of_sample.ensures ∙ ap (λ x. spellings s (replicate (c.block-block.result * blocks.result) x)) same in
     let taken = c.in-Err.ensures.err in
     run_cut blocks.result c.pass_blocks_of_run.new.self
-    (omega (arith, block.value, block.range)) (omega (arith, width.value, width.range)) width.value block.value c.pass_blocks_of_run.ensures.gives
-    c.pass_blocks_of_run.ensures.run blocks.ensures.wanted spelled taken.0 taken.1
+    (record {
+      block = omega (arith, block.value, block.range);
+      width_some = omega (arith, width.value, width.range);
+      width_is = width.value;
+      block_is = block.value;
+    }) c.pass_blocks_of_run.ensures.gives c.pass_blocks_of_run.ensures.run blocks.ensures.wanted spelled taken.0 taken.1

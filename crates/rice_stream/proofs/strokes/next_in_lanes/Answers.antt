@@ -27,7 +27,11 @@ returns-clause-did g c =
     subst (λ b. 0 + b * c.blocks_wanted-most.result ≤ (length c.args.samples.now - c.args.at) / w) (sym c.block.ensures.value) c.blocks_wanted-most.ensures.wanted in
     let inside : c.args.at ≤ length c.args.samples.now = omega (arith, c.requires.room) in
     let k = row_stroke {next = c.stand_behind-behind.result} {q = new.self} {new = new.reader} new.meter
-    {bytes = new.bytes} know.3 c.requires.come.reads c.requires.come.aligned c.requires.come.state says.0 steps says.1.row (width_is s s.block w c.requires.lanes) c.block.ensures.value
-    (elim c.requires.lanes.samples.widths [ inl e ↦ omega (arith, e) | inr e ↦ omega (arith, e) ]) (omega (arith, c.block.ensures.range)) some
-    (c.stand_behind-behind.ensures.numbers ∙ (λ i. stand_at (stand.samples + n) (stand.bits + taken i) (new.meter + n) new.self)) in
+    {bytes = new.bytes} know.3 c.requires.come.reads c.requires.come.aligned (record { state_is = c.requires.come.state; steps_are = steps }) says.0 says.1.row (record {
+      width_is = width_is s s.block w c.requires.lanes;
+      block_is = c.block.ensures.value;
+      width_some = elim c.requires.lanes.samples.widths [ inl e ↦ omega (arith, e) | inr e ↦ omega (arith, e) ];
+      block_some = omega (arith, c.block.ensures.range);
+      some = some;
+    }) (c.stand_behind-behind.ensures.numbers ∙ (λ i. stand_at (stand.samples + n) (stand.bits + taken i) (new.meter + n) new.self)) in
     (stroke_written (w * n) c.args.at new.bytes c.args.samples.now c.copy_at.new.samples k (omega (arith, few, c.next_bytes-blocks.auto.bytes, c.told-bytes)) c.copy_at.ensures, row_has_room w c.block.result blocks c.blocks_wanted-most.result c.args.at (length c.args.samples.now) c.next_bytes-blocks.ensures.most fit inside)

@@ -17,9 +17,13 @@ returns-clause-gives c =
     let same : to_z w64 (of_z w64 z) ≡ p.before = to_z-of_z {w = w64} {z = z} (record { sfits = c.before-sample.type_inv }) ∙ c.before-sample.ensures in
     let taken : r.taken - c.taken.result ≡ r.taken - r.taken = omega (arith, c.taken.ensures.value) in
     let steps : c.tick.new.self + n ≡ stand.steps + n = omega (arith, c.tick.ensures, c.new-meter.ensures) in
-    run_stroke know.3 c.requires.come.reads c.requires.come.state c.pass_blocks_of_run.ensures.gives c.width-width.ensures.value c.block-block.ensures.value
-    (omega (arith, c.width-width.ensures.range)) (omega (arith, c.block-block.ensures.range)) blocks.ensures.some
-    (c.stand_behind-stand.ensures.numbers ∙ (λ i. stand_at (stand.samples + n) (stand.bits + taken i) (steps i) q)) same c.spell_again_at.ensures
+    run_stroke know.3 c.requires.come.reads c.requires.come.state c.pass_blocks_of_run.ensures.gives (record {
+      width_is = c.width-width.ensures.value;
+      block_is = c.block-block.ensures.value;
+      width_some = omega (arith, c.width-width.ensures.range);
+      block_some = omega (arith, c.block-block.ensures.range);
+      some = blocks.ensures.some;
+    }) (c.stand_behind-stand.ensures.numbers ∙ (λ i. stand_at (stand.samples + n) (stand.bits + taken i) (steps i) q)) same c.spell_again_at.ensures
 
 pub returns-clause-room : goal.returns-clause-room
 returns-clause-room c = grind (arith, common_steps)

@@ -21,9 +21,12 @@ returns-clause-did g c =
     let same : w * n ≡ w * s.block * c.spell_row_ahead-blocks.result = ap (λ b. w * (b * c.spell_row_ahead-blocks.result)) c.block.ensures.value ∙ omega arith in
     let few : w * n ≤ 512 = omega (arith, same, least, c.requires.few.1) in
     let k = row_stroke {next = c.stand_behind-stand.result} {q = new.self} {new = new.reader} new.meter
-    {bytes = c.spell_row_ahead-blocks.new.bytes} know.3 c.requires.come.reads c.requires.come.aligned c.requires.come.state (c.spell_row_ahead-blocks.ensures.run some) steps
-    c.pass_plain_blocks.ensures.gives (plain_width c.args.setting.now g.row.WIDTH c.requires.plain) c.block.ensures.value
-    (elim c.requires.plain.widths [ inl e ↦ omega (arith, e) | inr e ↦ elim e [ inl f ↦ omega (arith, f) | inr f ↦ omega (arith, f) ] ])
-    (omega (arith, c.block.ensures.range)) some
-    (c.stand_behind-stand.ensures.numbers ∙ (λ i. stand_at (stand.samples + n) (stand.bits + taken i) (new.meter + n) new.self)) in
+    {bytes = c.spell_row_ahead-blocks.new.bytes} know.3 c.requires.come.reads c.requires.come.aligned (record { state_is = c.requires.come.state; steps_are = steps })
+    (c.spell_row_ahead-blocks.ensures.run some) c.pass_plain_blocks.ensures.gives (record {
+      width_is = plain_width c.args.setting.now g.row.WIDTH c.requires.plain;
+      block_is = c.block.ensures.value;
+      width_some = elim c.requires.plain.widths [ inl e ↦ omega (arith, e) | inr e ↦ elim e [ inl f ↦ omega (arith, f) | inr f ↦ omega (arith, f) ] ];
+      block_some = omega (arith, c.block.ensures.range);
+      some = some;
+    }) (c.stand_behind-stand.ensures.numbers ∙ (λ i. stand_at (stand.samples + n) (stand.bits + taken i) (new.meter + n) new.self)) in
     (stroke_written (g.row.WIDTH * n) c.args.at c.spell_row_ahead-blocks.new.bytes c.args.samples.now c.copy_at.new.samples k (omega (arith, few, c.spell_row_ahead-blocks.array_long)) c.copy_at.ensures, let room : c.args.at + g.row.WIDTH * n ≤ length c.args.samples.now = search rules in room)

@@ -12,15 +12,13 @@ returns-in_err-id-clause-err g c =
 pub returns-then-id-eq0-clause-ok : goal.returns-then-id-eq0-clause-ok
 returns-then-id-eq0-clause-ok g c =
     let t = rw c.id_len-width.ensures.value at c.in_ok-id.ensures.ok in
-    low_set
-    c.if-id-eq0.true t.1 c.in_ok-id.ensures.steps c.in_ok-taken.ensures.ok
+    low_set c.if-id-eq0.true t.1 c.in_ok-id.ensures.steps c.in_ok-taken.ensures.ok
 
 pub returns-in_err-taken-clause-err : goal.returns-in_err-taken-clause-err
 returns-in_err-taken-clause-err g c =
     let t = rw c.id_len-width.ensures.value at c.in_ok-id.ensures.ok in
     let p = err_from_is_err_and c.from_residual-in_err-taken.result c.from_residual-in_err-taken.ensures.1 in
-    rw (p.1, p.2) (low_set_cut c.args.meter.now
-    t.0 c.if-id-eq0.true t.1 c.in_ok-id.ensures.steps c.in_err-taken.ensures.err)
+    rw (p.1, p.2) (low_set_cut c.args.meter.now t.0 c.if-id-eq0.true t.1 c.in_ok-id.ensures.steps c.in_err-taken.ensures.err)
 
 pub returns-then-id-width-clause-ok : goal.returns-then-id-width-clause-ok
 returns-then-id-width-clause-ok g c =
@@ -40,8 +38,7 @@ returns-in_err-head-clause-err g c =
 pub returns-clause-ok : goal.returns-clause-ok
 returns-clause-ok g c =
     let t = rw c.id_len-width.ensures.value at c.in_ok-id.ensures.ok in
-    split_set
-    c.in_ok-id.id (c.in_ok-id.id - 1) c.in_ok-head-2.head.reference c.in_ok-head-2.head.sound true
+    split_set c.in_ok-id.id (c.in_ok-id.id - 1) c.in_ok-head-2.head.reference c.in_ok-head-2.head.sound true
     (omega arith) t.1 c.in_ok-id.ensures.steps c.in_ok-head-2.ensures.ok
 
 pub returns-in_err-head-2-clause-err : goal.returns-in_err-head-2-clause-err
@@ -50,6 +47,5 @@ returns-in_err-head-2-clause-err g c =
     let e = rw c.id_len-width.ensures.value at c.if-id-width.false in
     let i = ones_id c.args.setting.now in
     let p = err_from_is_err_and c.from_residual-in_err-head-2.result c.from_residual-in_err-head-2.ensures.1 in
-    rw (p.1, p.2) (split_set_cut c.args.meter.now c.read_split.new.meter c.in_ok-id.id
-    (c.in_ok-id.id - 1)
+    rw (p.1, p.2) (split_set_cut c.args.meter.now c.read_split.new.meter c.in_ok-id.id (c.in_ok-id.id - 1)
     (omega (arith, t.0, e, i)) (omega arith) t.1 c.in_err-head-2.ensures.err)

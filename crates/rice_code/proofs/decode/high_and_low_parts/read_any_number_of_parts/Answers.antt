@@ -40,11 +40,9 @@ returns-in_err-read_words-clause-err g c =
 pub returns-then-small-clause-ok : goal.returns-then-small-clause-ok
 returns-then-small-clause-ok g c =
     let high = subst (λ n. CountRow c.args.reader.now c.read_sequences-2.new.reader c.args.most c.in_ok-small.small n c.read_sequences-2.new.counts) c.requires.same c.in_ok-small.ensures.ok in
-    parts_read
-    high c.in_ok-read_words.ensures.ok (λ e. c.join_all_parts.ensures)
+    parts_read high c.in_ok-read_words.ensures.ok (λ e. c.join_all_parts.ensures)
 
 pub returns-else-small-clause-ok : goal.returns-else-small-clause-ok
 returns-else-small-clause-ok g c =
     let high = subst (λ n. CountRow c.args.reader.now c.read_sequences-2.new.reader c.args.most c.in_ok-small.small n c.read_sequences-2.new.counts) c.requires.same c.in_ok-small.ensures.ok in
-    parts_read
-    high c.in_ok-read_words.ensures.ok (λ e. absurd (let f : false ≡ true = sym c.if-small.false ∙ e in cc))
+    parts_read high c.in_ok-read_words.ensures.ok (λ e. absurd (let f : false ≡ true = sym c.if-small.false ∙ e in cc))

@@ -22,8 +22,7 @@ returns-clause-ok g c =
     let first = c.write_zero_for_reference-first in
     let part = coded_part s c.in_ok-reference.reference first.result first.new.residuals c.bits-width.ensures.legal first.ensures.first (first.auto.residuals ∙ c.requires.size) in
     let row = (rw c.bits-width.ensures.value at c.in_ok-read_words.ensures.ok) in
-    no_compression_read
-    c.in_ok-reference.ensures.reference part.1 (pow_pos s.bits) c.in_ok-reference.ensures.ok
+    no_compression_read c.in_ok-reference.ensures.reference part.1 (pow_pos s.bits) c.in_ok-reference.ensures.ok
     (row_after_others (λ v. v < 2 ^ s.bits) (reference_place c.in_ok-reference.reference) row
     (residuals_behind_reference first.result c.in_ok-reference.reference first.new.residuals c.read_words.new.words first.ensures.place part.0))
     (omega (arith, c.in_ok-reference.ensures.steps, c.in_ok-read_words.ensures.steps))
@@ -35,5 +34,4 @@ returns-in_err-read_words-clause-err g c =
     let part = coded_part s c.in_ok-reference.reference first.result first.new.residuals c.bits-width.ensures.legal first.ensures.first (first.auto.residuals ∙ c.requires.size) in
     let e = rw c.bits-width.ensures.value at c.in_err-read_words.ensures.err in
     let p = err_from_is_err_and c.from_residual-in_err-read_words.result c.from_residual-in_err-read_words.ensures.1 in
-    rw (p.1, p.2) (no_compression_cut _
-    c.in_ok-reference.ensures.reference part.1 c.in_ok-reference.ensures.ok e.1 e.2)
+    rw (p.1, p.2) (no_compression_cut _ c.in_ok-reference.ensures.reference part.1 c.in_ok-reference.ensures.ok e.1 e.2)

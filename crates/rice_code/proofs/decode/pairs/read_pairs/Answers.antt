@@ -10,8 +10,7 @@ use Rattle.rice_code.proofs.decode.pairs.read_pairs.Goals as goal
 pub returns-then-some-count-clause-ok : goal.returns-then-some-count-clause-ok
 returns-then-some-count-clause-ok g c =
     let w = c.take_waiting_pairs-some in
-    pairs-whole w.ensures.taken.row
-    (omega (arith, c.if-some-count.true)) (omega (arith, w.auto.out, c.requires.even))
+    pairs-whole w.ensures.taken.row (omega (arith, c.if-some-count.true)) (omega (arith, w.auto.out, c.requires.even))
 
 pub returns-then-some-count-clause-few : goal.returns-then-some-count-clause-few
 returns-then-some-count-clause-few g c =

@@ -7,8 +7,13 @@ tick-requires g c =
     let waiting = c.take_waiting_fs-some in
     let written = c.write_pairs-turns in
     let taken = pairs-taken waiting.new.zeros written.new.out waiting.new.meter {third = waiting.new.meter + written.result}
-    waiting.ensures.within (omega (arith, waiting.auto.zeros, written.auto.out, c.requires.codes)) written.ensures.pairs written.ensures.sum written.ensures.few
-    waiting.ensures.takes waiting.ensures.steps refl c.requires.room waiting.ensures.limit in
+    (record {
+      enough = waiting.ensures.within;
+      room = omega (arith, waiting.auto.zeros, written.auto.out, c.requires.codes);
+      codes = written.ensures.pairs;
+      sum_is = written.ensures.sum;
+      fit = written.ensures.few;
+    }) waiting.ensures.takes waiting.ensures.steps refl c.requires.room waiting.ensures.limit in
     omega (arith, taken.room.room)
 
 pub returns-clause-taken : goal.returns-clause-taken
@@ -16,5 +21,10 @@ returns-clause-taken g c =
     let waiting = c.take_waiting_fs-some in
     let written = c.write_pairs-turns in
     pairs-taken waiting.new.zeros written.new.out waiting.new.meter
-    waiting.ensures.within (omega (arith, waiting.auto.zeros, written.auto.out, c.requires.codes)) written.ensures.pairs written.ensures.sum written.ensures.few
-    waiting.ensures.takes waiting.ensures.steps c.tick.ensures c.requires.room waiting.ensures.limit
+    (record {
+      enough = waiting.ensures.within;
+      room = omega (arith, waiting.auto.zeros, written.auto.out, c.requires.codes);
+      codes = written.ensures.pairs;
+      sum_is = written.ensures.sum;
+      fit = written.ensures.few;
+    }) waiting.ensures.takes waiting.ensures.steps c.tick.ensures c.requires.room waiting.ensures.limit

@@ -24,9 +24,17 @@ returns-then-near-clause-contents c =
     let some : 1 ≤ s.block = omega (arith, c.requires.legal.block) in
     let len : length (values_at s ls) ≡ s.block = length-values s ls ∙ (c.restore_near_first.auto.levels ∙ c.requires.len) in
     contents_restored (value_at s c.args.before) (value_at s from.result) (values_at s ls)
-    c.requires.form.reference (sym c.preprocess.ensures ∙ c.if-not-preprocess.false) c.requires.form.len c.requires.zero some
-    (sample_at s from.result from.ensures.below) from.ensures.some (same_value s c.args.reference from.result c.args.before from.ensures.none)
-    (legal_values s ls c.restore_near_first.ensures.legal) len (ranks_of_values s from.result ls ∙ c.restore_near_first.ensures.ranks)
+    c.requires.form.reference (sym c.preprocess.ensures ∙ c.if-not-preprocess.false) (record { len = c.requires.form.len; zero = c.requires.zero; some = some })
+    (record {
+      legal = sample_at s from.result from.ensures.below;
+      some = from.ensures.some;
+      none = same_value s c.args.reference from.result c.args.before from.ensures.none;
+    })
+    (record {
+      legal = legal_values s ls c.restore_near_first.ensures.legal;
+      len = len;
+      ranks = ranks_of_values s from.result ls ∙ c.restore_near_first.ensures.ranks;
+    })
 
 pub returns-else-near-clause-contents : goal.returns-else-near-clause-contents
 returns-else-near-clause-contents c =
@@ -36,6 +44,14 @@ returns-else-near-clause-contents c =
     let some : 1 ≤ s.block = omega (arith, c.requires.legal.block) in
     let len : length (values_at s ls) ≡ s.block = length-values s ls ∙ (c.restore_by_selection.auto.levels ∙ c.requires.len) in
     contents_restored (value_at s c.args.before) (value_at s from.result) (values_at s ls)
-    c.requires.form.reference (sym c.preprocess.ensures ∙ c.if-not-preprocess.false) c.requires.form.len c.requires.zero some
-    (sample_at s from.result from.ensures.below) from.ensures.some (same_value s c.args.reference from.result c.args.before from.ensures.none)
-    (legal_values s ls c.restore_by_selection.ensures.legal) len (ranks_of_values s from.result ls ∙ c.restore_by_selection.ensures.ranks)
+    c.requires.form.reference (sym c.preprocess.ensures ∙ c.if-not-preprocess.false) (record { len = c.requires.form.len; zero = c.requires.zero; some = some })
+    (record {
+      legal = sample_at s from.result from.ensures.below;
+      some = from.ensures.some;
+      none = same_value s c.args.reference from.result c.args.before from.ensures.none;
+    })
+    (record {
+      legal = legal_values s ls c.restore_by_selection.ensures.legal;
+      len = len;
+      ranks = ranks_of_values s from.result ls ∙ c.restore_by_selection.ensures.ranks;
+    })

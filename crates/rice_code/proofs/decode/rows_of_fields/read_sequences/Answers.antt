@@ -18,8 +18,7 @@ returns-then-some-counts-clause-ok g c =
     let waiting = c.take_waiting_fs-some in
     let now = waiting.new.zeros in
     let rest = c.read_sequences_one_by_one.new.counts in
-    counts-judged _
-    (counts-both (length c.args.counts.now) now
+    counts-judged _ (counts-both (length c.args.counts.now) now
     waiting.ensures.within waiting.ensures.takes c.in_ok-small.ensures.ok (omega (arith, waiting.auto.zeros, waiting.ensures.within, c.read_sequences_one_by_one.auto.counts))
     (put_rest waiting.result now rest waiting.ensures.within))
     c.are_below.ensures.0 (iff_false c.are_below.ensures)

@@ -26,8 +26,7 @@ returns-clause-ok g c =
 
 pub loop-done-preserved : goal.loop-done-preserved
 loop-done-preserved g c = record {
-  row = counts-append
-      c.loop-done.invariant.row c.in_ok-some.ensures.ok
+  row = counts-append c.loop-done.invariant.row c.in_ok-some.ensures.ok
       (put_front c.loop-done.done _ c.in_ok-some.some c.loop-done.counts c.read_some_sequences.new.counts (search rules) c.in_ok-some.ensures.some.1);
   steps = omega (arith, c.in_ok-some.ensures.steps, c.loop-done.invariant.steps);
   limit = c.in_ok-some.ensures.limit;

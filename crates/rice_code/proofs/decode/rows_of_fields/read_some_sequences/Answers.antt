@@ -22,6 +22,5 @@ returns-in_err-zeros-clause-err g c =
     let p = err_from_is_err_and c.from_residual.result c.from_residual.ensures.1 in
     rw (p.1, p.2) (
       e.0,
-      stops-first fundamental_sequence
-          (ap (λ n. take n waiting.new.zeros) none) waiting.ensures.takes e.1,
+      stops-first fundamental_sequence (ap (λ n. take n waiting.new.zeros) none) waiting.ensures.takes e.1,
     )

@@ -7,6 +7,5 @@ returns-then-begins_interval g c =
     let a = c.args in
     let number = c.number_ahead.ensures in
     let from = c.level_of_pattern-from in
-    head_behind_reference
-    (sym c.begins_interval.ensures ∙ c.if-begins_interval.true) c.requires.id c.bits-bits.ensures.value
+    head_behind_reference (sym c.begins_interval.ensures ∙ c.if-begins_interval.true) c.requires.id c.bits-bits.ensures.value
     number.below number.bits from.ensures.below from.ensures.pattern

@@ -22,8 +22,7 @@ loop-row-preserved g c =
     let places = c.requires.places in
     let behind : length (drop (16 * l.row) parts.highs) ≡ 64 - 16 * l.row = length-drop (16 * l.row) parts.highs ∙ ap (λ m. m - 16 * l.row) places.0 in
     let sixteen : length (take 16 (drop (16 * l.row) parts.highs)) ≡ 16 = length-take-le 16 (drop (16 * l.row) parts.highs) (omega (arith, behind, inside.0)) in
-    let spelled = spells_front
-    row.ensures.some.0 (omega (arith, most, sixteen)) c.in_ok-last.ensures.some in
+    let spelled = spells_front row.ensures.some.0 (omega (arith, most, sixteen)) c.in_ok-last.ensures.some in
     let exact = subst (λ hs. SpellsParts s l.last c.args.k n hs (take n (drop (16 * l.row) parts.lows)) c.in_ok-last.last (drop (g.row.WIDTH * (16 * l.row)) c.spell_row.new.bytes))
     (take-take n 16 (drop (16 * l.row) parts.highs) most)
     (subst (λ ls. SpellsParts s l.last c.args.k n (take n (take 16 (drop (16 * l.row) parts.highs))) ls c.in_ok-last.last (drop (g.row.WIDTH * (16 * l.row)) c.spell_row.new.bytes))

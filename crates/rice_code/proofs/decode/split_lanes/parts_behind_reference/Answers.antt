@@ -9,8 +9,19 @@ returns g c =
     let value = c.number_ahead.ensures in
     let first = c.level_of_pattern-first in
     let words = c.words_ahead.ensures in
-    behind_reference_ahead
-    c.words_ahead.result c.requires.lanes c.requires.row
-    c.requires.reference c.requires.split c.requires.there c.requires.id
-    id.value bits.value value.below value.bits first.ensures.below first.ensures.pattern c.in_ok-sequences.ensures words.len words.fit words.bits
-    c.zero_and_all_but_last.ensures c.zero_and_all_but_last-2.ensures c.first_lanes.ensures c.first_lanes-2.ensures
+    behind_reference_ahead c.words_ahead.result c.requires.lanes c.requires.row
+    c.requires.reference (record { small = c.requires.split; enough = c.requires.there; id = c.requires.id })
+    (record {
+      id_is = id.value;
+      bits_is = bits.value;
+      fits = value.below;
+      bits_wait = value.bits;
+      legal = first.ensures.below;
+      pattern_is = first.ensures.pattern;
+    }) c.in_ok-sequences.ensures (record { len = words.len; fit = words.fit; bits = words.bits })
+    (record {
+      numbers_are = c.zero_and_all_but_last.ensures;
+      words_are = c.zero_and_all_but_last-2.ensures;
+      highs_are = c.first_lanes.ensures;
+      lows_are = c.first_lanes-2.ensures;
+    })

@@ -11,13 +11,23 @@ pub returns-then-size-le8-clause-some : goal.returns-then-size-le8-clause-some
 returns-then-size-le8-clause-some g c =
     let a = c.args in
     let near = c.in_ok-near in
-    words_near near.near.first near.near.second a.bytes.now c.requires.size.0 c.if-size-le8.true
-    c.requires.width near.ensures.levels near.ensures.halves.0 c.requires.bytes
-    c.spelled_in_two_bytes.ensures.len c.spelled_in_two_bytes.ensures.value
+    words_near near.near.first near.near.second a.bytes.now c.requires.size.0 c.if-size-le8.true c.requires.width near.ensures.levels (record {
+      eight = near.ensures.halves.0;
+      len = c.spelled_in_two_bytes.ensures.len;
+      spells = c.spelled_in_two_bytes.ensures.value;
+    }) c.requires.bytes
 
 pub returns-clause-some : goal.returns-clause-some
 returns-clause-some g c =
     let a = c.args in
     let near = c.in_ok-near in
-    sixteen_words_near near.near.first near.near.second a.bytes.now c.requires.width (omega (arith, c.if-size-le8.false)) c.requires.size.1 near.ensures.levels
-    near.ensures.halves.0 near.ensures.halves.1 c.requires.bytes c.spelled_in_two_bytes.ensures.len c.spelled_in_two_bytes-2.ensures.len c.spelled_in_two_bytes.ensures.value c.spelled_in_two_bytes-2.ensures.value
+    sixteen_words_near {first = near.near.first} {second = near.near.second} a.bytes.now c.requires.width (omega (arith, c.if-size-le8.false)) c.requires.size.1 near.ensures.levels
+    (record {
+      eight = near.ensures.halves.0;
+      len = c.spelled_in_two_bytes.ensures.len;
+      spells = c.spelled_in_two_bytes.ensures.value;
+    }) (record {
+      eight = near.ensures.halves.1;
+      len = c.spelled_in_two_bytes-2.ensures.len;
+      spells = c.spelled_in_two_bytes-2.ensures.value;
+    }) c.requires.bytes

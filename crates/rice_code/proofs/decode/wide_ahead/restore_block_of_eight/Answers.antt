@@ -21,10 +21,11 @@ returns-clause-some g c =
     subst (λ ls. RestoredAhead waiting s a.from a.k a.skip a.omitted ls (slice_index_or levels 7 0) (a.skip + sequences.len + (8 - a.omitted) * a.k))
     (sym (put_chunk_whole a.levels.now levels (c.requires.size ∙ sym eight)))
     (restored_eight {waiting = waiting} {skip = a.skip} words.result c.requires.omitted c.requires.there found highs.ensures
-    words.ensures.len words.ensures.fit words.ensures.bits lows.ensures (omega (arith, c.if-waiting-words.false, c.waiting.ensures)) c.in_ok-near.ensures)
+    (record { len = words.ensures.len; fit = words.ensures.fit; bits = words.ensures.bits }) lows.ensures (omega (arith, c.if-waiting-words.false, c.waiting.ensures)) c.in_ok-near.ensures)
 
 pub near_words-requires-clause-lows : goal.near_words-requires-clause-lows
 near_words-requires-clause-lows g c =
     let a = c.args in
     let words = c.wide_words_ahead in
-    (eight-lows a.reader.now.waiting (a.skip + c.in_ok-sequences.sequences.len) a.k words.result c.requires.omitted words.ensures.len words.ensures.fit words.ensures.bits c.words_behind_omitted-lows.ensures).low
+    (eight-lows a.reader.now.waiting (a.skip + c.in_ok-sequences.sequences.len) a.k words.result c.requires.omitted words.ensures.len words.ensures.fit words.ensures.bits
+    c.words_behind_omitted-lows.ensures).low

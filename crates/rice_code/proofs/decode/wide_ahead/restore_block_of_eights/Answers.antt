@@ -14,7 +14,8 @@ restore_eight_at-requires-clause-low g c =
 pub wide_words_ahead-lows-requires-clause-there : goal.wide_words_ahead-lows-requires-clause-there
 wide_words_ahead-lows-requires-clause-there g c =
     let a = c.args in
-    eight_inside a.skip a.k (length a.levels.now) (length a.reader.now.waiting) c.loop-eight.auto.eight c.requires.omitted (omega (arith, c.loop-eight-test.true, c.restore_eight_at.ensures.len)) c.requires.there
+    eight_inside a.skip a.k (length a.levels.now) (length a.reader.now.waiting) c.loop-eight.auto.eight c.requires.omitted (omega (arith, c.loop-eight-test.true, c.restore_eight_at.ensures.len))
+    c.requires.there
 
 pub loop-eight-init : goal.loop-eight-init
 loop-eight-init g c =
@@ -41,7 +42,8 @@ loop-eight-preserved g c =
     let next : 8 * l.eight + 8 ≡ 8 * (l.eight + 1) = omega arith in
     let levels = c.restore_eight_at-in-loop-eight.new.levels in
     let all = more_levels a.highs.now
-    c.requires.omitted (omega (arith, l.auto.eight)) (omega (arith, c.loop-eight-test.true, c.restore_eight_at.ensures.len, c.requires.highs)) words.ensures.len words.ensures.fit words.ensures.bits
+    c.requires.omitted (omega (arith, l.auto.eight)) (omega (arith, c.loop-eight-test.true, c.restore_eight_at.ensures.len, c.requires.highs))
+    (record { len = words.ensures.len; fit = words.ensures.fit; bits = words.ensures.bits })
     (eight_place a.skip l.eight a.omitted a.k l.auto.eight c.requires.omitted) l.invariant.ahead l.invariant.last_is w in
     record {
       room = c.restore_eight_at-in-loop-eight.ensures.len ∙ l.invariant.room;

@@ -13,5 +13,4 @@ returns-clause-some c =
     let eight = length-take-le 8 (drop a.at a.highs.now) (omega (arith, c.requires.highs, length-drop a.at a.highs.now)) in
     let near = c.in_ok-near.ensures in
     let many = near.len ∙ eight in
-    eight_written near eight
-    (take_more_put_chunk a.at a.levels.now levels (a.at + 8) (omega (arith, many)) c.requires.room)
+    eight_written near eight (take_more_put_chunk a.at a.levels.now levels (a.at + 8) (omega (arith, many)) c.requires.room)

@@ -35,7 +35,11 @@ returns g c =
     let thrice = ap (λ k. s.block * (k + 3)) best in
     let own : c.match-choice.steps ≤ 0 + cost s (shortest s b) + s.block * (min (best_split s b + 1) (k_max s) + 4) =
     steps_least s.block (best_split s b) (k_max s) 0 c.choose-choice.new.meter c.match-choice.steps (cost s (shortest s b))
-    (omega (arith, c.new-steps.ensures, chosen.steps_to, thrice)) (omega (arith, c.new-steps.ensures, chosen.steps_limit)) (omega (arith, price, put.steps_to)) in
+    (record {
+      by_split = omega (arith, c.new-steps.ensures, chosen.steps_to, thrice);
+      by_limit = omega (arith, c.new-steps.ensures, chosen.steps_limit);
+      more = omega (arith, price, put.steps_to);
+    }) in
     record {
       bits = put.bits ∙ ap (λ d. c.args.sink.now ++ bits_of_set s d) value;
       len = omega (arith, price, put.len);

@@ -109,8 +109,7 @@ returns-in-Err-clause-did g c old xs h =
     let new = g.O.Outlet.taken c.push_all_levels.new.outlet in
     let e = c.push_all_levels.new.self in
     let fails = subst (λ (l : List ℤ). FailsIn s old new e (xs ++ p.0) l) (sym (take-map (value_at s) f.result f.new.levels)) (c.in-Err.ensures.err s old (xs ++ p.0) p.2) in
-    fails_behind p.1
-    (fails_among (read_from s bytes at f.result c.width-width.result ys f.ensures.reads c.width-width.ensures.value) fails)
+    fails_behind p.1 (fails_among (read_from s bytes at f.result c.width-width.result ys f.ensures.reads c.width-width.ensures.value) fails)
 
 pub returns-clause-did : goal.returns-clause-did
 returns-clause-did g c old xs h =

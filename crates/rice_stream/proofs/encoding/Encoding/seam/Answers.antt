@@ -17,5 +17,13 @@ returns g c s old now xs h all limit =
       waiting = c.waiting_number-waiting.result;
       waiting_bits = c.len-waiting_bits.result;
     } in
-    seam_of h all limit refl refl c.steps.ensures.value (to_z-of_z w64 c.previous.result fits ∙ c.previous.ensures) c.start.ensures
-    c.len-waiting_bits.ensures.value c.waiting_number-waiting.ensures.digits c.waiting_number-waiting.ensures.fits c.requires
+    seam_of h all limit (record {
+      samples = refl;
+      bits = refl;
+      steps = c.steps.ensures.value;
+      previous = to_z-of_z w64 c.previous.result fits ∙ c.previous.ensures;
+      start = c.start.ensures;
+      waiting_bits = c.len-waiting_bits.ensures.value;
+      waiting = c.waiting_number-waiting.ensures.digits;
+      fits = c.waiting_number-waiting.ensures.fits;
+    }) c.requires

@@ -16,8 +16,7 @@ invariant_of-self c =
     let run : st.run ≡ c.args.self.now.run = ap (λ p. p.run) c.self.view_is in
     let preprocess : st.setting.preprocess ≡ true = ap (λ p. p.setting.preprocess) c.self.view_is ∙ c.requires.preprocess in (
       c.self.invariant.0,
-      (passes_blocks c.args.count c.self.invariant.1
-          (omega (arith, run, c.requires.run)) preprocess c.place_behind-next.ensures).state,
+      (passes_blocks c.args.count c.self.invariant.1 (omega (arith, run, c.requires.run)) preprocess c.place_behind-next.ensures).state,
     )
 
 pub returns-clause-gives : goal.returns-clause-gives
@@ -26,5 +25,4 @@ returns-clause-gives c =
     let run : st.run ≡ c.args.self.now.run = ap (λ p. p.run) c.self.view_is in
     let preprocess : st.setting.preprocess ≡ true = ap (λ p. p.setting.preprocess) c.self.view_is ∙ c.requires.preprocess in
     rw (← c.self.view_is)
-    (passes_blocks c.args.count c.self.invariant.1
-    (omega (arith, run, c.requires.run)) preprocess c.place_behind-next.ensures).passes
+    (passes_blocks c.args.count c.self.invariant.1 (omega (arith, run, c.requires.run)) preprocess c.place_behind-next.ensures).passes

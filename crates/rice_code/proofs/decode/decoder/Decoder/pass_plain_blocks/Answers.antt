@@ -66,8 +66,11 @@ returns-clause-gives g c =
     let here : q ≡ record { setting = st.setting; block = (st.block + suc n) % st.setting.interval; before = value_at st.setting l; run = 0; stopped = st.stopped } =
     λ j. record { setting = st.setting; block = place j; before = value_at st.setting l; run = run j; stopped = st.stopped } in
     let moves = subst (λ (p : DecoderState). q ≡ record p { block = (p.block + suc n) % p.setting.interval; before = value_at p.setting l; run = 0 }) view here in
-    let given = row_given n a.reader.now a.meter.now {last = steps} a.self.now a.bytes.now legal c.requires.plain within c.requires.going row takes
-    (omega (arith, c.take_ahead.ensures.steps, together)) c.take_ahead.ensures.limit below spelled moves in
+    let given = row_given n {r = a.reader.now} {first = a.meter.now} {last = steps} {p = a.self.now} a.bytes.now legal c.requires.plain within c.requires.going row (record {
+      bits = takes;
+      steps = omega (arith, c.take_ahead.ensures.steps, together);
+      within = c.take_ahead.ensures.limit;
+    }) (record { legal = below; pattern_is = spelled; state = moves }) in
     subst (λ k. GivesRow k a.reader.now new a.meter.now steps a.self.now q a.bytes.now) (sym size) given
 
 pub returns-clause-run : goal.returns-clause-run

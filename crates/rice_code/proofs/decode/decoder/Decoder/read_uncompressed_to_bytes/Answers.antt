@@ -17,8 +17,15 @@ returns-clause-gives g c =
     let legal = subst (λ (p : DecoderState). IsLegal p.setting) view c.self.invariant.1.legal in
     let block = subst (λ (p : DecoderState). SpelledAhead start.waiting p.setting p.block p.before c.known_or.result spelled.last spelled.len bytes) view c.spell_uncompressed_ahead-spelled.ensures in
     let given = bytes_given {start = start} {first = c.args.meter.now} {last = c.go_to_next_block-answer.new.meter} {p = c.args.self.now} {bytes = bytes}
-    legal (subst (λ n. HasLanes c.args.self.now.setting n 1) (sym (c.known_or.ensures ∙ (c.block.ensures.value ∙ ap (λ (p : DecoderState). p.setting.block) view))) c.requires.lanes) block.ahead refl c.take_ahead.ensures.takes c.take_ahead.ensures.steps c.go_to_next_block-answer.ensures.skips c.go_to_next_block-answer.ensures.steps (omega (arith, c.go_to_next_block-answer.ensures.few)) block.last_is
-    c.go_to_next_block-answer.ensures.moves block.spelled in
+    legal (subst (λ n. HasLanes c.args.self.now.setting n 1) (sym (c.known_or.ensures ∙ (c.block.ensures.value ∙ ap (λ (p : DecoderState). p.setting.block) view))) c.requires.lanes) block.ahead
+    (record {
+      mark = refl;
+      bits = c.take_ahead.ensures.takes;
+      steps_are = c.take_ahead.ensures.steps;
+      filled = c.go_to_next_block-answer.ensures.skips;
+      counted = c.go_to_next_block-answer.ensures.steps;
+      further = omega (arith, c.go_to_next_block-answer.ensures.few);
+    }) block.last_is c.go_to_next_block-answer.ensures.moves block.spelled in
     let takes = c.take_ahead.ensures.takes in
     let len : length (take spelled.len start.waiting) ≡ spelled.len = length-take-le spelled.len start.waiting block.ahead.within in
     record {

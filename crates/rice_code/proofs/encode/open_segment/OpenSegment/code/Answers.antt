@@ -49,6 +49,5 @@ returns g c =
     let i = c.self.inside in
     let st : CoderState = record { setting = i.setting; residuals = i.residuals; reference = i.reference; previous = value_at i.setting i.previous; start = i.start } in
     let n : c.blocks_of-blocks.result ≡ blocks_held st = c.blocks_of-blocks.ensures ∙ ap (λ l. l / i.setting.block) c.len.ensures.value in
-    codes_held c.self.view_is n c.self.invariant.1
-    c.requires.blocks c.code_blocks.ensures c.pad_interval.ensures
+    codes_held c.self.view_is n c.self.invariant.1 c.requires.blocks c.code_blocks.ensures c.pad_interval.ensures
     (omega (arith, c.len-2.ensures.value, c.len-before.ensures.value))
