@@ -1,5 +1,6 @@
 -- What is behind the first bits of bytes.
-use Rattle.std.proofs.Common.{◌≡◌, ◌∙◌, ℕ, zero, suc, ◌+◌, ◌*◌, ◌<◌, ◌≤◌, Bool, true, false, List, [], ◌∷◌, ◌++◌, length, drop, take, replicate, Option, Some, None, inl, inr, arith, refl, ap, sym, subst, length-append, length-drop}
+use Rattle.std.proofs.Common.{◌≡◌, ◌∙◌, ℕ, zero, suc, ◌+◌, ◌*◌, ◌<◌, ◌≤◌, Bool, true, false, List, [], ◌∷◌, ◌++◌}
+use Rattle.std.proofs.Common.{length, drop, take, replicate, Option, Some, None, inl, inr, arith, refl, ap, sym, subst, length-append, length-drop}
 use Rattle.std.specs.Prelude.{◌^◌, IsSome, Result, Ok, Err, not}
 use Rattle.std.specs.Io.KnownBytes.{Consumes, IsAtEnd}
 use Rattle.std.proofs.lemmas.Bool.{cases_lt}
@@ -100,7 +101,8 @@ module _ {I : Type 0} (intake : I) (left : Option (List ℕ)) (failed k : ℕ) w
   FindsNoOne count bit_faults.Read = count ≡ failed + 1
   FindsNoOne count bit_faults.TooLong = (bytes : List ℕ) → left ≡ Some bytes → 2 ^ 49 < length bytes
 
-  explained : (failures : I → ℕ) (count : ℕ) (fault : BitFault) (result : Result Bool Fault) → StoppedBy failures count fault result → FindsNoOne count fault → LooksBehind failures failed left k result
+  explained : (failures : I → ℕ) (count : ℕ) (fault : BitFault) (result : Result Bool Fault) → StoppedBy failures count fault result → FindsNoOne count fault
+      → LooksBehind failures failed left k result
   explained failures count (bit_faults.End told) result by why = subst (LooksBehind failures failed left k) (sym by) (λ bytes e. sym (why bytes e))
   explained failures count bit_faults.Read result by why = subst (LooksBehind failures failed left k) (sym by.0) (by.1.0, by.1.1 ∙ why)
   explained failures count bit_faults.TooLong result by why = subst (LooksBehind failures failed left k) (sym by) why

@@ -94,8 +94,10 @@ place_all _ r = r.place
 -- decoded the whole code without a count, with room for the bytes of all samples. Then that call wrote the bytes of the samples before
 -- the place and those of all pulls, one after the other, and ended as they did.
 abbrev pub PullsAreDecoding : Type 0
-PullsAreDecoding = (s : Parameters) (code : List ℕ) (o : Origin) (before : List ℤ) (setting : RiceSetting) (first : RiceDrain) (opened : ℕ) (pulls : List Pull) (last : Pull) (behind old new : List ℕ) (report : RiceReport) (status : ℕ) (paused ended : Status) →
-    IsPlace s code o before → OpensDrain s o setting first opened → ArePulled s code first pulls → IsPulled s code (last_drain first pulls) last behind → last.status ≡ status_number paused → EndsAll paused behind ended →
+PullsAreDecoding = (s : Parameters) (code : List ℕ) (o : Origin) (before : List ℤ) (setting : RiceSetting) (first : RiceDrain) (opened : ℕ) (pulls : List Pull) (last : Pull)
+    (behind old new : List ℕ) (report : RiceReport) (status : ℕ) (paused ended : Status) →
+    IsPlace s code o before → OpensDrain s o setting first opened → ArePulled s code first pulls → IsPulled s code (last_drain first pulls) last behind → last.status ≡ status_number paused
+    → EndsAll paused behind ended →
     DecodesInto s None code old new report status → width s * last.report.samples ≤ length old →
     (bytes : List ℕ) × WriteInParts (pulls ++ last ∷ []) bytes × StandsInFront (spellings s before ++ bytes) old new ×
     (status ≡ status_number ended) × (report.samples ≡ last.report.samples) × (report.place ≡ place_all paused last.report)
@@ -104,7 +106,8 @@ PullsAreDecoding = (s : Parameters) (code : List ℕ) (o : Origin) (before : Lis
 -- of the samples before the place, and with room for their bytes. Then that call wrote the bytes of the samples before the place and the
 -- first n of the pulls', and all is done, with as many bits.
 abbrev pub EnoughIsDecoding : Type 0
-EnoughIsDecoding = (s : Parameters) (code : List ℕ) (o : Origin) (before : List ℤ) (setting : RiceSetting) (first : RiceDrain) (opened : ℕ) (pulls : List Pull) (n : ℕ) (old new : List ℕ) (report : RiceReport) (status : ℕ) →
+EnoughIsDecoding = (s : Parameters) (code : List ℕ) (o : Origin) (before : List ℤ) (setting : RiceSetting) (first : RiceDrain) (opened : ℕ) (pulls : List Pull) (n : ℕ) (old new : List ℕ)
+    (report : RiceReport) (status : ℕ) →
     IsPlace s code o before → OpensDrain s o setting first opened → ArePulled s code first pulls →
     o.samples + n ≤ (last_drain first pulls).stand.samples → (last_drain first pulls).stand.samples < o.samples + n + s.block →
     DecodesInto s (Some (o.samples + n)) code old new report status → width s * (o.samples + n) ≤ length old →

@@ -6,7 +6,8 @@ use Rattle.rice_bits.specs.read.Reader.{Reader, Takes, Stops, is_blank}
 use Rattle.rice_bits.specs.declared.read.fault.BitFault.{BitFault}
 use Rattle.rice_samples.specs.Parameters.{Parameters}
 use Rattle.rice_code.specs.code.Blocks.{BlockData}
-use Rattle.rice_code.specs.code.CodedDataSets.{CodedDataSet, NoCompression, SecondExtension, Split, ZeroBlocks, RemainderOfSegment, bits_of_set, turns, run_with_zeros, run_number, no_compression_tail, second_extension_tail, split_tail, run_tail}
+use Rattle.rice_code.specs.code.CodedDataSets.{CodedDataSet, NoCompression, SecondExtension, Split, ZeroBlocks, RemainderOfSegment, bits_of_set}
+use Rattle.rice_code.specs.code.CodedDataSets.{turns, run_with_zeros, run_number, no_compression_tail, second_extension_tail, split_tail, run_tail}
 use Rattle.rice_code.specs.declared.decode.options.BlockSummary.{BlockSummary}
 use Rattle.rice_code.specs.declared.decode.options.SetSummary.{SetSummary}
 use Rattle.rice_code.specs.declared.decode.options.SetSummary.TheVariants.{Residuals, Zeros}

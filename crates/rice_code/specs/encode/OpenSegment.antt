@@ -77,15 +77,36 @@ next_references coder [] = coder.reference
 next_references coder (x ∷ xs) = next_reference coder x
 
 abbrev pub state_after_all : CoderState → List ℤ → CoderState
-state_after_all coder xs = record { setting = coder.setting; residuals = coder.residuals ++ next_residuals coder xs; reference = next_references coder xs; previous = last_of coder.previous xs; start = coder.start }
+state_after_all coder xs = record {
+  setting = coder.setting;
+  residuals = coder.residuals ++ next_residuals coder xs;
+  reference = next_references coder xs;
+  previous = last_of coder.previous
+      xs;
+  start = coder.start;
+}
 
 -- and where the sample before the first of them is p, and none of them is a reference
 abbrev pub state_with_later : CoderState → ℤ → List ℤ → CoderState
-state_with_later coder p xs = record { setting = coder.setting; residuals = coder.residuals ++ later_residuals coder.setting p xs; reference = coder.reference; previous = last_of p xs; start = coder.start }
+state_with_later coder p xs = record {
+  setting = coder.setting;
+  residuals = coder.residuals ++ later_residuals coder.setting p xs;
+  reference = coder.reference;
+  previous = last_of p xs;
+  start
+      = coder.start;
+}
 
 -- and when its last block is filled with n samples
 abbrev pub state_with_fill : CoderState → ℕ → CoderState
-state_with_fill coder n = record { setting = coder.setting; residuals = coder.residuals ++ replicate n (next_residual coder coder.previous); reference = coder.reference; previous = coder.previous; start = coder.start }
+state_with_fill coder n = record {
+  setting = coder.setting;
+  residuals = coder.residuals ++ replicate n (next_residual coder coder.previous);
+  reference = coder.reference;
+  previous
+      = coder.previous;
+  start = coder.start;
+}
 
 -- what it holds after a whole segment
 abbrev pub next_start : CoderState → ℕ

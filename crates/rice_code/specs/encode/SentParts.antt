@@ -26,7 +26,8 @@ HasRoomForOnes k looks n ds bits meter = HasRoomFor (n + sum_by (λ d. d / 2 ^ k
 
 abbrev pub AddsOnes : ℕ → ℕ → ℕ → List ℕ → List Bool → List Bool → List Bool → List Bool → ℕ → ℕ → Type 0
 AddsOnes k looks n ds sink_old fields_old sink_new fields_new meter_old meter_new =
-    AddsFields (flat_map (λ d. fundamental_sequence (d / 2 ^ k)) ds) (n + sum_by (λ d. d / 2 ^ k) ds) (looks + (n + sum_by (λ d. d / 2 ^ k) ds)) sink_old fields_old sink_new fields_new meter_old meter_new
+    AddsFields (flat_map (λ d. fundamental_sequence (d / 2 ^ k)) ds) (n + sum_by (λ d. d / 2 ^ k) ds) (looks + (n + sum_by (λ d. d / 2 ^ k) ds)) sink_old fields_old sink_new fields_new
+    meter_old meter_new
 
 -- the bits of the codewords that second extension sends for the pairs
 abbrev pub pairs_len : List ℕ → ℕ

@@ -1,5 +1,6 @@
 -- How decoding ends.
-use Rattle.std.proofs.Common.{◌≡◌, ◌≢◌, ℕ, zero, suc, ◌+◌, ◌-◌, ◌*◌, ◌/◌, ◌%◌, ◌<◌, ◌≤◌, ◌==◌, ◌⊎◌, cond, min, Bool, true, false, List, [], ◌∷◌, ◌++◌, length, take, refl, ap, arith, sym, ◌∙◌, subst, append_assoc, append-nil, length-append, Option, Some, None, ℤ, pos, inl, inr}
+use Rattle.std.proofs.Common.{◌≡◌, ◌≢◌, ℕ, zero, suc, ◌+◌, ◌-◌, ◌*◌, ◌/◌, ◌%◌, ◌<◌, ◌≤◌, ◌==◌, ◌⊎◌, cond, min, Bool, true, false, List, []}
+use Rattle.std.proofs.Common.{◌∷◌, ◌++◌, length, take, refl, ap, arith, sym, ◌∙◌, subst, append_assoc, append-nil, length-append, Option, Some, None, ℤ, pos, inl, inr}
 use Rattle.std.specs.Prelude.{◌^◌, Err, sum_by, All, Contains, IfSome}
 use Rattle.std.specs.Io.KnownBytes.{Consumes, IsAtEnd}
 use Rattle.rice_bits.specs.Limits.{most_at_once}
@@ -599,7 +600,8 @@ write_ends {s = s} {asked = asked} {out_old = out_old} {out = out} {out_new = ou
 pub refusal_ends : {I : Type 0} {s : Parameters} {asked : Option ℕ} {start : Reader I} {out_old out : Option Room} {p : DecoderState} {r new : Reader I}
     {steps steps_new written : ℕ} {rep : Report} {f : Option Fault} {left : Option (List ℕ)} {failed : ℕ} (fault : CodeFault) → IsLegal s
     → (runs : DecodingProgress s asked start out_old out p r steps written) → wanted_of asked written s.block ≢ 0 → (p.run ≡ 0) × StopsBy (with_mark r) new steps steps_new s runs.blocks (Err fault)
-    → AreCounted steps steps_new r.taken new.taken → Reports rep f left failed new written steps_new (Some (refusal_fault fault written s.block)) → DecodesBetween s asked start.left left out_old out rep f
+    → AreCounted steps steps_new r.taken new.taken → Reports rep f left failed new written steps_new (Some (refusal_fault fault written s.block))
+    → DecodesBetween s asked start.left left out_old out rep f
 refusal_ends faults.CodeEnds legal runs some stops counted tells = ended_ends false runs some stops.0 stops.1 counted tells
 refusal_ends {s = s} faults.RunPastSegment legal runs some stops counted tells =
     refused_ends Past (λ e. cc) (record { legal = legal; wanted = some; run = stops.0 }) runs stops.1 (λ asked rest used goes h. (goes, h)) (λ last count h e. (h, e))

@@ -1,5 +1,6 @@
 -- How encoding ends.
-use Rattle.std.proofs.Common.{◌≡◌, ℕ, ◌+◌, ◌-◌, ◌*◌, ◌<◌, ◌≤◌, List, [], ◌∷◌, ◌++◌, length, take, refl, ap, arith, sym, ◌∙◌, subst, append_assoc, append-nil, length-append, Option, Some, None, ℤ, inl, inr}
+use Rattle.std.proofs.Common.{◌≡◌, ℕ, ◌+◌, ◌-◌, ◌*◌, ◌<◌, ◌≤◌, List, [], ◌∷◌, ◌++◌, length, take, refl}
+use Rattle.std.proofs.Common.{ap, arith, sym, ◌∙◌, subst, append_assoc, append-nil, length-append, Option, Some, None, ℤ, inl, inr}
 use Rattle.std.specs.Prelude.{All, Err}
 use Rattle.std.specs.Io.KnownBytes.{IsAtEnd}
 use Rattle.std.proofs.Math.Nat.{mul-le-mul_right}
@@ -135,11 +136,13 @@ reading_ends {N} {s} {left_old} {left} {left_new} {taken_old} {taken} {e} {r} r_
     by_fault faults.Cut (g, ends, end) =
         let p = on left_new g in
         let cut = subst (λ (s : Parameters). EndsSpelling s r_new.waiting TooFew) p.setting ends in
-        at (Some (SampleCut e.samples)) p (record { rest = r_new.waiting; whole = p.reads.split; legal = p.reads.legal; stops = cut }, end, p.holds.counts.samples, early p) (omega (arith, p.count, limit))
+        at (Some (SampleCut e.samples)) p (record { rest = r_new.waiting; whole = p.reads.split; legal = p.reads.legal; stops = cut }, end, p.holds.counts.samples, early p)
+        (omega (arith, p.count, limit))
     by_fault faults.OutOfRange (g, ends) =
         let p = on left_new g in
         let none = subst (λ (s : Parameters). EndsSpelling s r_new.waiting NoSpelling) p.setting ends in
-        at (Some (SampleOutOfRange e.samples)) p (record { rest = r_new.waiting; whole = p.reads.split; legal = p.reads.legal; stops = none }, p.holds.counts.samples, early p) (omega (arith, p.count, limit))
+        at (Some (SampleOutOfRange e.samples)) p (record { rest = r_new.waiting; whole = p.reads.split; legal = p.reads.legal; stops = none }, p.holds.counts.samples, early p)
+        (omega (arith, p.count, limit))
     by_fault faults.TooLong (h, lacks) =
         let p = on h.left_then h.gives in
         let short = subst (λ (s : Parameters). length r_new.waiting < width s) p.setting lacks in

@@ -1,5 +1,6 @@
 -- A piece that is decoded: the blocks so far, one more, and where it ends.
-use Rattle.std.proofs.Common.{◌≡◌, ℕ, ◌+◌, ◌*◌, ◌%◌, ◌<◌, ◌≤◌, Bool, List, [], ◌∷◌, ◌++◌, length, length-drop, take, drop, refl, ap, arith, sym, ◌∙◌, subst, append_assoc, append-nil, length-append, None, Some, ℤ, ◌≢◌, ◌-◌}
+use Rattle.std.proofs.Common.{◌≡◌, ℕ, ◌+◌, ◌*◌, ◌%◌, ◌<◌, ◌≤◌, Bool, List, [], ◌∷◌, ◌++◌, length, length-drop, take}
+use Rattle.std.proofs.Common.{drop, refl, ap, arith, sym, ◌∙◌, subst, append_assoc, append-nil, length-append, None, Some, ℤ, ◌≢◌, ◌-◌}
 use Rattle.std.proofs.Math.Seq.{take-append_seam}
 use Rattle.std.proofs.lemmas.Slice.{drop-append-drop}
 use Rattle.rice_bits.specs.Bits.{bits_of, word}

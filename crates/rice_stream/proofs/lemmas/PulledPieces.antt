@@ -1,5 +1,6 @@
 -- Pieces that are pulled give what the code decodes to.
-use Rattle.std.proofs.Common.{◌≡◌, ◌≢◌, ℕ, zero, suc, ◌+◌, ◌-◌, ◌*◌, ◌/◌, ◌%◌, ◌^◌, ◌<◌, ◌≤◌, Bool, List, [], ◌∷◌, ◌++◌, length, length-drop, take, drop, refl, ap, arith, sym, ◌∙◌, subst, append_assoc, append-nil, length-append, Some, None, ℤ, pos}
+use Rattle.std.proofs.Common.{◌≡◌, ◌≢◌, ℕ, zero, suc, ◌+◌, ◌-◌, ◌*◌, ◌/◌, ◌%◌, ◌^◌, ◌<◌, ◌≤◌, Bool, List, [], ◌∷◌, ◌++◌}
+use Rattle.std.proofs.Common.{length, length-drop, take, drop, refl, ap, arith, sym, ◌∙◌, subst, append_assoc, append-nil, length-append, Some, None, ℤ, pos}
 use Rattle.std.proofs.Math.Nat.{mul-le-mul_left}
 use Rattle.std.proofs.Math.Seq.{drop-nil, take-length}
 use Rattle.std.proofs.lemmas.List.{drop-drop}
@@ -13,7 +14,8 @@ use Rattle.rice_code.specs.code.Decoded.{BeginsUnsound, Decoded, Ending, Reached
 use Rattle.rice_code.proofs.lemmas.meaning.DecodingBeginsAfresh.{decoding_begins_afresh}
 use Rattle.rice_code.proofs.lemmas.meaning.DecodingByPlacesAlone.{end_there}
 use Rattle.rice_stream.specs.DecodingState.{DecodedSoFar}
-use Rattle.rice_stream.specs.Laws.{ArePulled, EndsCode, EnoughBehindIsDecoding, EnoughIsDecoding, FrontIsPlace, GiveInParts, IsPlace, IsPulled, Pull, PullsAreDecoding, SeekingIsDecoding, StandsTellPlaces, last_stand}
+use Rattle.rice_stream.specs.Laws.{ArePulled, EndsCode, EnoughBehindIsDecoding, EnoughIsDecoding, FrontIsPlace, GiveInParts, IsPlace}
+use Rattle.rice_stream.specs.Laws.{IsPulled, Pull, PullsAreDecoding, SeekingIsDecoding, StandsTellPlaces, last_stand}
 use Rattle.rice_stream.specs.Pulling.{Origin, IsStand, PausesAt, at_front, bits_ahead}
 use Rattle.rice_stream.specs.declared.stand.Pause.{Pause}
 use Rattle.rice_stream.specs.declared.stand.Pause.TheVariants as pauses

@@ -1,5 +1,6 @@
 -- What was encoded comes back.
-use Rattle.std.proofs.Common.{◌≡◌, ℕ, ◌+◌, ◌*◌, ◌<◌, ◌≤◌, cond, Bool, true, false, List, [], ◌∷◌, ◌++◌, length, length-append, replicate, refl, ap, arith, sym, ◌∙◌, ◌⊎◌, inl, inr, subst, append_assoc, append-nil, Option, Some, None, ℤ, pos}
+use Rattle.std.proofs.Common.{◌≡◌, ℕ, ◌+◌, ◌*◌, ◌<◌, ◌≤◌, cond, Bool, true, false, List, [], ◌∷◌, ◌++◌, length, length-append, replicate}
+use Rattle.std.proofs.Common.{refl, ap, arith, sym, ◌∙◌, ◌⊎◌, inl, inr, subst, append_assoc, append-nil, Option, Some, None, ℤ, pos}
 use Rattle.std.specs.Prelude.{All, IsSome}
 use Rattle.std.specs.Int.{div_ceil}
 use Rattle.std.proofs.Math.Nat.{mul_assoc, mul-le-mul_left, mul-le-mul_right}

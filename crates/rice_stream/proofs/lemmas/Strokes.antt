@@ -1,5 +1,6 @@
 -- Blocks that the decoder gives at one stroke, and where decoding stands behind them.
-use Rattle.std.proofs.Common.{◌≡◌, ℕ, zero, suc, ◌+◌, ◌-◌, ◌*◌, ◌/◌, ◌%◌, ◌<◌, ◌≤◌, List, [], ◌++◌, Bool, length, take, drop, replicate, refl, sym, ◌∙◌, ap, subst, arith, append_assoc, append-nil, length-append, None, ℤ}
+use Rattle.std.proofs.Common.{◌≡◌, ℕ, zero, suc, ◌+◌, ◌-◌, ◌*◌, ◌/◌, ◌%◌, ◌<◌, ◌≤◌, List, [], ◌++◌, Bool}
+use Rattle.std.proofs.Common.{length, take, drop, replicate, refl, sym, ◌∙◌, ap, subst, arith, append_assoc, append-nil, length-append, None, ℤ}
 use Rattle.std.specs.Prelude.{Ok}
 use Rattle.std.proofs.lemmas.List.{length-replicate, length-take-le, replicate-append-replicate}
 use Rattle.std.proofs.lemmas.List.Elements.{recursion_from_All}
@@ -65,7 +66,8 @@ nothing_more {s = s} {stand = stand} {next = next} {q = q} {r = r} {new = new} e
 
 -- the same stand by other numbers
 other_numbers : {I : Type 0} {s : Parameters} {stand : Stand} {q : DecoderState} {r new : Reader I} {xs : List ℤ} {samples bits steps samples_new bits_new steps_new : ℕ}
-    → samples ≡ samples_new → bits ≡ bits_new → steps ≡ steps_new → GivesMore s stand (stand_at samples bits steps q) q r new xs → GivesMore s stand (stand_at samples_new bits_new steps_new q) q r new xs
+    → samples ≡ samples_new → bits ≡ bits_new → steps ≡ steps_new → GivesMore s stand (stand_at samples bits steps q) q r new xs
+    → GivesMore s stand (stand_at samples_new bits_new steps_new q) q r new xs
 other_numbers {s = s} {stand = stand} {q} {r = r} {new = new} {xs = xs} a b c g =
     subst (λ (n : Stand). GivesMore s stand n q r new xs) (λ i. stand_at (a i) (b i) (c i) q) g
 

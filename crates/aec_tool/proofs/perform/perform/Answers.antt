@@ -13,7 +13,8 @@ returns-in-None g c = λ o told.
     let done = c.test-done.result in
     let ran = c.test-done.ensures o told in
     let after = closing c.args.plan.now.verbose done.samples ran.0 in
-    let tests = subst (λ n. Tests g.S.Source.Intake.left g.S.Source.Intake.failed g.S.Dest.Outlet.taken g.S.Dest.Outlet.failed p o ran.0 n done.samples) (sym c.write_closing_line.ensures.status) ran.2 in (
+    let tests = subst (λ n. Tests g.S.Source.Intake.left g.S.Source.Intake.failed g.S.Dest.Outlet.taken g.S.Dest.Outlet.failed p o ran.0 n done.samples)
+    (sym c.write_closing_line.ensures.status) ran.2 in (
       after,
       c.write_closing_line.ensures.closes ran.0 ran.1,
       inr (

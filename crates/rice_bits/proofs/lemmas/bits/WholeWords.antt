@@ -1,5 +1,6 @@
 -- Words of 8, 16 or 32 digits, and the 64 digits that some of them have.
-use Rattle.std.proofs.Common.{◌≡◌, ℕ, zero, suc, ◌+◌, ◌-◌, ◌*◌, ◌/◌, ◌%◌, ◌^◌, ◌<◌, ◌≤◌, inl, inr, Bool, false, List, [], ◌∷◌, ◌++◌, length, take, drop, map, get_or, replicate, refl, sym, ◌∙◌, ap, arith, append_assoc, append-nil, length-append, bit_and, bit_or}
+use Rattle.std.proofs.Common.{◌≡◌, ℕ, zero, suc, ◌+◌, ◌-◌, ◌*◌, ◌/◌, ◌%◌, ◌^◌, ◌<◌, ◌≤◌, inl, inr, Bool, false, List, []}
+use Rattle.std.proofs.Common.{◌∷◌, ◌++◌, length, take, drop, map, get_or, replicate, refl, sym, ◌∙◌, ap, arith, append_assoc, append-nil, length-append, bit_and, bit_or}
 use Rattle.std.specs.Prelude.{flat_map}
 use Rattle.std.specs.Int.{swap_bytes, to_be_bytes, to_le_bytes, w8, w64}
 use Rattle.std.specs.List.{slice_index}

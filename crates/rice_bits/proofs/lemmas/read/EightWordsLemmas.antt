@@ -1,5 +1,6 @@
 -- Words of a few digits, found in two bytes each.
-use Rattle.std.proofs.Common.{◌≡◌, ℕ, zero, suc, ◌+◌, ◌-◌, ◌*◌, ◌/◌, ◌%◌, ◌^◌, ◌<◌, ◌≤◌, Bool, false, List, [], ◌∷◌, ◌++◌, length, take, drop, get_or, map, replicate, refl, sym, ◌∙◌, ap, arith, subst, take-take, w8}
+use Rattle.std.proofs.Common.{◌≡◌, ℕ, zero, suc, ◌+◌, ◌-◌, ◌*◌, ◌/◌, ◌%◌, ◌^◌, ◌<◌, ◌≤◌, Bool, false, List, []}
+use Rattle.std.proofs.Common.{◌∷◌, ◌++◌, length, take, drop, get_or, map, replicate, refl, sym, ◌∙◌, ap, arith, subst, take-take, w8}
 use Rattle.std.specs.Prelude.{All, flat_map, slice_index}
 use Rattle.std.specs.Simd.Lanes.{Each1, digits_l, number_l}
 use Rattle.std.proofs.Math.Nat.{div-div-eq-div-mul, pow-suc}

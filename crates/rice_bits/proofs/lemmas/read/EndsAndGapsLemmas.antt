@@ -1,5 +1,6 @@
 -- The places of the ones among bits.
-use Rattle.std.proofs.Common.{◌≡◌, ℕ, zero, suc, ◌+◌, ◌-◌, ◌*◌, ◌%◌, ◌<◌, ◌≤◌, Bool, true, false, cond, nat_lt, List, [], ◌∷◌, ◌++◌, length, take, drop, get_or, set, replicate, map, length-append, refl, sym, ◌∙◌, ap, arith, append_assoc, take-take, Fits, w8}
+use Rattle.std.proofs.Common.{◌≡◌, ℕ, zero, suc, ◌+◌, ◌-◌, ◌*◌, ◌%◌, ◌<◌, ◌≤◌, Bool, true, false, cond, nat_lt, List, [], ◌∷◌}
+use Rattle.std.proofs.Common.{◌++◌, length, take, drop, get_or, set, replicate, map, length-append, refl, sym, ◌∙◌, ap, arith, append_assoc, take-take, Fits, w8}
 use Rattle.std.specs.Prelude.{All, flat_map}
 use Rattle.std.specs.List.{range_with_len}
 use Rattle.std.specs.Simd.Lanes.{put_chunk, zip2, sel_l, Each1}

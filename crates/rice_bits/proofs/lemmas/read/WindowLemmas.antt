@@ -1,5 +1,6 @@
 -- The bits that were given and not yet taken.
-use Rattle.std.proofs.Common.{◌≡◌, ℕ, zero, suc, inl, inr, ◌+◌, ◌-◌, ◌*◌, ◌/◌, ◌%◌, ◌^◌, ◌<◌, ◌≤◌, ◌≢◌, Bool, true, false, List, [], ◌∷◌, ◌++◌, length, take, drop, set, replicate, length-append, refl, sym, ◌∙◌, ap, arith, subst, take-take, append_assoc}
+use Rattle.std.proofs.Common.{◌≡◌, ℕ, zero, suc, inl, inr, ◌+◌, ◌-◌, ◌*◌, ◌/◌, ◌%◌, ◌^◌, ◌<◌, ◌≤◌, ◌≢◌, Bool, true, false}
+use Rattle.std.proofs.Common.{List, [], ◌∷◌, ◌++◌, length, take, drop, set, replicate, length-append, refl, sym, ◌∙◌, ap, arith, subst, take-take, append_assoc}
 use Rattle.std.specs.Prelude.{All, bit_or, flat_map, slice_index, slice_range, ◌==◌, ◌&&◌}
 use Rattle.std.proofs.lemmas.Grind.{flat_map-append}
 use Rattle.rice_bits.specs.read.Reader.{is_blank}
@@ -13,7 +14,8 @@ use Rattle.std.proofs.Math.Seq.{drop-append_seam, take-add, take-append_seam}
 use Rattle.std.proofs.lemmas.Bool.{cases_lt}
 use Rattle.std.proofs.lemmas.Bool.Decides.{nat_tests}
 use Rattle.std.proofs.lemmas.List.Elements.{All-append, All-take}
-use Rattle.std.proofs.lemmas.List.{append-nil, drop-append-le, drop-drop, drop-take, drop_more, length-drop, length-replicate, length-take-le, replicate-append-replicate, take-append-drop, take-append-le, take-replicate, take_all, take_at, take_more_set}
+use Rattle.std.proofs.lemmas.List.{append-nil, drop-append-le, drop-drop, drop-take, drop_more, length-drop, length-replicate, length-take-le}
+use Rattle.std.proofs.lemmas.List.{replicate-append-replicate, take-append-drop, take-append-le, take-replicate, take_all, take_at, take_more_set}
 use Rattle.rice_bits.specs.Bits.{fundamental_sequence, number_of, word, bits_of}
 use Rattle.rice_bits.specs.read.Window.{IsWindow, Passes, bits_near, window_bits, window_passed}
 use Rattle.rice_bits.specs.declared.read.window.Window.{Window}

@@ -1,5 +1,6 @@
 -- Behind whole segments the code goes on from their last sample and their last bit.
-use Rattle.std.proofs.Common.{◌≡◌, ℕ, zero, suc, ◌+◌, ◌-◌, ◌*◌, ◌/◌, ◌%◌, ◌≤◌, min, Bool, true, false, List, ◌++◌, length, take, drop, replicate, refl, ap, arith, sym, ◌∙◌, append_assoc, length-append, subst, None, ℤ, pos}
+use Rattle.std.proofs.Common.{◌≡◌, ℕ, zero, suc, ◌+◌, ◌-◌, ◌*◌, ◌/◌, ◌%◌, ◌≤◌, min, Bool, true, false, List, ◌++◌}
+use Rattle.std.proofs.Common.{length, take, drop, replicate, refl, ap, arith, sym, ◌∙◌, append_assoc, length-append, subst, None, ℤ, pos}
 use Rattle.std.specs.Prelude.{All, sum_by}
 use Rattle.std.proofs.lemmas.List.Sums.{sum_by-append}
 use Rattle.std.specs.Int.{next_multiple_of}

@@ -1,5 +1,6 @@
 -- Blocks cost no more bits than sent as they are, or a bit more each where two samples of one bit make a block.
-use Rattle.std.proofs.Common.{◌≡◌, ℕ, zero, suc, ◌+◌, ◌-◌, ◌*◌, ◌<◌, ◌≤◌, Bool, true, false, cond, not, ◌&&◌, nat_lt, map, List, [], ◌∷◌, length, refl, ap, arith, sym, ◌∙◌, inl, inr, subst, Option, Some, None}
+use Rattle.std.proofs.Common.{◌≡◌, ℕ, zero, suc, ◌+◌, ◌-◌, ◌*◌, ◌<◌, ◌≤◌, Bool, true, false, cond, not, ◌&&◌, nat_lt}
+use Rattle.std.proofs.Common.{map, List, [], ◌∷◌, length, refl, ap, arith, sym, ◌∙◌, inl, inr, subst, Option, Some, None}
 use Rattle.std.specs.Prelude.{sum_by}
 use Rattle.std.specs.List.{best_of, range_with_len, AllByRecursion}
 use Rattle.std.proofs.lemmas.Bool.Decides.{nat_tests}
@@ -16,7 +17,8 @@ use Rattle.rice_code.specs.code.Code.{data_sets}
 use Rattle.rice_code.specs.Bounds.{block_bound}
 use Rattle.rice_code.specs.Laws.{RunIsNeverLonger}
 use Rattle.rice_code.specs.code.Runs.{zero_run, run_len}
-use Rattle.rice_code.proofs.lemmas.meaning.CoveredBlocks.{bool_cases, skipped, data_sets_plain, data_sets_start, data_sets_inside, skipped_nil, skipped_plain, skipped_go, skipped_stop, zero_run_is, best_keeps, run_cons}
+use Rattle.rice_code.proofs.lemmas.meaning.CoveredBlocks.{bool_cases, skipped, data_sets_plain, data_sets_start, data_sets_inside, skipped_nil}
+use Rattle.rice_code.proofs.lemmas.meaning.CoveredBlocks.{skipped_plain, skipped_go, skipped_stop, zero_run_is, best_keeps, run_cons}
 use Rattle.rice_code.proofs.lemmas.cost.CostIsLength.{cost_is_length}
 
 -- one that costs no more than the first wins

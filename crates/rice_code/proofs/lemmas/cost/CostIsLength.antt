@@ -6,7 +6,8 @@ use Rattle.rice_bits.specs.Bits.{word, fundamental_sequence}
 use Rattle.rice_bits.proofs.lemmas.bits.WordsAndNumbers.{length-word, length-fundamental_sequence}
 use Rattle.rice_samples.specs.Parameters.{Parameters, id_len}
 use Rattle.rice_samples.specs.blocks.Pairs.{pair_codes}
-use Rattle.rice_code.specs.code.CodedDataSets.{CodedDataSet, NoCompression, SecondExtension, Split, ZeroBlocks, RemainderOfSegment, bits_of_set, cost, sent_residuals, sent_from, reference_bits, reference_len, run_number}
+use Rattle.rice_code.specs.code.CodedDataSets.{CodedDataSet, NoCompression, SecondExtension, Split, ZeroBlocks, RemainderOfSegment, bits_of_set}
+use Rattle.rice_code.specs.code.CodedDataSets.{cost, sent_residuals, sent_from, reference_bits, reference_len, run_number}
 use Rattle.rice_code.specs.code.Forms.{IsForm}
 
 -- the length of pieces, each as long as f says

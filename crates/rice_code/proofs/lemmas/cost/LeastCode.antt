@@ -20,7 +20,8 @@ use Rattle.rice_code.proofs.lemmas.cost.WhereSetsEnd.{IsFill, code_end, never_ba
 use Rattle.rice_code.proofs.lemmas.cost.CostIsLength.{cost_is_length, numbered_run_len, remainder_len}
 use Rattle.rice_code.proofs.lemmas.cost.LeastRuns.{IsLeastCodeword, by_run, run_and_more}
 use Rattle.rice_code.proofs.lemmas.cost.SplitSavings.{choice_is_least}
-use Rattle.rice_code.proofs.lemmas.cost.CostsOfSmallerBlocks.{BeginAtMost, IsAtMost, begin_with, no_compression_at_most, no_compression_exceeds, second_extension_at_most, second_extension_exceeds, sound_at_most, split_at_most, split_exceeds}
+use Rattle.rice_code.proofs.lemmas.cost.CostsOfSmallerBlocks.{BeginAtMost, IsAtMost, begin_with, no_compression_at_most, no_compression_exceeds}
+use Rattle.rice_code.proofs.lemmas.cost.CostsOfSmallerBlocks.{second_extension_at_most, second_extension_exceeds, sound_at_most, split_at_most, split_exceeds}
 use Rattle.rice_code.proofs.lemmas.meaning.CoveredBlocks.{bool_cases, data_sets_plain, shortest_covers, zero_block_is}
 
 least_split : (s : Parameters) (c : BlockData) (k : ℕ) → k ≤ k_max s → cost s (shortest s c) ≤ cost s (Split k c)

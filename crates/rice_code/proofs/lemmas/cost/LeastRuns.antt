@@ -1,5 +1,6 @@
 -- No runs of the same zero blocks have fewer bits than the coder's one run.
-use Rattle.std.proofs.Common.{◌≡◌, ℕ, zero, suc, ◌+◌, ◌-◌, ◌<◌, ◌≤◌, ◌==◌, min, Bool, true, false, cond, not, ◌||◌, List, [], ◌∷◌, ◌++◌, length, take, replicate, refl, ap, arith, sym, ◌∙◌, ◌⊎◌, inl, inr, append-nil, length-append, Option, None}
+use Rattle.std.proofs.Common.{◌≡◌, ℕ, zero, suc, ◌+◌, ◌-◌, ◌<◌, ◌≤◌, ◌==◌, min, Bool, true, false, cond, not, ◌||◌, List, []}
+use Rattle.std.proofs.Common.{◌∷◌, ◌++◌, length, take, replicate, refl, ap, arith, sym, ◌∙◌, ◌⊎◌, inl, inr, append-nil, length-append, Option, None}
 use Rattle.std.proofs.lemmas.Bool.Decides.{nat_tests}
 use Rattle.std.proofs.lemmas.List.{length-replicate, length-take}
 use Rattle.std.proofs.lemmas.List.Sums.{prefix_len-le-length}
@@ -18,7 +19,8 @@ use Rattle.rice_code.proofs.lemmas.cost.CostsOfSmallerBlocks.{BeginAtMost, zero_
 use Rattle.rice_code.proofs.lemmas.encode.OptionTexts.{run_cost, run_text_len}
 use Rattle.rice_code.proofs.lemmas.encode.PendingRuns.{count_zeros, is_zero_zeros, skip_zeros}
 use Rattle.rice_code.proofs.lemmas.encode.SegmentBlocks.{left_inside}
-use Rattle.rice_code.proofs.lemmas.meaning.CoveredBlocks.{bool_cases, data_sets_inside, data_sets_plain, data_sets_start, nothing_more, run_cons, run_inside, skipped, skipped_go, skipped_nil, skipped_plain, skipped_stop, zero_run_is}
+use Rattle.rice_code.proofs.lemmas.meaning.CoveredBlocks.{bool_cases, data_sets_inside, data_sets_plain, data_sets_start, nothing_more, run_cons, run_inside}
+use Rattle.rice_code.proofs.lemmas.meaning.CoveredBlocks.{skipped, skipped_go, skipped_nil, skipped_plain, skipped_stop, zero_run_is}
 
 -- ---- the zeros of codewords
 

@@ -1,5 +1,6 @@
 -- What a decoder gives.
-use Rattle.std.proofs.Common.{◌≡◌, ℕ, zero, suc, ◌+◌, ◌-◌, ◌*◌, ◌/◌, ◌^◌, ◌<◌, ◌≤◌, ◌==◌, Bool, true, false, List, [], ◌∷◌, ◌++◌, length, replicate, refl, sym, ◌∙◌, ap, subst, arith, Option, None, ℤ, inl, inr, length-append}
+use Rattle.std.proofs.Common.{◌≡◌, ℕ, zero, suc, ◌+◌, ◌-◌, ◌*◌, ◌/◌, ◌^◌, ◌<◌, ◌≤◌, ◌==◌, Bool, true, false, List, []}
+use Rattle.std.proofs.Common.{◌∷◌, ◌++◌, length, replicate, refl, sym, ◌∙◌, ap, subst, arith, Option, None, ℤ, inl, inr, length-append}
 use Rattle.std.specs.Prelude.{◌≢◌, All, nat_lt, if◌then◌else◌, ◌&&◌, Some, Result, Ok, Err}
 use Rattle.std.proofs.lemmas.Bool.{cases_lt}
 use Rattle.std.proofs.lemmas.Bool.Decides.{nat_tests}
@@ -16,7 +17,8 @@ use Rattle.rice_samples.specs.Parameters.{Parameters, IsSample, IsLegal, id_len}
 use Rattle.rice_samples.specs.Places.{blocks_left, begins_segment, is_reference, place}
 use Rattle.rice_samples.proofs.lemmas.setting.PlaceLemmas.{some_left, one_less_left, last_of_segment, reference_begins, next_place}
 use Rattle.rice_code.specs.code.Blocks.{BlockData, block_data, zero_block}
-use Rattle.rice_code.specs.code.CodedDataSets.{CodedDataSet, NoCompression, SecondExtension, Split, ZeroBlocks, RemainderOfSegment, bits_of_set, turns, run_number, run_tail, run_with_zeros, no_compression_tail, second_extension_tail, split_tail, reference_bits}
+use Rattle.rice_code.specs.code.CodedDataSets.{CodedDataSet, NoCompression, SecondExtension, Split, ZeroBlocks, RemainderOfSegment, bits_of_set, turns}
+use Rattle.rice_code.specs.code.CodedDataSets.{run_number, run_tail, run_with_zeros, no_compression_tail, second_extension_tail, split_tail, reference_bits}
 use Rattle.rice_code.specs.code.Forms.{IsForm, IsReference, RunIsSound, ResidualsAreSound, blocks_in, zero_blocks}
 use Rattle.rice_code.specs.decode.ReadSets.{SetRead, SetCut}
 use Rattle.rice_code.specs.declared.decode.options.SetSummary.TheVariants.{Residuals, Zeros}

@@ -1,5 +1,6 @@
 -- Blocks without compression, read as the bytes that they are.
-use Rattle.std.proofs.Common.{◌≡◌, ℕ, zero, suc, ◌+◌, ◌-◌, ◌*◌, ◌/◌, ◌%◌, ◌^◌, ◌<◌, ◌≤◌, ◌==◌, Bool, true, false, cond, List, [], ◌∷◌, ◌++◌, length, take, drop, map, refl, sym, ◌∙◌, ap, subst, arith, take-take, take-append-drop, length-append, length-drop, append-nil, None, ℤ, pos, inl, inr, ◌⊎◌}
+use Rattle.std.proofs.Common.{◌≡◌, ℕ, zero, suc, ◌+◌, ◌-◌, ◌*◌, ◌/◌, ◌%◌, ◌^◌, ◌<◌, ◌≤◌, ◌==◌, Bool, true, false, cond, List, [], ◌∷◌, ◌++◌}
+use Rattle.std.proofs.Common.{length, take, drop, map, refl, sym, ◌∙◌, ap, subst, arith, take-take, take-append-drop, length-append, length-drop, append-nil, None, ℤ, pos, inl, inr, ◌⊎◌}
 use Rattle.std.specs.Prelude.{All, flat_map, nat_le, slice_index_or, ◌&&◌}
 use Rattle.std.specs.Io.KnownBytes.{Consumes}
 use Rattle.std.specs.Simd.Lanes.{put_chunk}

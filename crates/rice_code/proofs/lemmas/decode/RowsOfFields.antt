@@ -1,5 +1,6 @@
 -- Pieces that a reader takes one after another.
-use Rattle.std.proofs.Common.{◌≡◌, ℕ, zero, suc, ◌+◌, ◌-◌, ◌*◌, ◌/◌, ◌<◌, ◌≤◌, Bool, true, false, List, [], ◌∷◌, ◌++◌, length, replicate, set, take, drop, refl, sym, ◌∙◌, ap, arith, append_assoc, length-append, None, sum, ◌^◌, subst}
+use Rattle.std.proofs.Common.{◌≡◌, ℕ, zero, suc, ◌+◌, ◌-◌, ◌*◌, ◌/◌, ◌<◌, ◌≤◌, Bool, true, false, List, [], ◌∷◌, ◌++◌}
+use Rattle.std.proofs.Common.{length, replicate, set, take, drop, refl, sym, ◌∙◌, ap, arith, append_assoc, length-append, None, sum, ◌^◌, subst}
 use Rattle.std.specs.Prelude.{All, flat_map, ◌&&◌}
 use Rattle.std.proofs.lemmas.List.{append-nil, drop_all, length-drop, get_or_append_left, get_or-append-add, length-set, length-take, length-take-le, take-take, take_all, take_more_set}
 use Rattle.std.proofs.lemmas.Grind.{get_or_head}

@@ -1,5 +1,6 @@
 -- A block by a split that waits, of samples of 17 to 32 bits, in eights.
-use Rattle.std.proofs.Common.{◌≡◌, ℕ, zero, suc, ◌+◌, ◌-◌, ◌*◌, ◌/◌, ◌^◌, ◌<◌, ◌≤◌, Bool, true, List, ◌∷◌, ◌++◌, length, take, drop, take-take, replicate, refl, sym, ◌∙◌, ap, subst, arith, length-append, Option, None, Some}
+use Rattle.std.proofs.Common.{◌≡◌, ℕ, zero, suc, ◌+◌, ◌-◌, ◌*◌, ◌/◌, ◌^◌, ◌<◌, ◌≤◌, Bool, true, List, ◌∷◌, ◌++◌}
+use Rattle.std.proofs.Common.{length, take, drop, take-take, replicate, refl, sym, ◌∙◌, ap, subst, arith, length-append, Option, None, Some}
 use Rattle.std.specs.Prelude.{All, flat_map, IfSome, slice_index_or}
 use Rattle.std.proofs.Math.Seq.{take-add}
 use Rattle.std.proofs.Math.Nat.{add-mul, mul-le-mul_right}

@@ -1,5 +1,6 @@
 -- The samples that a coder has taken, and the code that a push or the end completes.
-use Rattle.std.proofs.Common.{◌≡◌, ℕ, suc, ◌+◌, ◌-◌, ◌*◌, ◌/◌, ◌%◌, ◌<◌, ◌≤◌, ◌==◌, min, Bool, true, false, List, [], ◌∷◌, ◌++◌, length, take, replicate, refl, ap, arith, sym, ◌∙◌, inl, inr, subst, append_assoc, append-nil, length-append, None, ℤ, pos}
+use Rattle.std.proofs.Common.{◌≡◌, ℕ, suc, ◌+◌, ◌-◌, ◌*◌, ◌/◌, ◌%◌, ◌<◌, ◌≤◌, ◌==◌, min, Bool, true, false, List, [], ◌∷◌}
+use Rattle.std.proofs.Common.{◌++◌, length, take, replicate, refl, ap, arith, sym, ◌∙◌, inl, inr, subst, append_assoc, append-nil, length-append, None, ℤ, pos}
 use Rattle.std.specs.Prelude.{sum_by}
 use Rattle.std.specs.List.{AllByRecursion}
 use Rattle.std.specs.Int.{next_multiple_of}
@@ -18,7 +19,8 @@ use Rattle.rice_samples.proofs.lemmas.setting.LevelsOfSamples.{zero_is_sample}
 use Rattle.rice_code.specs.code.Blocks.{BlockData, blocks_from, blocks_of, fill_count_of, fill_count}
 use Rattle.rice_code.specs.code.Code.{code, code_bits, data_sets, complete_samples}
 use Rattle.rice_code.specs.encode.Coder.{reference_in, HasCodedBefore, HasTaken, IsCoder, AddsCode}
-use Rattle.rice_code.specs.encode.OpenSegment.{CoderState, IsOpen, IsWhole, state_between, empty_state, state_after, state_with_fill, state_after_segment, next_start, blocks_held, contents_held, sets_held, code_held, bits_held, HoldsSoundBlocks, CodesHeld, is_empty}
+use Rattle.rice_code.specs.encode.OpenSegment.{CoderState, IsOpen, IsWhole, state_between, empty_state, state_after, state_with_fill, state_after_segment, next_start}
+use Rattle.rice_code.specs.encode.OpenSegment.{blocks_held, contents_held, sets_held, code_held, bits_held, HoldsSoundBlocks, CodesHeld, is_empty}
 use Rattle.rice_code.specs.code.CodedDataSets.{CodedDataSet, bits_of_set}
 use Rattle.rice_code.specs.encode.HeldBlocks.{held_blocks}
 use Rattle.rice_code.specs.code.SoundBlocks.{AreSoundBlocks}

@@ -1,5 +1,6 @@
 -- What pushing samples does: what pushing the last of them does after the others.
-use Rattle.std.proofs.Common.{◌≡◌, ℕ, ◌+◌, ◌-◌, ◌*◌, ◌%◌, ◌^◌, ◌<◌, ◌≤◌, Bool, List, [], ◌∷◌, ◌++◌, length, take, All, refl, ap, arith, inl, inr, sym, ◌∙◌, subst, append_assoc, append-nil, length-append, ℤ}
+use Rattle.std.proofs.Common.{◌≡◌, ℕ, ◌+◌, ◌-◌, ◌*◌, ◌%◌, ◌^◌, ◌<◌, ◌≤◌, Bool, List, [], ◌∷◌, ◌++◌, length}
+use Rattle.std.proofs.Common.{take, All, refl, ap, arith, inl, inr, sym, ◌∙◌, subst, append_assoc, append-nil, length-append, ℤ}
 use Rattle.std.specs.List.{AllByRecursion}
 use Rattle.std.proofs.Math.Nat.{mod-lt, mul-le-mul_left}
 use Rattle.std.proofs.Math.Seq.{take-length}
@@ -15,7 +16,8 @@ use Rattle.rice_code.specs.encode.Coder.{HasTaken, IsCoder, PushesSamples, Compl
 use Rattle.rice_code.specs.code.Blocks.{fill_count}
 use Rattle.rice_code.specs.encode.OpenSegment.{CoderState, IsWhole, state_after, state_after_all, state_after_segment, state_with_fill, next_residual, HoldsSoundBlocks, CodesHeld}
 use Rattle.rice_code.specs.CoderSteps.{coding_steps, segment_steps}
-use Rattle.rice_code.proofs.lemmas.encode.PushedCode.{stays_open, stays_open_completes_none, short_of, pending_are, whole_sound, takes_last_of_segment, whole_segment_adds_code, AddsHeldCode, adds_code, adds_nothing, steps_of_segment}
+use Rattle.rice_code.proofs.lemmas.encode.PushedCode.{stays_open, stays_open_completes_none, short_of, pending_are, whole_sound, takes_last_of_segment}
+use Rattle.rice_code.proofs.lemmas.encode.PushedCode.{whole_segment_adds_code, AddsHeldCode, adds_code, adds_nothing, steps_of_segment}
 use Rattle.rice_code.proofs.lemmas.encode.SeveralSamplesHeld.{state_after_all-none, state_after_all-cons, state_after_all-snoc, length-state_after_all}
 
 -- samples that leave the segment open

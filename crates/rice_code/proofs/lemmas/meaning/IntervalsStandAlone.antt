@@ -1,5 +1,6 @@
 -- Intervals stand alone: their code begins afresh, ends with a byte where intervals are padded, and is decoded by itself.
-use Rattle.std.proofs.Common.{◌≡◌, ℕ, zero, suc, ◌+◌, ◌-◌, ◌*◌, ◌/◌, ◌%◌, ◌<◌, ◌≤◌, ◌==◌, min, Bool, true, false, cond, ◌&&◌, List, [], ◌∷◌, ◌++◌, length, take, drop, replicate, refl, ap, arith, sym, ◌∙◌, inl, inr, subst, append_assoc, append-nil, length-append, Some, None, ℤ, pos}
+use Rattle.std.proofs.Common.{◌≡◌, ℕ, zero, suc, ◌+◌, ◌-◌, ◌*◌, ◌/◌, ◌%◌, ◌<◌, ◌≤◌, ◌==◌, min, Bool, true, false, cond, ◌&&◌, List, [], ◌∷◌}
+use Rattle.std.proofs.Common.{◌++◌, length, take, drop, replicate, refl, ap, arith, sym, ◌∙◌, inl, inr, subst, append_assoc, append-nil, length-append, Some, None, ℤ, pos}
 use Rattle.std.specs.Int.{div_ceil}
 use Rattle.std.proofs.lemmas.List.{length-replicate, drop_at}
 use Rattle.std.proofs.lemmas.List.Elements.{recursion_from_All}

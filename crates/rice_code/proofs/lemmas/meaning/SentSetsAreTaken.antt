@@ -1,5 +1,6 @@
 -- The coded data sets that a coder sends are ones that a decoder takes.
-use Rattle.std.proofs.Common.{◌≡◌, ℕ, suc, ◌+◌, ◌-◌, ◌*◌, ◌<◌, ◌≤◌, ◌==◌, Bool, true, false, cond, not, ◌&&◌, ◌||◌, nat_le, nat_lt, map, List, [], ◌∷◌, length, ap, arith, sym, ◌∙◌, inl, inr, subst, Option, Some, None}
+use Rattle.std.proofs.Common.{◌≡◌, ℕ, suc, ◌+◌, ◌-◌, ◌*◌, ◌<◌, ◌≤◌, ◌==◌, Bool, true, false, cond, not, ◌&&◌, ◌||◌, nat_le}
+use Rattle.std.proofs.Common.{nat_lt, map, List, [], ◌∷◌, length, ap, arith, sym, ◌∙◌, inl, inr, subst, Option, Some, None}
 use Rattle.std.specs.List.{range_with_len, AllByRecursion}
 use Rattle.std.proofs.lemmas.Bool.Decides.{nat_tests}
 use Rattle.std.proofs.lemmas.Bool.{cases_lt}
@@ -17,7 +18,8 @@ use Rattle.rice_code.specs.code.Choice.{shortest, other_options}
 use Rattle.rice_code.specs.code.Code.{data_sets}
 use Rattle.rice_code.specs.code.Runs.{zero_run, run_len}
 use Rattle.rice_code.specs.code.Decoded.{IsWanted, AreTaken}
-use Rattle.rice_code.proofs.lemmas.meaning.CoveredBlocks.{bool_cases, skipped, data_sets_plain, data_sets_start, data_sets_inside, skipped_plain, skipped_go, skipped_stop, zero_run_is, best_keeps, run_cons, run_inside, shortest_covers, nothing_more}
+use Rattle.rice_code.proofs.lemmas.meaning.CoveredBlocks.{bool_cases, skipped, data_sets_plain, data_sets_start, data_sets_inside, skipped_plain, skipped_go}
+use Rattle.rice_code.proofs.lemmas.meaning.CoveredBlocks.{skipped_stop, zero_run_is, best_keeps, run_cons, run_inside, shortest_covers, nothing_more}
 use Rattle.rice_code.specs.code.SoundBlocks.{IsSoundBlock, AreSoundBlocks}
 use Rattle.rice_code.proofs.lemmas.cost.BlockBounds.{shortest_is_form}
 

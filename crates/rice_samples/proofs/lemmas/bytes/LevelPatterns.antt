@@ -1,5 +1,6 @@
 -- Levels, and the patterns and words of the values at these.
-use Rattle.std.proofs.Common.{◌≡◌, ℕ, ◌+◌, ◌-◌, ◌*◌, ◌%◌, ◌^◌, ◌<◌, ◌≤◌, zero, suc, inl, inr, mod-eq_of_lt, Bool, true, false, cond, refl, ap, arith, sym, ◌∙◌, List, [], ◌∷◌, ◌++◌, length, take, map, get_or, slice_set, pos, negsuc, neg_ℤ, ◌+ℤ◌}
+use Rattle.std.proofs.Common.{◌≡◌, ℕ, ◌+◌, ◌-◌, ◌*◌, ◌%◌, ◌^◌, ◌<◌, ◌≤◌, zero, suc, inl, inr, mod-eq_of_lt, Bool, true, false, cond}
+use Rattle.std.proofs.Common.{refl, ap, arith, sym, ◌∙◌, List, [], ◌∷◌, ◌++◌, length, take, map, get_or, slice_set, pos, negsuc, neg_ℤ, ◌+ℤ◌}
 use Rattle.std.specs.Prelude.{bit_and}
 use Rattle.std.proofs.lemmas.Int.{ints}
 use Rattle.std.proofs.lemmas.List.{map-append, map_more, take_more, take_more_set}

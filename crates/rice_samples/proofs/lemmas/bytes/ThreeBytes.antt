@@ -1,5 +1,6 @@
 -- The spellings of samples of three bytes, from the words of their levels.
-use Rattle.std.proofs.Common.{◌≡◌, ℕ, zero, suc, ◌+◌, ◌-◌, ◌*◌, ◌/◌, ◌%◌, ◌<◌, ◌≤◌, true, false, Bool, cond, List, [], ◌∷◌, ◌++◌, length, replicate, take, drop, refl, sym, ◌∙◌, ap, arith, append_assoc, take-take}
+use Rattle.std.proofs.Common.{◌≡◌, ℕ, zero, suc, ◌+◌, ◌-◌, ◌*◌, ◌/◌, ◌%◌, ◌<◌, ◌≤◌, true, false, Bool, cond}
+use Rattle.std.proofs.Common.{List, [], ◌∷◌, ◌++◌, length, replicate, take, drop, refl, sym, ◌∙◌, ap, arith, append_assoc, take-take}
 use Rattle.std.specs.Prelude.{All}
 use Rattle.std.specs.Int.{bytes_high_first, bytes_low_first}
 use Rattle.std.specs.Simd.Lanes.{Each1, digits_l, number_l, pick_l, put_chunk, zip2}
@@ -64,15 +65,19 @@ length-words_of (suc n) o (l ∷ levels) e = ap suc (length-words_of n o levels 
 
 -- three of each four bytes
 low_threes : (vs : List ℕ) → length vs ≡ 8
-    → take 24 (pick_l 0 (quads vs ++ quads vs) (0 ∷ 1 ∷ 2 ∷ 4 ∷ 5 ∷ 6 ∷ 8 ∷ 9 ∷ 10 ∷ 12 ∷ 13 ∷ 14 ∷ 16 ∷ 17 ∷ 18 ∷ 20 ∷ 21 ∷ 22 ∷ 24 ∷ 25 ∷ 26 ∷ 28 ∷ 29 ∷ 30 ∷ 0 ∷ 0 ∷ 0 ∷ 0 ∷ 0 ∷ 0 ∷ 0 ∷ 0 ∷ [])) ≡ threes false vs
+    → take 24 (pick_l 0 (quads vs ++ quads vs) (0 ∷ 1 ∷ 2 ∷ 4 ∷ 5 ∷ 6 ∷ 8 ∷ 9 ∷ 10 ∷ 12 ∷ 13 ∷ 14 ∷ 16 ∷ 17 ∷ 18 ∷ 20 ∷ 21 ∷ 22 ∷ 24 ∷ 25 ∷ 26 ∷ 28 ∷ 29 ∷ 30 ∷ 0 ∷ 0 ∷ 0 ∷ 0 ∷ 0 ∷ 0 ∷ 0 ∷ 0
+    ∷ [])) ≡ threes false vs
 low_threes vs n =
-    eight_lanes (λ vs. take 24 (pick_l 0 (quads vs ++ quads vs) (0 ∷ 1 ∷ 2 ∷ 4 ∷ 5 ∷ 6 ∷ 8 ∷ 9 ∷ 10 ∷ 12 ∷ 13 ∷ 14 ∷ 16 ∷ 17 ∷ 18 ∷ 20 ∷ 21 ∷ 22 ∷ 24 ∷ 25 ∷ 26 ∷ 28 ∷ 29 ∷ 30 ∷ 0 ∷ 0 ∷ 0 ∷ 0 ∷ 0 ∷ 0 ∷ 0 ∷ 0 ∷ [])) ≡ threes false vs)
+    eight_lanes (λ vs. take 24 (pick_l 0 (quads vs ++ quads vs) (0 ∷ 1 ∷ 2 ∷ 4 ∷ 5 ∷ 6 ∷ 8 ∷ 9 ∷ 10 ∷ 12 ∷ 13 ∷ 14 ∷ 16 ∷ 17 ∷ 18 ∷ 20 ∷ 21 ∷ 22 ∷ 24 ∷ 25 ∷ 26 ∷ 28 ∷ 29 ∷ 30 ∷ 0 ∷ 0 ∷ 0 ∷ 0
+    ∷ 0 ∷ 0 ∷ 0 ∷ 0 ∷ [])) ≡ threes false vs)
     (λ a b c d e f g h. refl) vs n
 
 high_threes : (vs : List ℕ) → length vs ≡ 8
-    → take 24 (pick_l 0 (quads vs ++ quads vs) (2 ∷ 1 ∷ 0 ∷ 6 ∷ 5 ∷ 4 ∷ 10 ∷ 9 ∷ 8 ∷ 14 ∷ 13 ∷ 12 ∷ 18 ∷ 17 ∷ 16 ∷ 22 ∷ 21 ∷ 20 ∷ 26 ∷ 25 ∷ 24 ∷ 30 ∷ 29 ∷ 28 ∷ 0 ∷ 0 ∷ 0 ∷ 0 ∷ 0 ∷ 0 ∷ 0 ∷ 0 ∷ [])) ≡ threes true vs
+    → take 24 (pick_l 0 (quads vs ++ quads vs) (2 ∷ 1 ∷ 0 ∷ 6 ∷ 5 ∷ 4 ∷ 10 ∷ 9 ∷ 8 ∷ 14 ∷ 13 ∷ 12 ∷ 18 ∷ 17 ∷ 16 ∷ 22 ∷ 21 ∷ 20 ∷ 26 ∷ 25 ∷ 24 ∷ 30 ∷ 29 ∷ 28 ∷ 0 ∷ 0 ∷ 0 ∷ 0 ∷ 0 ∷ 0 ∷ 0 ∷ 0
+    ∷ [])) ≡ threes true vs
 high_threes vs n =
-    eight_lanes (λ vs. take 24 (pick_l 0 (quads vs ++ quads vs) (2 ∷ 1 ∷ 0 ∷ 6 ∷ 5 ∷ 4 ∷ 10 ∷ 9 ∷ 8 ∷ 14 ∷ 13 ∷ 12 ∷ 18 ∷ 17 ∷ 16 ∷ 22 ∷ 21 ∷ 20 ∷ 26 ∷ 25 ∷ 24 ∷ 30 ∷ 29 ∷ 28 ∷ 0 ∷ 0 ∷ 0 ∷ 0 ∷ 0 ∷ 0 ∷ 0 ∷ 0 ∷ [])) ≡ threes true vs)
+    eight_lanes (λ vs. take 24 (pick_l 0 (quads vs ++ quads vs) (2 ∷ 1 ∷ 0 ∷ 6 ∷ 5 ∷ 4 ∷ 10 ∷ 9 ∷ 8 ∷ 14 ∷ 13 ∷ 12 ∷ 18 ∷ 17 ∷ 16 ∷ 22 ∷ 21 ∷ 20 ∷ 26 ∷ 25 ∷ 24 ∷ 30 ∷ 29 ∷ 28 ∷ 0 ∷ 0 ∷ 0 ∷ 0
+    ∷ 0 ∷ 0 ∷ 0 ∷ 0 ∷ [])) ≡ threes true vs)
     (λ a b c d e f g h. refl) vs n
 
 -- a spelling, by the word of its level
@@ -126,7 +131,8 @@ pub low_first : (s : Parameters) (o : ℕ) (levels : List ℕ) → 1 ≤ s.bits 
     ≡ spellings s (values_at s levels)
 low_first s o levels h three order e len legal =
     let few = three_few s three in
-    ap (λ bytes. take 24 (pick_l 0 (bytes ++ bytes) (0 ∷ 1 ∷ 2 ∷ 4 ∷ 5 ∷ 6 ∷ 8 ∷ 9 ∷ 10 ∷ 12 ∷ 13 ∷ 14 ∷ 16 ∷ 17 ∷ 18 ∷ 20 ∷ 21 ∷ 22 ∷ 24 ∷ 25 ∷ 26 ∷ 28 ∷ 29 ∷ 30 ∷ 0 ∷ 0 ∷ 0 ∷ 0 ∷ 0 ∷ 0 ∷ 0 ∷ 0 ∷ [])))
+    ap (λ bytes. take 24 (pick_l 0 (bytes ++ bytes) (0 ∷ 1 ∷ 2 ∷ 4 ∷ 5 ∷ 6 ∷ 8 ∷ 9 ∷ 10 ∷ 12 ∷ 13 ∷ 14 ∷ 16 ∷ 17 ∷ 18 ∷ 20 ∷ 21 ∷ 22 ∷ 24 ∷ 25 ∷ 26 ∷ 28 ∷ 29 ∷ 30 ∷ 0 ∷ 0 ∷ 0 ∷ 0 ∷ 0 ∷ 0 ∷ 0
+    ∷ 0 ∷ [])))
     (words_in_bytes o levels len)
     ∙ (low_threes (words_of 8 o levels) (length-words_of 8 o levels len) ∙ low-threes-spelled s levels h few three order e len legal)
 
@@ -136,7 +142,8 @@ pub high_first : (s : Parameters) (o : ℕ) (levels : List ℕ) → 1 ≤ s.bits
     ≡ spellings s (values_at s levels)
 high_first s o levels h three order e len legal =
     let few = three_few s three in
-    ap (λ bytes. take 24 (pick_l 0 (bytes ++ bytes) (2 ∷ 1 ∷ 0 ∷ 6 ∷ 5 ∷ 4 ∷ 10 ∷ 9 ∷ 8 ∷ 14 ∷ 13 ∷ 12 ∷ 18 ∷ 17 ∷ 16 ∷ 22 ∷ 21 ∷ 20 ∷ 26 ∷ 25 ∷ 24 ∷ 30 ∷ 29 ∷ 28 ∷ 0 ∷ 0 ∷ 0 ∷ 0 ∷ 0 ∷ 0 ∷ 0 ∷ 0 ∷ [])))
+    ap (λ bytes. take 24 (pick_l 0 (bytes ++ bytes) (2 ∷ 1 ∷ 0 ∷ 6 ∷ 5 ∷ 4 ∷ 10 ∷ 9 ∷ 8 ∷ 14 ∷ 13 ∷ 12 ∷ 18 ∷ 17 ∷ 16 ∷ 22 ∷ 21 ∷ 20 ∷ 26 ∷ 25 ∷ 24 ∷ 30 ∷ 29 ∷ 28 ∷ 0 ∷ 0 ∷ 0 ∷ 0 ∷ 0 ∷ 0 ∷ 0
+    ∷ 0 ∷ [])))
     (words_in_bytes o levels len)
     ∙ (high_threes (words_of 8 o levels) (length-words_of 8 o levels len) ∙ high-threes-spelled s levels h few three order e len legal)
 
@@ -164,7 +171,8 @@ eight_more s i levels bytes spelled {new} room before next is =
   where
     spelled_with : (s : Parameters) (xs ys : List ℕ) → spellings s (values_at s xs) ++ spellings s (values_at s ys) ≡ spellings s (values_at s (xs ++ ys))
     spelled_with s [] ys = refl
-    spelled_with s (x ∷ xs) ys = append_assoc (spelling s (value_at s x)) (spellings s (values_at s xs)) (spellings s (values_at s ys)) ∙ ap (λ l. spelling s (value_at s x) ++ l) (spelled_with s xs ys)
+    spelled_with s (x ∷ xs) ys = append_assoc (spelling s (value_at s x)) (spellings s (values_at s xs)) (spellings s (values_at s ys))
+        ∙ ap (λ l. spelling s (value_at s x) ++ l) (spelled_with s xs ys)
 
     take_in_second : (m k : ℕ) (xs ys : List ℕ) → length xs ≡ m → take (m + k) (xs ++ ys) ≡ xs ++ take k ys
     take_in_second m k xs ys e = take-add m k (xs ++ ys) ∙ (λ j. take_at xs ys m e j ++ take k (drop_at xs ys m e j))

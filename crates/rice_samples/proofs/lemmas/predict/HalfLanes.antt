@@ -1,5 +1,6 @@
 -- Sixteen samples of at most 16 bits in two vectors of eight lanes.
-use Rattle.std.proofs.Common.{◌≡◌, ℕ, zero, suc, ◌+◌, ◌-◌, ◌*◌, ◌/◌, ◌%◌, ◌^◌, ◌<◌, ◌≤◌, true, false, cond, List, [], ◌∷◌, ◌++◌, get_or, length, replicate, take, drop, refl, sym, ◌∙◌, ap, arith, length-append}
+use Rattle.std.proofs.Common.{◌≡◌, ℕ, zero, suc, ◌+◌, ◌-◌, ◌*◌, ◌/◌, ◌%◌, ◌^◌, ◌<◌, ◌≤◌, true, false, cond}
+use Rattle.std.proofs.Common.{List, [], ◌∷◌, ◌++◌, get_or, length, replicate, take, drop, refl, sym, ◌∙◌, ap, arith, length-append}
 use Rattle.std.specs.Prelude.{All}
 use Rattle.std.specs.Int.{bytes_high_first, bytes_low_first}
 use Rattle.std.specs.Simd.Lanes.{Each1, digits_l, number_l, pick_l, zip2}

@@ -61,7 +61,8 @@ pub each_below : (n g : ℕ) (xs : List ℕ) → g + 1 ≡ n → Each1 (λ x. x 
 each_below n g [] e h = tt
 each_below n g (x ∷ xs) e h = (omega (arith, h.0), each_below n g xs e h.1)
 
-pub shifted_below : (m n g : ℕ) (before levels : List ℕ) → g + 1 ≡ n → length before ≡ suc m → Each1 (λ x. x < n) before → Each1 (λ x. x < n) levels → Each1 (λ x. x ≤ g) (get_or before m 0 ∷ take m levels)
+pub shifted_below : (m n g : ℕ) (before levels : List ℕ) → g + 1 ≡ n → length before ≡ suc m → Each1 (λ x. x < n) before → Each1 (λ x. x < n) levels
+    → Each1 (λ x. x ≤ g) (get_or before m 0 ∷ take m levels)
 shifted_below m n g before levels e len h k = let b = each_get n m before h (omega arith) in (omega (arith, b), each_below n g (take m levels) e (each_taken n m levels k))
 
 -- as many of the first list as the second has

@@ -1,5 +1,6 @@
 -- Near numbers, eight at a time; `near_ranks` holds for any number of them.
-use Rattle.std.proofs.Common.{◌≡◌, inl, inr, ℕ, zero, suc, ◌+◌, ◌-◌, ◌*◌, ◌/◌, ◌%◌, ◌^◌, ◌<◌, ◌≤◌, min, max, cond, Bool, true, List, [], ◌∷◌, map, length, take, get_or, refl, sym, ◌∙◌, ap, subst, arith, Fits, nat_lt, ◌==◌}
+use Rattle.std.proofs.Common.{◌≡◌, inl, inr, ℕ, zero, suc, ◌+◌, ◌-◌, ◌*◌, ◌/◌, ◌%◌, ◌^◌, ◌<◌, ◌≤◌, min, max, cond, Bool}
+use Rattle.std.proofs.Common.{true, List, [], ◌∷◌, map, length, take, get_or, refl, sym, ◌∙◌, ap, subst, arith, Fits, nat_lt, ◌==◌}
 use Rattle.std.specs.Prelude.{All, bit_and, bit_or, replicate}
 use Rattle.std.specs.Int.{Width}
 use mir.Val.{bits, hbits}

@@ -21,7 +21,8 @@ distances_below_greatest_are w greatest (suc n) (d ∷ ds) e fits h =
     λ j. one j ∷ others j
   where
     wrapped : (m d : ℕ) → d ≤ greatest → greatest < m → (greatest + (m - d)) % m ≡ greatest - d
-    wrapped m d below fits = ap (λ x. x % m) (let e : greatest + (m - d) ≡ greatest - d + m = omega (arith, below, fits) in e) ∙ (add-mod_right (greatest - d) m ∙ mod-eq_of_lt (omega (arith, below, fits)))
+    wrapped m d below fits = ap (λ x. x % m) (let e : greatest + (m - d) ≡ greatest - d + m = omega (arith, below, fits) in e)
+        ∙ (add-mod_right (greatest - d) m ∙ mod-eq_of_lt (omega (arith, below, fits)))
 
 -- half of each rank, up
 pub halves_are : (w : Width) (n : ℕ) (ds : List ℕ) → length ds ≡ n → 2 ≤ 2 ^ bits w → Each1 (Fits w) ds

@@ -1,5 +1,6 @@
 -- Levels that are restored one after the other.
-use Rattle.std.proofs.Common.{◌≡◌, ℕ, ◌+◌, ◌<◌, ◌≤◌, arith, drop, zero, suc, length-append, List, [], ◌∷◌, ◌++◌, length, take, refl, ap, sym, subst, ◌∙◌, get_or, slice_set, All, ◌-◌, length-drop, take-append-drop}
+use Rattle.std.proofs.Common.{◌≡◌, ℕ, ◌+◌, ◌<◌, ◌≤◌, arith, drop, zero, suc, length-append, List, [], ◌∷◌, ◌++◌}
+use Rattle.std.proofs.Common.{length, take, refl, ap, sym, subst, ◌∙◌, get_or, slice_set, All, ◌-◌, length-drop, take-append-drop}
 use Rattle.std.proofs.lemmas.List.{length-take-le, take_all, take_more, take_more_set, get_or-take}
 use Rattle.std.proofs.lemmas.List.Elements.{All-append, All-drop, All-take}
 use Rattle.std.proofs.lemmas.Slice.{take-put_mid}

@@ -150,7 +150,8 @@ returns-then-bytes-width-gt0-clause-bounds g c =
     let xs = c.requires.seam.0 in
     let t = c.in-Ok.ensures.did (behind s xs now) xs (c.put_bits_of_seam.ensures c.args.setting.now now xs c.resume-encoding.ensures c.requires.seam.1) in
     let k = t.holds.counts in
-    within_early s c.stopped-then-bytes-width-gt0.result.report (xs ++ t.more) (settled_by s c.push_samples_of_bytes.new.self (xs ++ t.more) k) (c.stopped-then-bytes-width-gt0.ensures.told s (xs ++ t.more) k)
+    within_early s c.stopped-then-bytes-width-gt0.result.report (xs ++ t.more) (settled_by s c.push_samples_of_bytes.new.self (xs ++ t.more) k)
+    (c.stopped-then-bytes-width-gt0.ensures.told s (xs ++ t.more) k)
 
 pub returns-clause-bounds : goal.returns-clause-bounds
 returns-clause-bounds g c =

@@ -33,5 +33,8 @@ returns-clause-did g c =
       width_some = elim c.requires.lanes.samples.widths [ inl e ↦ omega (arith, e) | inr e ↦ omega (arith, e) ];
       block_some = omega (arith, c.block.ensures.range);
       some = some;
-    }) (c.stand_behind-behind.ensures.numbers ∙ (λ i. stand_at (stand.samples + n) (stand.bits + taken i) (new.meter + n) new.self)) in
-    (stroke_written (w * n) c.args.at new.bytes c.args.samples.now c.copy_at.new.samples k (omega (arith, few, c.next_bytes-blocks.auto.bytes, c.told-bytes)) c.copy_at.ensures, row_has_room w c.block.result blocks c.blocks_wanted-most.result c.args.at (length c.args.samples.now) c.next_bytes-blocks.ensures.most fit inside)
+    }) (c.stand_behind-behind.ensures.numbers ∙ (λ i. stand_at (stand.samples + n) (stand.bits + taken i) (new.meter + n) new.self)) in (
+      stroke_written (w * n) c.args.at new.bytes c.args.samples.now c.copy_at.new.samples k (omega (arith, few, c.next_bytes-blocks.auto.bytes, c.told-bytes)) c.copy_at.ensures,
+      row_has_room
+          w c.block.result blocks c.blocks_wanted-most.result c.args.at (length c.args.samples.now) c.next_bytes-blocks.ensures.most fit inside,
+    )

@@ -28,5 +28,8 @@ returns-clause-did g c =
       width_some = elim c.requires.plain.widths [ inl e ↦ omega (arith, e) | inr e ↦ elim e [ inl f ↦ omega (arith, f) | inr f ↦ omega (arith, f) ] ];
       block_some = omega (arith, c.block.ensures.range);
       some = some;
-    }) (c.stand_behind-stand.ensures.numbers ∙ (λ i. stand_at (stand.samples + n) (stand.bits + taken i) (new.meter + n) new.self)) in
-    (stroke_written (g.row.WIDTH * n) c.args.at c.spell_row_ahead-blocks.new.bytes c.args.samples.now c.copy_at.new.samples k (omega (arith, few, c.spell_row_ahead-blocks.array_long)) c.copy_at.ensures, let room : c.args.at + g.row.WIDTH * n ≤ length c.args.samples.now = search rules in room)
+    }) (c.stand_behind-stand.ensures.numbers ∙ (λ i. stand_at (stand.samples + n) (stand.bits + taken i) (new.meter + n) new.self)) in (
+      stroke_written (g.row.WIDTH * n) c.args.at c.spell_row_ahead-blocks.new.bytes c.args.samples.now c.copy_at.new.samples k (omega (arith, few, c.spell_row_ahead-blocks.array_long))
+          c.copy_at.ensures,
+      let room : c.args.at + g.row.WIDTH * n ≤ length c.args.samples.now = search rules in room,
+    )

@@ -14,5 +14,6 @@ returns-clause-fit c = subst (All (λ b. b < 2 ^ 8)) (sym c.least_byte_first.ens
 pub returns-clause-bits : goal.returns-clause-bits
 unfolding bits_of
 returns-clause-bits c =
-    let spelled : c.least_byte_first.result ≡ to_be_bytes w64 c.word_of_64_bits_from.result = c.least_byte_first.ensures ∙ eight-swapped c.word_of_64_bits_from.result c.swap_bytes.result c.swap_bytes.ensures in
+    let spelled : c.least_byte_first.result ≡ to_be_bytes w64 c.word_of_64_bits_from.result = c.least_byte_first.ensures
+    ∙ eight-swapped c.word_of_64_bits_from.result c.swap_bytes.result c.swap_bytes.ensures in
     ap (flat_map (word 8)) spelled ∙ (bits_of-eight c.word_of_64_bits_from.result ∙ c.word_of_64_bits_from.ensures)

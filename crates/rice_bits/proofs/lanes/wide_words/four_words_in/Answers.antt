@@ -7,4 +7,5 @@ returns-clause-fit c = rw (c.four_bytes_that_hold_each.ensures, c.factors_to_fro
 
 pub returns-clause-bits : goal.returns-clause-bits
 returns-clause-bits c =
-    rw (c.four_bytes_that_hold_each.ensures, c.factors_to_front.ensures) (wide_lanes c.args.bytes c.args.width c.args.before c.requires.lanes (lanes_below c.args.bytes c.fits-bytes.1) c.requires.width.1 c.requires.before)
+    rw (c.four_bytes_that_hold_each.ensures, c.factors_to_front.ensures) (wide_lanes c.args.bytes c.args.width c.args.before c.requires.lanes (lanes_below c.args.bytes c.fits-bytes.1)
+    c.requires.width.1 c.requires.before)

@@ -6,4 +6,5 @@ returns-clause-fit c = rw (c.two_bytes_that_hold_each.ensures, c.factors_to_fron
 
 pub returns-clause-bits : goal.returns-clause-bits
 returns-clause-bits c =
-    rw (c.two_bytes_that_hold_each.ensures, c.factors_to_front.ensures) (lanes-words c.args.bytes c.args.width c.args.before c.requires.lanes (lanes_below c.args.bytes c.fits-bytes.1) c.requires.width c.requires.before)
+    rw (c.two_bytes_that_hold_each.ensures, c.factors_to_front.ensures) (lanes-words c.args.bytes c.args.width c.args.before c.requires.lanes (lanes_below c.args.bytes c.fits-bytes.1)
+    c.requires.width c.requires.before)

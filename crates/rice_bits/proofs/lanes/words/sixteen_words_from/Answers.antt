@@ -11,7 +11,8 @@ pub joined_in_narrow_lanes-requires-clause-second : goal.joined_in_narrow_lanes-
 joined_in_narrow_lanes-requires-clause-second c = below-256 c.args.width c.eight_words_from.result c.requires.width c.eight_words_from.ensures.fit
 
 pub returns-clause-fit : goal.returns-clause-fit
-returns-clause-fit c = rw c.joined_in_narrow_lanes.ensures (fit-both c.args.width c.eight_words_from-first.result c.eight_words_from.result c.eight_words_from-first.ensures.fit c.eight_words_from.ensures.fit)
+returns-clause-fit c = rw c.joined_in_narrow_lanes.ensures (fit-both c.args.width c.eight_words_from-first.result c.eight_words_from.result c.eight_words_from-first.ensures.fit
+    c.eight_words_from.ensures.fit)
 
 pub returns-clause-bits : goal.returns-clause-bits
 returns-clause-bits c =

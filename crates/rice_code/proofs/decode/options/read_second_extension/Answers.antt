@@ -20,7 +20,8 @@ returns-in_err-few-clause-err g c =
     let e = c.in_err-few.ensures.err in
     let p = err_from_is_err_and c.from_residual-in_err-few.result c.from_residual-in_err-few.ensures.1 in
     rw (p.1, p.2) (second_extension_cut
-    c.in_ok-reference.ensures.reference (ap (λ n. n / 2 + n / 2) c.requires.size ∙ two_halves c.args.setting.now.block c.number_of_values-values.ensures.legal.block) c.in_ok-reference.ensures.ok e.1 e.2)
+    c.in_ok-reference.ensures.reference (ap (λ n. n / 2 + n / 2) c.requires.size ∙ two_halves c.args.setting.now.block c.number_of_values-values.ensures.legal.block)
+    c.in_ok-reference.ensures.ok e.1 e.2)
 
 pub returns-clause-ok : goal.returns-clause-ok
 returns-clause-ok g c =

@@ -19,14 +19,16 @@ returns-in_err-reference-clause-err g c =
 pub returns-in_err-small-clause-err : goal.returns-in_err-small-clause-err
 returns-in_err-small-clause-err g c =
     let first = c.write_zero_for_reference-first in
-    let part = sent_part c.args.setting.now c.in_ok-reference.reference first.result first.new.residuals c.number_of_values-values.ensures.legal first.ensures.first (first.auto.residuals ∙ c.requires.size) in
+    let part = sent_part c.args.setting.now c.in_ok-reference.reference first.result first.new.residuals c.number_of_values-values.ensures.legal first.ensures.first
+    (first.auto.residuals ∙ c.requires.size) in
     let p = err_from_is_err_and c.from_residual-in_err-small.result c.from_residual-in_err-small.ensures.1 in
     rw (p.1, p.2) (split_cut c.in_ok-reference.ensures.reference part.1 c.in_ok-reference.ensures.ok c.in_err-small.ensures.err)
 
 pub returns-then-not-small-clause-ok : goal.returns-then-not-small-clause-ok
 returns-then-not-small-clause-ok g c =
     let first = c.write_zero_for_reference-first in
-    let part = sent_part c.args.setting.now c.in_ok-reference.reference first.result first.new.residuals c.number_of_values-values.ensures.legal first.ensures.first (first.auto.residuals ∙ c.requires.size) in
+    let part = sent_part c.args.setting.now c.in_ok-reference.reference first.result first.new.residuals c.number_of_values-values.ensures.legal first.ensures.first
+    (first.auto.residuals ∙ c.requires.size) in
     split_large c.in_ok-reference.ensures.reference c.requires.k part.1 c.in_ok-reference.ensures.ok
     (rw (c.number_of_values-values.ensures.value, c.if-not-small.true) at c.in_ok-small.ensures.ok) refl (omega (arith, c.in_ok-reference.ensures.steps, c.in_ok-small.ensures.steps))
 
@@ -44,7 +46,8 @@ joined_are_below-sound-requires-clause-highs g c =
 pub returns-clause-ok : goal.returns-clause-ok
 returns-clause-ok g c =
     let first = c.write_zero_for_reference-first in
-    let part = sent_part c.args.setting.now c.in_ok-reference.reference first.result first.new.residuals c.number_of_values-values.ensures.legal first.ensures.first (first.auto.residuals ∙ c.requires.size) in
+    let part = sent_part c.args.setting.now c.in_ok-reference.reference first.result first.new.residuals c.number_of_values-values.ensures.legal first.ensures.first
+    (first.auto.residuals ∙ c.requires.size) in
     let says = rw (up_to_end first.result c.read_sent.new.residuals, c.bits.ensures.value) at c.joined_are_below-sound.ensures in
     split_joined c.joined_are_below-sound.result
     (record { reference = c.in_ok-reference.ensures.reference; small = c.requires.k; parts = part.1 }) c.in_ok-reference.ensures.ok

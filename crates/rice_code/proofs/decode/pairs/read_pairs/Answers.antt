@@ -28,12 +28,14 @@ returns-in_err-read_pairs_one_by_one-clause-err g c =
 pub returns-in_err-read_pairs_one_by_one-clause-steps : goal.returns-in_err-read_pairs_one_by_one-clause-steps
 returns-in_err-read_pairs_one_by_one-clause-steps g c =
     let w = c.take_waiting_pairs-some in
-    counted-both c.args.meter.now w.new.meter c.read_pairs_one_by_one.new.meter c.args.reader.now.taken w.new.reader.taken c.read_pairs_one_by_one.new.reader.taken w.ensures.taken.counted c.in_err-read_pairs_one_by_one.ensures.steps
+    counted-both c.args.meter.now w.new.meter c.read_pairs_one_by_one.new.meter c.args.reader.now.taken w.new.reader.taken c.read_pairs_one_by_one.new.reader.taken w.ensures.taken.counted
+    c.in_err-read_pairs_one_by_one.ensures.steps
 
 pub returns-clause-steps : goal.returns-clause-steps
 returns-clause-steps g c =
     let w = c.take_waiting_pairs-some in
-    counted-both c.args.meter.now w.new.meter c.read_pairs_one_by_one.new.meter c.args.reader.now.taken w.new.reader.taken c.read_pairs_one_by_one.new.reader.taken w.ensures.taken.counted c.in_ok-read_pairs_one_by_one.ensures.steps
+    counted-both c.args.meter.now w.new.meter c.read_pairs_one_by_one.new.meter c.args.reader.now.taken w.new.reader.taken c.read_pairs_one_by_one.new.reader.taken w.ensures.taken.counted
+    c.in_ok-read_pairs_one_by_one.ensures.steps
 
 pub returns-clause-ok : goal.returns-clause-ok
 returns-clause-ok g c =

@@ -18,4 +18,5 @@ returns-clause-ok g c =
     let rest = c.read_words_one_by_one.new.words in
     let row = row-waiting c.args.reader.now waiting.new.self c.args.width waiting.result waiting.new.words waiting.ensures.within waiting.ensures.fit waiting.ensures.takes in
     row-both c.args.width
-    (omega (arith, waiting.auto.words, waiting.ensures.within, c.read_words_one_by_one.auto.words)) (put_rest waiting.result waiting.new.words rest waiting.ensures.within) row c.in_ok-read_words_one_by_one.ensures.ok
+    (omega (arith, waiting.auto.words, waiting.ensures.within, c.read_words_one_by_one.auto.words)) (put_rest waiting.result waiting.new.words rest waiting.ensures.within) row
+    c.in_ok-read_words_one_by_one.ensures.ok

@@ -18,7 +18,8 @@ loop-row-init g c =
       places = c.store_row.ensures.len ∙ c.requires.places;
       rows =
           subst (λ xs. HighsAhead c.args.reader.now.waiting c.args.skip c.args.omitted xs first.first.len)
-          (sym (ap (λ n. take n c.store_row.new.rows) one ∙ stored_row 0 16 first.first.numbers c.args.highs.now c.store_row.new.rows (omega arith) (omega (arith, c.requires.places)) first.ensures.lanes c.store_row.ensures.value))
+          (sym (ap (λ n. take n c.store_row.new.rows) one ∙ stored_row 0 16 first.first.numbers c.args.highs.now c.store_row.new.rows (omega arith) (omega (arith, c.requires.places))
+          first.ensures.lanes c.store_row.ensures.value))
           first.ensures.some;
     }
 

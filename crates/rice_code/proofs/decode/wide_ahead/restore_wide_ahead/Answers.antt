@@ -16,7 +16,8 @@ returns-then-size-eq8-clause-some g c =
     if_some (λ r. RestoredAhead waiting s head.result.from a.k head.result.len head.result.omitted levels r.last r.len)
     (λ r. BlockAhead waiting s a.block (value_at s a.before) levels r.len × (r.last ≡ slice_index_or levels (s.block - 1) 0)) c.restore_block_of_eight.result
     (λ r found. wide_block c.requires.preprocess (omega (arith, c.block-block.ensures.range))
-    (wide_splits s a.k c.requires.wide c.requires.split.1) c.requires.id head.ensures (c.restore_block_of_eight.ensures.len ∙ omega (arith, c.if-size-eq8.true, c.requires.size)) found) c.restore_block_of_eight.ensures.some
+    (wide_splits s a.k c.requires.wide c.requires.split.1) c.requires.id head.ensures (c.restore_block_of_eight.ensures.len ∙ omega (arith, c.if-size-eq8.true, c.requires.size)) found)
+    c.restore_block_of_eight.ensures.some
 
 pub returns-clause-some : goal.returns-clause-some
 returns-clause-some g c =

@@ -12,7 +12,8 @@ use Rattle.rice_code.specs.code.SoundBlocks.{block_with, IsSoundData}
 use Rattle.rice_code.specs.CoderSteps.{least_looks, most_looks}
 use Rattle.rice_code.proofs.lemmas.meaning.CoveredBlocks.{bool_cases}
 use Rattle.rice_code.proofs.lemmas.encode.PendingRuns.{held_at, held_len}
-use Rattle.rice_code.proofs.lemmas.encode.SegmentBlocks.{to_come, held, held_range, held_sound, sound_of, next_zero, next_other, at_end, sum_next, most_of_all, looks_zero, looks_other, room_other, room_within, meter_fits, meter_ends, length_both, looks_more, other_same, least_more, most_more}
+use Rattle.rice_code.proofs.lemmas.encode.SegmentBlocks.{to_come, held, held_range, held_sound, sound_of, next_zero, next_other, at_end, sum_next, most_of_all, looks_zero}
+use Rattle.rice_code.proofs.lemmas.encode.SegmentBlocks.{looks_other, room_other, room_within, meter_fits, meter_ends, length_both, looks_more, other_same, least_more, most_more}
 use Rattle.rice_code.proofs.encode.blocks.code_blocks_of_size.Goals as goal
 
 pub code_next-run-requires-clause-sound : goal.code_next-run-requires-clause-sound

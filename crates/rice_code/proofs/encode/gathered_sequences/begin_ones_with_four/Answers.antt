@@ -14,4 +14,5 @@ returns-clause-bits c =
 pub returns-then-from-eq0-clause-bits : goal.returns-then-from-eq0-clause-bits
 returns-then-from-eq0-clause-bits c =
     let from : 0 ≡ c.args.from = omega arith in
-    subst (λ n. Gathers c.ones_with_four_sequences.result.word c.ones_with_four_sequences.result.left (sequences_from n c.args.four.0 c.args.four.1 c.args.four.2 c.args.four.3)) from (c.ones_with_four_sequences.ensures.bits [] gathers_none)
+    subst (λ n. Gathers c.ones_with_four_sequences.result.word c.ones_with_four_sequences.result.left (sequences_from n c.args.four.0 c.args.four.1 c.args.four.2 c.args.four.3)) from
+    (c.ones_with_four_sequences.ensures.bits [] gathers_none)

@@ -69,7 +69,18 @@ digits_with_four_sequences-row-requires-clause-some c =
     let four_x = length-four c.args.b.0 c.args.b.1 c.args.b.2 c.args.b.3 in
     let four_y = length-four c.args.c.0 c.args.c.1 c.args.c.2 c.args.c.3 in
     let four_z = length-four c.args.d.0 c.args.d.1 c.args.d.2 c.args.d.3 in
-    omega (arith, whole, parts, four_x, four_y, four_z, c.requires.total, c.begin_sequences_with_four.ensures.left, c.digits_with_four_sequences-half.ensures.left, c.digits_with_four_sequences.ensures.left)
+    omega (
+      arith,
+      whole,
+      parts,
+      four_x,
+      four_y,
+      four_z,
+      c.requires.total,
+      c.begin_sequences_with_four.ensures.left,
+      c.digits_with_four_sequences-half.ensures.left,
+      c.digits_with_four_sequences.ensures.left,
+    )
 
 pub add-requires-clause-value : goal.add-requires-clause-value
 add-requires-clause-value c =

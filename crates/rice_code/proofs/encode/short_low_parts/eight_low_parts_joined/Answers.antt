@@ -7,7 +7,8 @@ use Rattle.rice_code.proofs.encode.short_low_parts.eight_low_parts_joined.Goals 
 pub join-requires-clause-high : goal.join-requires-clause-high
 join-requires-clause-high c =
     let w = c.args.width in
-    high_small (4 * w) (4 * w) c.two_fours_joined-first.result.0 c.two_fours_joined-first.result.1 c.two_fours_joined-first.ensures.first_fits c.two_fours_joined-first.ensures.last_fits (omega (arith, c.requires.width))
+    high_small (4 * w) (4 * w) c.two_fours_joined-first.result.0 c.two_fours_joined-first.result.1 c.two_fours_joined-first.ensures.first_fits c.two_fours_joined-first.ensures.last_fits
+    (omega (arith, c.requires.width))
 
 pub returns-clause-fits : goal.returns-clause-fits
 returns-clause-fits c =

@@ -20,7 +20,12 @@ from at bytes = ap (λ n. take n (drop at bytes)) (sym (length-drop at bytes)) �
 pub loop-at-init : goal.loop-at-init
 loop-at-init g c = record {
   within = omega arith;
-  part = λ old xs h. ([], record { split = refl; legal = λ k d lt. absurd (omega arith) }, subst (λ (l : List ℤ). IsEncodingOf c.args.setting.now old (g.O.Outlet.taken c.args.outlet.now) c.args.self.now l) (sym (append-nil xs)) h);
+  part = λ old xs h. (
+    [],
+    record { split = refl; legal = λ k d lt. absurd (omega arith) },
+    subst
+        (λ (l : List ℤ). IsEncodingOf c.args.setting.now old (g.O.Outlet.taken c.args.outlet.now) c.args.self.now l) (sym (append-nil xs)) h,
+  );
   failures = refl;
   room = refl;
 }
@@ -55,7 +60,8 @@ push_all_levels-requires g c =
     let here = read_from s bytes at f.result c.width-width.result ys f.ensures.reads c.width-width.ensures.value in
     let all = reads_then s bytes (drop at bytes) (drop (at + c.width-width.result * f.result) bytes) p.0 ys p.1 here in
     let few = few_more s (p.0 ++ ys) bytes (drop (at + c.width-width.result * f.result) bytes) all (some_width s) in
-    let n : length ys ≡ length (take f.result f.new.levels) = length-take f.result (values_at s f.new.levels) ∙ ap (min f.result) (length-values s f.new.levels) ∙ sym (length-take f.result f.new.levels) in (
+    let n : length ys ≡ length (take f.result f.new.levels) = length-take f.result (values_at s f.new.levels) ∙ ap (min f.result) (length-values s f.new.levels)
+    ∙ sym (length-take f.result f.new.levels) in (
       search rules,
       (
         record {

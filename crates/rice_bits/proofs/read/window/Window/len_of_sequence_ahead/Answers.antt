@@ -22,7 +22,8 @@ returns-then-behind_zero-eq0-clause-none c =
     let zeros : take 63 (word 64 r) ≡ replicate 63 false = take-front 64 63 r (omega arith) ∙ (ap (word 63) c.if-behind_zero-eq0.true ∙ word-zero 63) in
     let front : take few (word 64 r) ≡ replicate few false =
     sym (take-take few 63 (word 64 r) (omega arith)) ∙ (ap (take few) zeros ∙ take-replicate few 63 false (omega arith)) in
-    sym (take-take few n (window_bits w) (omega arith)) ∙ (sym (take-append-le few near (replicate (64 - n) false) (omega (arith, len))) ∙ (ap (take few) (sym c.next_bits-behind_zero.ensures) ∙ front))
+    sym (take-take few n (window_bits w) (omega arith)) ∙ (sym (take-append-le few near (replicate (64 - n) false) (omega (arith, len)))
+    ∙ (ap (take few) (sym c.next_bits-behind_zero.ensures) ∙ front))
 
 -- a fundamental sequence stands at the front of a word that is not 0, and has as many bits as zeros stand there after one zero more
 begins : (r : ℕ) → 0 < r / 2 → r < 2 ^ 64

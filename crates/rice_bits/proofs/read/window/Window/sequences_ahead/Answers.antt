@@ -15,4 +15,5 @@ at_least_57_bits_from-requires c =
 
 pub returns : goal.returns
 returns c =
-    sequences-wait c.args.self.now c.args.skip c.args.count c.at_least_57_bits_from.result c.first_sequences.result c.requires.window c.requires.there c.at_least_57_bits_from.ensures c.first_sequences.ensures.begin
+    sequences-wait c.args.self.now c.args.skip c.args.count c.at_least_57_bits_from.result c.first_sequences.result c.requires.window c.requires.there c.at_least_57_bits_from.ensures
+    c.first_sequences.ensures.begin

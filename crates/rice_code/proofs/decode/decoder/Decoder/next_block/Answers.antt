@@ -24,5 +24,5 @@ pub returns-clause-waiting : goal.returns-clause-waiting
 returns-clause-waiting g c =
     let levels = c.next_levels-answer in
     let count : length c.write_values.new.values.items ≡ length levels.new.levels.items
-        = ap length c.write_values.ensures ∙ length-values c.self.inside.setting _ ∙ ap length c.as_slice.ensures.value in
+    = ap length c.write_values.ensures ∙ length-values c.self.inside.setting _ ∙ ap length c.as_slice.ensures.value in
     rw count levels.ensures.waiting

@@ -18,7 +18,8 @@ read_split_to_bytes-requires-clause-bytes g c =
     let own : size ≡ c.args.self.now.setting.block = c.known_or-len.ensures ∙ (c.block.ensures.value ∙ ap (λ (p : DecoderState). p.setting.block) c.self.view_is) in
     let same : l.self.setting.block ≡ size = ap (λ (s : Parameters). s.block) l.invariant.setting ∙ sym own in
     let all : w * size * c.args.most ≡ w * c.args.self.now.setting.block * c.args.most = ap (λ n. w * n * c.args.most) own in
-    let room = block_room w size l.i c.args.most (length l.bytes) (narrow_width c.args.self.now.setting c.args.self.now.setting.block w c.requires.lanes) c.loop-i-test.true (omega (arith, all, c.requires.bytes, l.auto.bytes)) in
+    let room = block_room w size l.i c.args.most (length l.bytes) (narrow_width c.args.self.now.setting c.args.self.now.setting.block w c.requires.lanes) c.loop-i-test.true
+    (omega (arith, all, c.requires.bytes, l.auto.bytes)) in
     let lanes : w * lanes_of l.self.setting.block ≡ w * lanes_of size = ap (λ n. w * lanes_of n) same in
     let long = length-take-le (length l.bytes - at) (drop at l.bytes) (omega (arith, length-drop at l.bytes)) in
     (omega (arith, long, room.1), omega (arith, long, lanes, room.2))

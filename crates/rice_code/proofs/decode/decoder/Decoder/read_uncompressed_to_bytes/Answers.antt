@@ -31,6 +31,7 @@ returns-clause-gives g c =
     record {
       gives = given;
       run = ap (λ (d : DecoderState). d.run) c.go_to_next_block-answer.ensures.moves;
-      waited = takes_waiting start c.take_ahead.new.reader c.go_to_next_block-answer.new.reader spelled.len _ takes block.ahead.within c.take_ahead.ensures.left c.go_to_next_block-answer.ensures.skips;
+      waited = takes_waiting start c.take_ahead.new.reader c.go_to_next_block-answer.new.reader spelled.len _ takes block.ahead.within c.take_ahead.ensures.left
+          c.go_to_next_block-answer.ensures.skips;
       ticked = omega (arith, takes.taken, len, c.take_ahead.ensures.steps, c.go_to_next_block-answer.ensures.steps);
     }

@@ -23,7 +23,8 @@ returns-clause-some g c _ =
     let legal = subst (λ (p : DecoderState). IsLegal p.setting) view c.self.invariant.1.legal in
     let some = subst (λ (p : DecoderState). 1 ≤ p.setting.block) view (omega (arith, c.block.ensures.range, c.block.ensures.value)) in
     let same = subst (λ (p : DecoderState). length levels ≡ p.setting.block) view c.restore_wide_ahead.ensures.len in
-    let known = subst (λ (p : DecoderState). BlockAhead start.waiting p.setting p.block p.before levels restored.len × (restored.last ≡ slice_index_or levels (p.setting.block - 1) 0)) view c.in-Some.ensures.some in
+    let known = subst (λ (p : DecoderState). BlockAhead start.waiting p.setting p.block p.before levels restored.len × (restored.last ≡ slice_index_or levels (p.setting.block - 1) 0)) view
+    c.in-Some.ensures.some in
     subst (λ (ls : List ℕ). Answers (with_mark start) new.reader c.args.meter.now new.meter p new.self (values_at p.setting ls) (Ok Block)
     × (length ls + new.self.run * new.self.setting.block ≤ most_samples_of_bit * (new.reader.taken - start.taken)))
     (sym (places_written size levels places (c.restore_wide_ahead.ensures.len ∙ sym c.block.ensures.value) c.set_len.ensures))

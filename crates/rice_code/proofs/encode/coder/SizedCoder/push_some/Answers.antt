@@ -5,7 +5,8 @@ use Rattle.rice_samples.specs.Places.{blocks_left}
 use Rattle.rice_samples.proofs.lemmas.setting.PlaceLemmas.{some_left}
 use Rattle.rice_code.specs.CoderSteps.{segment_steps}
 use Rattle.rice_code.proofs.lemmas.encode.PushedCode.{short_of}
-use Rattle.rice_code.proofs.lemmas.encode.PushedSamples.{holds_levels, steps_of_levels, whole_is_sound, whole_has_steps, whole_pushes, whole_completes_all, open_pushes, still_short, none_before_level, is_coder_after}
+use Rattle.rice_code.proofs.lemmas.encode.PushedSamples.{holds_levels, steps_of_levels, whole_is_sound, whole_has_steps, whole_pushes}
+use Rattle.rice_code.proofs.lemmas.encode.PushedSamples.{whole_completes_all, open_pushes, still_short, none_before_level, is_coder_after}
 use Rattle.rice_code.proofs.encode.coder.SizedCoder.push_some.Goals as goal
 
 pub code-bits-requires : goal.code-bits-requires

@@ -43,4 +43,5 @@ returns-then-is_reference_next g c =
     let x = slice_index_or levels 0 0 in
     let some : 0 < length levels = not_none (length levels) (sym c.is_empty.ensures ∙ c.if-is_empty.false) in
     let first : (c.args.self.now.setting.preprocess && is_first c.args.self.now) ≡ true = search rules in
-    all_held st c.args.self.now c.hold_after.new.self c.plain.result.now levels x c.pattern_of_level.result c.self.view_is some first refl c.plain.ensures c.pattern_of_level.ensures.value c.hold_after.ensures
+    all_held st c.args.self.now c.hold_after.new.self c.plain.result.now levels x c.pattern_of_level.result c.self.view_is some first refl c.plain.ensures c.pattern_of_level.ensures.value
+    c.hold_after.ensures

@@ -9,4 +9,5 @@ returns-then-not-signed-clause-value c =
 pub returns-clause-value : goal.returns-clause-value
 returns-clause-value c =
     let legal = c.offset.ensures.legal in
-    pattern_at_level c.args.setting.now c.args.level c.offset.result (c.number_of_values.result - 1) legal.bits_from legal.bits_to c.requires c.offset.ensures.value (ap (λ n. n - 1) c.number_of_values.ensures.value)
+    pattern_at_level c.args.setting.now c.args.level c.offset.result (c.number_of_values.result - 1) legal.bits_from legal.bits_to c.requires c.offset.ensures.value
+    (ap (λ n. n - 1) c.number_of_values.ensures.value)

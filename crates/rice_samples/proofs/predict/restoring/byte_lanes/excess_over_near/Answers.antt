@@ -20,9 +20,11 @@ returns-clause-len c =
 pub returns-clause-fit : goal.returns-clause-fit
 returns-clause-fit c = λ e. (vector_is_near c.args.ranks
     c.requires.before c.ranges.greatest.fits c.requires.lanes c.requires.numbers c.numbers_before_each.ensures c.greatest_near_ranks.ensures
-    (excess_of_each w8 c.args.ranks c.greatest_near_ranks.result c.fits-ranks.1 (bounds-fit w8 c.args.greatest c.numbers_before_each.result c.greatest_near_ranks.result c.greatest_near_ranks.ensures)) e).0
+    (excess_of_each w8 c.args.ranks c.greatest_near_ranks.result c.fits-ranks.1 (bounds-fit w8 c.args.greatest c.numbers_before_each.result c.greatest_near_ranks.result
+    c.greatest_near_ranks.ensures)) e).0
 
 pub returns-clause-ranks : goal.returns-clause-ranks
 returns-clause-ranks c = λ e. (vector_is_near c.args.ranks
     c.requires.before c.ranges.greatest.fits c.requires.lanes c.requires.numbers c.numbers_before_each.ensures c.greatest_near_ranks.ensures
-    (excess_of_each w8 c.args.ranks c.greatest_near_ranks.result c.fits-ranks.1 (bounds-fit w8 c.args.greatest c.numbers_before_each.result c.greatest_near_ranks.result c.greatest_near_ranks.ensures)) e).1
+    (excess_of_each w8 c.args.ranks c.greatest_near_ranks.result c.fits-ranks.1 (bounds-fit w8 c.args.greatest c.numbers_before_each.result c.greatest_near_ranks.result
+    c.greatest_near_ranks.ensures)) e).1

@@ -32,8 +32,10 @@ returns-clause-levels c =
       first_is = first_len;
       second_is = second_len;
     }) refl (record { front = small; back = c.excess_over_near-second_far.ensures.fit inside more })
-    (c.excess_over_near-first_far.ensures.ranks legal none ∙ (c.join_parts-first_ranks.ensures.value ∙ (λ j. joined_parts a.width (c.first_eight_widened.ensures j) (c.first_eight_widened-2.ensures j))))
-    (c.excess_over_near-second_far.ensures.ranks inside more ∙ (c.join_parts-second_ranks.ensures.value ∙ (λ j. joined_parts a.width (c.last_eight_widened.ensures j) (c.last_eight_widened-2.ensures j))))
+    (c.excess_over_near-first_far.ensures.ranks legal none ∙ (c.join_parts-first_ranks.ensures.value
+    ∙ (λ j. joined_parts a.width (c.first_eight_widened.ensures j) (c.first_eight_widened-2.ensures j))))
+    (c.excess_over_near-second_far.ensures.ranks inside more ∙ (c.join_parts-second_ranks.ensures.value
+    ∙ (λ j. joined_parts a.width (c.last_eight_widened.ensures j) (c.last_eight_widened-2.ensures j))))
 
 pub returns-clause-halves : goal.returns-clause-halves
 returns-clause-halves c =

@@ -30,7 +30,8 @@ returns-clause-levels c =
       second_is = two.ensures.len;
     }) refl (record { front = small; back = more })
     (one.ensures.ranks ∙ (c.join_parts-first_ranks.ensures.value ∙ (λ j. joined_parts a.width (c.first_eight_widened.ensures j) (c.first_eight_widened-2.ensures j))))
-    (subst (λ p. ranks_below (greatest + 1) p second ≡ c.join_parts-second_ranks.result) reached two.ensures.ranks ∙ (c.join_parts-second_ranks.ensures.value ∙ (λ j. joined_parts a.width (c.last_eight_widened.ensures j) (c.last_eight_widened-2.ensures j))))
+    (subst (λ p. ranks_below (greatest + 1) p second ≡ c.join_parts-second_ranks.result) reached two.ensures.ranks
+    ∙ (c.join_parts-second_ranks.ensures.value ∙ (λ j. joined_parts a.width (c.last_eight_widened.ensures j) (c.last_eight_widened-2.ensures j))))
 
 -- lanes of 8 bits
 all_fit : (xs : List ℕ) → Each1 (Fits w8) xs → All (λ m. m < 256) xs
