@@ -1,6 +1,6 @@
 -- A call that decodes a code does what the code decodes to.
 use Rattle.std.proofs.Common.{◌≡◌, ◌≢◌, ℕ, ◌+◌, ◌-◌, ◌*◌, ◌^◌, ◌<◌, ◌≤◌, Bool, false, true, List, [], ◌∷◌, ◌++◌, length, take, drop}
-use Rattle.std.proofs.Common.{refl, ap, arith, sym, ◌∙◌, ◌⊎◌, inl, inr, subst, append_assoc, append-nil, length-append, take-append-drop, Option, Some, None, ℤ, pos}
+use Rattle.std.proofs.Common.{refl, ap, arith, sym, ◌∙◌, ◌⊎◌, inl, inr, subst, append_assoc, append-nil, length-append, take-append-drop, Option, Some, None, ℤ}
 use Rattle.std.specs.Prelude.{IsSome}
 use Rattle.std.specs.Io.KnownBytes.{IsAtEnd}
 use Rattle.std.proofs.Math.Nat.{mul-le-mul_left}

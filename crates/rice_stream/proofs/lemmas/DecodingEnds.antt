@@ -29,7 +29,7 @@ use Rattle.rice_code.proofs.lemmas.code.BlocksByPlaceAlone.{place_step}
 use Rattle.rice_code.specs.code.CodedDataSets.{CodedDataSet, bits_of_set, turns}
 use Rattle.rice_code.specs.decode.Decoder.{StopsBy, SetEnds, SetRefused, with_mark}
 use Rattle.rice_code.specs.decode.DecoderState.{DecoderState, state_after_block, next_block_place}
-use Rattle.rice_code.specs.code.Forms.{IsForm, RunIsSound, ResidualsAreSound}
+use Rattle.rice_code.specs.code.Forms.{IsForm}
 use Rattle.rice_code.specs.decode.ReadSets.{SetCut}
 use Rattle.rice_code.specs.declared.decode.call_results.CodeFault.{CodeFault}
 use Rattle.rice_code.specs.declared.decode.call_results.CodeFault.TheVariants as faults

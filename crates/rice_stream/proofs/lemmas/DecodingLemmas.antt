@@ -1,5 +1,5 @@
 -- What a call of the decoder does to a decoding.
-use Rattle.std.proofs.Common.{◌≡◌, ℕ, ◌+◌, ◌<◌, ◌≤◌, ◌==◌, ◌&&◌, cond, Bool, true, false, List, [], ◌∷◌, ◌++◌, length, replicate}
+use Rattle.std.proofs.Common.{◌≡◌, ℕ, ◌+◌, ◌<◌, ◌≤◌, ◌==◌, ◌&&◌, cond, Bool, true, List, [], ◌∷◌, ◌++◌, length, replicate}
 use Rattle.std.proofs.Common.{ap, arith, sym, ◌∙◌, ◌⊎◌, suc, inl, inr, subst, append_assoc, append-nil, length-append, Option, Some, None, ℤ, pos}
 use Rattle.std.specs.Prelude.{All, IfSome, Result, Ok, Err}
 use Rattle.std.specs.Io.KnownBytes.{Consumes}

@@ -16,7 +16,7 @@ use Rattle.rice_code.proofs.lemmas.meaning.DecodingByPlacesAlone.{end_there}
 use Rattle.rice_stream.specs.DecodingState.{DecodedSoFar}
 use Rattle.rice_stream.specs.Laws.{ArePulled, EndsCode, EnoughBehindIsDecoding, EnoughIsDecoding, FrontIsPlace, GiveInParts, IsPlace}
 use Rattle.rice_stream.specs.Laws.{IsPulled, Pull, PullsAreDecoding, SeekingIsDecoding, StandsTellPlaces, last_stand}
-use Rattle.rice_stream.specs.Pulling.{Origin, IsStand, PausesAt, at_front, bits_ahead}
+use Rattle.rice_stream.specs.Pulling.{Origin, IsStand, PausesAt, bits_ahead}
 use Rattle.rice_stream.specs.declared.stand.Pause.{Pause}
 use Rattle.rice_stream.specs.declared.stand.Pause.TheVariants as pauses
 use Rattle.rice_stream.specs.declared.stand.Stand.{Stand}

@@ -12,7 +12,7 @@ use Rattle.rice_samples.specs.bytes.Spelling.{spellings}
 use Rattle.rice_code.specs.decode.BlocksInOnePass.{GivesBytes, HasLanes}
 use Rattle.rice_code.specs.decode.BlocksInRow.{GivesBlocks, StoodBehind, TakesWaiting}
 use Rattle.rice_code.proofs.lemmas.decode.BlocksInRow.{width_is}
-use Rattle.rice_code.specs.decode.Decoder.{GivesSet, with_mark}
+use Rattle.rice_code.specs.decode.Decoder.{GivesSet}
 use Rattle.rice_code.specs.decode.DecoderState.{DecoderState}
 use Rattle.rice_code.specs.decode.RowsOfFields.{AreCounted}
 use Rattle.rice_code.specs.decode.PlainBlocks.{GivesRow}
