@@ -21,6 +21,11 @@ holds_after P (Some a) new silent tells o e =
     let it : found.0 ≡ o = cc in
     subst P it found.2
 
+-- what was begun with some permissions was begun with others that are equal
+pub begun_with : (new : Option Outside) (o : Outside) (name : List ℕ) (mode other : Option ℕ) → new ≡ Some (begun o (place_of name mode)) → mode ≡ other
+    → new ≡ Some (begun o (place_of name other))
+begun_with new o name mode other told e = told ∙ ap (λ m. Some (begun o (place_of name m))) e
+
 -- an outlet that had taken nothing has taken what it took
 pub took_all : (old new : Option Room) → HasTakenNothing old → (bytes : List ℕ) → Appends old new bytes → (x : Room) × (new ≡ Some x) × (x.bytes ≡ bytes)
 took_all None new (room, e, empty) bytes h = let bad : ⊥ = cc in absurd bad

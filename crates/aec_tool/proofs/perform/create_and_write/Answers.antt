@@ -1,9 +1,9 @@
-use Rattle.std.proofs.Common.{◌≡◌, ◌∙◌, false, None, Some, ap, refl, inr, subst, sym}
+use Rattle.std.proofs.Common.{◌≡◌, ◌∙◌, false, None, ap, refl, inr, subst, sym}
 use Rattle.std.specs.Prelude.{IsTrue}
 use Rattle.aec_command.specs.Plan.{plan_view}
 use Rattle.aec_tool.specs.Outside.{HasTakenNothing, begun, closing, new_mode, refusing, place_of, source_id, AreOneFile}
 use Rattle.aec_tool.specs.Performs.{EmptiesSource, Runs}
-use Rattle.aec_tool.proofs.OutsideLemmas.{holds_after}
+use Rattle.aec_tool.proofs.OutsideLemmas.{begun_with, holds_after}
 use Rattle.aec_tool.proofs.perform.create_and_write.Goals as goal
 
 pub transfer-done-requires : goal.transfer-done-requires
@@ -36,7 +36,7 @@ returns-in-Ok g c = λ o told.
     let bad : ⊥ = cc in
     bad in
     let mode : c.mode_for.result ≡ new_mode (source_id o c.args.plan.now.source.now) = c.mode_for.ensures ∙ ap new_mode (c.requires.id o told) in
-    let ran = c.transfer-done.ensures o all.0 (made.0 ∙ ap (λ m. Some (begun o (place_of c.args.dest.now m))) mode) all.1 all.2 keeps made.1 in
+    let ran = c.transfer-done.ensures o all.0 (begun_with _ o c.args.dest.now c.mode_for.result (new_mode (source_id o c.args.plan.now.source.now)) made.0 mode) all.1 all.2 keeps made.1 in
     let status = sym c.write_closing_line.ensures.status in (
       closing c.args.plan.now.verbose c.transfer-done.result.samples ran.0,
       c.write_closing_line.ensures.closes ran.0 ran.1,
