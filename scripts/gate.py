@@ -36,7 +36,7 @@ SHARE_OF_MEMORY = 0.5
 # About how many seconds of a processor an edit takes, and the most that a part of a crate's edits is to take: each part reads all that
 # is below the crate first, in some 10 seconds.
 SECONDS_OF_EDIT = {
-    "rice_bits": 2, "rice_samples": 2, "rice_base_tests": 3, "rice_code": 4, "rice_stream": 8, "rice_c": 3, "aec_command": 7, "aec_tool": 10,
+    "rice_bits": 2, "rice_samples": 2, "rice_base_tests": 3, "rice_code": 4, "rice_stream": 8, "rice_c": 3, "aec_command": 6, "aec_tool": 6,
 }
 SECONDS_OF_PART = 450
 
