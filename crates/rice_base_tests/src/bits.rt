@@ -7,6 +7,7 @@ use rice_bits::{
     BitFault, BitReader, BitSink, FromBufWriter, FromReader, FromWriter, Intake, Meter, Outlet,
     ReadFault, SliceIn, SliceOut, WriteFault, join, low_digits,
 };
+use std::alloc::Global;
 use std::io::{self, BufWriter, ErrorKind, Read, Write};
 use std::test::Fail;
 
@@ -124,20 +125,36 @@ fn put_eight_whole_words(rt: HostRuntime) -> Result<(), Fail> {
     ];
     for line in WHOLE_WORDS.lines() {
         cases.of_line(line);
-        let mut columns = Columns::of(line);
-        let width = columns.next_u32()?;
-        let expected = bytes_of(columns.next(), rt.alloc())?;
-        assert!(rt; width == 8 || width == 16 || width == 32);
-        let mut sink = BitSink::<40>::new();
-        let mut meter = Meter::new();
-        sink.put(0b1010, 4, &mut meter);
-        sink.put_number_and_whole_words(0b101, 3, &words, width, &mut meter);
-        cases.check(sink.len() == 7 + 8 * width as u64);
-        cases.check(meter.steps() == 7 + 8 * width as u64);
-        sink.pad();
-        cases.check(sink.whole() == expected.as_slice());
+        whole_words_of_line(&mut cases, rt.alloc(), &words, line)?;
     }
     cases.end()
+}
+
+fn whole_words_of_line(
+    cases: &mut Cases<'_>,
+    alloc: Global,
+    words: &[u32; 8],
+    line: &str,
+) -> Result<(), Fail> {
+    let mut columns = Columns::of(line);
+    let width = columns.next_u32()?;
+    let expected = bytes_of(columns.next(), alloc)?;
+    put_whole_words(cases, words, width, expected.as_slice());
+    Ok(())
+}
+
+fn put_whole_words(cases: &mut Cases<'_>, words: &[u32; 8], width: u32, expected: &[u8]) {
+    if width != 8 && width != 16 && width != 32 {
+        return cases.check(false);
+    }
+    let mut sink = BitSink::<40>::new();
+    let mut meter = Meter::new();
+    sink.put(0b1010, 4, &mut meter);
+    sink.put_number_and_whole_words(0b101, 3, words, width, &mut meter);
+    let bits = 7 + 8 * width as u64;
+    cases.check((sink.len(), meter.steps()) == (bits, bits));
+    sink.pad();
+    cases.check(sink.whole() == expected);
 }
 
 #[test]
@@ -316,6 +333,13 @@ fn align_passes_ones() -> Result<(), Fail> {
 #[test]
 fn devices_over_memory() -> Result<(), Fail> {
     let mut cases = Cases::new();
+    intake_over_memory(&mut cases);
+    intake_of_zeros(&mut cases);
+    outlet_over_memory(&mut cases);
+    cases.end()
+}
+
+fn intake_over_memory(cases: &mut Cases<'_>) {
     let mut buffer = [0xAA; 4];
     let mut intake = MemoryIn::new(&[1, 2, 3], 2, Some(3));
     cases.check(intake.fill(&mut buffer) == Ok(2));
@@ -323,14 +347,19 @@ fn devices_over_memory() -> Result<(), Fail> {
     cases.check(intake.fill(&mut buffer) == Ok(1));
     cases.check(intake.fill(&mut buffer) == Err(ReadFault));
     cases.check(intake.failures() == 1);
+}
 
+fn intake_of_zeros(cases: &mut Cases<'_>) {
+    let mut buffer = [1, 2, 0xAA, 0xAA];
     let mut zeros = ZeroIn::new(5);
     cases.check(zeros.fill(&mut buffer) == Ok(4));
     cases.check(buffer == [0, 0, 0, 0]);
     cases.check(zeros.fill(&mut buffer) == Ok(1));
     cases.check(zeros.fill(&mut buffer) == Ok(0));
     cases.check(zeros.failures() == 0);
+}
 
+fn outlet_over_memory(cases: &mut Cases<'_>) {
     let mut room = [0; 4];
     let mut outlet = MemoryOut::new(&mut room, 2, Some(3));
     cases.check(outlet.put(&[7, 8, 9]) == Ok(2));
@@ -338,12 +367,17 @@ fn devices_over_memory() -> Result<(), Fail> {
     cases.check(outlet.put(&[10]) == Err(WriteFault));
     cases.check(outlet.failures() == 1);
     cases.check(outlet.written() == [7, 8, 9].as_slice());
-    cases.end()
 }
 
 #[test]
 fn devices_over_slices() -> Result<(), Fail> {
     let mut cases = Cases::new();
+    intake_over_slice(&mut cases);
+    outlet_over_slice(&mut cases);
+    cases.end()
+}
+
+fn intake_over_slice(cases: &mut Cases<'_>) {
     let mut buffer = [0xAA; 4];
     let mut intake = SliceIn::new(&[1, 2, 3, 4, 5, 6]);
     cases.check(intake.fill(&mut buffer) == Ok(4));
@@ -352,7 +386,9 @@ fn devices_over_slices() -> Result<(), Fail> {
     cases.check(buffer == [5, 6, 3, 4]);
     cases.check(intake.fill(&mut buffer) == Ok(0));
     cases.check(intake.failures() == 0);
+}
 
+fn outlet_over_slice(cases: &mut Cases<'_>) {
     let mut room = [0; 4];
     let mut outlet = SliceOut::new(&mut room);
     cases.check(outlet.put(&[7, 8, 9]) == Ok(3));
@@ -362,7 +398,6 @@ fn devices_over_slices() -> Result<(), Fail> {
     cases.check(outlet.failures() == 1);
     drop(outlet);
     cases.check(room == [7, 8, 9, 10]);
-    cases.end()
 }
 
 /// Gives one byte a call, and fails at one call, after so many bytes.
@@ -466,9 +501,9 @@ fn devices_over_buffers(rt: HostRuntime) -> Result<(), Fail> {
 #[test]
 fn fault_texts(rt: HostRuntime) -> Result<(), Fail> {
     let mut cases = Cases::new();
-    cases.check(ReadFault.to_string(rt.alloc())?.as_str() == "read failed");
-    cases.check(WriteFault.to_string(rt.alloc())?.as_str() == "write failed");
-    cases.check(BitFault::Read.to_string(rt.alloc())?.as_str() == "read failed");
-    cases.check(BitFault::TooLong.to_string(rt.alloc())?.as_str() == "input is too long");
+    cases.check_text(rt.alloc(), ReadFault, "read failed")?;
+    cases.check_text(rt.alloc(), WriteFault, "write failed")?;
+    cases.check_text(rt.alloc(), BitFault::Read, "read failed")?;
+    cases.check_text(rt.alloc(), BitFault::TooLong, "input is too long")?;
     cases.end()
 }

@@ -1,4 +1,6 @@
 //! The cases of a test, of which the first that is wrong is told.
+use std::alloc::Global;
+use std::fmt::Display;
 use std::test::Fail;
 
 /// The number of cases that were tried, and the first that was wrong: its number, from 1, and the line of its table.
@@ -32,6 +34,18 @@ impl<'a> Cases<'a> {
             self.wrong = self.tried;
             self.wrong_line = self.line;
         }
+    }
+
+    /// Counts a case: what is printed of a value is this text.
+    pub fn check_text<D: Display + Drop>(
+        &mut self,
+        alloc: Global,
+        value: D,
+        text: &str,
+    ) -> Result<(), Fail> {
+        let printed = value.to_string(alloc)?;
+        self.check(printed.as_str() == text);
+        Ok(())
     }
 
     /// Returns the failure of a test where no case was tried, or one was wrong.

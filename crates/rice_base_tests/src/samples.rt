@@ -1,14 +1,16 @@
-ghost use Rattle.std.specs.Prelude.{◌≡◌, ◌<◌, true, All};
+ghost use Rattle.std.specs.Prelude.{◌≡◌, ◌*◌, ◌<◌, true, length, All};
+ghost use Rattle.rice_samples.specs.Parameters.{IsBlockSize, IsSample, width as width_of};
 
 use crate::case_table::{self, Columns, answer_to, bytes_of, setting_of};
 use crate::cases::Cases;
 use rice_bits::{BitSink, Meter, SliceIn};
 use rice_samples::{
-    SampleFault, SampleReader, Segment, Setting, SettingFault, bytes_of as bytes_of_sample,
+    Block, SampleFault, SampleReader, Segment, Setting, SettingFault, bytes_of as bytes_of_sample,
     first_levels, from_pattern, level_of_pattern, levels_of, levels_of_patterns, pattern,
     pattern_of_level, residual, restore, restore_near_first, sample_of, set_unused_bits,
     write_spellings, write_spellings_laid_out,
 };
+use std::alloc::Global;
 use std::process::Abort;
 use std::test::Fail;
 
@@ -30,12 +32,29 @@ fn settings_are_refused_in_order(rt: HostRuntime) -> Result<(), Fail> {
     let mut cases = Cases::new();
     for line in REFUSED.lines() {
         cases.of_line(line);
-        let mut columns = Columns::of(line);
-        let fault = answer_to(columns.next())?.expect_err(&rt, "a refusal");
-        let printed = format!(in rt.alloc(); "{fault}")?;
-        cases.check(printed.as_str() == columns.next());
+        setting_is_refused(&mut cases, rt.alloc(), line)?;
     }
     cases.end()
+}
+
+fn setting_is_refused(cases: &mut Cases<'_>, alloc: Global, line: &str) -> Result<(), Fail> {
+    let mut columns = Columns::of(line);
+    let answer = answer_to(columns.next())?;
+    refuses(cases, alloc, answer, columns.next())
+}
+
+/// Looks whether this is a refusal with this text.
+fn refuses(
+    cases: &mut Cases<'_>,
+    alloc: Global,
+    answer: Result<Setting, SettingFault>,
+    text: &str,
+) -> Result<(), Fail> {
+    match answer {
+        Ok(_) => cases.check(false),
+        Err(fault) => cases.check_text(alloc, fault, text)?,
+    }
+    Ok(())
 }
 
 /// The size of a block, where any even one is taken, and the refusal.
@@ -48,14 +67,16 @@ fn block_sizes_are_refused(rt: HostRuntime) -> Result<(), Fail> {
     let mut cases = Cases::new();
     for line in REFUSED_BLOCKS.lines() {
         cases.of_line(line);
-        let mut columns = Columns::of(line);
-        let block = columns.next_u32()?;
-        let answer = Setting::with_any_block(8, block, 2, false, false, false, true, false);
-        let fault = answer.expect_err(&rt, "a refusal");
-        let printed = format!(in rt.alloc(); "{fault}")?;
-        cases.check(printed.as_str() == columns.next());
+        block_size_is_refused(&mut cases, rt.alloc(), line)?;
     }
     cases.end()
+}
+
+fn block_size_is_refused(cases: &mut Cases<'_>, alloc: Global, line: &str) -> Result<(), Fail> {
+    let mut columns = Columns::of(line);
+    let block = columns.next_u32()?;
+    let answer = Setting::with_any_block(8, block, 2, false, false, false, true, false);
+    refuses(cases, alloc, answer, columns.next())
 }
 
 /// The bits of a sample, the length of an identifier, the greatest k, and the width of a sample.
@@ -73,18 +94,30 @@ fn getters() -> Result<(), Fail> {
     let mut cases = Cases::new();
     for line in GETTERS.lines() {
         cases.of_line(line);
-        let mut columns = Columns::of(line);
-        let bits = columns.next_u32()?;
-        let setting = Setting::new(bits, 16, 130, true, true, false, true, true)?;
-        cases.check(setting.bits() == bits);
-        cases.check(setting.block() == 16);
-        cases.check(setting.interval() == 130);
-        cases.check(setting.id_len() == columns.next_u32()?);
-        cases.check(setting.k_max() == columns.next_u32()?);
-        cases.check(setting.width() == columns.next_u32()?);
-        cases.check(setting.preprocess() && setting.pads());
+        getters_of_line(&mut cases, line)?;
     }
     cases.end()
+}
+
+fn getters_of_line(cases: &mut Cases<'_>, line: &str) -> Result<(), Fail> {
+    let mut columns = Columns::of(line);
+    let bits = columns.next_u32()?;
+    let read = (
+        columns.next_u32()?,
+        columns.next_u32()?,
+        columns.next_u32()?,
+    );
+    let setting = Setting::new(bits, 16, 130, true, true, false, true, true)?;
+    cases.check(has_getters(&setting, bits, read));
+    Ok(())
+}
+
+/// Returns whether these are what a setting of this test answers: its bits, and the three of its line.
+fn has_getters(setting: &Setting, bits: u32, read: (u32, u32, u32)) -> bool {
+    (setting.bits(), setting.block(), setting.interval()) == (bits, 16, 130)
+        && (setting.id_len(), setting.k_max(), setting.width()) == read
+        && setting.preprocess()
+        && setting.pads()
 }
 
 #[test]
@@ -138,13 +171,18 @@ fn samples_are_spelled(rt: HostRuntime) -> Result<(), Fail> {
     let mut cases = Cases::new();
     for line in SPELLINGS.lines() {
         cases.of_line(line);
-        let mut columns = Columns::of(line);
-        let setting = setting_of(columns.next())?;
-        let bytes = bytes_of(columns.next(), rt.alloc())?;
-        let sample = sample_in(columns.next())?;
-        sample_is_read_and_spelled(&mut cases, &setting, bytes.as_slice(), sample);
+        sample_is_spelled(&mut cases, rt.alloc(), line)?;
     }
     cases.end()
+}
+
+fn sample_is_spelled(cases: &mut Cases<'_>, alloc: Global, line: &str) -> Result<(), Fail> {
+    let mut columns = Columns::of(line);
+    let setting = setting_of(columns.next())?;
+    let bytes = bytes_of(columns.next(), alloc)?;
+    let sample = sample_in(columns.next())?;
+    sample_is_read_and_spelled(cases, &setting, bytes.as_slice(), sample);
+    Ok(())
 }
 
 fn sample_is_read_and_spelled(
@@ -190,22 +228,40 @@ fn patterns(rt: HostRuntime) -> Result<(), Fail> {
     let mut cases = Cases::new();
     for line in PATTERNS.lines() {
         cases.of_line(line);
-        let mut columns = Columns::of(line);
-        let setting = setting_of(columns.next())?;
-        let x = columns.next_i64()?;
-        let word = columns.next_u32()?;
-        let level = columns.next_u32()?;
-        assert!(rt; setting.in_range(x));
-        let digits = pattern(&setting, x);
-        cases.check(digits == word);
-        cases.check(from_pattern(&setting, digits) == x);
-        cases.check(level_of_pattern(&setting, digits) == level);
-        cases.check(setting.level(x) == level as u64);
-        assert!(rt; (level as u64) < setting.number_of_values());
-        cases.check(setting.value_at(level as u64) == x);
-        cases.check(pattern_of_level(&setting, level) == word);
+        pattern_of_line(&mut cases, line)?;
     }
     cases.end()
+}
+
+fn pattern_of_line(cases: &mut Cases<'_>, line: &str) -> Result<(), Fail> {
+    let mut columns = Columns::of(line);
+    let setting = setting_of(columns.next())?;
+    let x = columns.next_i64()?;
+    let word = columns.next_u32()?;
+    let level = columns.next_u32()?;
+    sample_has_pattern(cases, &setting, x, word);
+    sample_has_level(cases, &setting, x, word, level);
+    Ok(())
+}
+
+fn sample_has_pattern(cases: &mut Cases<'_>, setting: &Setting, x: i64, word: u32) {
+    if !setting.in_range(x) {
+        return cases.check(false);
+    }
+    let digits = pattern(setting, x);
+    cases.check(digits == word);
+    cases.check(from_pattern(setting, digits) == x);
+}
+
+fn sample_has_level(cases: &mut Cases<'_>, setting: &Setting, x: i64, word: u32, level: u32) {
+    let count = setting.number_of_values();
+    if !setting.in_range(x) || level as u64 >= count || word as u64 >= count {
+        return cases.check(false);
+    }
+    cases.check(level_of_pattern(setting, word) == level);
+    cases.check(setting.level(x) == level as u64);
+    cases.check(setting.value_at(level as u64) == x);
+    cases.check(pattern_of_level(setting, level) == word);
 }
 
 /// The options, the sample before, a sample, and its residual.
@@ -241,18 +297,28 @@ fn residuals(rt: HostRuntime) -> Result<(), Fail> {
     let mut cases = Cases::new();
     for line in RESIDUALS.lines() {
         cases.of_line(line);
-        let mut columns = Columns::of(line);
-        let setting = setting_of(columns.next())?;
-        let p = columns.next_i64()?;
-        let x = columns.next_i64()?;
-        let expected = columns.next_u32()?;
-        assert!(rt; setting.in_range(p));
-        assert!(rt; setting.in_range(x));
-        let d = residual(&setting, p, x);
-        cases.check(d == expected);
-        cases.check(restore(&setting, p, d) == x);
+        residual_of_line(&mut cases, line)?;
     }
     cases.end()
+}
+
+fn residual_of_line(cases: &mut Cases<'_>, line: &str) -> Result<(), Fail> {
+    let mut columns = Columns::of(line);
+    let setting = setting_of(columns.next())?;
+    let p = columns.next_i64()?;
+    let x = columns.next_i64()?;
+    let expected = columns.next_u32()?;
+    sample_has_residual(cases, &setting, p, x, expected);
+    Ok(())
+}
+
+fn sample_has_residual(cases: &mut Cases<'_>, setting: &Setting, p: i64, x: i64, expected: u32) {
+    if !setting.in_range(p) || !setting.in_range(x) {
+        return cases.check(false);
+    }
+    let d = residual(setting, p, x);
+    cases.check(d == expected);
+    cases.check(restore(setting, p, d) == x);
 }
 
 /// Both ways between samples and residuals, and the patterns of 8 bits stand for all residuals.
@@ -266,17 +332,29 @@ fn all_pairs(rt: HostRuntime) -> Result<(), Fail> {
             for x in -200..300i64 {
                 if setting.in_range(p) && setting.in_range(x) {
                     pairs = pairs.wrapping_add(1);
-                    let there = restore(&setting, p, residual(&setting, p, x));
-                    cases.check(there == x);
-                    let d = pattern(&setting, x);
-                    let back = residual(&setting, p, restore(&setting, p, d));
-                    cases.check(back == d);
+                    cases.check(is_restored(&setting, p, x));
+                    cases.check(pattern_is_restored(&setting, p, x));
                 }
             }
         }
         cases.check(pairs == 65536);
     }
     cases.end()
+}
+
+fn is_restored(setting: &Setting, p: i64, x: i64) -> bool
+    requires before { IsSample setting.now p }
+    requires sample { IsSample setting.now x }
+{
+    restore(setting, p, residual(setting, p, x)) == x
+}
+
+fn pattern_is_restored(setting: &Setting, p: i64, x: i64) -> bool
+    requires before { IsSample setting.now p }
+    requires sample { IsSample setting.now x }
+{
+    let d = pattern(setting, x);
+    residual(setting, p, restore(setting, p, d)) == d
 }
 
 /// Returns a segment of up to 64 residuals of one value.
@@ -303,21 +381,37 @@ fn sums_of_blocks(rt: HostRuntime) -> Result<(), Fail> {
     let mut cases = Cases::new();
     for line in SUMS.lines() {
         cases.of_line(line);
-        let mut columns = Columns::of(line);
-        let size = columns.next_usize()?;
-        let value = columns.next_u32()?;
-        let k = columns.next_u32()?;
-        let sum = columns.next_u64()?;
-        let segment = segment_of(size, value);
-        assert!(rt; segment.len() == size && k <= 29);
-        assert!(rt; size == 8 || size == 16 || size == 32 || size == 64);
-        let mut meter = Meter::new();
-        let block = segment.block(0, size);
-        cases.check(block.len() == size);
-        cases.check(block.sum_shifted(k, &mut meter) == sum);
-        cases.check(meter.steps() == size as u64);
+        sum_of_line(&mut cases, line)?;
     }
     cases.end()
+}
+
+fn sum_of_line(cases: &mut Cases<'_>, line: &str) -> Result<(), Fail> {
+    let mut columns = Columns::of(line);
+    let size = columns.next_usize()?;
+    let value = columns.next_u32()?;
+    let k = columns.next_u32()?;
+    let sum = columns.next_u64()?;
+    block_has_sum(cases, &segment_of(size, value), size, k, sum);
+    Ok(())
+}
+
+/// Returns whether a segment is one block of this size.
+fn is_block(segment: &Segment, size: usize) -> bool
+    ensures { result ≡ true → (length segment.now ≡ size) × IsBlockSize size }
+{
+    segment.len() == size && size >= 2 && size <= 64 && size % 2 == 0
+}
+
+fn block_has_sum(cases: &mut Cases<'_>, segment: &Segment, size: usize, k: u32, sum: u64) {
+    if k > 29 || !is_block(segment, size) {
+        return cases.check(false);
+    }
+    let mut meter = Meter::new();
+    let block = segment.block(0, size);
+    cases.check(block.len() == size);
+    cases.check(block.sum_shifted(k, &mut meter) == sum);
+    cases.check(meter.steps() == size as u64);
 }
 
 /// Blocks of one value that stop at the limit or before it: their length, the value, the limit, k and the sum where the
@@ -333,25 +427,40 @@ fn stops(rt: HostRuntime) -> Result<(), Fail> {
     let mut cases = Cases::new();
     for line in STOPS.lines() {
         cases.of_line(line);
-        let mut columns = Columns::of(line);
-        let size = columns.next_usize()?;
-        let value = columns.next_u32()?;
-        let limit = columns.next_u32()?;
-        let k = columns.next_u32()?;
-        let sum = columns.next_u64()?;
-        let steps = columns.next_u64()?;
-        let segment = segment_of(size, value);
-        assert!(rt; !segment.is_empty());
-        assert!(rt; segment.len() == size && limit <= 29);
-        assert!(rt; size == 8 || size == 16 || size == 32 || size == 64);
-        let mut meter = Meter::new();
-        let stop = segment
-            .block(0, size)
-            .first_stop(limit, size as u64, &mut meter);
-        cases.check(stop == (k, sum));
-        cases.check(meter.steps() == steps);
+        stop_of_line(&mut cases, line)?;
     }
     cases.end()
+}
+
+fn stop_of_line(cases: &mut Cases<'_>, line: &str) -> Result<(), Fail> {
+    let mut columns = Columns::of(line);
+    let size = columns.next_usize()?;
+    let value = columns.next_u32()?;
+    let limit = columns.next_u32()?;
+    let k = columns.next_u32()?;
+    let sum = columns.next_u64()?;
+    let steps = columns.next_u64()?;
+    let segment = segment_of(size, value);
+    cases.check(!segment.is_empty());
+    block_stops(cases, &segment, size, limit, ((k, sum), steps));
+    Ok(())
+}
+
+/// Looks where the search of a block with this limit stops, and at its steps.
+fn block_stops(
+    cases: &mut Cases<'_>,
+    segment: &Segment,
+    size: usize,
+    limit: u32,
+    expected: ((u32, u64), u64),
+) {
+    if limit > 29 || !is_block(segment, size) {
+        return cases.check(false);
+    }
+    let mut meter = Meter::new();
+    let block = segment.block(0, size);
+    let stop = block.first_stop(limit, size as u64, &mut meter);
+    cases.check((stop, meter.steps()) == expected);
 }
 
 #[test]
@@ -379,20 +488,25 @@ fn zero_blocks() -> Result<(), Fail> {
                     segment.push((i == place) as u32);
                 }
             }
-            cases.check(segment.len() == size);
-            if segment.len() == size && (size == 8 || size == 16 || size == 32 || size == 64) {
-                let mut meter = Meter::new();
-                let block = segment.block(0, size);
-                cases.check(block.is_zero(&mut meter) == (place == size));
-                cases.check(meter.steps() == size as u64);
-                if place < size && place < block.len() {
-                    cases.check(block.at(place, &mut meter) == 1);
-                    cases.check(meter.steps() == size as u64 + 1);
-                }
-            }
+            has_one_at(&mut cases, &segment, size, place);
         }
     }
     cases.end()
+}
+
+/// Looks that a segment is a block with a 1 at this place, or without one where the place is its size.
+fn has_one_at(cases: &mut Cases<'_>, segment: &Segment, size: usize, place: usize) {
+    if !is_block(segment, size) {
+        return cases.check(false);
+    }
+    let mut meter = Meter::new();
+    let block = segment.block(0, size);
+    cases.check(block.is_zero(&mut meter) == (place == size));
+    cases.check(meter.steps() == size as u64);
+    if place < block.len() {
+        cases.check(block.at(place, &mut meter) == 1);
+        cases.check(meter.steps() == size as u64 + 1);
+    }
 }
 
 #[test]
@@ -428,7 +542,15 @@ fn digits_of_a_block(rt: HostRuntime) -> Result<(), Fail> {
         }
     }
     assert!(rt; segment.len() == 16);
-    let block = segment.block(1, 8);
+    puts_digits(&mut cases, &segment.block(1, 8));
+    puts_whole_digits(&mut cases, &segment.block(1, 8));
+    cases.end()
+}
+
+fn puts_digits(cases: &mut Cases<'_>, block: &Block<'_>) {
+    if block.len() != 8 {
+        return cases.check(false);
+    }
     let mut meter = Meter::new();
     let mut sink = BitSink::<20>::new();
     block.put_digits(0, 4, &mut sink, &mut meter);
@@ -445,7 +567,12 @@ fn digits_of_a_block(rt: HostRuntime) -> Result<(), Fail> {
         0x56, 0x7E, 0x45, 0x67, 0xF0,
     ];
     cases.check(sink.whole() == digits.as_slice());
+}
 
+fn puts_whole_digits(cases: &mut Cases<'_>, block: &Block<'_>) {
+    if block.len() != 8 {
+        return cases.check(false);
+    }
     let mut meter = Meter::new();
     let mut sink = BitSink::<20>::new();
     block.put_whole_digits(0b10110, 5, 16, &mut sink, &mut meter);
@@ -457,7 +584,6 @@ fn digits_of_a_block(rt: HostRuntime) -> Result<(), Fail> {
         0xB3, 0xF8,
     ];
     cases.check(sink.whole() == digits.as_slice());
-    cases.end()
 }
 
 fn are_below(count: u64, items: &[u32]) -> bool
@@ -486,15 +612,22 @@ fn samples_in_a_row(rt: HostRuntime) -> Result<(), Fail> {
     segment.push_residuals(&setting, 5, &levels);
     segment.push_patterns(&signed, &negative);
     cases.check(segment.len() == 16);
-    let mut meter = Meter::new();
     let residuals = [2, 1, 0, 1, 7, 255, 255, 255];
+    cases.check(is_of(segment.block(0, 8), &residuals));
     let patterns = [255, 128, 127, 0, 1, 2, 254, 129];
-    for i in 0..8usize {
-        assert!(rt; meter.steps() < 16);
-        cases.check(segment.block(0, 8).at(i, &mut meter) == residuals[i]);
-        cases.check(segment.block(1, 8).at(i, &mut meter) == patterns[i]);
-    }
+    cases.check(is_of(segment.block(1, 8), &patterns));
     cases.end()
+}
+
+/// Returns whether a block has these residuals.
+fn is_of(block: Block<'_>, residuals: &[u32]) -> bool {
+    for i in 0..residuals.len() {
+        let mut meter = Meter::new();
+        if i >= block.len() || block.at(i, &mut meter) != residuals[i] {
+            return false;
+        }
+    }
+    block.len() == residuals.len()
 }
 
 #[test]
@@ -576,44 +709,59 @@ fn row_is_read_and_written(
         levels[i] = level_of(setting, samples[i]);
     }
     let levels = &levels[..samples.len()];
-    row_is_read(cases, rt, setting, bytes, len, levels);
-    row_is_written(cases, rt, setting, bytes, levels);
+    cases.check(row_is_read(setting, front(setting, bytes, len), len, levels));
+    let front = front(setting, bytes, levels.len());
+    cases.check(row_is_written(setting, front, levels));
+    cases.check(row_is_written_as_laid_out(setting, front, levels));
 }
 
-fn row_is_read(
-    cases: &mut Cases<'_>,
-    rt: &impl Abort,
-    setting: &Setting,
-    bytes: &[u8],
-    len: usize,
-    levels: &[u32],
-) {
-    assert!(rt; len <= 4);
-    let end = setting.width() as usize * len;
+/// Returns the bytes of the first samples.
+fn front<'a>(setting: &Setting, bytes: &'a [u8], samples: usize) -> &'a [u8] {
+    let end = samples.saturating_mul(setting.width() as usize);
+    &bytes[..end.min(bytes.len())]
+}
+
+/// Returns whether there are so many bytes as these samples have.
+fn are_bytes_of(setting: &Setting, bytes: &[u8], samples: usize) -> bool
+    ensures { result ≡ true → length bytes.now ≡ width_of setting.now * samples }
+{
+    samples <= 4 && bytes.len() == samples * setting.width() as usize
+}
+
+fn row_is_read(setting: &Setting, bytes: &[u8], len: usize, levels: &[u32]) -> bool {
     let mut read = [0; 4];
-    assert!(rt; end <= bytes.len());
-    let taken = levels_of(setting, &bytes[..end], &mut read[..len]);
-    cases.check(&read[..taken] == levels);
+    if len > 4 || !are_bytes_of(setting, bytes, len) {
+        return false;
+    }
+    let taken = levels_of(setting, bytes, &mut read[..len]);
+    &read[..taken] == levels
 }
 
-/// Writes the samples with these levels in both ways.
-fn row_is_written(
-    cases: &mut Cases<'_>,
-    rt: &impl Abort,
-    setting: &Setting,
-    bytes: &[u8],
-    levels: &[u32],
-) {
-    let width = setting.width() as usize;
-    let end = width * levels.len();
-    assert!(rt; end <= 12 && end <= bytes.len());
-    assert!(rt; are_below(setting.number_of_values(), levels));
+fn row_is_written(setting: &Setting, bytes: &[u8], levels: &[u32]) -> bool {
     let mut written = [0; 12];
+    let end = bytes.len();
+    if end > 12
+        || !are_bytes_of(setting, bytes, levels.len())
+        || !are_below(setting.number_of_values(), levels)
+    {
+        return false;
+    }
     write_spellings(setting, levels, &mut written[..end]);
-    cases.check(&written[..end] == &bytes[..end]);
+    &written[..end] == bytes
+}
+
+fn row_is_written_as_laid_out(setting: &Setting, bytes: &[u8], levels: &[u32]) -> bool {
     let mut written = [0; 12];
-    write_spellings_laid_out(setting, width, setting.msb(), levels, &mut written[..end]);
-    cases.check(&written[..end] == &bytes[..end]);
+    let end = bytes.len();
+    if end > 12
+        || !are_bytes_of(setting, bytes, levels.len())
+        || !are_below(setting.number_of_values(), levels)
+    {
+        return false;
+    }
+    let (width, msb) = (setting.width() as usize, setting.msb());
+    write_spellings_laid_out(setting, width, msb, levels, &mut written[..end]);
+    &written[..end] == bytes
 }
 
 /// Of 10 bits 1,024 is no sample, and a byte alone is none.
@@ -661,8 +809,7 @@ fn texts_of_faults(rt: HostRuntime) -> Result<(), Fail> {
     let mut cases = Cases::new();
     for i in 0..FAULTS.len() {
         let (fault, text) = FAULTS[i];
-        let printed = format!(in rt.alloc(); "{fault}")?;
-        cases.check(printed.as_str() == text);
+        cases.check_text(rt.alloc(), fault, text)?;
     }
     cases.end()
 }

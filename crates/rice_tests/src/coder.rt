@@ -182,19 +182,47 @@ fn samples_are_coded(rt: HostRuntime) -> Result<(), Fail> {
     let mut cases = Cases::new();
     for line in CODES.lines() {
         cases.of_line(line);
-        let mut columns = Columns::of(line);
-        let setting = setting_of(columns.next())?;
-        let samples = samples_of(columns.next(), rt.alloc())?;
-        let bytes = bytes_of(columns.next(), rt.alloc())?;
-        let bits = number_of(columns.next())?;
-        let coded = code(&rt, rt.alloc(), setting, samples.as_slice())?;
-        cases.check(coded.bytes.as_slice() == bytes.as_slice());
-        cases.check(Some(coded.bits) == bits);
-        let at_once = code_some(&rt, &mut cases, rt.alloc(), setting, samples.as_slice())?;
-        cases.check(at_once.bytes.as_slice() == bytes.as_slice());
-        cases.check((at_once.bits, at_once.steps) == (coded.bits, coded.steps));
+        line_is_coded(&rt, &mut cases, rt.alloc(), line)?;
     }
     cases.end()
+}
+
+fn line_is_coded(
+    rt: &impl Abort,
+    cases: &mut Cases<'_>,
+    alloc: Global,
+    line: &str,
+) -> Result<(), Fail> {
+    let mut columns = Columns::of(line);
+    let setting = setting_of(columns.next())?;
+    let samples = samples_of(columns.next(), alloc)?;
+    let bytes = bytes_of(columns.next(), alloc)?;
+    let bits = number_of(columns.next())?;
+    are_coded(
+        rt,
+        cases,
+        alloc,
+        setting,
+        samples.as_slice(),
+        (bytes.as_slice(), bits),
+    )
+}
+
+/// Codes samples one by one and several at a time, and looks at the bytes and the number of bits.
+fn are_coded(
+    rt: &impl Abort,
+    cases: &mut Cases<'_>,
+    alloc: Global,
+    setting: Setting,
+    samples: &[i64],
+    (bytes, bits): (&[u8], Option<u64>),
+) -> Result<(), Fail> {
+    let coded = code(rt, alloc, setting, samples)?;
+    cases.check((coded.bytes.as_slice(), Some(coded.bits)) == (bytes, bits));
+    let at_once = code_some(rt, cases, alloc, setting, samples)?;
+    cases.check(at_once.bytes.as_slice() == bytes);
+    cases.check((at_once.bits, at_once.steps) == (coded.bits, coded.steps));
+    Ok(())
 }
 
 #[test]

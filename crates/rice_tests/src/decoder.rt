@@ -1,4 +1,4 @@
-ghost use Rattle.std.specs.Prelude.{◌≡◌, ◌+◌, ◌^◌, ◌<◌, true};
+ghost use Rattle.std.specs.Prelude.{◌≡◌, ◌+◌, ◌*◌, ◌^◌, ◌<◌, ◌≤◌, true, None};
 ghost use Rattle.rice_code.specs.decode.BlocksInOnePass.{HasLanes};
 
 use arrayvec::ArrayVec;
@@ -20,6 +20,22 @@ struct Seen {
     steps: u64,
 }
 
+/// Asks a decoder, which may then be asked once more.
+fn next<I: Intake>(
+    decoder: &mut Decoder,
+    reader: &mut BitReader<I>,
+    meter: &mut Meter,
+    block: &mut ArrayVec<i64, 64>,
+) -> Result<NextBlock, CodeFault>
+    requires going { decoder.old.stopped ≡ None → reader.old.refusal ≡ None }
+    requires room { meter.old ≤ 2 * reader.old.taken }
+    ensures going { decoder.new.stopped ≡ None → reader.new.refusal ≡ None }
+    ensures room { meter.new ≤ 2 * reader.new.taken }
+{
+    let _taken = reader.taken();
+    decoder.next_block(reader, meter, block)
+}
+
 /// Decodes to the end, and asks once more, which changes nothing.
 fn decode<I: Intake + Drop>(
     cases: &mut Cases<'_>,
@@ -35,7 +51,7 @@ fn decode<I: Intake + Drop>(
     let mut block = ArrayVec::new();
     let mut samples = Vec::new(alloc);
     for _ in 0..2000 {
-        let answer = decoder.next_block(&mut reader, &mut meter, &mut block);
+        let answer = next(&mut decoder, &mut reader, &mut meter, &mut block);
         if answer != Ok(NextBlock::Block) {
             cases.check(block.is_empty());
             let seen = Seen {
@@ -44,7 +60,7 @@ fn decode<I: Intake + Drop>(
                 bits: reader.taken(),
                 steps: meter.steps(),
             };
-            cases.check(decoder.next_block(&mut reader, &mut meter, &mut block) == answer);
+            cases.check(next(&mut decoder, &mut reader, &mut meter, &mut block) == answer);
             cases.check((reader.taken(), meter.steps()) == (seen.bits, seen.steps));
             cases.check(block.is_empty());
             return Ok(seen);
@@ -150,10 +166,10 @@ fn waiting_samples() -> Result<(), Fail> {
     let mut meter = Meter::new();
     let mut block = ArrayVec::new();
     cases.check(decoder.waiting() == 0);
-    cases.check(decoder.next_block(&mut reader, &mut meter, &mut block) == Ok(NextBlock::Block));
+    cases.check(next(&mut decoder, &mut reader, &mut meter, &mut block) == Ok(NextBlock::Block));
     cases.check(decoder.waiting() == 8);
     cases.check(decoder.is_in_run());
-    cases.check(decoder.next_block(&mut reader, &mut meter, &mut block) == Ok(NextBlock::Block));
+    cases.check(next(&mut decoder, &mut reader, &mut meter, &mut block) == Ok(NextBlock::Block));
     cases.check(decoder.waiting() == 0);
     cases.check(!decoder.is_in_run());
     cases.check(meter.steps() == 17);
@@ -188,6 +204,31 @@ fn has_eights(setting: &Setting) -> bool
     setting.bits() <= 8 && setting.preprocess() && setting.block() == 8
 }
 
+/// Asks a decoder for the bytes of a block of which all bits wait, which may then be asked once more.
+fn next_eight_bytes<I: Intake>(
+    setting: &Setting,
+    decoder: &mut Decoder,
+    reader: &mut BitReader<I>,
+    meter: &mut Meter,
+    bytes: &mut [u8; 40],
+    ends: &mut [u32; 64],
+) -> usize
+    requires setting { decoder.old.setting ≡ setting.now }
+    requires stopped { decoder.old.stopped ≡ None }
+    requires going { reader.old.refusal ≡ None }
+    requires room { meter.old ≤ 2 * reader.old.taken }
+    ensures setting { decoder.new.setting ≡ setting.now }
+    ensures stopped { decoder.new.stopped ≡ None }
+    ensures going { reader.new.refusal ≡ None }
+    ensures room { meter.new ≤ 2 * reader.new.taken }
+{
+    let _taken = reader.taken();
+    if !has_eights(setting) {
+        return 0;
+    }
+    decoder.next_bytes::<_, 8, 1>(1, reader, meter, bytes, ends)
+}
+
 /// A block of which all bits wait is given as bytes, with the number of its bits.
 #[test]
 fn bytes_of_a_block() -> Result<(), Fail> {
@@ -203,26 +244,32 @@ fn bytes_of_a_block() -> Result<(), Fail> {
     let mut levels = ArrayVec::new();
     let mut bytes = [0; 40];
     let mut ends = [0; 64];
-    if has_eights(&setting) {
-        let none = decoder.next_bytes::<_, 8, 1>(1, &mut reader, &mut meter, &mut bytes, &mut ends);
-        cases.check(none == 0);
-        let first = decoder.next_levels(&mut reader, &mut meter, &mut levels);
-        cases.check(first == Ok(NextBlock::Block));
-        if first == Ok(NextBlock::Block) {
-            let one = decoder.next_bytes::<_, 8, 1>(
-                1,
-                &mut reader,
-                &mut meter,
-                &mut bytes,
-                &mut ends,
-            );
-            cases.check(one == 1);
-        }
+    let none = next_eight_bytes(
+        &setting,
+        &mut decoder,
+        &mut reader,
+        &mut meter,
+        &mut bytes,
+        &mut ends,
+    );
+    cases.check(none == 0);
+    let _taken = reader.taken();
+    let first = decoder.next_levels(&mut reader, &mut meter, &mut levels);
+    cases.check(first == Ok(NextBlock::Block));
+    if first == Ok(NextBlock::Block) {
+        let one = next_eight_bytes(
+            &setting,
+            &mut decoder,
+            &mut reader,
+            &mut meter,
+            &mut bytes,
+            &mut ends,
+        );
+        cases.check(one == 1);
     }
     cases.check(ends[0] == 27);
     cases.check(bytes[..8] == [8, 9, 10, 11, 12, 13, 14, 15]);
-    cases.check(reader.taken() == 58);
-    cases.check(meter.steps() == 58);
+    cases.check((reader.taken(), meter.steps()) == (58, 58));
     cases.end()
 }
 

@@ -1,7 +1,11 @@
 //! Devices that fail, and samples that are none.
+ghost use Rattle.std.specs.Prelude.{◌≡◌};
+ghost use Rattle.rice_base_tests.specs.Devices.{memory_in_failures};
+
 use rice_base_tests::case_table::{Columns, bytes_of, number_of, setting_of};
 use rice_base_tests::cases::Cases;
 use rice_base_tests::devices::{MemoryIn, MemoryOut};
+use rice_samples::Setting;
 use rice_stream::{Fault, decode, encode};
 use std::alloc::Global;
 use std::test::Fail;
@@ -36,7 +40,10 @@ fn stops<'a>(cases: &mut Cases<'a>, alloc: Global, table: &'a str) -> Result<(),
 
 /// Returns the place of a column, or `None` where it is empty.
 fn place_of(text: &str) -> Result<Option<usize>, Fail> {
-    Ok(number_of(text)?.map(|place| place as usize))
+    if text.is_empty() {
+        return Ok(None);
+    }
+    Ok(Some(text.parse::<usize>()?))
 }
 
 /// Returns the fault of a column such as `cut 8`, or `None` where it is empty.
@@ -105,16 +112,28 @@ fn encoding_stops_where_its_end_is_not_written(rt: HostRuntime) -> Result<(), Fa
     let setting = setting_of("r64")?;
     let input = bytes_of("00*47 01", rt.alloc())?;
     for place in [0, 1, 2, 3, 4] {
-        let mut room = [0u8; 8];
-        let mut outlet = MemoryOut::new(&mut room, 8, Some(place));
-        let mut intake = MemoryIn::new(input.as_slice(), 4096, None);
-        let outcome = encode(&setting, &mut intake, &mut outlet);
         let fault = if place < 4 { Some(Fault::Write) } else { None };
-        cases.check(outcome.fault == fault);
-        cases.check(outlet.written() == &[0x00, 0x00, 0x47, 0x90u8][..place]);
-        cases.check((outcome.report.samples, outcome.report.bits) == (48, 28));
+        end_is_written_to(&mut cases, &setting, input.as_slice(), place, fault);
     }
     cases.end()
+}
+
+/// Encodes the samples that these bytes spell, up to the place where the outlet fails.
+fn end_is_written_to(
+    cases: &mut Cases<'_>,
+    setting: &Setting,
+    input: &[u8],
+    place: usize,
+    fault: Option<Fault>,
+) {
+    let mut room = [0u8; 8];
+    let mut outlet = MemoryOut::new(&mut room, 8, Some(place));
+    let mut intake = MemoryIn::new(input, 4096, None);
+    let outcome = encode(setting, &mut intake, &mut outlet);
+    let written = &[0x00, 0x00, 0x47, 0x90u8][..place.min(4)];
+    cases.check(outcome.fault == fault);
+    cases.check(outlet.written() == written);
+    cases.check((outcome.report.samples, outcome.report.bits) == (48, 28));
 }
 
 #[test]
@@ -125,20 +144,32 @@ fn decoding_stops_where_its_intake_fails() -> Result<(), Fail> {
     let setting = setting_of("r1")?;
     let code = [0x00, 0x58, 0x02, 0xC0];
     for (place, samples, bits) in places {
-        let mut room = [0u8; 16];
-        let mut outlet = MemoryOut::new(&mut room, 8, None);
         let intake = MemoryIn::new(&code, 1, Some(place));
-        let (outcome, _) = decode(&setting, None, intake, &mut outlet);
-        cases.check(outcome.fault == Some(Fault::Read));
-        cases.check((outcome.report.samples, outcome.report.bits) == (samples, bits));
-        cases.check(outlet.written() == &[5u8; 16][..samples as usize]);
+        let read = Some(Fault::Read);
+        gives_fives(&mut cases, &setting, None, intake, samples, (read, bits));
     }
+    let intake = MemoryIn::new(&code, 1, Some(4));
+    gives_fives(&mut cases, &setting, Some(16), intake, 16, (None, 26));
+    cases.end()
+}
+
+/// Decodes what the intake gives, and looks that this is so many samples 5, and what is told of it.
+fn gives_fives(
+    cases: &mut Cases<'_>,
+    setting: &Setting,
+    limit: Option<u64>,
+    intake: MemoryIn<'_>,
+    samples: usize,
+    told: (Option<Fault>, u64),
+)
+    requires { memory_in_failures intake ≡ 0 }
+{
     let mut room = [0u8; 16];
     let mut outlet = MemoryOut::new(&mut room, 8, None);
-    let intake = MemoryIn::new(&code, 1, Some(4));
-    let (outcome, _) = decode(&setting, Some(16), intake, &mut outlet);
-    cases.check((outcome.fault, outcome.report.bits) == (None, 26));
-    cases.end()
+    let (outcome, _) = decode(setting, limit, intake, &mut outlet);
+    cases.check((outcome.fault, outcome.report.bits) == told);
+    cases.check(outcome.report.samples == samples as u64);
+    cases.check(outlet.written() == &[5u8; 16][..samples.min(16)]);
 }
 
 #[test]

@@ -1,9 +1,8 @@
-use Rattle.std.proofs.Common.{◌≡◌, ◌*◌, ◌^◌, ◌≤◌, None}
+use Rattle.std.proofs.Common.{◌≡◌, ◌*◌, ◌≤◌, None}
 use Rattle.rice_tests.proofs.decoder.decode.Given as goal
 
 abbrev pub invariant-loop : goal.invariant-loop
 invariant-loop g l = record {
   going : l.decoder.stopped ≡ None → l.reader.refusal ≡ None;
-  limit : l.reader.taken ≤ 2 ^ 52;
   room : l.meter ≤ 2 * l.reader.taken;
 }
