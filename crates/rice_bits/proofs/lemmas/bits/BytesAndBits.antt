@@ -93,7 +93,7 @@ short_bytes bits h =
 -- the whole bytes have the bits that they were made of
 pub bits_of-whole_bytes : (bits : List Bool) → bits_of (whole_bytes bits) ≡ take (bits_in_bytes (length bits)) bits
 bits_of-whole_bytes (a ∷ b ∷ c ∷ d ∷ e ∷ f ∷ g ∷ h ∷ bits) =
-    byte_again {a = a} {b = b} {c = c} {d = d} {e = e} {f = f} {g = g} {h = h} bits (bits_of-whole_bytes bits)
+    byte_again bits (bits_of-whole_bytes bits)
     ∙ ap (λ n. take n (a ∷ b ∷ c ∷ d ∷ e ∷ f ∷ g ∷ h ∷ bits)) (sym (next_byte (length bits)))
 bits_of-whole_bytes [] = short_bytes [] (omega arith)
 bits_of-whole_bytes (a ∷ []) = short_bytes (a ∷ []) (omega arith)

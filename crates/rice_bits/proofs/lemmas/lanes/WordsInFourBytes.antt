@@ -186,7 +186,7 @@ wide-loaded bytes at w h few =
 -- eight words, four from each of two vectors
 pub eight-words : (w at : ℕ) (bits : List Bool) (first second : List ℕ) → flat_map (word w) first ≡ take (4 * w) (drop at bits) → flat_map (word w) second ≡ take (4 * w) (drop (at + 4 * w) bits)
     → flat_map (word w) (first ++ second) ≡ take (8 * w) (drop at bits)
-eight-words w at bits first second e f = words-joined w bits at {at = at + 4 * w} 4 4 first second (record { place = refl; front = e; behind = f })
+eight-words w at bits first second e f = words-joined w bits at 4 4 first second (record { place = refl; front = e; behind = f })
 
 pub eight-lanes : (first second : List ℕ) → length first ≡ 4 → length second ≡ 4 → pick_l 0 (first ++ second) (range_with_len 0 8) ≡ first ++ second
 eight-lanes first second e f = pick_l_whole 0 (first ++ second) 8 (omega (arith, e, f, length-append first second))

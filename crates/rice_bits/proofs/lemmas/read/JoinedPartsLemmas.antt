@@ -65,7 +65,7 @@ written-more {bytes} {at} {w} {ends} {done} {n} words h len fit bits e now room 
       words = h.words ++ words;
       len = omega (arith, length-append h.words words, h.len, len);
       fit = All-append (λ v. v < 2 ^ w) h.words words h.fit fit;
-      bits = words-joined w (bits_of bytes) at {at = at + done * w} done n h.words words (record { place = refl; front = h.bits; behind = bits });
+      bits = words-joined w (bits_of bytes) at done n h.words words (record { place = refl; front = h.bits; behind = bits });
       joined = now ∙ ((λ j. h.joined j ++ e j) ∙ (sym (joined-append w before (take n (drop done (gaps ends))) h.words words (h.len ∙ sym long))
           ∙ ap (λ ms. joined_parts w ms (h.words ++ words)) (sym (take-add done n (gaps ends)))));
     }

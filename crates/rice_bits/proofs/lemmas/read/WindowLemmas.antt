@@ -312,7 +312,7 @@ words-last width bits from {m} {count} now four places within before behind =
     ap (flat_map (word width)) (sym (take-take last m now part)) ∙ (words-front width last (take m now) (omega (arith, part, length-take-le m now (omega (arith, within, places.len))))
     ∙ (ap (take (last * width)) before ∙ take-take (last * width) (m * width) (drop from bits) (mul-le-mul_right width part))) in
     ap (flat_map (word width)) (fours-last count now four places.len places.four_are places.room)
-    ∙ (words-joined width bits from {at = from + last * width} last 4 (take last now) four (record { place = refl; front = front; behind = behind }) ∙ ap (λ k. take (k * width) (drop from bits)) n)
+    ∙ (words-joined width bits from last 4 (take last now) four (record { place = refl; front = front; behind = behind }) ∙ ap (λ k. take (k * width) (drop from bits)) n)
 
 -- one more word, from the place after the others
 pub words-more : (width : ℕ) (bits : List Bool) (from : ℕ) {at : ℕ} (now : List ℕ) {done : ℕ} (v : ℕ) → at ≡ from + done * width → done < length now

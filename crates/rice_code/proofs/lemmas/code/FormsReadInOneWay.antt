@@ -209,7 +209,7 @@ by_tails {s} b (Split m c) (Split n e) {x} {y} legal h k i t =
     let T : ℕ → Type 0 = λ j. (reference_bits s c.reference ++ (flat_map (λ d. fundamental_sequence (d / 2 ^ m)) (sent_residuals c) ++ flat_map (word m) (sent_residuals c))) ++ x
     ≡ (reference_bits s e.reference ++ (flat_map (λ d. fundamental_sequence (d / 2 ^ j)) (sent_residuals e) ++ flat_map (word j) (sent_residuals e))) ++ y in
     let at : m ≤ k_max s = h.2 in
-    let p = split_reads s b m {c = c} {e = e} x y h (k.0, k.1, at) (subst T same t) in
+    let p = split_reads s b m x y h (k.0, k.1, at) (subst T same t) in
     let f = p.0 in
     let g : m ≡ n = sym same in ((λ j. Split (g j) (f j)), p.1)
 by_tails {s} b (ZeroBlocks r z) (ZeroBlocks q w) {x} {y} legal h k i t =

@@ -69,7 +69,7 @@ one_block {s} {fill} {b} {end} {p} {q} {others} {c} {x} cs {d} legal is paid_for
           let here : b + 1 + 0 ≡ b + 1 = omega arith in
           let fewer : q + (id_len s + 2 + reference_len s c.reference + 0) ≤ q + length (bits_of_set s d) = omega (arith, ap (reference_len s) paid_for.below.reference, text, paid_for.paid.run) in
           let after = subst (λ (n : ℕ). (position : ℕ) → position ≤ fill n (q + length (bits_of_set s d)) → code_end s fill end n position (data_sets s n false cs) ≤ others) (sym here) more in
-          let run = run_and_more b {end = end} 0 {others = others} c.reference cs is (record {
+          let run = run_and_more b 0 c.reference cs is (record {
             interval = legal.interval_from;
             inside = (some_left s b legal.interval_from).0;
             least = inl (omega arith);
@@ -106,7 +106,7 @@ by_set {s} {fill} {b} {end} {p} {q} {n} {number} {others} {r} cs {ys} d legal is
     → code_end s fill end m position (data_sets s m false rest) ≤ others) next
     (subst (λ (t : ℕ). (rest : List BlockData) (position : ℕ) → BeginAtMost rest ys → end ≡ block_after s b d + length rest
     → position ≤ fill (block_after s b d) (q + t) → code_end s fill end (block_after s b d) position (data_sets s (block_after s b d) false rest) ≤ others) run.bits behind.rest) in
-    by_run {b = b} {w = n - 1} {number = number} r cs ys is (record {
+    by_run r cs ys is (record {
       interval = legal.interval_from;
       inside = omega (arith, run.some, run.inside);
       least = subst (λ (m : ℕ). IsLeastCodeword s b m number) count run.least;
@@ -132,7 +132,7 @@ ends_no_later {s} {fill} fills b {end} {p} {q} (c ∷ cs) (NoCompression x ∷ d
       run = no_compression_exceeds s x (four_residuals s b x fills.block sound) fills.legal.bits_from;
     } in
     one_block cs fills.legal fills.fill_is (record { below = below.0; sound = sound; form = form; paid = paid }) e begins
-    (λ position le. ends_no_later fills (b + 1) {end = end} cs ds (omega (arith, e)) le taken.4 below.1)
+    (λ position le. ends_no_later fills (b + 1) cs ds (omega (arith, e)) le taken.4 below.1)
 ends_no_later {s} {fill} fills b {end} {p} {q} (c ∷ cs) (SecondExtension x ∷ ds) e begins taken below =
     let form = taken.1 in
     let sound : IsSoundBlock s b x = record { block = form; at_reference = taken.3.0; fit = taken.3.1 } in
@@ -141,7 +141,7 @@ ends_no_later {s} {fill} fills b {end} {p} {q} (c ∷ cs) (SecondExtension x ∷
       run = second_extension_exceeds s x (four_residuals s b x fills.block sound);
     } in
     one_block cs fills.legal fills.fill_is (record { below = below.0; sound = sound; form = form; paid = paid }) e begins
-    (λ position le. ends_no_later fills (b + 1) {end = end} cs ds (omega (arith, e)) le taken.4 below.1)
+    (λ position le. ends_no_later fills (b + 1) cs ds (omega (arith, e)) le taken.4 below.1)
 ends_no_later {s} {fill} fills b {end} {p} {q} (c ∷ cs) (Split k x ∷ ds) e begins taken below =
     let form = taken.1 in
     let sound : IsSoundBlock s b x = record { block = form.0; at_reference = form.1; fit = taken.3 } in
@@ -150,12 +150,12 @@ ends_no_later {s} {fill} fills b {end} {p} {q} (c ∷ cs) (Split k x ∷ ds) e b
       run = split_exceeds s k x (four_residuals s b x fills.block sound);
     } in
     one_block cs fills.legal fills.fill_is (record { below = below.0; sound = sound; form = form; paid = paid }) e begins
-    (λ position le. ends_no_later fills (b + 1) {end = end} cs ds (omega (arith, e)) le taken.4 below.1)
+    (λ position le. ends_no_later fills (b + 1) cs ds (omega (arith, e)) le taken.4 below.1)
 ends_no_later {s} {fill} fills b {end} {p} {q} (c ∷ cs) (ZeroBlocks r n ∷ ds) e begins taken below =
     let d = ZeroBlocks r n in
     let next = block_after s b d in
     let bits = fill next (q + length (bits_of_set s d)) in
-    by_set {b = b} {number = run_number n} {r = r} (c ∷ cs) {ys = blocks_in_all s next ds} d fills.legal fills.fill_is (record {
+    by_set {number = run_number n} (c ∷ cs) d fills.legal fills.fill_is (record {
       some = taken.1.1;
       inside = taken.2.0;
       least = inl (omega arith);
@@ -169,7 +169,7 @@ ends_no_later {s} {fill} fills b {end} {p} {q} (c ∷ cs) (RemainderOfSegment r 
     let d = RemainderOfSegment r in
     let next = block_after s b d in
     let bits = fill next (q + length (bits_of_set s d)) in
-    by_set {b = b} {number = 4} {r = r} (c ∷ cs) {ys = blocks_in_all s next ds} d fills.legal fills.fill_is (record {
+    by_set {number = 4} (c ∷ cs) d fills.legal fills.fill_is (record {
       some = (some_left s b fills.legal.interval_from).0;
       inside = omega arith;
       least = inr (omega arith, refl);

@@ -151,7 +151,7 @@ front_laid s fill b {end} p {w} r rest h le e =
     let next = b + run_len s b all in
     let bits = fill next (p + length (bits_of_set s (zero_run s b r all))) in
     ap (λ l. code_end s fill end b p l) (data_sets_start s b false (zero_block s r) ahead (is_zero_zeros s r) refl)
-    ∙ (run_laid s fill b {end = end} p r (zero_block s r) ahead (record { interval = h; zero = is_zero_zeros s r; end_is = omega (arith, e, front_len s w r rest) }) ∙ ap
+    ∙ (run_laid s fill b p r (zero_block s r) ahead (record { interval = h; zero = is_zero_zeros s r; end_is = omega (arith, e, front_len s w r rest) }) ∙ ap
     (λ l. code_end s fill end next bits l) (skip_zeros s b w rest h le))
 
 -- a run of blocks of zeros in one interval, and the least codeword of a run of as many
@@ -253,10 +253,10 @@ by_run {s} {fill} {b} {end} {p} {q} {w} {number} {others} r (c ∷ cs) ys is run
           let same = go.1 in
           let all : c ∷ cs ≡ zeros_and s r w go.0 = λ i. first i ∷ same i in
           let len : end ≡ b + 1 + w + length go.0 = omega (arith, e, ap length all, front_len s w r go.0) in
-          omega (arith, ap sent all, run_and_more b number {others = others} r go.0 is run len begins (λ position least. behind.rest go.0 position go.2 len least))
+          omega (arith, ap sent all, run_and_more b number r go.0 is run len begins (λ position least. behind.rest go.0 position go.2 len least))
       | inr stop ↦
           let same = stop.2 ∙ sym (append-nil (replicate stop.0 (zero_block s None))) in
           let all : c ∷ cs ≡ zeros_and s r stop.0 [] = λ i. first i ∷ same i in
           let len : end ≡ b + suc stop.0 = omega (arith, e, ap length all, front_len s stop.0 r []) in
-          omega (arith, ap sent all, last_run b {j = stop.0} number r is run (omega (arith, stop.1)) len begins, is.more (b + 1 + w) (q + run_bits s r number), behind.ends)
+          omega (arith, ap sent all, last_run b number r is run (omega (arith, stop.1)) len begins, is.more (b + 1 + w) (q + run_bits s r number), behind.ends)
     ]

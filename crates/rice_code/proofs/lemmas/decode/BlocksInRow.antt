@@ -89,8 +89,7 @@ row_bytes {I} (suc n) old new steps steps_new {p} q {bytes} {more} same (m, k, d
       block_bytes more front g,
       counted,
       none,
-      row_bytes n m new k steps_new {p = d} q {bytes = drop c bytes} {more = drop c more}
-          (record { front = subst (λ t. take (t * n) (drop c more) ≡ take (t * n) (drop c bytes)) (sym own) back }) rest,
+      row_bytes n m new k steps_new q (record { front = subst (λ t. take (t * n) (drop c more) ≡ take (t * n) (drop c bytes)) (sym own) back }) rest,
     )
 
 -- a block behind a row
@@ -123,7 +122,7 @@ stood_with {count = count} {old = old} {steps = steps} {p = p} {bytes = bytes} m
   reader = s.reader;
   steps_there = s.steps_there;
   state = s.state;
-  row = row_bytes count old s.reader steps s.steps_there {p = p} s.state {bytes = bytes} {more = more} (record { front = same }) s.row;
+  row = row_bytes count old s.reader steps s.steps_there s.state (record { front = same }) s.row;
   waited = s.waited;
   taken = s.taken ∙ ap (λ k. old.taken + k) e;
   ticked = s.ticked ∙ ap (λ k. steps + k) e;
@@ -148,7 +147,7 @@ pub one_block_more : {I : Type 0} {n : ℕ} {old middle new : Reader I} {steps s
     → GivesBlocks (suc n) old new steps steps_new p q more (set ends n end)
 one_block_more {I} {n} {old} {middle} {new} {steps} {steps_middle} {steps_new} {p} {m} {q} {bytes} {more} {ends} end given one before counted front back end_is room =
     let c = width p.setting * p.setting.block in
-    let row = row_and_block n old steps p more (row_bytes n old middle steps steps_middle {p = p} m {bytes = bytes} {more = more} (record { front = front }) given.row)
+    let row = row_and_block n old steps p more (row_bytes n old middle steps steps_middle m (record { front = front }) given.row)
     (subst (λ l. GivesBytes middle new steps_middle steps_new m q l) (sym back) one.gives) counted one.run in
     let waited = waiting_more given.waited one.waited in
     let forward : old.taken ≤ new.taken = omega (arith, before.forward, counted.forward) in

@@ -198,7 +198,7 @@ passes_blocks zero {s} {b} {next} {run} {p} {stopped} state few ways e =
 passes_blocks (suc n) {s} {b} {next} {run} {p} {stopped} state few ways e =
     let some : 0 < run = omega (arith, few) in
     let middle = next_block_place s b in
-    let there = place_moves {next = middle} (run - 1) p stopped state.legal state.within refl state.sample (λ h. omega (arith, state.run_fits some)) state.no_block in
+    let there = place_moves (run - 1) p stopped state.legal state.within refl state.sample (λ h. omega (arith, state.run_fits some)) state.no_block in
     let first = repeats_on middle state some ways refl in
     let on : next ≡ place_after s middle n = e ∙ place_on s b n state.within (inside_interval s b (suc n) run p stopped state few) in
     let rest = passes_blocks n there (omega (arith, few)) ways on in

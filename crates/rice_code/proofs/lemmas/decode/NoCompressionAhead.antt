@@ -126,7 +126,7 @@ whole_spelled {waiting} {s} {b} {before} {from} {omitted} {head} {size} has id b
       levels = whole.spelled.levels;
       ahead =
           subst (BlockAhead waiting s b (value_at s before) whole.spelled.levels) all
-          (whole_block {waiting = waiting} {before = before} sent {levels = whole.spelled.levels} a m has.preprocess (omega (arith, some, has.size_is)) begin.is
+          (whole_block sent a m has.preprocess (omega (arith, some, has.size_is)) begin.is
           (record { id = id; reference = begin.bits; words = words; within = omega (arith, within, all) }) (record { legal = begin.begins; some = begin.value; none = begin.same })
           (record { len = len; legal = near.legal; ranks = ranked }));
       last_is = whole.spelled.last_is;

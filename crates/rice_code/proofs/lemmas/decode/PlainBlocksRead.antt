@@ -477,7 +477,7 @@ row_given zero {r} {new} {first} {last} {p} {q} {l} {w} bytes legal plain within
       new,
       last,
       q,
-      plain_step {start = r} {first = first} {last = last} p legal plain block value (subst (λ k. Takes (with_mark r) new (take k r.waiting)) one taken.bits) (omega (arith, taken.steps, one))
+      plain_step p legal plain block value (subst (λ k. Takes (with_mark r) new (take k r.waiting)) one taken.bits) (omega (arith, taken.steps, one))
           (leaves.state ∙ ap (λ b. record p { block = b; before = value_at s l; run = 0 }) next),
       counted,
       ap (λ (d : DecoderState). d.run) leaves.state,
@@ -511,7 +511,7 @@ row_given (suc n) {r} {new} {first} {last} {p} {q} {l} {w} bytes legal plain wit
     (let e : p.block + suc (suc n) ≡ p.block + 1 + suc n = omega arith in ap (λ b. b % s.interval) e
     ∙ (sym (mod-add-mod (p.block + 1) s.interval (suc n)) ∙ ap (λ b. (b + suc n) % s.interval) (sym (next_by_mod s p.block within)))) in
     let tail : GivesRow (suc n) m new (first + len) last p1 q (drop (w * s.block) bytes) =
-    row_given n {r = m} {first = first + len} {last = last} {p = p1} (drop (w * s.block) bytes) legal plain (next_within s p.block within) going more
+    row_given n (drop (w * s.block) bytes) legal plain (next_within s p.block within) going more
     (record { bits = later; steps = omega (arith, taken.steps, all); within = taken.within }) (record {
       legal = leaves.legal;
       pattern_is = end;
@@ -523,7 +523,7 @@ row_given (suc n) {r} {new} {first} {last} {p} {q} {l} {w} bytes legal plain wit
       m,
       first + len,
       p1,
-      plain_step {start = r} {first = first} {last = first + len} p {q = p1} {x = x} legal plain block refl front refl refl,
+      plain_step p legal plain block refl front refl refl,
       counted,
       refl,
       subst (λ k. GivesRow (suc n) m new (first + len) last p1 q (drop (k * s.block) bytes)) (plain_width s w plain) tail,

@@ -186,7 +186,7 @@ pub row-both : {I : Type 0} {old mid new : Reader I} (width : ℕ) {m n count : 
     → Row (word width) (λ v. v < 2 ^ width) old mid m [] front → Row (word width) (λ v. v < 2 ^ width) mid new n [] rest
     → Row (word width) (λ v. v < 2 ^ width) old new count [] after
 row-both {old} {mid} {new} width {m} {n} {front} {after} e whole r q =
-    let both = row-append (λ v. v < 2 ^ width) {new = new} n {after = after} r
+    let both = row-append (λ v. v < 2 ^ width) n r
     (record { values = q.values; len = q.len; each = q.each; appended = whole ∙ ap (λ z. front ++ z) q.appended; takes = q.takes }) in
     subst (λ k. Row (word width) (λ v. v < 2 ^ width) old new k [] after) e both
 

@@ -90,18 +90,18 @@ pub no_compression_set_cut : {I : Type 0} {old mid new : Reader I} (first last :
     → id < 2 ^ id_len s → id ≡ 2 ^ id_len s - 1 → Takes old mid (word (id_len s) id) → BlockCut mid new s b NoCompression f → SetCut old new first last s b f
 no_compression_set_cut {old} {mid} {new} first last {s} {b} {id} {f} lt e t cut =
     let wide = wide_id s in
-    cut_after_id id lt t cut.stops (cut_plain s b {bits = cut.bits} e cut.none) (λ blank. absurd (not_blank (id_len s) id cut.bits (omega arith) lt blank))
+    cut_after_id id lt t cut.stops (cut_plain s b e cut.none) (λ blank. absurd (not_blank (id_len s) id cut.bits (omega arith) lt blank))
 
 pub split_set_cut : {I : Type 0} {old mid new : Reader I} (first last : ℕ) {s : Parameters} {b : ℕ} (id k : ℕ) {f : BitFault}
     → id < 2 ^ id_len s - 1 → id ≡ k + 1 → Takes old mid (word (id_len s) id) → BlockCut mid new s b (Split k) f → SetCut old new first last s b f
 split_set_cut {old} {mid} {new} first last {s} {b} id k {f} lt e t cut =
-    cut_after_id id (omega arith) t cut.stops (cut_split s b k {bits = cut.bits} (record { id_is = e; below = lt; none = cut.none }))
+    cut_after_id id (omega arith) t cut.stops (cut_split s b k (record { id_is = e; below = lt; none = cut.none }))
     (λ blank. absurd (not_blank (id_len s) id cut.bits (omega arith) (omega arith) blank))
 
 pub low_set_cut : {I : Type 0} {old mid new : Reader I} (first : ℕ) {second last : ℕ} {s : Parameters} {b id : ℕ} {f : BitFault}
     → id < 2 ^ id_len s → id ≡ 0 → Takes old mid (word (id_len s) id) → second + old.taken ≡ first + mid.taken → LowEntropyCut mid new second last s b f → SetCut old new first last s b f
 low_set_cut {old} {mid} {new} first {last} {s} {b} {id} {f} lt e t steps cut =
-    cut_after_id id lt t cut.stops (cut_low s b {bits = cut.bits} e cut.none)
+    cut_after_id id lt t cut.stops (cut_low s b e cut.none)
     (λ blank. omega (arith, steps, cut.steps (behind (is_blank (word (id_len s) id)) (is_blank cut.bits) (sym (blank-append (word (id_len s) id) cut.bits) ∙ blank))))
   where
     behind : (x y : Bool) → (x && y) ≡ true → y ≡ true

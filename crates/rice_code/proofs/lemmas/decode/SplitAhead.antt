@@ -240,8 +240,7 @@ plain_ahead {waiting} {s} {b} {before} {k} {head} {n} {size} {width} {numbers} {
           ∙ (take-joined size k highs lows ∙ (λ j. joined_parts k (first_of size numbers highs found.lanes most lanes_are.highs_are j)
           (first_of size words lows low_words.len most lanes_are.lows_are j))))) in
           subst (BlockAhead waiting s b (value_at s before) lanes) all
-          (split_ahead {waiting = waiting} {s = s} {b = b} {before = before} {r = None} {ms = ms} {ls = ls} {lanes = lanes} {a = 0} {n = n} {m = size * k} has.preprocess
-          (omega (arith, some, has.size_is))
+          (split_ahead {r = None} has.preprocess (omega (arith, some, has.size_is))
           (record { there = sym none; fits = tt }) split.0 (record {
             id = split_waits.id;
             reference = refl;
@@ -322,8 +321,7 @@ behind_reference_ahead {waiting} {s} {b} {before} {from} {v} {k} {id} {bits} {n}
           ap (λ z. ranks_below (value_count s) from (take z lanes)) has.size_is ∙ (take-ranks size (value_count s) from lanes ∙ (ap (take size) near.ranked
           ∙ (take-joined size k highs lows ∙ ((λ j. joined_parts k (first_highs j) (first_lows j)) ∙ zero-joined k ms ls)))) in
           subst (BlockAhead waiting s b (value_at s before) lanes) all
-          (split_ahead {waiting = waiting} {s = s} {b = b} {before = before} {r = Some v} {ms = ms} {ls = ls} {lanes = lanes} {a = s.bits} {n = n} {m = m * k} has.preprocess
-          (omega (arith, some, has.size_is))
+          (split_ahead {r = Some v} has.preprocess (omega (arith, some, has.size_is))
           (record { there = sym reference; fits = subst (λ w. v < 2 ^ w) reference_waits.bits_is reference_waits.fits }) split.0 (record {
             id = split_waits.id;
             reference = first;

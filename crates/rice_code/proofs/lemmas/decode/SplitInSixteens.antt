@@ -197,7 +197,7 @@ rows_parts {waiting} {s} {b} {before} {k} {from} {omitted} {head} {n} {size} {by
           ∙ (near.ranked ∙ (zeros-joined omitted k highs lows same (omega (arith, few, some, many)) high.zeros low.zeros
           ∙ ap (λ xs. xs ++ joined_parts k ms ls) (sym begin.place))) in
           subst (BlockAhead waiting s b (value_at s before) levels) all
-          (split_ahead {waiting = waiting} {before = before} {ms = ms} {ls = ls} {lanes = levels} {a = a} {n = n} {m = m} has.preprocess (omega (arith, some, has.size_is)) begin.is split.0 (record {
+          (split_ahead has.preprocess (omega (arith, some, has.size_is)) begin.is split.0 (record {
             id = id;
             reference = begin.bits;
             sequences = first;

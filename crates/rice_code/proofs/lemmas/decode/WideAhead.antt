@@ -203,7 +203,7 @@ wide_block {waiting} {s} {b} {before} {k} {from} {omitted} {len} {levels} pre so
     ∙ (near.ranked ∙ (zeros-joined omitted k highs lows same room found.sequences.zeros found.rest.words.zeros ∙ ap (λ xs. xs ++ joined_parts k ms ls) (sym begin.place))) in
     let end : length levels ≡ suc (s.block - 1) = omega (arith, size, some) in (
       subst (BlockAhead waiting s b (value_at s before) levels) all
-          (split_ahead {waiting = waiting} {before = before} {ms = ms} {ls = ls} {lanes = levels} {a = a} {n = n} {m = m} pre some begin.is split (record {
+          (split_ahead pre some begin.is split (record {
             id = id;
             reference = begin.bits;
             sequences = first;

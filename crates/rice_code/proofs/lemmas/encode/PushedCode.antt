@@ -404,7 +404,7 @@ filled_part coder xs h =
     (let e : length h.held + (s.block - length h.held % s.block) % s.block - length h.held ≡ (s.block - length h.held % s.block) % s.block = omega arith in
     e) ∙ ap (λ v. (s.block - v % s.block) % s.block) (sym count) in
     let shape : filled_samples s p h.held ≡ full = λ i. h.held ++ replicate (fill i) (last i) in
-    held_part {n = block_count s (length h.held)} holds shape refl (sym (ap length shape) ∙ filled_len s p h.held j)
+    held_part holds shape refl (sym (ap length shape) ∙ filled_len s p h.held j)
 
 pub filled_sound : (coder : CoderState) (xs : List ℤ) → HasTaken coder xs → HoldsSoundBlocks (state_with_fill coder (fill_count coder.setting (length coder.residuals)))
 filled_sound coder xs h = let part = filled_part coder xs h in record { sound = part.sound; whole = part.blocks }

@@ -193,7 +193,7 @@ whole_pushes {coder} {after} {ys} {old} {new} {n} {m0} {m1} {m2} h whole e codes
     subst (λ v. PushesSamples v after ys old new n m0 m2) h.same (record {
       setting = ap (λ (v : CoderState). v.setting) ends_so;
       taken = λ xs k. subst (λ v. HasTaken v (xs ++ ys)) (sym ends_so) (several_end coder ys xs h.legal is_whole k);
-      adds = λ xs k. adds_code {more = length ys} {m0 = m0} (several_add_code coder ys xs h.legal is_whole k) coded steps;
+      adds = λ xs k. adds_code (several_add_code coder ys xs h.legal is_whole k) coded steps;
     })
 
 pub whole_completes_all : (value coder held : CoderState) (ys : List ℤ) → HoldsMore value coder held ys → IsWhole held → CompletesAll value ys

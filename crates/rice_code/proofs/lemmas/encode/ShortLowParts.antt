@@ -37,8 +37,7 @@ joined_lanes w a b c d le =
     ≡ ((a % 2 ^ w * 2 ^ w + b % 2 ^ w) * 2 ^ w + c % 2 ^ w) * 2 ^ w + d % 2 ^ w =
     (λ i. lanes_joined w (and_mask a w i) (and_mask b w i) (and_mask c w i) (and_mask d w i))
     ∙ joined_value (a % 2 ^ w) (b % 2 ^ w) (c % 2 ^ w) (d % 2 ^ w) le (below a) (below b) (below c) (below d) in
-    four_words {w0 = w} {w1 = w} {w2 = w} {w3 = w} {n = 4 * w} {v0 = a % 2 ^ w} {v1 = b % 2 ^ w} {v2 = c % 2 ^ w} {v3 = d % 2 ^ w}
-    {two = a % 2 ^ w * 2 ^ w + b % 2 ^ w} {three = (a % 2 ^ w * 2 ^ w + b % 2 ^ w) * 2 ^ w + c % 2 ^ w}
+    four_words
     (record { fits = below a; bits_are = low_word w a _ refl }) (record { fits = below b; bits_are = low_word w b _ refl }) (record { fits = below c; bits_are = low_word w c _ refl })
     (record { fits = below d; bits_are = low_word w d _ refl }) refl refl same (omega arith)
 

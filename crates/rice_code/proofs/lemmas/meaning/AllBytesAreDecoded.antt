@@ -233,14 +233,14 @@ bits_are_decoded (suc fuel) {s} {b} {position} {p} {bits} {asked} legal j h lt w
                 let l3 : length (bits_of_set s d ++ skipped) ≡ t + n = length-append (bits_of_set s d) skipped ∙ ap (λ m. t + m) l1 in
                 let some : 1 ≤ t = not_empty (bits_of_set s d) (forms_have_a_one s b d legal q.fits) in
                 let made = blocks_have_samples s b p (blocks_in s b d) legal j h (blocks_are_sound s b d legal (q.fits, run, sound)) in
-                let later = bits_are_decoded fuel {b = block_after s b d} {position = position + length (bits_of_set s d ++ skipped)} {p = last_of p made.0} {bits = rest} {asked = asked} legal j
+                let later = bits_are_decoded fuel legal j
                 (last_legal s p made.0 h made.2) (sizes _ _ _ _ _ _ size l2 fits some lt) (places _ _ _ _ _ _ _ size l2 l3 fits whole) in
                 let P : List Bool → Type 0 = λ v. DecodedFrom s b position p v asked (cut_to s asked b made.0 ++ later.0) later.1 (length (bits_of_set s d ++ skipped) + later.2) in
                 let joined : bits_of_set s d ++ (skipped ++ rest) ≡ bits = ap (λ v. bits_of_set s d ++ v) (take-append-drop n q.more) ∙ sym q.begins in (
                   cut_to s asked b made.0 ++ later.0,
                   later.1,
                   length (bits_of_set s d ++ skipped) + later.2,
-                  subst P joined (decoding_goes_on legal {b = b} {position = position} {p = p} d skipped made.0 (record { wanted = go; form = q.fits; run = run; residuals = sound }) l1
+                  subst P joined (decoding_goes_on legal d skipped made.0 (record { wanted = go; form = q.fits; run = run; residuals = sound }) l1
                       (record { legal = All-from_recursion (IsSample s) made.0 made.2; len = made.1; blocks = made.3 }) later.3),
                 )
           ]

@@ -144,7 +144,7 @@ same_sets {s} asked b position {m} {n} {ds = d ∷ ds} {es = c ∷ es} {f} {g} {
     let next = ap (λ x. block_after s b x + length (blocks_in_all s (block_after s b x) es)) same in
     let bm' : block_after s b d + length (blocks_in_all s (block_after s b d) ds) ≡ m = omega (arith, length-append (blocks_in s b d) (blocks_in_all s (block_after s b d) ds)) in
     let bn' : block_after s b c + length (blocks_in_all s (block_after s b c) es) ≡ n = omega (arith, length-append (blocks_in s b c) (blocks_in_all s (block_after s b c) es)) in
-    let rest = same_sets asked (block_after s b d) (position + length (bits_of_set s d ++ this_way.lie.0)) {ds = ds} {es = es} {f = this_way.lie.1} {g = that_way.lie.1} {r = r} {q = q} legal
+    let rest = same_sets asked (block_after s b d) (position + length (bits_of_set s d ++ this_way.lie.0)) legal
     (record { end_is = bm'; lie = this_way.lie.4; taken = this_way.taken.4; nothing = this_way.nothing }) (record { end_is = next ∙ bn'; lie = lies; taken = taken; nothing = that_way.nothing })
     two.1 in
     ((λ i. same i ∷ rest.0 i), this_way.lie.3 ∙ ((λ i. bits_of_set s (same i) ++ (skipped i ++ rest.1 i)) ∙ sym that_way.lie.3), rest.2)
@@ -168,10 +168,10 @@ same_block {s} b p {xs = x ∷ xs} {ys = y ∷ ys} legal j h these those e =
     let first : x ≡ y =
     elim (bool_cases (is_reference s b)) [
       | inl f ↦ let g : Some (pattern s x) ≡ Some (pattern s y) = reference true f in same_pattern s x y legal.bits_from these.legal.0 those.legal.0 cc
-      | inr f ↦ same_residual s i p {x = x} {y = y} legal.bits_from h these.legal.0 those.legal.0 (no_reference_at s b j f) one
+      | inr f ↦ same_residual s i p legal.bits_from h these.legal.0 those.legal.0 (no_reference_at s b j f) one
     ] in
     let inside = λ (t : ℕ) (lt : t < length xs). (let z : i + 1 + t ≡ i + (1 + t) = omega arith in ap (λ v. is_reference_sample s v) z) ∙ inside_block s b (1 + t) (omega arith) (omega arith) in
-    let rest = same_residuals s (i + 1) x {xs = xs} {ys = ys} legal.bits_from these.legal.0 these.legal.1 those.legal.1 inside (others ∙ ap (λ v. residuals s (i + 1) v ys) (sym first)) in
+    let rest = same_residuals s (i + 1) x legal.bits_from these.legal.0 these.legal.1 those.legal.1 inside (others ∙ ap (λ v. residuals s (i + 1) v ys) (sym first)) in
     λ t. first t ∷ rest t
 
 same_samples : {s : Parameters} (b : ℕ) (p : ℤ) (n : ℕ) {xs ys : List ℤ} → IsLegal s → 1 ≤ s.block → IsSample s p → AreSamples s (s.block * n) xs → AreSamples s (s.block * n) ys
@@ -184,9 +184,9 @@ same_samples {s} b p (suc count) {xs} {ys} legal j h these those e =
     let others : blocks_from s (b + 1) (last_of p (take s.block xs)) count (drop s.block xs) ≡ blocks_from s (b + 1) (last_of p (take s.block ys)) count (drop s.block ys) = second_of_two _ _ _ _ e in
     let kf = all_take (IsSample s) s.block xs these.legal in
     let lf = all_take (IsSample s) s.block ys those.legal in
-    let front = same_block b p {xs = take s.block xs} {ys = take s.block ys} legal j h (record { legal = kf; len = length-take-le s.block xs (omega arith) })
+    let front = same_block b p legal j h (record { legal = kf; len = length-take-le s.block xs (omega arith) })
     (record { legal = lf; len = length-take-le s.block ys (omega arith) }) one in
-    let back = same_samples (b + 1) (last_of p (take s.block xs)) count {xs = drop s.block xs} {ys = drop s.block ys} legal j (last_legal s p (take s.block xs) h kf)
+    let back = same_samples (b + 1) (last_of p (take s.block xs)) count legal j (last_legal s p (take s.block xs) h kf)
     (record {
       legal = all_drop (IsSample s) s.block xs these.legal;
       len = omega (arith, length-drop s.block xs);
@@ -208,23 +208,23 @@ decoded_is_one {s} legal {b} {position} {t} sample {asked} {p} {q} h k =
     let j : 1 ≤ s.block = grind (arith, legal.block) in
     let cs = blocks_in_all s b h.sets in
     let ds = blocks_in_all s b k.sets in
-    let same = same_sets asked b position {m = b + length cs} {n = b + length ds} {ds = h.sets} {es = k.sets} {f = h.front} {g = k.front} {r = h.rest} {q = k.rest} legal (record {
+    let same = same_sets asked b position legal (record {
       end_is = refl;
       lie = h.lie;
       taken = h.taken;
-      nothing = takes_no_set {asked = asked} (b + length cs) {rest = h.rest} p h.last (record { legal = legal; ending_is = h.ends });
+      nothing = takes_no_set (b + length cs) p h.last (record { legal = legal; ending_is = h.ends });
     }) (record {
       end_is = refl;
       lie = k.lie;
       taken = k.taken;
-      nothing = takes_no_set {asked = asked} (b + length ds) {rest = k.rest} q k.last (record { legal = legal; ending_is = k.ends });
+      nothing = takes_no_set (b + length ds) q k.last (record { legal = legal; ending_is = k.ends });
     }) (sym h.parts ∙ k.parts) in
     let blocks : cs ≡ ds = ap (λ v. blocks_in_all s b v) same.0 in
     let count = ap length blocks in
     let P : ℕ → Type 0 = λ i. EndsWith s asked (b + i) k.rest q k.last in
     let Q : List Bool → Type 0 = λ v. EndsWith s asked (b + length cs) v q k.last in
-    let ending = same_ending asked (b + length cs) h.rest p q {m = h.last} {n = k.last} legal h.ends (subst Q (sym same.2) (subst P (sym count) k.ends)) in
-    let all = same_samples b t (length cs) {xs = h.all} {ys = k.all} legal j sample (record { legal = recursion_from_All (IsSample s) h.all h.legal; len = h.len }) (record {
+    let ending = same_ending asked (b + length cs) h.rest p q legal h.ends (subst Q (sym same.2) (subst P (sym count) k.ends)) in
+    let all = same_samples b t (length cs) legal j sample (record { legal = recursion_from_All (IsSample s) h.all h.legal; len = h.len }) (record {
       legal = recursion_from_All (IsSample s) k.all k.legal;
       len = k.len ∙ ap (λ i. s.block * i) (sym count);
     }) (h.blocks ∙ (blocks ∙ (sym k.blocks ∙ ap (λ i. blocks_from s b t i k.all) (sym count)))) in

@@ -98,7 +98,7 @@ stands_behind {s} legal c n p {asked} {ending} begins byte h =
       blocks = ap (λ k. blocks_from s c p k h.all) (sym count) ∙ (blocks_behind s c size p h.all legal j begins h.len ∙ (h.blocks ∙ blocks));
       asked_for = h.asked_for ∙ cut_behind s asked c h.all;
       last = h.last;
-      ends = subst P count (ends_there {s = s} asked there (0 + size) (c + size) h.rest ending h.last (record {
+      ends = subst P count (ends_there asked there (0 + size) (c + size) h.rest ending h.last (record {
         place_is = place_on s 0 c size e;
         wanted = wanted_behind s asked c size;
         reached = reached_behind s asked c size;

@@ -93,7 +93,7 @@ ends_there {s} asked there b c rest Large used alike h =
     (alike.wanted h.0, record { refused = u.refused; more = u.more; form = form_there s b c u.refused alike.place_is u.form; unsound = u.unsound; begins = u.begins; bits = u.bits })
 
 pub end_there : (s : Parameters) (b c : ℕ) (rest : List Bool) (ending : Ending) (used : ℕ) → place s b ≡ place s c → EndsWith s None b rest ending used → EndsWith s None c rest ending used
-end_there s b c rest ending used e h = ends_there {s = s} None None b c rest ending used (record { place_is = e; wanted = λ k. k; reached = λ k. absurd k }) h
+end_there s b c rest ending used e h = ends_there None None b c rest ending used (record { place_is = e; wanted = λ k. k; reached = λ k. absurd k }) h
 
 pub decoding_stands : {s : Parameters} → IsLegal s → {b c m n : ℕ} (p : ℤ) (bits : List Bool) (xs : List ℤ) (ending : Ending) (used : ℕ) → place s b ≡ place s c → m % 8 ≡ n % 8 →
     DecodedFrom s b m p bits None xs ending used → DecodedFrom s c n p bits None xs ending used

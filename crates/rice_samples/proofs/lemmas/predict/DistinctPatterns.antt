@@ -42,7 +42,7 @@ same_pattern s x y h k l e = by_sign s.signed s.bits h k.0 k.1 l.0 l.1 e
   where
     by_sign : (signed : Bool) (n : ℕ) → 1 ≤ n → cond signed (neg_ℤ (pos (2 ^ (n - 1)))) (pos 0) ≤ℤ x → int_gap (cond signed (neg_ℤ (pos (2 ^ (n - 1)))) (pos 0)) x < 2 ^ n →
         cond signed (neg_ℤ (pos (2 ^ (n - 1)))) (pos 0) ≤ℤ y → int_gap (cond signed (neg_ℤ (pos (2 ^ (n - 1)))) (pos 0)) y < 2 ^ n → twos_complement n x ≡ twos_complement n y → x ≡ y
-    by_sign true n h a b c d e = same_signed n {x = x} {y = y} (half_pow n h) (pow_pos (n - 1)) a b c d e
+    by_sign true n h a b c d e = same_signed n (half_pow n h) (pow_pos (n - 1)) a b c d e
     by_sign false n h a b c d e = same_unsigned n x y a c e
 
 -- where a sample is no reference, its residual tells it
@@ -63,9 +63,9 @@ same_residuals s i p {xs = x ∷ xs} {ys = y ∷ ys} n h k l r e =
     let one : residual s i p x ≡ residual s i p y = cc in
     let others : residuals s (i + 1) x xs ≡ residuals s (i + 1) y ys = cc in
     let here : is_reference_sample s i ≡ false = (let z : i ≡ i + 0 = omega arith in ap (λ m. is_reference_sample s m) z) ∙ r 0 (omega arith) in
-    let first = same_residual s i p {x = x} {y = y} n h k.0 l.0 here one in
+    let first = same_residual s i p n h k.0 l.0 here one in
     let later = λ (t : ℕ) (lt : t < length xs). (let z : i + 1 + t ≡ i + suc t = omega arith in ap (λ m. is_reference_sample s m) z) ∙ r (suc t) (omega arith) in
-    let rest = same_residuals s (i + 1) x {xs = xs} {ys = ys} n k.0 k.1 l.1 later (others ∙ ap (λ v. residuals s (i + 1) v ys) (sym first)) in
+    let rest = same_residuals s (i + 1) x n k.0 k.1 l.1 later (others ∙ ap (λ v. residuals s (i + 1) v ys) (sym first)) in
     λ j. first j ∷ rest j
 
 -- only the first sample of a block is a reference

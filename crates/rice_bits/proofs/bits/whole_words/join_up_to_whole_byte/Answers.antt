@@ -14,12 +14,12 @@ pub join_bytes-requires-clause-digits : goal.join_bytes-requires-clause-digits
 join_bytes-requires-clause-digits c =
     let byte : slice_index c.args.bytes.now (c.args.bits / 8) < 256 = search rules in
     let zeros = last_zeros c.args.bytes.now c.args.bits c.requires.bits.room c.requires.bits.zeros in
-    first_below {g = c.args.bits % 8} c.args.value c.args.first byte zeros (omega arith) (record { some = c.requires.count.0; few = c.requires.count.1; fit = c.requires.value })
+    first_below c.args.value c.args.first byte zeros (omega arith) (record { some = c.requires.count.0; few = c.requires.count.1; fit = c.requires.value })
     c.ranges.first.fits c.join.ensures
 
 pub returns-clause-joins : goal.returns-clause-joins
 returns-clause-joins c =
-    let put = first-put c.args.bytes.now c.args.bits {value = c.args.value} c.args.first (record { some = c.requires.count.0; few = c.requires.count.1; fit = c.requires.value }) c.ranges.first.fits
+    let put = first-put c.args.bytes.now c.args.bits c.args.first (record { some = c.requires.count.0; few = c.requires.count.1; fit = c.requires.value }) c.ranges.first.fits
     c.requires.room c.requires.bits.zeros c.join.ensures c.join_bytes.ensures in
     let len : length c.join_bytes.new.bytes ≡ length c.args.bytes.now = omega arith in
     let all : c.args.bits - c.args.bits % 8 + 64 ≡ c.args.bits + (64 - c.args.bits % 8) = omega arith in

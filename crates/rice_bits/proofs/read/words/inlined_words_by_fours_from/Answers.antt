@@ -26,7 +26,7 @@ loop-i-preserved c =
       fit = subst (λ m. All (λ d. d < 2 ^ w) (take m (put_chunk at l.words four))) n
           (all-written (λ d. d < 2 ^ w) 4 at l.words four c.four_words_from-four.ensures.len room l.invariant.fit c.four_words_from-four.ensures.fit);
       bits = subst (λ m. flat_map (word w) (take m (put_chunk at l.words four)) ≡ take (m * w) (drop c.args.at bits)) n
-          (words-written w bits c.args.at {at = c.args.at + at * w} at l.words four (record { place = refl; front = l.invariant.bits; behind = c.four_words_from-four.ensures.bits })
+          (words-written w bits c.args.at at l.words four (record { place = refl; front = l.invariant.bits; behind = c.four_words_from-four.ensures.bits })
           c.four_words_from-four.ensures.len room);
     }
 
@@ -43,7 +43,7 @@ returns-clause-fit c =
 pub returns-clause-bits : goal.returns-clause-bits
 returns-clause-bits c =
     let l = c.loop-i in
-    words-last c.args.width (bits_of c.args.bytes.now) c.args.at {m = 4 * l.i} l.words c.four_words_from-four-2.result (record {
+    words-last c.args.width (bits_of c.args.bytes.now) c.args.at l.words c.four_words_from-four-2.result (record {
       len = l.invariant.len;
       four_are = c.four_words_from-four-2.ensures.len;
       room = c.requires.some;

@@ -17,7 +17,7 @@ loop-i-preserved c =
     record {
       len = length-put_chunk at l.words four ∙ l.invariant.len;
       bits = subst (λ m. flat_map (word 32) (take m (put_chunk at l.words four)) ≡ take (m * 32) (drop c.args.at bits)) n
-          (words-written 32 bits c.args.at {at = c.args.at + 128 * l.i} at l.words four (record {
+          (words-written 32 bits c.args.at at l.words four (record {
             place = omega arith;
             front = l.invariant.bits;
             behind = c.four_words_of_32_bits_from.ensures.bits;
@@ -29,7 +29,7 @@ returns c =
     let l = c.loop-i in
     let last = c.four_words_of_32_bits_from-2 in
     record {
-      bits = words-last 32 (bits_of c.args.bytes.now) c.args.at {m = 4 * l.i} l.words last.result (record {
+      bits = words-last 32 (bits_of c.args.bytes.now) c.args.at l.words last.result (record {
         len = l.invariant.len;
         four_are = last.ensures.len;
         room = c.requires.some;

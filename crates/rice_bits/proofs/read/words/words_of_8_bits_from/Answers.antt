@@ -21,7 +21,7 @@ loop-i-preserved c =
       fit = subst (λ m. All (λ d. d < 2 ^ 8) (take m (put_chunk at l.words eight))) n
           (all-written (λ d. d < 2 ^ 8) 8 at l.words eight c.eight_bytes_from-eight.ensures.len room l.invariant.fit c.eight_bytes_from-eight.ensures.fit);
       bits = subst (λ m. flat_map (word 8) (take m (put_chunk at l.words eight)) ≡ take (m * 8) (drop c.args.at bits)) n
-          (words-written 8 bits c.args.at {at = l.at} at l.words eight (record {
+          (words-written 8 bits c.args.at at l.words eight (record {
             place = omega (arith, l.invariant.place);
             front = l.invariant.bits;
             behind = c.eight_bytes_from-eight.ensures.bits;

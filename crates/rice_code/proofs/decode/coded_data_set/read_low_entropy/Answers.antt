@@ -18,7 +18,7 @@ pub returns-in_err-reference-clause-err : goal.returns-in_err-reference-clause-e
 returns-in_err-reference-clause-err g c =
     let e = c.in_err-reference.ensures.err in
     let p = err_from_is_err_and c.from_residual-in_err-reference.result c.from_residual-in_err-reference.ensures.1 in
-    rw (p.1, p.2) (run_low_cut {first = c.args.meter.now} c.take.new.meter {last = c.read_run.new.meter} c.args.setting.now c.args.block
+    rw (p.1, p.2) (run_low_cut c.take.new.meter c.args.setting.now c.args.block
     (rw c.if-bit-eq0.true at c.in_ok-bit.ensures.ok.1) c.in_ok-bit.ensures.steps e.1 c.in_err-reference.ensures.steps e.2)
 
 pub returns-clause-ok : goal.returns-clause-ok

@@ -10,7 +10,7 @@ restore_and_spell-requires-clause-residuals g c =
     let a = c.args in
     let words = c.words_ahead.ensures in
     let row = c.behind_omitted-residuals.result in
-    let lows = row-lows {waiting = a.reader.now.waiting} a.skip a.omitted c.bits-bits.result c.words_ahead.result c.requires.omitted words.len words.fit words.bits
+    let lows = row-lows a.skip a.omitted c.bits-bits.result c.words_ahead.result c.requires.omitted words.len words.fit words.bits
     c.behind_omitted-residuals.ensures in
     subst (λ n. All (λ l. l < 2 ^ n) row) c.bits-bits.ensures.value lows.low
 
@@ -23,7 +23,7 @@ returns g c =
     let most = c.requires.size.1 in
     let least = c.requires.size.0 in
     let len = length-behind a.omitted c.words_ahead.result row c.requires.omitted words.len c.behind_omitted-residuals.ensures in
-    let lows = row-lows {waiting = a.reader.now.waiting} a.skip a.omitted c.bits-bits.result c.words_ahead.result c.requires.omitted words.len words.fit words.bits
+    let lows = row-lows a.skip a.omitted c.bits-bits.result c.words_ahead.result c.requires.omitted words.len words.fit words.bits
     c.behind_omitted-residuals.ensures in
     let all = lows-first a.reader.now.waiting a.skip a.omitted c.bits-bits.result size row (omega (arith, c.requires.omitted, least)) (omega (arith, most, len)) lows in
     record {

@@ -9,7 +9,7 @@ pub returns-in_err-reference-clause-err : goal.returns-in_err-reference-clause-e
 returns-in_err-reference-clause-err g c =
     let e = c.in_err-reference.ensures.err in
     let p = err_from_is_err_and c.from_residual.result c.from_residual.ensures.1 in
-    rw (p.1, p.2) ((e.0, e.3, run_cut_at_reference {s = c.args.setting.now} c.args.block e.0 e.1 e.2))
+    rw (p.1, p.2) ((e.0, e.3, run_cut_at_reference c.args.block e.0 e.1 e.2))
 
 pub returns-clause-ok : goal.returns-clause-ok
 returns-clause-ok g c =

@@ -6,7 +6,7 @@ pub tick-requires : goal.tick-requires
 tick-requires g c =
     let waiting = c.take_waiting_fs-some in
     let written = c.write_pairs-turns in
-    let taken = pairs-taken waiting.new.zeros written.new.out waiting.new.meter {third = waiting.new.meter + written.result}
+    let taken = pairs-taken waiting.new.zeros written.new.out waiting.new.meter
     (record {
       enough = waiting.ensures.within;
       room = omega (arith, waiting.auto.zeros, written.auto.out, c.requires.codes);

@@ -10,7 +10,7 @@ pub loop-row-init : goal.loop-row-init
 loop-row-init g c =
     let words = c.words_ahead.ensures in
     let one : rows_len c.args.size 1 ≡ 16 = omega (arith, c.requires.size.0) in
-    let first = row-lows {waiting = c.args.reader.now.waiting} c.args.skip c.args.omitted c.args.k c.words_ahead.result c.requires.omitted
+    let first = row-lows c.args.skip c.args.omitted c.args.k c.words_ahead.result c.requires.omitted
     words.len words.fit words.bits c.behind_omitted-first.ensures in
     record {
       places = c.store_row.ensures.len;

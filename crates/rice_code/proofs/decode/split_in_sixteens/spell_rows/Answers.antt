@@ -31,7 +31,7 @@ loop-row-preserved g c =
       room = c.spell_row.ensures.len ∙ l.invariant.room;
       rows =
           subst (λ n. RowsSpelled s parts.from c.args.k n parts.highs parts.lows c.in_ok-last.last c.spell_row.new.bytes) row.ensures.end
-          (row_spelled {now = c.spell_row.new.bytes}
+          (row_spelled
           c.requires.width row.ensures.some.0 (places.1 ∙ sym places.0) (omega (arith, most, inside.0, places.0)) c.spell_row.ensures.before
           (subst (λ n. RowsSpelled s parts.from c.args.k n parts.highs parts.lows l.last l.spelled) (rows_before size l.row inside.1) l.invariant.rows) exact);
     }

@@ -21,7 +21,7 @@ pub returns-clause-some : goal.returns-clause-some
 returns-clause-some g c =
     let a = c.args in
     let near = c.in_ok-near in
-    sixteen_words_near {first = near.near.first} {second = near.near.second} a.bytes.now c.requires.width (omega (arith, c.if-size-le8.false)) c.requires.size.1 near.ensures.levels
+    sixteen_words_near a.bytes.now c.requires.width (omega (arith, c.if-size-le8.false)) c.requires.size.1 near.ensures.levels
     (record {
       eight = near.ensures.halves.0;
       len = c.spelled_in_two_bytes.ensures.len;

@@ -20,7 +20,7 @@ returns-clause-some g c =
     let eight : length levels ≡ 8 = c.in_ok-near.ensures.len ∙ high.2 in
     subst (λ ls. RestoredAhead waiting s a.from a.k a.skip a.omitted ls (slice_index_or levels 7 0) (a.skip + sequences.len + (8 - a.omitted) * a.k))
     (sym (put_chunk_whole a.levels.now levels (c.requires.size ∙ sym eight)))
-    (restored_eight {waiting = waiting} {skip = a.skip} words.result c.requires.omitted c.requires.there found highs.ensures
+    (restored_eight words.result c.requires.omitted c.requires.there found highs.ensures
     (record { len = words.ensures.len; fit = words.ensures.fit; bits = words.ensures.bits }) lows.ensures (omega (arith, c.if-waiting-words.false, c.waiting.ensures)) c.in_ok-near.ensures)
 
 pub near_words-requires-clause-lows : goal.near_words-requires-clause-lows

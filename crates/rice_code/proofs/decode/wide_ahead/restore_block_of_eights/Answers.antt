@@ -22,7 +22,7 @@ loop-eight-init g c =
     let a = c.args in
     let words = c.wide_words_ahead.ensures in
     let w = c.in_ok-last.ensures.some in
-    let all = first_levels {waiting = a.reader.now.waiting} {skip = a.skip} c.wide_words_ahead.result a.highs.now
+    let all = first_levels c.wide_words_ahead.result a.highs.now
     c.requires.omitted words.len words.fit words.bits c.words_behind_omitted-first.ensures (omega (arith, c.requires.some, c.requires.highs)) w in
     record {
       room = c.restore_eight_at.ensures.len;

@@ -5,15 +5,13 @@ use Rattle.rice_code.proofs.encode.bit_buffer.four_short_sequences.Goals as goal
 
 pub returns-clause-fits : goal.returns-clause-fits
 returns-clause-fits c =
-    (four_words {w0 = c.args.a + 1} {w1 = c.args.b + 1} {w2 = c.args.c + 1} {w3 = c.args.d + 1} {n = c.args.a + c.args.b + c.args.c + c.args.d + 4} {v0 = 1} {v1 = 1} {v2 = 1} {v3 = 1}
-    (record { fits = one_fits c.args.a; bits_are = word-fs c.args.a }) (record { fits = one_fits c.args.b; bits_are = word-fs c.args.b })
+    (four_words (record { fits = one_fits c.args.a; bits_are = word-fs c.args.a }) (record { fits = one_fits c.args.b; bits_are = word-fs c.args.b })
     (record { fits = one_fits c.args.c; bits_are = word-fs c.args.c }) (record { fits = one_fits c.args.d; bits_are = word-fs c.args.d }) c.join-two.ensures c.join-three.ensures c.join.ensures
     (omega arith)).0
 
 pub returns-clause-bits : goal.returns-clause-bits
 returns-clause-bits c =
-    (four_words {w0 = c.args.a + 1} {w1 = c.args.b + 1} {w2 = c.args.c + 1} {w3 = c.args.d + 1} {n = c.args.a + c.args.b + c.args.c + c.args.d + 4} {v0 = 1} {v1 = 1} {v2 = 1} {v3 = 1}
-    (record { fits = one_fits c.args.a; bits_are = word-fs c.args.a }) (record { fits = one_fits c.args.b; bits_are = word-fs c.args.b })
+    (four_words (record { fits = one_fits c.args.a; bits_are = word-fs c.args.a }) (record { fits = one_fits c.args.b; bits_are = word-fs c.args.b })
     (record { fits = one_fits c.args.c; bits_are = word-fs c.args.c }) (record { fits = one_fits c.args.d; bits_are = word-fs c.args.d }) c.join-two.ensures c.join-three.ensures c.join.ensures
     (omega arith)).1
 

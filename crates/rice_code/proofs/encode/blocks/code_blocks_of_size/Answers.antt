@@ -33,8 +33,7 @@ code_next-run-requires-clause-look g c =
     let all = bits_of_sets s (data_sets s c.args.start false cs) in
     let i = c.loop-i.i in
     let room = room_within c.loop-i.sink (to_come s c.args.start c.args.reference c.args.count c.args.segment.now i c.loop-i.run) c.args.sink.now all c.loop-i.invariant.same in
-    let fits = meter_fits {m = c.loop-i.meter} {m0 = c.args.meter.now} {a = length c.loop-i.sink} {a0 = length c.args.sink.now} {t = length all} {put = 0} {total = sum_by (most_looks s)
-    (take i cs)} (s.block * (k_max s + 5))
+    let fits = meter_fits {t = length all} {put = 0} (s.block * (k_max s + 5))
     (record {
       grown = c.loop-i.invariant.steps_to;
       by_blocks = most_of_all s i cs;
@@ -62,10 +61,9 @@ code_next-run-requires-clause-room g c =
     * (k_max s + 5)) (length c.loop-i.sink) c.loop-i.meter in
     subst P (sym e) (λ z.
     let put = length (bits_of_sets s (pending_run false (reference_at c.args.reference (i - c.loop-i.run)) c.loop-i.run)) + cost s (shortest s (held s c.args.reference ds i)) in
-    let g = room_other {s = s} {start = c.args.start} c.args.reference ds c.loop-i.sink c.args.sink.now all (record { interval = legal.interval_from; block = one })
+    let g = room_other c.args.reference ds c.loop-i.sink c.args.sink.now all (record { interval = legal.interval_from; block = one })
     (record { inside = c.requires.few; run_before = c.loop-i.invariant.inside; below = c.loop-i-test.true }) (record { sound = c.requires.sound; no_zeros = z }) c.loop-i.invariant.same in
-    let fits = meter_fits {m = c.loop-i.meter} {m0 = c.args.meter.now} {a = length c.loop-i.sink} {a0 = length c.args.sink.now} {t = length all} {put = put} {total = sum_by (most_looks s)
-    (take i cs)} (s.block * (k_max s + 5))
+    let fits = meter_fits {t = length all} {put = put} (s.block * (k_max s + 5))
     (record {
       grown = c.loop-i.invariant.steps_to;
       by_blocks = most_of_all s i cs;
@@ -127,11 +125,9 @@ loop-i-preserved g c =
                 (bits_of_sets s (pending_run false (reference_at c.args.reference (c.loop-i.i - c.loop-i.run)) run)) (bits_of_set s (shortest s raw))
                 (to_come s start r n ds (i + 1) 0) (c.args.sink.now ++ all) ends.bits
                 (sym (ap (λ v. c.loop-i.sink ++ v) more') ∙ inv.same);
-            steps_from = rw low (least_more {k = best_split s raw} {m0 = c.args.meter.now} {m = c.loop-i.meter} {m' = c.code_next-run.new.meter}
-                {a = length c.loop-i.sink} {a' = length c.code_next-run.new.sink} (length c.args.sink.now) put (sum_by (least_looks s) (take i cs))
+            steps_from = rw low (least_more (length c.args.sink.now) put (sum_by (least_looks s) (take i cs))
                 one (record { before = inv.steps_from; more = omega (arith, ends.steps_from); put_is = omega (arith, len) }) (looks.0 ∙ ap (λ k. s.block * (k + 3) - 1) (sym k)));
-            steps_to = rw high (most_more c.args.meter.now c.loop-i.meter c.code_next-run.new.meter (length c.loop-i.sink)
-                {a' = length c.code_next-run.new.sink} (length c.args.sink.now) put (sum_by (most_looks s) (take i cs))
+            steps_to = rw high (most_more c.args.meter.now c.loop-i.meter c.code_next-run.new.meter (length c.loop-i.sink) (length c.args.sink.now) put (sum_by (most_looks s) (take i cs))
                 (record { before = inv.steps_to; more = omega (arith, ends.steps_to); put_is = omega (arith, len) }) (looks.1 ∙ ap (λ k. s.block * (min (k + 1) (k_max s) + 5)) (sym k)));
           }
     ]
@@ -151,8 +147,7 @@ put_pending_run-requires-clause-room g c =
     let put = length (bits_of_sets s (pending_run true (reference_at c.args.reference (n - run)) run)) in
     let room = room_within c.loop-i.sink (bits_of_sets s (pending_run true (reference_at c.args.reference (n - run)) run)) c.args.sink.now all (sym ends ∙ same) in
     let w = ap (λ f. length (bits_of_sets s (pending_run true f run))) c.reference_of-first.ensures in
-    let fits = meter_ends {m = c.loop-i.meter} {m0 = c.args.meter.now} {a = length c.loop-i.sink} {a0 = length c.args.sink.now} {t = length all} {put = put}
-    {total = sum_by (most_looks s) (take c.loop-i.i cs)} {i = c.loop-i.i} {n = n} (s.block * (k_max s + 5))
+    let fits = meter_ends {t = length all} {put = put} {n = n} (s.block * (k_max s + 5))
     (record {
       grown = c.loop-i.invariant.steps_to;
       by_blocks = most_of_all s c.loop-i.i cs;

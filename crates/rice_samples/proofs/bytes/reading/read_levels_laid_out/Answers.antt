@@ -26,5 +26,5 @@ loop-i-preserved c =
     let one = word.ensures.bytes ∙ (λ j. ordered_bytes (c.requires.order j) ((len ∙ c.requires.width) j) (spelled j)) in
     record {
       fit = one_legal (λ v. v < 2 ^ (8 * w)) i levels level.result (omega arith) c.loop-i.invariant.fit level.ensures.fits;
-      spelled = one_read (spelling s) (value_at s) w {i = i} bytes levels level.result (omega arith) c.loop-i.invariant.spelled one;
+      spelled = one_read (spelling s) (value_at s) w bytes levels level.result (omega arith) c.loop-i.invariant.spelled one;
     }

@@ -19,7 +19,7 @@ loop-i-preserved c =
     let value : value_at s l.result ≡ x = ap (value_at s) same ∙ value_of_level s x c.in-Some.ensures.value.0 in
     record {
       legal = one_legal (λ v. v < value_count s) i levels l.result (omega arith) c.loop-i.invariant.legal l.ensures.below;
-      spelled = one_read (spelling s) (value_at s) c.width-width.result {i = i} c.args.bytes.now levels l.result (omega arith) c.loop-i.invariant.spelled
+      spelled = one_read (spelling s) (value_at s) c.width-width.result c.args.bytes.now levels l.result (omega arith) c.loop-i.invariant.spelled
           (c.in-Some.ensures.value.1 ∙ ap (spelling s) (sym value));
     }
 

@@ -10,7 +10,7 @@ pub loop-i-preserved : goal.loop-i-preserved
 loop-i-preserved c =
     let l = c.loop-i in
     let spelled = c.spelled_threes-spelled in
-    eight_more c.args.setting.now l.i c.args.levels.now l.bytes spelled.result {new = put_chunk (24 * l.i) l.bytes spelled.result} (record {
+    eight_more c.args.setting.now l.i c.args.levels.now l.bytes spelled.result (record {
       levels_left = omega (arith, c.loop-i-test.true);
       eight = spelled.ensures.len;
       bytes_left = omega (arith, c.requires.room, l.auto.bytes, c.loop-i-test.true);

@@ -23,5 +23,5 @@ loop-i-preserved c =
     (omega (arith, wide.range.1, wide.value, c.requires.width)) c.offset-offset.ensures.value legal
     in
     let word = digits ∙ (λ j. twos_complement (8 * c.requires.width j) (value_at s level)) in
-    one_written (spelling s) (value_at s) {i = i} _ bytes {ys = c.store_word.new.bytes} levels (record { inside = omega arith; bytes_are = len; one = c.store_word.auto.bytes ∙ part })
+    one_written (spelling s) (value_at s) _ bytes levels (record { inside = omega arith; bytes_are = len; one = c.store_word.auto.bytes ∙ part })
     c.loop-i.invariant (c.store_word.ensures ∙ (λ j. ordered_bytes (c.requires.order j) ((part ∙ c.requires.width) j) (word j)))

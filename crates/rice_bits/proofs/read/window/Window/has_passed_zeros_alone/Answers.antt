@@ -18,15 +18,14 @@ loop-seen-preserved c = record {
   from = omega (arith, c.loop-seen.invariant.from);
   within = omega (arith, c.loop-seen-test.true);
   blank =
-      blank-more (bits_of c.args.self.now.buffer) {n = c.min-count.result} c.at_least_57_bits_from.result c.loop-seen.invariant.from
+      blank-more (bits_of c.args.self.now.buffer) c.at_least_57_bits_from.result c.loop-seen.invariant.from
       (omega arith) (omega arith) c.at_least_57_bits_from.ensures c.front_digits.ensures c.loop-seen.invariant.blank c.if-front_digits-ne0.false;
 }
 
 pub returns-then-front_digits-ne0 : goal.returns-then-front_digits-ne0
 unfolding window_passed
 returns-then-front_digits-ne0 c =
-    sym (blank-not (bits_of c.args.self.now.buffer) {n = c.min-count.result} c.at_least_57_bits_from.result c.args.self.now.at
-    c.loop-seen.invariant.from (record {
+    sym (blank-not (bits_of c.args.self.now.buffer) c.at_least_57_bits_from.result c.args.self.now.at c.loop-seen.invariant.from (record {
       few = omega arith;
       fits = omega arith;
       word = c.at_least_57_bits_from.ensures;

@@ -26,7 +26,7 @@ returns-clause-passes c e =
     let same : highs ≡ some = take-take n n (gaps told) (omega arith) in
     let len : length some ≡ n = length-take-le n (gaps told) (omega (arith, c.requires.few, c.find_ends-found.auto.ends, length-gaps told (omega (arith, c.find_ends-found.auto.ends)))) in
     let many : length c.write_joined.new.numbers ≡ n = c.write_joined.auto.numbers in
-    let parted = ends-parted {old = some} {new = some} {taken = n} c.find_ends-found.ensures (omega (arith, c.if-found-numbers.false)) (omega (arith, len)) same refl in
+    let parted = ends-parted c.find_ends-found.ensures (omega (arith, c.if-found-numbers.false)) (omega (arith, len)) same refl in
     let split = parted-bits front some some used n parted in
     let short = sequences-within highs _ _ _ (sym split ∙ c.next_bits.ensures) in
     let long : length fs ≡ used = length-parted front some some used n parted in

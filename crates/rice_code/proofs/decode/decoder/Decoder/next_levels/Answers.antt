@@ -25,12 +25,11 @@ returns-then-self-gt0-clause-in_run g c none pos =
     let ls = last.new.levels.items in
     rw (← c.self.view_is) (
       refl,
-      goes_on s st.block (value_at s st.before) st.stopped {samples = values_at s ls}
-          c.if-self-gt0.true c.next_place-self-inside.ensures last.ensures.last (record {
-            len = length-values s ls ∙ last.ensures.len;
-            legal = legal_values s ls last.ensures.legal;
-            block_is = last.ensures.contents;
-          }),
+      goes_on s st.block (value_at s st.before) st.stopped c.if-self-gt0.true c.next_place-self-inside.ensures last.ensures.last (record {
+        len = length-values s ls ∙ last.ensures.len;
+        legal = legal_values s ls last.ensures.legal;
+        block_is = last.ensures.contents;
+      }),
       refl,
       refl,
     )

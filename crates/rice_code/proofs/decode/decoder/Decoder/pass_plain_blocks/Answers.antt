@@ -66,7 +66,7 @@ returns-clause-gives g c =
     let here : q ≡ record { setting = st.setting; block = (st.block + suc n) % st.setting.interval; before = value_at st.setting l; run = 0; stopped = st.stopped } =
     λ j. record { setting = st.setting; block = place j; before = value_at st.setting l; run = run j; stopped = st.stopped } in
     let moves = subst (λ (p : DecoderState). q ≡ record p { block = (p.block + suc n) % p.setting.interval; before = value_at p.setting l; run = 0 }) view here in
-    let given = row_given n {r = a.reader.now} {first = a.meter.now} {last = steps} {p = a.self.now} a.bytes.now legal c.requires.plain within c.requires.going row (record {
+    let given = row_given n a.bytes.now legal c.requires.plain within c.requires.going row (record {
       bits = takes;
       steps = omega (arith, c.take_ahead.ensures.steps, together);
       within = c.take_ahead.ensures.limit;

@@ -58,7 +58,7 @@ returns-in-Some-clause-reads g c =
     let ls = last.new.levels.items in
     let marks = c.mark.ensures.going c.requires.going in
     let run = c.in-Some.ensures in
-    let set = run_given {p = p} c.in-Ok-Zeros.reference c.in-Ok-Zeros.zeros c.in-Some.count {samples = values_at s ls}
+    let set = run_given c.in-Ok-Zeros.reference c.in-Ok-Zeros.zeros c.in-Some.count
     (rw c.in-Ok-Zeros.field-0-is at c.in-Ok-Zeros.ensures.ok) (run.sound c.in-Ok-Zeros.reference) (run.blocks c.in-Ok-Zeros.reference)
     (length-values s ls ∙ last.ensures.len) (legal_values s ls last.ensures.legal) last.ensures.contents in
     rw (← c.self.view_is, c.go_to_next_block-in-Some.ensures.block)
@@ -87,7 +87,7 @@ returns-in-Some-clause-waiting g c =
     let p = value_at s st.before in
     let ls = last.new.levels.items in
     let run = c.in-Some.ensures in
-    let set = run_given {p = p} c.in-Ok-Zeros.reference c.in-Ok-Zeros.zeros c.in-Some.count {samples = values_at s ls}
+    let set = run_given c.in-Ok-Zeros.reference c.in-Ok-Zeros.zeros c.in-Some.count
     (rw c.in-Ok-Zeros.field-0-is at c.in-Ok-Zeros.ensures.ok) (run.sound c.in-Ok-Zeros.reference) (run.blocks c.in-Ok-Zeros.reference)
     (length-values s ls ∙ last.ensures.len) (legal_values s ls last.ensures.legal) last.ensures.contents in
     let same : c.mark.new.self.taken ≡ c.args.reader.now.taken = ap (λ r. r.taken) (c.mark.ensures.going c.requires.going) in

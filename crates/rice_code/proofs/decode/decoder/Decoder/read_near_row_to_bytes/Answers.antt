@@ -44,7 +44,7 @@ loop-i-preserved g c =
     let front = ap (λ n. take n more) place ∙ kept_before at k l.bytes new.bytes room.0 ∙ ap (λ n. take n l.bytes) (sym place) in
     let back = ap (λ n. drop n more) place ∙ written_behind at k l.bytes new.bytes room.0 refl (c.read_split_to_bytes.auto.bytes ∙ long) in
     let next : suc l.i ≡ l.i + 1 = omega arith in
-    let given = one_block_more {more = more} end
+    let given = one_block_more end
     i.given (c.read_split_to_bytes.ensures.some c.if-not-read_split_to_bytes.false) i.counted c.read_split_to_bytes.ensures.steps front back
     (omega (arith, c.taken.ensures.value, c.taken-begin.ensures.value)) (omega (arith, c.loop-i-test.true, c.requires.few, i.places)) in
     record {

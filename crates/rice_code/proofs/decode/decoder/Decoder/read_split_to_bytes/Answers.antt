@@ -16,8 +16,7 @@ returns-clause-some g c _ =
     let bytes = c.spell_ahead.new.bytes in
     let legal = subst (λ (p : DecoderState). IsLegal p.setting) view c.self.invariant.1.legal in
     let block = subst (λ (p : DecoderState). SpelledAhead start.waiting p.setting p.block p.before c.known_or.result spelled.last spelled.len bytes) view c.in-Some.ensures.some in
-    let given = bytes_given {start = start} {first = c.args.meter.now} {last = c.go_to_next_block-answer.new.meter}
-    {p = c.args.self.now} {bytes = bytes}
+    let given = bytes_given
     legal (subst (λ n. HasLanes c.args.self.now.setting n g.row.WIDTH) (sym (c.known_or.ensures ∙ (c.block.ensures.value ∙ ap (λ (p : DecoderState). p.setting.block) view))) c.requires.lanes)
     block.ahead (record {
       mark = refl;

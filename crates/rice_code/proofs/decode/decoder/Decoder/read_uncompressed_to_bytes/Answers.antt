@@ -16,7 +16,7 @@ returns-clause-gives g c =
     let bytes = c.spell_uncompressed_ahead-spelled.new.bytes in
     let legal = subst (λ (p : DecoderState). IsLegal p.setting) view c.self.invariant.1.legal in
     let block = subst (λ (p : DecoderState). SpelledAhead start.waiting p.setting p.block p.before c.known_or.result spelled.last spelled.len bytes) view c.spell_uncompressed_ahead-spelled.ensures in
-    let given = bytes_given {start = start} {first = c.args.meter.now} {last = c.go_to_next_block-answer.new.meter} {p = c.args.self.now} {bytes = bytes}
+    let given = bytes_given
     legal (subst (λ n. HasLanes c.args.self.now.setting n 1) (sym (c.known_or.ensures ∙ (c.block.ensures.value ∙ ap (λ (p : DecoderState). p.setting.block) view))) c.requires.lanes) block.ahead
     (record {
       mark = refl;

@@ -28,7 +28,7 @@ returns-clause-some g c _ =
     subst (λ (ls : List ℕ). Answers (with_mark start) new.reader c.args.meter.now new.meter p new.self (values_at p.setting ls) (Ok Block)
     × (length ls + new.self.run * new.self.setting.block ≤ most_samples_of_bit * (new.reader.taken - start.taken)))
     (sym (places_written size levels places (c.restore_wide_ahead.ensures.len ∙ sym c.block.ensures.value) c.set_len.ensures))
-    (levels_given {start = start} {first = c.args.meter.now} {last = new.meter} {p = p} legal some known.0 (record {
+    (levels_given {start = start} {p = p} legal some known.0 (record {
       mark = refl;
       bits = c.take_ahead.ensures.takes;
       steps_are = c.take_ahead.ensures.steps;

@@ -21,7 +21,7 @@ returns c =
     let held = length-word_is i.width i.value _ c.self.view_is in
     let len = length-word (i.width + c.args.width) c.join-self-inside.result in
     record {
-      bits = joined_bits c.make_room.new.sink i.width i.value c.args.width c.args.value {total = i.width + c.args.width}
+      bits = joined_bits c.make_room.new.sink i.width i.value c.args.width c.args.value
           c.self.view_is c.requires.value c.join-self-inside.ensures refl
           ∙ ap (λ bits. bits ++ word c.args.width c.args.value) c.make_room.ensures.bits;
       len = omega (arith, held, len);

@@ -9,7 +9,7 @@ rank_of-requires-clause-sample c =
 
 pub loop-i-preserved : goal.loop-i-preserved
 loop-i-preserved c = record {
-  folded = one_rank (c.args.greatest + 1) c.args.p c.loop-i.before {i = c.loop-i.i} c.loop-i.numbers c.args.numbers.now (record { here = omega arith; there = omega arith })
+  folded = one_rank (c.args.greatest + 1) c.args.p c.loop-i.before c.loop-i.numbers c.args.numbers.now (record { here = omega arith; there = omega arith })
       c.loop-i.invariant.folded c.loop-i.invariant.rest c.rank_of.ensures.rank;
   rest = rest_after c.loop-i.numbers c.args.numbers.now c.loop-i.i c.rank_of.result (omega arith) (omega arith) c.loop-i.invariant.rest;
   before = let same = same_rest c.loop-i.numbers c.args.numbers.now c.loop-i.i (omega arith) (omega arith) c.loop-i.invariant.rest in rw same.0 (c.requires.numbers c.loop-i.i 0 (omega arith));

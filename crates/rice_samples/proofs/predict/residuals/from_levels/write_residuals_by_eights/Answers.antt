@@ -11,5 +11,5 @@ write_residuals_of_any_width-requires-clause-before c =
 pub returns-then-end-levels : goal.returns-then-end-levels
 returns-then-end-levels c =
     let levels = c.args.levels.now in
-    ranks_of_rest (value_count c.args.setting.now) c.args.p {n = 8 * (length levels / 8)} levels c.write_ranks_by_eights.new.residuals c.write_ranks_by_eights.ensures.len (omega arith)
+    ranks_of_rest (value_count c.args.setting.now) c.args.p levels c.write_ranks_by_eights.new.residuals c.write_ranks_by_eights.ensures.len (omega arith)
     c.write_ranks_by_eights.ensures.value c.last_level_or_before-last.ensures c.write_residuals_of_any_width.ensures

@@ -26,7 +26,7 @@ returns-clause-levels c =
     let second_len : length second ≡ 8 = ap length c.near_numbers-second.ensures ∙ (length-near_numbers (2 ^ 16) last c.join_parts-second_ranks.result ∙ c.join_parts-second_ranks.ensures.len) in
     let inside : last ≤ greatest = small 7 0 (omega (arith, first_len)) in
     let more = test.second refl in
-    halves_are greatest {last = last} first second count (record {
+    halves_are greatest first second count (record {
       highs_are = c.requires.len.0;
       lows_are = c.requires.len.1;
       first_is = first_len;

@@ -23,7 +23,7 @@ returns-clause-levels c =
     let reached : one.result ≡ last = one.ensures.last ∙ last_at a.before 7 first one.ensures.len in
     let small : All (λ x. x ≤ greatest) first = λ i d lt. let f = one.ensures.fit i d lt in omega (arith, f) in
     let more : All (λ x. x ≤ greatest) second = λ i d lt. let f = two.ensures.fit i d lt in omega (arith, f) in
-    halves_are greatest {last = last} first second count (record {
+    halves_are greatest first second count (record {
       highs_are = c.requires.len.0;
       lows_are = c.requires.len.1;
       first_is = one.ensures.len;

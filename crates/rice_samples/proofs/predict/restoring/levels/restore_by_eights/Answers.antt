@@ -6,6 +6,5 @@ use Rattle.rice_samples.proofs.predict.restoring.levels.restore_by_eights.Goals 
 pub loop-i-preserved : goal.loop-i-preserved
 loop-i-preserved c =
     let i = c.loop-i.i in
-    restored-row {k = 8 * i + 8 - 8 * i} (8 * i + 7)
-    c.restore_eight.new.levels (omega arith) (omega arith) (omega arith) (omega arith) c.loop-i.invariant
+    restored-row (8 * i + 7) c.restore_eight.new.levels (omega arith) (omega arith) (omega arith) (omega arith) c.loop-i.invariant
     c.restore_eight.ensures.legal c.restore_eight.ensures.ranks

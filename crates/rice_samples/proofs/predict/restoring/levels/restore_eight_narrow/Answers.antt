@@ -20,7 +20,7 @@ returns-then-are_near c =
     let near = c.if-are_near.true in
     let same = map_same (take 8 ds) in
     let numbers = c.near_numbers-numbers in
-    let restored = near_restored (c.number_of_values.result - 1) (2 ^ 16) c.args.before c.args.levels.now {ds = ds} (record { same = c.requires.can.len; eight = c.requires.eight }) above
+    let restored = near_restored (c.number_of_values.result - 1) (2 ^ 16) c.args.before c.args.levels.now (record { same = c.requires.can.len; eight = c.requires.eight }) above
     (numbers.ensures ∙ ap (near_numbers (2 ^ 16) c.args.before) same)
     (c.are_near.ensures.fit near) (c.are_near.ensures.ranks near ∙ same)
     in

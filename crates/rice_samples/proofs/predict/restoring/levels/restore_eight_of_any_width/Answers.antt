@@ -8,7 +8,7 @@ returns-then-are_near c =
     let count = value_count c.args.setting.now in
     let above : c.number_of_values.result - 1 + 1 ≡ count = omega arith in
     let near = c.if-are_near.true in
-    let restored = near_restored (c.number_of_values.result - 1) (2 ^ 32) c.args.before c.args.levels.now {ds = c.args.residuals.now}
+    let restored = near_restored (c.number_of_values.result - 1) (2 ^ 32) c.args.before c.args.levels.now
     (record { same = c.requires.can.len; eight = c.requires.eight }) above c.near_numbers-numbers.ensures
     (c.are_near.ensures.fit near) (c.are_near.ensures.ranks near)
     in

@@ -6,6 +6,5 @@ use Rattle.rice_samples.proofs.predict.restoring.levels.restore_sixteens_in_turn
 pub loop-i-preserved : goal.loop-i-preserved
 loop-i-preserved c =
     let i = c.loop-i.i in
-    restored-row {k = 16 * i + 16 - 16 * i} (16 * i + 15)
-    c.restore_sixteen_in_turn.new.levels (omega arith) (omega arith) (omega arith) (omega arith) c.loop-i.invariant
+    restored-row (16 * i + 15) c.restore_sixteen_in_turn.new.levels (omega arith) (omega arith) (omega arith) (omega arith) c.loop-i.invariant
     c.restore_sixteen_in_turn.ensures.legal c.restore_sixteen_in_turn.ensures.ranks

@@ -14,7 +14,7 @@ loop-i-preserved c =
     let to_come : sum (drop i ds) ≡ get_or ds i 0 + sum (drop (i + 1) ds) = sum_by-drop_more (λ d. d) ds i 0 (omega arith) in
     let low = c.loop-i.invariant.low in
     record {
-      restored = restored-more {next = next.result} count (omega arith) (omega arith) c.loop-i.invariant.restored
+      restored = restored-more count (omega arith) (omega arith) c.loop-i.invariant.restored
           (omega (arith, to_come, low, next.ensures.reach)) refl (next.ensures.rank count (omega (arith, to_come, low)));
       low = omega (arith, to_come, low, next.ensures.reach);
     }
