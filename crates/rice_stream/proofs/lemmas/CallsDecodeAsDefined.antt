@@ -116,7 +116,7 @@ never_reached s bits n xs ending used lt d =
       blocks = d.blocks;
       asked_for = d.asked_for ∙ sym (take_all (n - s.block * 0) d.all (omega (arith, ap length d.asked_for)));
       last = d.last;
-      ends = ends_there {s = s} None (Some n) b b d.rest ending d.last (record { place_is = refl; wanted = λ k. below; reached = λ k. absurd k }) d.ends;
+      ends = ends_there None (Some n) b b d.rest ending d.last (record { place_is = refl; wanted = λ k. below; reached = λ k. absurd k }) d.ends;
       bits_used = d.bits_used;
     }
 

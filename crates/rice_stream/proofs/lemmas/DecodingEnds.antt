@@ -388,7 +388,7 @@ runs_dry {s = s} {asked = asked} {p = p} {r = r} {new = new} {steps = steps} {st
       bits = tells.bits_are ∙ sym used;
       samples = tells.samples_are ∙ so.count;
       count = so.count;
-      sets = λ more. last_steps {last = bits} (bits_of more) (read.bytes ++ more) {ending = ending_of blank} in_last r.taken has
+      sets = λ more. last_steps (bits_of more) (read.bytes ++ more) in_last r.taken has
           (bits_of-append read.bytes more ∙ ap (λ l. l ++ bits_of more) whole)
           (turns_out s runs.blocks bits blank in_last told cut.none (omega (arith, counted.most, cut.stops.taken)) (λ zeros. omega (arith, cut.steps zeros, cut.stops.taken)))
           (record {
@@ -509,7 +509,7 @@ refused_ends {s = s} {asked = asked} {start = start} {p = p} {r = r} {new = new}
       gave = read.gave;
       took = so.put;
       ahead = omega (arith, few.0, reported.reports.bits_are);
-      steps = last_steps {last = set} new.waiting read.bytes {ending = ending} (turns refused.set) r.taken has read.bits
+      steps = last_steps new.waiting read.bytes (turns refused.set) r.taken has read.bits
           (by_turns set (turns refused.set) alone refl) (record { last_are = refused.steps; before = runs.has_steps.count; taken_is = read.count }) (record {
             bits = reported.reports.bits_are;
             samples = reported.reports.samples_are;

@@ -223,7 +223,7 @@ cut_there {s} {b} {c} e cut = record { bits = cut.bits; stops = cut.stops; none 
 pub ends_there : {I : Type 0} {old new : Reader I} {first last : ℕ} {s : Parameters} {b c : ℕ} {blank : Bool} → place s c ≡ place s b
     → SetEnds old new first last s c blank → SetEnds old new first last s b blank
 unfolding cut_there
-ends_there {old} {new} {first} {last} {s} {b} {c} e ends = record { cut = cut_there {b = b} e ends.cut; told = ends.told }
+ends_there {old} {new} {first} {last} {s} {b} {c} e ends = record { cut = cut_there e ends.cut; told = ends.told }
 
 -- decoding stops at a block with the same place in its interval
 record StopsThere {I : Type 0} (old new : Reader I) (first last : ℕ) (s : Parameters) (b c : ℕ) (fault : CodeFault) : Type 0 where

@@ -43,7 +43,7 @@ one_sample s x y legal kx ky e =
     let below : word < 2 ^ (8 * k) = pattern_fits (record s { bits = 8 * k }) x (omega arith) vx in
     let spelled : spelling s x ≡ ordered_bytes s.msb (length (spelling s x)) word = ap (λ n. ordered_bytes s.msb n word) (sym len) in
     let fits : word < 2 ^ (8 * length (spelling s x)) = subst (λ (n : ℕ). word < 2 ^ (8 * n)) (sym len) below in
-    let lx = level_spelled {msb = s.msb} word {o = offset s} x legal (record {
+    let lx = level_spelled word x legal (record {
       order = refl;
       offset_is = refl;
       width_is = refl;
@@ -53,7 +53,7 @@ one_sample s x y legal kx ky e =
       ordered = spelled;
       fits = fits;
     }) few kx refl in
-    let ly = level_spelled {msb = s.msb} word {o = offset s} y legal (record {
+    let ly = level_spelled word y legal (record {
       order = refl;
       offset_is = refl;
       width_is = refl;

@@ -102,7 +102,7 @@ pub refuses_piece : (s : Parameters) (o : Origin) (front : List Bool) (given : L
     → IsStand s o old front given → 2 ^ 52 < old.bits + 8 * length piece → DecodesMore s o front given piece old out out old pauses.TooLong
 unfolding none_so_far
 refuses_piece s o front given piece old out h passes =
-    ends_so pauses.TooLong (none_so_far piece out {rest = bits_ahead old piece} h refl) (record { passes = passes; stays = refl; none = refl }) (λ no. absurd (no refl))
+    ends_so pauses.TooLong (none_so_far piece out h refl) (record { passes = passes; stays = refl; none = refl }) (λ no. absurd (no refl))
 
 -- nothing is left of no bytes
 pub nothing_ahead : (s : Parameters) (old : Stand) (b : ℕ) (piece : List ℕ) (bits rest : List Bool) → length piece ≡ 0 → bits_ahead old piece ≡ bits ++ rest

@@ -253,7 +253,7 @@ unfolding at_first
 pulled_all {s} {code} {o} {first} pulls last behind ending inside begins pulled last_pulled ends =
     let all = pull_all s code o first pulls (at_first s code o first inside begins) pulled in
     let on = pulls_on s code o (last_stand first pulls) last behind all.next last_pulled in
-    let f = pause_finishes {s = s} (last_stand first pulls) {stand = last.stand} last.piece behind (length last.old) (length on.part) on.left last.pause {ending = ending} on.pauses_at ends in
+    let f = pause_finishes (last_stand first pulls) last.piece behind (length last.old) (length on.part) on.left last.pause on.pauses_at ends in
     let same : on.next.given ≡ all.more ++ on.part = on.more ∙ ap (λ l. l ++ on.part) all.all in
     record {
       samples = all.more ++ on.part;
@@ -313,7 +313,7 @@ pulled_enough {s} code {o} {first} pulls n inside begins pulled enough few =
 -- from the front of a code on
 pub pulls_are_decoding : PullsAreDecoding
 pulls_are_decoding s code first pulls last behind ending begins pulled last_pulled ends =
-    let p = pulled_all {code = code} pulls last behind ending (omega arith) begins pulled last_pulled ends in
+    let p = pulled_all pulls last behind ending (omega arith) begins pulled last_pulled ends in
     (p.samples, p.used, p.parts, p.decoded)
 
 -- and up to a number of samples
@@ -349,7 +349,7 @@ pub seek_all : {s : Parameters} {code : List ℕ} {o : Origin} {before : List �
     (ending : Ending) → IsPlace s code o before → IsStand s o first [] []
     → ArePulled s code first pulls → IsPulled s code (last_stand first pulls) last behind → EndsCode last.pause behind ending → SeekAll s code before first (pulls ++ last ∷ []) last.stand ending
 seek_all {s} {code} {o} {before} {first} pulls last behind ending place begins pulled last_pulled ends =
-    let p = pulled_all {code = code} pulls last behind ending (inside_code s code o before place) begins pulled last_pulled ends in
+    let p = pulled_all pulls last behind ending (inside_code s code o before place) begins pulled last_pulled ends in
     record {
       samples = p.samples;
       used = o.bits + p.used;

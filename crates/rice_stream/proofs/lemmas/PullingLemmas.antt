@@ -201,7 +201,7 @@ pub stops_next : {I : Type 0} (s : Parameters) (o : Origin) {stand : Stand} {r n
 stops_next s o {stand} {r} {new} {steps} {steps_new} front given {xs} {fault} reads a =
     elim (runs_or_not (state_of s stand)) [
       | inl lt ↦ absurd (let e = (a.in_run refl lt).0 in cc)
-      | inr none ↦ refuses_next {s = s} o new steps steps_new front given xs fault (record { stands = reads; run = none; stopped = (a.reads refl none).0 })
+      | inr none ↦ refuses_next o new steps steps_new front given xs fault (record { stands = reads; run = none; stopped = (a.reads refl none).0 })
     ]
 
 -- and so does the end

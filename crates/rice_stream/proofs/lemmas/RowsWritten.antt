@@ -112,10 +112,10 @@ progress_on_row {I} {s = s} {asked = asked} {start = start} {out_old = out_old} 
 progress_on_row {s = s} {asked = asked} {start = start} {out_old = out_old} {n = suc n} more {out} {out_new} {r} {new} steps last {p} {q} bytes {written} legal runs asks
     (m, k, d, g, counted, none_new, rest) put =
     let parts = Appends-split out out_new (take (width s * s.block) bytes) (take (row_bytes s n) (drop (width s * s.block) bytes)) (subst (λ l. Appends out out_new l) (bytes_apart s n bytes) put) in
-    let here = one_on more {out_new = parts.0} legal runs asks.run g counted none_new (all_wanted asked written s.block n asks.wanted) parts.1 in
+    let here = one_on more legal runs asks.run g counted none_new (all_wanted asked written s.block n asks.wanted) parts.1 in
     let own : width p.setting * p.setting.block ≡ width s * s.block = ap (λ t. width t * t.block) runs.at_block.setting in
     let tail = subst (λ c. GivesRow n m new k last d q (drop c bytes)) own rest in
-    let done = progress_on_row {n = n} (more + s.block) {out_new = out_new} {new = new} k last {q = q} (drop (width s * s.block) bytes) legal here
+    let done = progress_on_row {n = n} (more + s.block) k last (drop (width s * s.block) bytes) legal here
     (record { run = none_new; wanted = more_wanted asked written s.block n asks.wanted }) tail parts.2 in
     let all : s.block * suc n ≡ s.block + s.block * n = omega arith in
     let a : last + (more + s.block + s.block * n) ≡ last + (more + s.block * suc n) = omega (arith, all) in
@@ -161,7 +161,7 @@ fails_in_row {s = s} {asked = asked} {start = start} {out_old = out_old} {rep = 
     steps {last} {p} q bytes {written} legal runs asks (m, k, d, g, counted, none_new, rest) writes =
     let parts = Appends-split out room (take (width s * s.block) bytes) (take (row_bytes s n) (drop (width s * s.block) bytes))
     (subst (λ l. Appends out room l) (bytes_apart s n bytes) writes.front) in
-    let here = one_on more {out_new = parts.0} legal runs asks.run g counted none_new (all_wanted asked written s.block (suc n) asks.wanted) parts.1 in
+    let here = one_on more legal runs asks.run g counted none_new (all_wanted asked written s.block (suc n) asks.wanted) parts.1 in
     let own : width p.setting * p.setting.block ≡ width s * s.block = ap (λ t. width t * t.block) runs.at_block.setting in
     let tail = subst (λ c. GivesRow (suc n) m new k last d q (drop c bytes)) own rest in
     let all : s.block * suc n ≡ s.block + s.block * n = omega arith in
@@ -171,7 +171,7 @@ fails_in_row {s = s} {asked = asked} {start = start} {out_old = out_old} {rep = 
     (let e : width s * s.block * suc n ≡ width s * s.block + width s * s.block * n = omega arith in ap (λ c. drop c bytes) e ∙ sym (drop-drop (width s * s.block * n) (width s * s.block) bytes)) in
     let told = subst (λ x. Reports rep f left failed new x (last + (more + s.block + s.block * n)) (Some Write)) b
     (subst (λ x. Reports rep f left failed new (written + s.block * suc n) x (Some Write)) a writes.told) in
-    fails_in_row n {more = more + s.block} k {last = last} q (drop (width s * s.block) bytes) legal here (record { run = none_new; wanted = more_wanted asked written s.block (suc n) asks.wanted })
+    fails_in_row n k q (drop (width s * s.block) bytes) legal here (record { run = none_new; wanted = more_wanted asked written s.block (suc n) asks.wanted })
     tail (record {
       front = parts.2;
       in_part = subst (λ l. TakesPart room out_new (take (row_bytes s 1) l)) bytes_on writes.in_part;
@@ -260,7 +260,7 @@ progress_with_row {s = s} {asked = asked} {start = start} {out_old = out_old} {o
     {steps = steps} {last = last} {written = written} {blocks = blocks} {count = count} {steps_next = steps_next} {bytes = bytes} legal runs none w wanted ticked =
     let zero_more : steps ≡ steps + 0 = omega arith in
     let begun = subst (λ k. DecodingProgress s asked start out_old out p r k written) zero_more runs in
-    let done = progress_on_row {n = blocks} 0 {out_new = out_new} {new = new} steps last {q = q} bytes legal begun (record { run = none; wanted = wanted }) w.gives w.put in
+    let done = progress_on_row 0 steps last bytes legal begun (record { run = none; wanted = wanted }) w.gives w.put in
     let c = w.count_is in
     let a : last + (0 + s.block * blocks) ≡ steps_next = omega (arith, ticked, c) in
     let b : written + s.block * blocks ≡ written + count = omega (arith, c) in
@@ -281,7 +281,7 @@ row_fails {s = s} {asked = asked} {start = start} {out_old = out_old} {out = out
     let a : steps_new ≡ last + (0 + s.block * w.blocks) = omega (arith, ticked, c) in
     let b : written + count ≡ written + s.block * w.blocks = omega (arith, c) in
     let told = subst (λ k. Reports rep f left failed new k (last + (0 + s.block * w.blocks)) (Some Write)) b (subst (λ k. Reports rep f left failed new (written + count) k (Some Write)) a tells) in
-    fails_in_row w.blocks {more = 0} steps {last = last} q bytes legal begun (record { run = none; wanted = fewer_wanted asked written s.block (suc w.blocks) all w.within wanted }) w.gives
+    fails_in_row w.blocks steps q bytes legal begun (record { run = none; wanted = fewer_wanted asked written s.block (suc w.blocks) all w.within wanted }) w.gives
     (record { front = w.put; in_part = w.part; told = told })
 
 -- a row whose write fails is within the bounds
@@ -331,7 +331,7 @@ pub row_takes : {I : Type 0} {s : Parameters} {asked : Option ℕ} {start : Read
     → DecodingProgress s asked start out_old out p r steps written → p.run ≡ 0 → 1 ≤ blocks → WritesRow s blocks r new steps last p q bytes out out_new count → r.taken < new.taken
 row_takes {s = s} {p = p} {q = q} {r = r} {new = new} {steps = steps} {last = last} {blocks = blocks} {bytes = bytes} legal runs none some w =
     let at = runs.at_block in
-    let costs = row_costs {n = blocks} {r = r} {new = new} steps last p q bytes at.setting at.going none w.gives in
+    let costs = row_costs steps last p q bytes at.setting at.going none w.gives in
     let j : 2 ≤ s.block = grind (arith, legal.block) in
     let m : s.block * 1 ≤ s.block * blocks = mul-le-mul_left s.block some in
     let one : s.block * 1 ≡ s.block = omega arith in

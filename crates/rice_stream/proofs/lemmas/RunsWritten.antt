@@ -154,7 +154,7 @@ progress_on {s = s} {asked = asked} {start = start} {out_old = out_old} {r = r} 
     let few : s.block + m.run * s.block ≤ p.run * s.block + 456 * (r.taken - r.taken) =
     (let e : p.run * s.block ≡ s.block + m.run * s.block = ap (λ k. k * s.block) more ∙ omega arith in omega (arith, e)) in
     let limit = runs.limit in
-    let here = progress_with_block {steps_next = steps + s.block} legal runs (sym is) (λ none. omega (arith, none, is, j)) (gains_block legal runs (advances_in_run r steps p m xs g)) g.moves
+    let here = progress_with_block legal runs (sym is) (λ none. omega (arith, none, is, j)) (gains_block legal runs (advances_in_run r steps p m xs g)) g.moves
     (record { counted = record { forward = omega arith; limit = limit; least = omega arith; most = omega arith }; few = few }) refl first in
     let before : m.before ≡ x = ap (λ r. r.before) g.moves ∙ last_replicate x p.setting.block in
     let second = subst (λ (z : ℤ). Appends parts.0 out_new (spellings s (replicate (s.block * n) z))) (sym before) parts.2 in

@@ -212,8 +212,7 @@ row_on {I} {n = suc n} more {s} {stand} {q} {r} {new} steps last {bytes} {o} {fr
     let known = one.more.gives o front given h in
     let middle = stand_at (stand.samples + s.block) (stand.bits + (m.taken - r.taken)) (k + (more + s.block)) d in
     let rest_here = subst (λ (t : DecoderState). GivesRow n m new k last t q (drop (width s * s.block) bytes)) one.more.goes_on.state rest in
-    let on = row_on {n = n} (more + s.block) {q = q} {new = new} k last {bytes = drop (width s * s.block) bytes} known.stands
-    one.more.goes_on.reads (one.more.goes_on.aligned aligned) none_new refl rest_here in
+    let on = row_on {n = n} (more + s.block) k last known.stands one.more.goes_on.reads (one.more.goes_on.aligned aligned) none_new refl rest_here in
     let both = one_and_more one.more on.more in
     let all : s.block * suc n ≡ s.block + s.block * n = omega arith in
     let count = length-append one.samples on.samples in
@@ -290,7 +289,7 @@ row_stroke {s} {stand} {next} {q} {r} {new} {w} {b} {n} {steps} last {bytes} {o}
     let all : last + b * n ≡ last + (0 + s.block * n) = omega (arith, count) in
     let there : next ≡ stand_at (stand.samples + s.block * n) (stand.bits + (new.taken - r.taken)) (last + (0 + s.block * n)) q =
     is ∙ (λ i. stand_at (stand.samples + count i) (stand.bits + (new.taken - r.taken)) (all i) q) in
-    let on = row_on {n = n} 0 {q = q} {new = new} steps last {bytes = bytes} h reads (aligned run) run (omega (arith, begins.steps_are))
+    let on = row_on 0 steps last h reads (aligned run) run (omega (arith, begins.steps_are))
     (subst (λ (d : DecoderState). GivesRow n r new steps last d q bytes) begins.state_is row) in
     record {
       samples = on.samples;

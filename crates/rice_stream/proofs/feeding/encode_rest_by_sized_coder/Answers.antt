@@ -66,8 +66,7 @@ returns-in-Err-clause-failures g c =
     let s = c.args.setting.now in
     let xs = c.requires.seam.0 in
     let h = c.requires.seam.1 in
-    push_fails {s = s} {old = behind s xs now} new c.push_samples_of_bytes.new.self xs c.args.bytes.now {reads = 0} {reads_new = 0}
-    {writes = g.O.Outlet.failed c.args.outlet.now} {mid = g.O.Outlet.failed c.args.outlet.now} (g.O.Outlet.failed c.push_samples_of_bytes.new.outlet)
+    push_fails new c.push_samples_of_bytes.new.self xs c.args.bytes.now (g.O.Outlet.failed c.push_samples_of_bytes.new.outlet)
     refl refl (record {
       pushed = c.in-Err.ensures.did (behind s xs now) xs (c.put_bits_of_seam.ensures c.args.setting.now now xs c.resume-encoding.ensures h);
       fails = c.in-Err.ensures.failures;

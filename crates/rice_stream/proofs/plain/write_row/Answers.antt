@@ -31,9 +31,6 @@ returns-in-Err-clause-err g c =
     let next : taken / size.result + 1 ≡ suc (taken / size.result) = omega arith in
     let gives = subst (λ k. GivesRow k a.reader.now taker.new.reader a.meter.now taker.new.meter a.decoder.now taker.new.self a.bytes.now) next taker.ensures.gives in
     let count : s.block * (taken / size.result) ≡ c.block-block.result * (taken / size.result) = ap (λ k. k * (taken / size.result)) (sym c.block-block.ensures.value) in
-    let cut = row_cut {s = s} {all = a.blocks} {old = a.reader.now} {new = taker.new.reader} {steps = a.meter.now} {steps_new = taker.new.meter}
-    {p = a.decoder.now} {q = taker.new.self} {bytes = a.bytes.now}
-    {out = g.O.Outlet.taken a.outlet.now} {out_new = g.O.Outlet.taken c.write_counted.new.outlet}
-    some size_is is there c.in-Err.ensures.err.0 gives c.in-Err.ensures.err.1 in
+    let cut = row_cut some size_is is there c.in-Err.ensures.err.0 gives c.in-Err.ensures.err.1 in
     subst (λ k. FailsInRow s a.blocks a.reader.now taker.new.reader a.meter.now taker.new.meter a.decoder.now taker.new.self a.bytes.now
     (g.O.Outlet.taken a.outlet.now) (g.O.Outlet.taken c.write_counted.new.outlet) k) count cut

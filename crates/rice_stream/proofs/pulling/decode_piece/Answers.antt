@@ -119,7 +119,7 @@ decode_all-preserved g c =
       len = c.write_at.auto.samples ∙ c.next_stroke.ensures.len ∙ i.len;
       so_far = λ o front given h.
           let so = still c.in-None.ensures.did.1 c.in-None.ensures.did.2 (i.so_far o front given h) in
-          more_so_far {n = n} so
+          more_so_far so
           (subst (λ (v : Option Stand). TakesNext s o (front ++ so.bits) (given ++ so.samples) here r new (values_at s levels) (Ok v)) c.in-Some-found.is
           (c.in-Ok.ensures.takes o (front ++ so.bits) (given ++ so.samples) so.stands)) (λ j. c.width.ensures.value j * (count ∙ sym (length-values s levels)) j) wrote;
     }

@@ -19,7 +19,7 @@ returns-in_err-next_levels-clause-takes c = λ o front given h.
     let new = c.next_levels.new in
     let says = c.in_err-next_levels.ensures in
     let setting_old : p.setting ≡ s = ap (λ (d : DecoderState). d.setting) c.requires.come.state in
-    let a = decoder_advances {old = c.args.reader.now} {new = new.reader} c.tick.new.self new.meter p new.self new.levels.items setting_old refl says.in_run says.reads in
+    let a = decoder_advances c.tick.new.self new.meter p new.self new.levels.items setting_old refl says.in_run says.reads in
     let r = err_from_is_err_and c.from_residual.result c.from_residual.ensures.1 in
     rw (r.1, r.2) (stops_next s o front given c.requires.come.reads
     (subst (λ (d : DecoderState). Advances c.args.reader.now new.reader c.tick.new.self new.meter d new.self (values_at s new.levels.items) (Err c.in_err-next_levels.field-0.0))
@@ -32,7 +32,7 @@ returns-in-Done-clause-takes c = λ o front given h.
     let new = c.next_levels.new in
     let says = c.in_ok-next_levels.ensures in
     let setting_old : p.setting ≡ s = ap (λ (d : DecoderState). d.setting) c.requires.come.state in
-    let a = decoder_advances {old = c.args.reader.now} {new = new.reader} c.tick.new.self new.meter p new.self new.levels.items setting_old (ap Ok c.in-Done.is) says.in_run says.reads in
+    let a = decoder_advances c.tick.new.self new.meter p new.self new.levels.items setting_old (ap Ok c.in-Done.is) says.in_run says.reads in
     done_next s o front given c.requires.come.reads
     (subst (λ (d : DecoderState). Advances c.args.reader.now new.reader c.tick.new.self new.meter d new.self (values_at s new.levels.items) (Ok Done)) c.requires.come.state a)
 
@@ -55,7 +55,7 @@ given c =
     let setting : q.setting ≡ s = says.setting ∙ setting_old in
     let stopped : q.stopped ≡ None = says.block (ap Ok c.in-Block.is) in
     let same : q ≡ state_of s next = (λ i. record { setting = setting i; block = q.block; before = q.before; run = q.run; stopped = stopped i }) in
-    let a = decoder_advances {old = old} {new = new} c.tick.new.self meter p q levels setting_old (ap Ok c.in-Block.is) says.in_run says.reads in
+    let a = decoder_advances c.tick.new.self meter p q levels setting_old (ap Ok c.in-Block.is) says.in_run says.reads in
     let at_stand = subst (λ (d : DecoderState). Advances old new c.tick.new.self meter d q (values_at s levels) (Ok Block)) c.requires.come.state a in
     let old_run : p.run * p.setting.block ≡ stand.run * s.block = ap (λ (d : DecoderState). d.run * d.setting.block) c.requires.come.state in
     let new_run : q.run * q.setting.block ≡ q.run * s.block = ap (λ (d : DecoderState). d.run * d.setting.block) same in
@@ -81,7 +81,7 @@ returns-clause-goes_on c =
     let says = c.in_ok-next_levels.ensures in
     let setting : p.setting ≡ s = ap (λ (d : DecoderState). d.setting) c.requires.come.state in
     let going : p.stopped ≡ None = ap (λ (d : DecoderState). d.stopped) c.requires.come.state in
-    let a = decoder_advances {old = c.args.reader.now} {new = new.reader} c.tick.new.self new.meter p new.self new.levels.items setting (ap Ok c.in-Block.is) says.in_run says.reads in
+    let a = decoder_advances c.tick.new.self new.meter p new.self new.levels.items setting (ap Ok c.in-Block.is) says.in_run says.reads in
     let block = samples_of_block s setting going a in
     ((given c).goes_on, omega (arith, block.len, length-values s new.levels.items))
 

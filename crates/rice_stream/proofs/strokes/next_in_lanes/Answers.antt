@@ -26,8 +26,7 @@ returns-clause-did g c =
     let fit : 0 + c.block.result * c.blocks_wanted-most.result ≤ (length c.args.samples.now - c.args.at) / w =
     subst (λ b. 0 + b * c.blocks_wanted-most.result ≤ (length c.args.samples.now - c.args.at) / w) (sym c.block.ensures.value) c.blocks_wanted-most.ensures.wanted in
     let inside : c.args.at ≤ length c.args.samples.now = omega (arith, c.requires.room) in
-    let k = row_stroke {next = c.stand_behind-behind.result} {q = new.self} {new = new.reader} new.meter
-    {bytes = new.bytes} know.3 c.requires.come.reads c.requires.come.aligned (record { state_is = c.requires.come.state; steps_are = steps }) says.0 says.1.row (record {
+    let k = row_stroke new.meter know.3 c.requires.come.reads c.requires.come.aligned (record { state_is = c.requires.come.state; steps_are = steps }) says.0 says.1.row (record {
       width_is = width_is s s.block w c.requires.lanes;
       block_is = c.block.ensures.value;
       width_some = elim c.requires.lanes.samples.widths [ inl e ↦ omega (arith, e) | inr e ↦ omega (arith, e) ];

@@ -20,8 +20,7 @@ returns-clause-did g c =
     let least = mul-le-mul_left (w * s.block) c.spell_row_ahead-blocks.ensures.few in
     let same : w * n ≡ w * s.block * c.spell_row_ahead-blocks.result = ap (λ b. w * (b * c.spell_row_ahead-blocks.result)) c.block.ensures.value ∙ omega arith in
     let few : w * n ≤ 512 = omega (arith, same, least, c.requires.few.1) in
-    let k = row_stroke {next = c.stand_behind-stand.result} {q = new.self} {new = new.reader} new.meter
-    {bytes = c.spell_row_ahead-blocks.new.bytes} know.3 c.requires.come.reads c.requires.come.aligned (record { state_is = c.requires.come.state; steps_are = steps })
+    let k = row_stroke new.meter know.3 c.requires.come.reads c.requires.come.aligned (record { state_is = c.requires.come.state; steps_are = steps })
     (c.spell_row_ahead-blocks.ensures.run some) c.pass_plain_blocks.ensures.gives (record {
       width_is = plain_width c.args.setting.now g.row.WIDTH c.requires.plain;
       block_is = c.block.ensures.value;
