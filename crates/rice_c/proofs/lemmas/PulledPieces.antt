@@ -216,9 +216,9 @@ pulls_are_decoding s code o before setting first opened pulls last behind old ne
     let count : last.report.samples ≡ length xs = end.samples ∙ p.count in
     let write = never_full legal p.decoded (never_reached_so paused ended behind ends) d
     (let fits : width s * length xs ≤ length old = (omega (arith, room, ap (λ n. width s * n) count)) in fits) in
-    let same = decodes_as legal {c = d.call} {r = report_of report} {fault = d.fault} d.decodes.samples d.decodes.ending
+    let same = decodes_as legal d.decodes.samples d.decodes.ending
     p.decoded p.limit (inl refl) (record { code_is = d.takes.gave; left_is = d.takes.left_is }) d.decodes.ends (record { read = d.writes.reads; write = write }) in
-    let told = tells_end {s = s} paused ended behind {xs = xs} d.fault last.report j ends same.fault_is (record {
+    let told = tells_end {s = s} paused ended behind d.fault last.report j ends same.fault_is (record {
       samples = count;
       place = end.place ∙ (λ i. pause_place (pause_of (paused_is i)) (p.count i / s.block));
     }) in (
@@ -244,7 +244,7 @@ pulls_to_a_count_are_decoding s code o before setting first opened pulls n old n
     let bytes = spellings s p.samples in
     let write : d.fault ≢ Some faults.Write = λ full. decode_suffices s (o.samples + n) code old new report status d (omega (arith, room))
     (d.tells.status ∙ ap (λ (v : Option Fault). status_number (fault_status v)) full) in
-    let same = decodes_as legal {c = d.call} {r = report_of report} {fault = d.fault} d.decodes.samples d.decodes.ending p.decoded p.limit (inr refl)
+    let same = decodes_as legal d.decodes.samples d.decodes.ending p.decoded p.limit (inr refl)
     (record { code_is = d.takes.gave; left_is = d.takes.left_is }) d.decodes.ends (record { read = d.writes.reads; write = write }) in
     let count : length part ≡ n = length-take-le n p.samples p.size in
     let size : length (spellings s part) ≡ width s * n = length-spellings s part ∙ ap (λ m. width s * m) count in
