@@ -58,9 +58,10 @@ class Lanes:
                 return
 
     def jobs_of(self, key):
-        """Returns among how many processors a task that begins now shares its check: a crate's proof, for which others wait, among
-        those that are idle, but two at least. More would end it little sooner, and cost much more of a processor."""
-        if key[1] != "proof" or self.processors < 4:
+        """Returns among how many processors a task that begins now shares its check. A proof beside which no other runs, for which most
+        of the others wait, has those that are idle, and two at least: more cost much more of a processor, and end it little sooner."""
+        is_alone = not any(it[1] == "proof" for it in self.running.values())
+        if key[1] != "proof" or self.processors < 4 or not is_alone:
             return 1
         return max(2, self.processors - len(self.running))
 
