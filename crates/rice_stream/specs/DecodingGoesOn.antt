@@ -22,7 +22,8 @@ pub record GoesOn {I : Type 0} (s : Parameters) (asked : Option ℕ) (out out_ne
       → DecodingProgress s asked start out_old out_new q new steps_new (written + count)
 
 -- What is reported here with this fault, or with none, is what decoding is to report: of the code, and of the failures of its devices.
-pub record EndsWithFault {I : Type 0} (s : Parameters) (asked : Option ℕ) (out out_new : Option Room) (p : DecoderState) (r new : Reader I) (steps steps_new written writes writes_new : ℕ) (fault : Option Fault) : Type 0 where
+pub record EndsWithFault {I : Type 0} (s : Parameters) (asked : Option ℕ) (out out_new : Option Room) (p : DecoderState) (r new : Reader I) (steps steps_new written writes writes_new : ℕ)
+    (fault : Option Fault) : Type 0 where
   pub call : (start : Reader I) (out_old : Option Room) (rep : Report) (f : Option Fault) (left : Option (List ℕ)) (failed : ℕ)
       → DecodingProgress s asked start out_old out p r steps written → Reports rep f left failed new written steps_new fault
       → DecodesBetween s asked start.left left out_old out_new rep f

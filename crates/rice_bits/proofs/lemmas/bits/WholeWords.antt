@@ -59,10 +59,10 @@ four_words ws at {a} {b} {c} {d} {first} {last} room a_low b_low c_low d_low joi
     ∙ (append_assoc (word 16 x) (word 16 y) (word 16 z ++ word 16 u) ∙ (ap (λ d. word 16 x ++ (word 16 y ++ (word 16 z ++ d))) (sym (append-nil (word 16 u))) ∙ sym (rw (count, four) refl)))))
 
 -- the lowest bytes of numbers in lanes
-pub masked : (ws : List ℕ) (n : ℕ) → length ws ≡ n → zip2 bit_and ws (replicate n 255) ≡ map (λ d. d % 2 ^ 8) ws
-masked [] n h = refl
-masked (w ∷ ws) zero h = absurd (omega (arith, h))
-masked (w ∷ ws) (suc n) h = λ i. and_mask w 8 i ∷ masked ws n (omega (arith, h)) i
+pub lowest_bytes_by_mask : (ws : List ℕ) (n : ℕ) → length ws ≡ n → zip2 bit_and ws (replicate n 255) ≡ map (λ d. d % 2 ^ 8) ws
+lowest_bytes_by_mask [] n h = refl
+lowest_bytes_by_mask (w ∷ ws) zero h = absurd (omega (arith, h))
+lowest_bytes_by_mask (w ∷ ws) (suc n) h = λ i. and_mask w 8 i ∷ lowest_bytes_by_mask ws n (omega (arith, h)) i
 
 -- eight bytes
 record AreBytes (b0 b1 b2 b3 b4 b5 b6 b7 : ℕ) : Type 0 where
@@ -274,8 +274,8 @@ value-joins {g} {count} value {first} width per words behind sixty whole e f =
       whole = whole;
     }
 
-product : (w p i : ℕ) → w * (p * i) ≡ w * p * i
-product w p i = omega arith
+product_of_three : (w p i : ℕ) → w * (p * i) ≡ w * p * i
+product_of_three w p i = omega arith
 
 -- a word is joined that is sewn of what was left of one and of the front of the next
 pub record JoinsSewn (left last next sew all now : ℕ) (mid new : List ℕ) : Type 0 where
@@ -297,8 +297,8 @@ words-joins {left} {last} {next} {sew} count value {width} {per} {i} {bits} {all
     let at = per * i in
     let far : per * (i + 1) ≡ at + per = omega arith in
     let plain : at + per - at ≡ per = omega arith in
-    let before : width * at ≡ 64 * i = product width per i ∙ ap (λ k. k * i) following.whole in
-    let after : width * (per * (i + 1)) ≡ width * at + 64 = product width per (i + 1) ∙ (ap (λ k. k * (i + 1)) following.whole ∙ omega (arith, before)) in
+    let before : width * at ≡ 64 * i = product_of_three width per i ∙ ap (λ k. k * i) following.whole in
+    let after : width * (per * (i + 1)) ≡ width * at + 64 = product_of_three width per (i + 1) ∙ (ap (λ k. k * (i + 1)) following.whole ∙ omega (arith, before)) in
     let count_is : count + width * at + 64 ≡ count + width * (per * (i + 1)) = omega (arith, after) in
     let more : word count value ++ flat_map (word width) (take (per * (i + 1)) words) ≡ (word count value ++ flat_map (word width) (take at words)) ++ word 64 next =
     ap (λ k. word count value ++ flat_map (word width) (take k words)) far

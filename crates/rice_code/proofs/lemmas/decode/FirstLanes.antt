@@ -23,21 +23,22 @@ mask_is count most =
     ∙ (take-append-add (replicate count 255) (replicate 16 0) (16 - count)
     ∙ ap (λ xs. replicate count 255 ++ xs) (take-replicate (16 - count) 16 0 (omega arith)))))
 
-pub masked : (n m : ℕ) (xs : List ℕ) → length xs ≡ n + m → Each1 (Fits w8) xs → zip2 bit_and xs (replicate n 255 ++ replicate m 0) ≡ take n xs ++ replicate m 0
-masked zero zero [] len fits = refl
-masked zero zero (x ∷ xs) len fits = absurd (omega (arith, len))
-masked zero (suc m) [] len fits = absurd (omega (arith, len))
-masked zero (suc m) (x ∷ xs) len fits =
-    let rest = masked zero m xs (omega (arith, len)) fits.1 in
+-- lanes of which a mask keeps the first
+pub first_lanes_kept : (n m : ℕ) (xs : List ℕ) → length xs ≡ n + m → Each1 (Fits w8) xs → zip2 bit_and xs (replicate n 255 ++ replicate m 0) ≡ take n xs ++ replicate m 0
+first_lanes_kept zero zero [] len fits = refl
+first_lanes_kept zero zero (x ∷ xs) len fits = absurd (omega (arith, len))
+first_lanes_kept zero (suc m) [] len fits = absurd (omega (arith, len))
+first_lanes_kept zero (suc m) (x ∷ xs) len fits =
+    let rest = first_lanes_kept zero m xs (omega (arith, len)) fits.1 in
     let over : x % 2 ^ 0 ≡ 0 = omega arith in
     let none : bit_and x 0 ≡ 0 = and_mask x 0 ∙ over in
     λ j. none j ∷ rest j
-masked (suc n) m [] len fits = absurd (omega (arith, len))
-masked (suc n) m (x ∷ xs) len fits =
-    let rest = masked n m xs (omega (arith, len)) fits.1 in
+first_lanes_kept (suc n) m [] len fits = absurd (omega (arith, len))
+first_lanes_kept (suc n) m (x ∷ xs) len fits =
+    let rest = first_lanes_kept n m xs (omega (arith, len)) fits.1 in
     let same : bit_and x 255 ≡ x = and_mask x 8 ∙ mod-eq_of_lt fits.0.fits in
     λ j. same j ∷ rest j
 
 pub first_of_lanes : (count : ℕ) (xs : List ℕ) → count ≤ 16 → length xs ≡ 16 → Each1 (Fits w8) xs
     → zip2 bit_and xs (chunk 0 16 (take (32 - (16 - count)) (drop (16 - count) (replicate 16 255 ++ replicate 16 0)))) ≡ take count xs ++ replicate (16 - count) 0
-first_of_lanes count xs most len fits = ap (zip2 bit_and xs) (mask_is count most) ∙ masked count (16 - count) xs (omega (arith, len, most)) fits
+first_of_lanes count xs most len fits = ap (zip2 bit_and xs) (mask_is count most) ∙ first_lanes_kept count (16 - count) xs (omega (arith, len, most)) fits

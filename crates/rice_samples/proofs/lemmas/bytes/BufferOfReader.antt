@@ -26,12 +26,13 @@ front_is_carried filled waiting old new e h within =
     ap (take waiting) e ∙ ap (λ m. take m (copy_within old i filled 0)) (sym n) ∙ take-paste old 0 (drop i old) (filled - i) (omega arith) few
     ∙ sym (drop-take i (filled - i) old) ∙ ap (λ m. drop i (take m old)) end
 
-pub refills : {E : Type 0} (left left_new : Option (List ℕ)) {w : ℕ} (k : ℕ) (old buf : List ℕ) (r : Result ℕ E) → w ≤ length old → IfOk r (λ n. n ≤ length buf)
+-- what was read lies behind what waited
+pub refills_by_read : {E : Type 0} (left left_new : Option (List ℕ)) {w : ℕ} (k : ℕ) (old buf : List ℕ) (r : Result ℕ E) → w ≤ length old → IfOk r (λ n. n ≤ length buf)
     → IfOk r (λ n. Consumes left left_new (take n buf)) → IfOk r (λ n. Refills left left_new old (put_mid w k old buf) w n)
-refills left left_new {w} k old buf (Ok n) within few gave = record {
+refills_by_read left left_new {w} k old buf (Ok n) within few gave = record {
   given = take n buf;
   length_is = length-take-le n buf few;
   gave = gave;
   front = front_is w n k old buf within few;
 }
-refills left left_new k old buf (Err e) within few gave = tt
+refills_by_read left left_new k old buf (Err e) within few gave = tt

@@ -110,13 +110,14 @@ pub length-ranks_below : (n p : ℕ) (xs : List ℕ) → length (ranks_below n p
 length-ranks_below n p [] = refl
 length-ranks_below n p (x ∷ xs) = ap (λ k. suc k) (length-ranks_below n x xs)
 
-seam : (k m : ℕ) (xs ys : List ℕ) → length xs ≡ suc m → take (suc k) (drop m (xs ++ ys)) ≡ get_or xs m 0 ∷ take k ys
-seam k m [] ys e = absurd (omega arith)
-seam k zero (x ∷ []) ys e = refl
-seam k zero (x ∷ y ∷ xs) ys e = absurd (omega arith)
-seam k (suc m) (x ∷ xs) ys e = seam k m xs ys (omega arith)
+-- the last of one list, and the front of the next
+from_last_of_front_on : (k m : ℕ) (xs ys : List ℕ) → length xs ≡ suc m → take (suc k) (drop m (xs ++ ys)) ≡ get_or xs m 0 ∷ take k ys
+from_last_of_front_on k m [] ys e = absurd (omega arith)
+from_last_of_front_on k zero (x ∷ []) ys e = refl
+from_last_of_front_on k zero (x ∷ y ∷ xs) ys e = absurd (omega arith)
+from_last_of_front_on k (suc m) (x ∷ xs) ys e = from_last_of_front_on k m xs ys (omega arith)
 
 -- the last lane of a vector, and all but the last of another, where both lie one behind the other
 pub last_and_others : (m : ℕ) (xs ys : List ℕ) → length xs ≡ suc m → length ys ≡ suc m →
     pick_l 0 (xs ++ ys) (range_with_len m (suc m)) ≡ get_or xs m 0 ∷ take m ys
-last_and_others m xs ys e f = pick_l-range_with_len 0 (xs ++ ys) m (suc m) (omega (arith, e, f, length-append xs ys)) ∙ seam m m xs ys e
+last_and_others m xs ys e f = pick_l-range_with_len 0 (xs ++ ys) m (suc m) (omega (arith, e, f, length-append xs ys)) ∙ from_last_of_front_on m m xs ys e

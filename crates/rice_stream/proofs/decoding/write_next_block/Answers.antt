@@ -33,7 +33,8 @@ returns-in-Done-clause-err g c =
     let new = c.next_levels.new in
     let legal = c.block-block.ensures.legal in
     let some = is_wanted c.args.asked c.args.written c.args.setting.now.block c.requires.count c.requires.some in
-    let a = decoder_advances {old = c.args.reader.now} {new = new.reader} c.args.meter.now new.meter c.args.decoder.now new.self new.levels.items c.requires.runs.runs.at_block.setting (ap Ok c.in-Done.is)
+    let a = decoder_advances {old = c.args.reader.now} {new = new.reader} c.args.meter.now new.meter c.args.decoder.now new.self new.levels.items c.requires.runs.runs.at_block.setting
+    (ap Ok c.in-Done.is)
     c.in-Ok.ensures.in_run c.in-Ok.ensures.reads in
     record {
       call = λ start out_old rep f left failed runs tells.
@@ -48,13 +49,15 @@ returns-in-Err-write_block-clause-err g c =
     let new = c.next_levels.new in
     let legal = c.block-block.ensures.legal in
     let some = is_wanted c.args.asked c.args.written c.args.setting.now.block c.requires.count c.requires.some in
-    let a = decoder_advances {old = c.args.reader.now} {new = new.reader} c.args.meter.now new.meter c.args.decoder.now new.self new.levels.items c.requires.runs.runs.at_block.setting (ap Ok c.in-Block.is)
+    let a = decoder_advances {old = c.args.reader.now} {new = new.reader} c.args.meter.now new.meter c.args.decoder.now new.self new.levels.items c.requires.runs.runs.at_block.setting
+    (ap Ok c.in-Block.is)
     c.in-Ok.ensures.in_run c.in-Ok.ensures.reads in
     let part = subst (λ (l : List ℕ). TakesPart (g.O.Outlet.taken c.args.outlet.now) (g.O.Outlet.taken c.write_block.new.outlet) l)
     (few_spelled s c.args.count new.levels.items _ c.as_slice.ensures.value) c.in-Err-write_block.ensures.err.0 in
     record {
       call = λ start out_old rep f left failed runs tells. write_ends c.args.count new.self legal runs c.requires.count some (gains_block legal runs a) part tells;
-      failures = λ start out_old rep f left failed runs tells. subst (λ (k : Option Fault). Fails k start.failed failed (g.O.Outlet.failed c.args.outlet.now) (g.O.Outlet.failed c.write_block.new.outlet))
+      failures = λ start out_old rep f left failed runs tells. subst (λ (k : Option Fault). Fails k start.failed failed (g.O.Outlet.failed c.args.outlet.now)
+          (g.O.Outlet.failed c.write_block.new.outlet))
           (sym tells.fault_is) (tells.failed_is ∙ (gains_block legal runs a).failures ∙ runs.reads, c.in-Err-write_block.ensures.err.1);
     }
 

@@ -12,7 +12,7 @@ use Rattle.rice_stream.specs.Pulling.{DecodesMore, GoesOnAt, IsReadFrom, TakesNe
 use Rattle.rice_stream.specs.declared.stand.Pause.{Pause}
 use Rattle.rice_stream.specs.declared.stand.Stand.{Stand}
 use Rattle.rice_stream.specs.declared.stand.Pause.TheVariants as pauses
-use Rattle.rice_stream.proofs.lemmas.OnePulledPiece.{ends_so, failed_once, has_none, has_room, more_so_far, never_too_long, none_so_far, nothing_ahead, refused_so, still}
+use Rattle.rice_stream.proofs.lemmas.OnePulledPiece.{ends_so, failed_once, has_none, has_room, more_so_far, never_too_long, none_so_far, nothing_ahead, refused_so, pulled_so_far-unchanged}
 use Rattle.rice_stream.proofs.pulling.decode_piece.Goals as goal
 
 pub decode_all-init : goal.decode_all-init
@@ -118,7 +118,7 @@ decode_all-preserved g c =
       within = omega (arith, c.write_at.auto.samples, c.next_stroke.ensures.len, c.decode_all-test.true, i.within);
       len = c.write_at.auto.samples ∙ c.next_stroke.ensures.len ∙ i.len;
       so_far = λ o front given h.
-          let so = still c.in-None.ensures.did.1 c.in-None.ensures.did.2 (i.so_far o front given h) in
+          let so = pulled_so_far-unchanged c.in-None.ensures.did.1 c.in-None.ensures.did.2 (i.so_far o front given h) in
           more_so_far so
           (subst (λ (v : Option Stand). TakesNext s o (front ++ so.bits) (given ++ so.samples) here r new (values_at s levels) (Ok v)) c.in-Some-found.is
           (c.in-Ok.ensures.takes o (front ++ so.bits) (given ++ so.samples) so.stands)) (λ j. c.width.ensures.value j * (count ∙ sym (length-values s levels)) j) wrote;
@@ -127,7 +127,7 @@ decode_all-preserved g c =
 pub returns-in-None-found : goal.returns-in-None-found
 returns-in-None-found g c = λ o front given h.
     let i = c.decode_all.invariant in
-    let so = still c.in-None.ensures.did.1 c.in-None.ensures.did.2 (i.so_far o front given h) in
+    let so = pulled_so_far-unchanged c.in-None.ensures.did.1 c.in-None.ensures.did.2 (i.so_far o front given h) in
     let s = c.args.setting.now in
     let t = subst (λ (v : Option Stand). TakesNext s o (front ++ so.bits) (given ++ so.samples) c.decode_all.here c.next_stroke.new.reader c.next_stand.new.reader
     (values_at s c.next_stand.new.levels.items) (Ok v)) c.in-None-found.is (c.in-Ok.ensures.takes o (front ++ so.bits) (given ++ so.samples) so.stands) in
@@ -140,7 +140,7 @@ returns-in-None-found g c = λ o front given h.
 pub pause_of-requires-clause-read : goal.pause_of-requires-clause-read
 pause_of-requires-clause-read g c = λ read.
     let know = c.requires.stand in
-    let so = still c.in-None.ensures.did.1 c.in-None.ensures.did.2 (c.decode_all.invariant.so_far know.0 know.1 know.2 know.3) in
+    let so = pulled_so_far-unchanged c.in-None.ensures.did.1 c.in-None.ensures.did.2 (c.decode_all.invariant.so_far know.0 know.1 know.2 know.3) in
     let failed = failed_once c.args.setting.now know.0 (know.1 ++ so.bits) (know.2 ++ so.samples) c.decode_all.here c.next_stroke.new.reader c.next_stand.new.reader
     (values_at c.args.setting.now c.next_stand.new.levels.items) (record {
       fault_is = read;
@@ -151,7 +151,7 @@ pause_of-requires-clause-read g c = λ read.
 pub pause_of-requires-clause-long : goal.pause_of-requires-clause-long
 pause_of-requires-clause-long g c = λ long.
     let know = c.requires.stand in
-    let so = still c.in-None.ensures.did.1 c.in-None.ensures.did.2 (c.decode_all.invariant.so_far know.0 know.1 know.2 know.3) in
+    let so = pulled_so_far-unchanged c.in-None.ensures.did.1 c.in-None.ensures.did.2 (c.decode_all.invariant.so_far know.0 know.1 know.2 know.3) in
     never_too_long c.args.setting.now know.0 (know.1 ++ so.bits) (know.2 ++ so.samples) c.decode_all.here c.next_stroke.new.reader c.next_stand.new.reader
     (values_at c.args.setting.now c.next_stand.new.levels.items) (record {
       fault_is = long;
@@ -162,7 +162,7 @@ pub returns-in-Err : goal.returns-in-Err
 returns-in-Err g c = λ o front given h.
     let s = c.args.setting.now in
     let i = c.decode_all.invariant in
-    let so = still c.in-None.ensures.did.1 c.in-None.ensures.did.2 (i.so_far o front given h) in
+    let so = pulled_so_far-unchanged c.in-None.ensures.did.1 c.in-None.ensures.did.2 (i.so_far o front given h) in
     let never : c.in-Err.fault ≡ faults.Read → ⊥ = λ read. let failed = failed_once s o (front ++ so.bits) (given ++ so.samples) c.decode_all.here c.next_stroke.new.reader c.next_stand.new.reader
     (values_at s c.next_stand.new.levels.items) (record {
       fault_is = read;
