@@ -30,14 +30,14 @@ unfolding aec_test
 test_is_free = refl
 
 -- one more argument
-pub added : (old new : Command) (a : Arg) (x : App) (r : Rule) → AddsArg old a new → a.global ≡ false → rule_of a ≡ r → app_of old ≡ x → app_of new ≡ with_rule x r
-added old new a x r adds local rule before = adds.shape local ∙ ap (λ y. with_rule y (rule_of a)) before ∙ ap (with_rule x) rule
+pub argument_adds_rule : (old new : Command) (a : Arg) (x : App) (r : Rule) → AddsArg old a new → a.global ≡ false → rule_of a ≡ r → app_of old ≡ x → app_of new ≡ with_rule x r
+argument_adds_rule old new a x r adds local rule before = adds.shape local ∙ ap (λ y. with_rule y (rule_of a)) before ∙ ap (with_rule x) rule
 
 -- the last argument, if there is memory for it
-pub added_last : {E : Type 0} (old : Command) (a : Arg) (x : App) (r : Rule) (result : Result Command E) → IfOk result (λ new. AddsArg old a new)
+pub last_argument_adds_rule : {E : Type 0} (old : Command) (a : Arg) (x : App) (r : Rule) (result : Result Command E) → IfOk result (λ new. AddsArg old a new)
     → a.global ≡ false → rule_of a ≡ r → app_of old ≡ x → IfOk result (λ new. app_of new ≡ with_rule x r)
-added_last old a x r (Ok new) adds local rule before = added old new a x r adds local rule before
-added_last old a x r (Err e) adds local rule before = tt
+last_argument_adds_rule old a x r (Ok new) adds local rule before = argument_adds_rule old new a x r adds local rule before
+last_argument_adds_rule old a x r (Err e) adds local rule before = tt
 
 -- what the parser refuses of a command, it refuses of one that is built as it is
 fails_by : (command a : App) (words : List Text) (r : Result ArgMatches Error) → is_simple_and_free command ≡ true → a ≡ command
@@ -48,18 +48,18 @@ fails_by command a words r free is_it fails =
     of_it free
 
 -- the words' matches
-pub parsed : (command a : App) (words : List Text) (r : Result ArgMatches Error) → is_simple command ≡ true → is_simple_and_free command ≡ true → a ≡ command
+pub words_are_parsed : (command a : App) (words : List Text) (r : Result ArgMatches Error) → is_simple command ≡ true → is_simple_and_free command ≡ true → a ≡ command
     → IfOk r (HasMatchesOf a words) → (is_simple_and_free a ≡ true → FailsBy (fault_of a words) r) → IfOk r (AreParsedBy command words)
-parsed command a words (Ok m) simple free is_it has fails =
+words_are_parsed command a words (Ok m) simple free is_it has fails =
     let of_it : HasMatchesOf command words m = subst (λ b. HasMatchesOf b words m) is_it has in
     record { in_order = fails_by command a words (Ok m) free is_it fails; rows = (of_it simple).0 }
-parsed command a words (Err e) simple free is_it has fails = tt
+words_are_parsed command a words (Err e) simple free is_it has fails = tt
 
 -- the words' faults
-pub refused : (command a : App) (words : List Text) (r : Result ArgMatches Error) → is_simple_and_free command ≡ true → a ≡ command
+pub words_are_refused : (command a : App) (words : List Text) (r : Result ArgMatches Error) → is_simple_and_free command ≡ true → a ≡ command
     → (is_simple_and_free a ≡ true → FailsBy (fault_of a words) r) → IfErr r (λ e. IsRefusedBy command words (kind_of e))
-refused command a words (Ok m) free is_it fails = tt
-refused command a words (Err e) free is_it fails = fails_by command a words (Err e) free is_it fails
+words_are_refused command a words (Ok m) free is_it fails = tt
+words_are_refused command a words (Err e) free is_it fails = fails_by command a words (Err e) free is_it fails
 
 -- the flag of a test, by the rows
 pub asks_of : (m : ArgMatches) (rows : List Row) → rows_of (found_of m) ≡ rows → is_flagged (found_of m) (codes "test") ≡ asks_test rows

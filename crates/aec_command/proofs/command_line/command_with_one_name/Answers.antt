@@ -2,7 +2,7 @@ use Rattle.std.proofs.Common.{◌≡◌, ◌∙◌, true, codes, ap}
 use Rattle.clap.specs.Words.{App, app_of, new_app}
 use Rattle.clap.specs.Simple.{app_of_fields}
 use Rattle.aec_command.specs.CommandLine.{aec_test, with_rules, rules_up_to_j, rules_from_m, long_rules}
-use Rattle.aec_command.proofs.CommandLineLemmas.{added_last}
+use Rattle.aec_command.proofs.CommandLineLemmas.{last_argument_adds_rule}
 use Rattle.aec_command.proofs.command_line.command_with_one_name.Goals as goal
 
 -- the options, and then the name
@@ -15,4 +15,4 @@ returns c =
     let up_to_j = c.in_ok-begun.ensures ∙ ap (λ x. with_rules x rules_up_to_j) described in
     let from_m = c.in_ok-lettered.ensures ∙ ap (λ x. with_rules x rules_from_m) up_to_j in
     let long = c.in_ok-with_long_options.ensures ∙ ap (λ x. with_rules x long_rules) from_m in
-    added_last _ _ _ _ c.arg.result c.arg.ensures c.source.ensures.local c.source.ensures.rule long
+    last_argument_adds_rule _ _ _ _ c.arg.result c.arg.ensures c.source.ensures.local c.source.ensures.rule long
