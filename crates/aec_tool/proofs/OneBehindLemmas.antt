@@ -32,19 +32,19 @@ drop_front (x ∷ xs) ys = drop_front xs ys
 -- ---- bytes that are taken and forgotten
 
 -- more bytes were taken
-pub skipped_more : (old new : Option (List ℕ)) (d m : ℕ) (bytes bs : List ℕ) → old ≡ Some (drop d bytes) → Consumes old new bs → length bs ≡ m → new ≡ Some (drop (d + m) bytes)
-skipped_more None new d m bytes bs e c n = let bad : ⊥ = cc in absurd bad
-skipped_more (Some xs) None d m bytes bs e c n = absurd c
-skipped_more (Some xs) (Some ys) d m bytes bs e c n =
+pub skipped_more : {old new : Option (List ℕ)} (d m : ℕ) (bytes bs : List ℕ) → old ≡ Some (drop d bytes) → Consumes old new bs → length bs ≡ m → new ≡ Some (drop (d + m) bytes)
+skipped_more {old = None} d m bytes bs e c n = let bad : ⊥ = cc in absurd bad
+skipped_more {old = Some xs} {new = None} d m bytes bs e c n = absurd c
+skipped_more {old = Some xs} {new = Some ys} d m bytes bs e c n =
     let all : xs ≡ drop d bytes = cc in
     let behind : ys ≡ drop m xs = sym (drop_front bs ys) ∙ ap (drop (length bs)) (sym c) ∙ ap (λ k. drop k xs) n in
     ap Some (behind ∙ ap (drop m) all ∙ drop-drop m d bytes)
 
 -- no more bytes came
-pub skipped_all : (old new : Option (List ℕ)) (d count : ℕ) (bytes bs : List ℕ) → old ≡ Some (drop d bytes) → Consumes old new bs → length bs ≡ 0 → IsAtEnd new
+pub skipped_all : {old new : Option (List ℕ)} (d count : ℕ) (bytes bs : List ℕ) → old ≡ Some (drop d bytes) → Consumes old new bs → length bs ≡ 0 → IsAtEnd new
     → d ≤ count → new ≡ Some (drop count bytes)
-skipped_all old new d count bytes bs e c n end le =
-    let here : new ≡ Some (drop (d + 0) bytes) = skipped_more old new d 0 bytes bs e c n in
+skipped_all {new} d count bytes bs e c n end le =
+    let here : new ≡ Some (drop (d + 0) bytes) = skipped_more d 0 bytes bs e c n in
     ended new (d + 0) here end (omega arith)
   where
     ended : (new : Option (List ℕ)) (d : ℕ) → new ≡ Some (drop d bytes) → IsAtEnd new → d ≤ count → new ≡ Some (drop count bytes)
@@ -147,10 +147,10 @@ module _ {I : Type 0} (intake : I) (left : Option (List ℕ)) (failed k : ℕ) w
           omega (arith, size, length-drop k (bits_of bytes), length-bits_of bytes, length-bits_of (bytes_told stops.middle), last, stops.refuses.2, stops.taken, takes.taken, length-word k v)
 
 -- A look at what is behind whole bytes is one at all.
-pub looks_all : {I : Type 0} (failures : I → ℕ) (before : ℕ) (left rest : Option (List ℕ)) (k few bits : ℕ) (result : Result Bool Fault) → bits ≡ 8 * k + few
+pub looks_all : {I : Type 0} (failures : I → ℕ) (before : ℕ) {left rest : Option (List ℕ)} (k few bits : ℕ) (result : Result Bool Fault) → bits ≡ 8 * k + few
     → ((bytes : List ℕ) → left ≡ Some bytes → rest ≡ Some (drop k bytes))
     → LooksBehind failures before rest few result → LooksBehind failures before left bits result
-looks_all failures before left rest k few bits (Ok more) e skipped looks = λ bytes told. looks (drop k bytes) (skipped bytes told) ∙ ap (λ bits. not (is_blank bits)) (bits_behind k few bits bytes e)
-looks_all failures before left rest k few bits (Err Read) e skipped looks = looks
-looks_all failures before left rest k few bits (Err TooLong) e skipped looks = λ bytes told. omega (arith, looks (drop k bytes) (skipped bytes told), length-drop k bytes)
-looks_all failures before left rest k few bits (Err other) e skipped looks = absurd looks
+looks_all failures before k few bits (Ok more) e skipped looks = λ bytes told. looks (drop k bytes) (skipped bytes told) ∙ ap (λ bits. not (is_blank bits)) (bits_behind k few bits bytes e)
+looks_all failures before k few bits (Err Read) e skipped looks = looks
+looks_all failures before k few bits (Err TooLong) e skipped looks = λ bytes told. omega (arith, looks (drop k bytes) (skipped bytes told), length-drop k bytes)
+looks_all failures before k few bits (Err other) e skipped looks = absurd looks

@@ -6,9 +6,10 @@ use Rattle.rice_bits.specs.device.OutletRoom.{Room, Appends}
 use Rattle.rice_stream.specs.DevicesInCalls.{Call, Happens, Fails}
 use Rattle.rice_stream.specs.Encodes.{EncodesBetween}
 use Rattle.rice_stream.specs.Decodes.{DecodesBetween}
+use Rattle.rice_stream.specs.declared.outcome.Fault.{Fault}
 use Rattle.rice_stream.specs.declared.outcome.Outcome.{Outcome}
 use Rattle.aec_command.specs.Plan.{PlanView}
-use Rattle.aec_tool.specs.Outside.{Outside, Said, Holds, HasTakenNothing, Finishes, begun, holding, new_mode, source_bytes, source_id, place_of, is_creatable}
+use Rattle.aec_tool.specs.Outside.{Outside, Place, Said, Holds, HasTakenNothing, Finishes, begun, holding, new_mode, source_bytes, source_id, place_of, is_creatable}
 use Rattle.aec_tool.specs.Performs.{EngineOf, Arrives, EmptiesSource, Runs, last_words, status_with}
 
 -- What holds of what a system tells after a call, where it told something before, holds of all that it tells.
@@ -36,67 +37,89 @@ took_all (Some a) (Some b) (room, e, empty) bytes h =
     (b, refl, h.bytes ∙ ap (λ xs. xs ++ bytes) none)
 
 -- the engine that the plan asks for
-pub engine_of : (p : PlanView) (decode : Bool) (left left' : Option (List ℕ)) (taken taken' : Option Room) (done : Outcome)
+pub engine_of : (p : PlanView) {decode : Bool} {left left' : Option (List ℕ)} {taken taken' : Option Room} (done : Outcome)
     → (decode ≡ false → EncodesBetween p.setting left left' taken taken' done.report done.fault)
     → (decode ≡ true → DecodesBetween p.setting p.samples left left' taken taken' done.report done.fault)
     → (c : Call) × Happens left left' taken taken' c × EngineOf decode p c done
-engine_of p true left left' taken taken' done encodes decodes = decodes refl
-engine_of p false left left' taken taken' done encodes decodes = encodes refl
+engine_of p {decode = true} done encodes decodes = decodes refl
+engine_of p {decode = false} done encodes decodes = encodes refl
 
-arrived : (bytes written : List ℕ) (o : Outside) (new : Option Outside) (kept : Result (Unit {0}) WriteFault) → bytes ≡ written
+-- once writing is finished, all that was written has arrived, or a front of it
+finished_bytes_arrive : (bytes written : List ℕ) (o : Outside) (new : Option Outside) (kept : Result (Unit {0}) WriteFault) → bytes ≡ written
     → Finishes bytes o new kept → (there : List ℕ) × Arrives (is_ok kept) written there × (new ≡ Some (holding o there))
-arrived bytes written o new (Ok _) e h = (bytes, e, h)
-arrived bytes written o new (Err _) e h = (h.0, (h.1, sym e ∙ h.2), h.3)
+finished_bytes_arrive bytes written o new (Ok _) e h = (bytes, e, h)
+finished_bytes_arrive bytes written o new (Err _) e h = (h.0, (h.1, sym e ∙ h.2), h.3)
 
 -- what has arrived of what an outlet took
-pub arrives_of : (old new : Option Room) → HasTakenNothing old → (bytes : List ℕ) → Appends old new bytes
-    → (o : Outside) (told : Option Outside) (kept : Result (Unit {0}) WriteFault) → ((room : Room) → new ≡ Some room → Finishes room.bytes o told kept)
+pub arrives_of : {old new : Option Room} → HasTakenNothing old → (bytes : List ℕ) → Appends old new bytes
+    → (o : Outside) {told : Option Outside} (kept : Result (Unit {0}) WriteFault) → ((room : Room) → new ≡ Some room → Finishes room.bytes o told kept)
     → (there : List ℕ) × Arrives (is_ok kept) bytes there × (told ≡ Some (holding o there))
-arrives_of old new nothing bytes took o told kept finishes =
+arrives_of {old} {new} nothing bytes took o {told} kept finishes =
     let all = took_all old new nothing bytes took in
-    arrived all.0.bytes bytes o told kept all.2 (finishes all.0 all.1)
+    finished_bytes_arrive all.0.bytes bytes o told kept all.2 (finishes all.0 all.1)
+
+-- what the engine that the plan asks for did between these devices, and the failures that they counted before and after
+pub record EngineRan (p : PlanView) (left left' : Option (List ℕ)) (taken taken' : Option Room) (reads reads' writes writes' : ℕ) (done : Outcome) : Type 0 where
+  pub did : (c : Call) × Happens left left' taken taken' c × EngineOf p.decode p c done
+  pub failures : Fails done.fault reads reads' writes writes'
+
+-- the source of the plan's name is open, and nothing was read
+pub record IsOpened {Source : Type 0} (left : Source → Option (List ℕ)) (reads : Source → ℕ) (p : PlanView) (o : Outside) (given : List ℕ) (opened : Source) : Type 0 where
+  pub source : source_bytes o p.source ≡ Some given
+  pub sound : reads opened ≡ 0
+  pub gives : left opened ≡ Some given
+
+-- the destination of this name is begun, and nothing was written
+pub record IsBegun {Dest : Type 0} (taken : Dest → Option Room) (writes : Dest → ℕ) (p : PlanView) (dest : List ℕ) (o : Outside) (begins : Dest) : Type 0 where
+  pub keeps_source : EmptiesSource o p dest → ⊥
+  pub creatable : is_creatable o dest ≡ true
+  pub unwritten : writes begins ≡ 0
+  pub empty : HasTakenNothing (taken begins)
+
+-- what an outlet took, or a front of it, has arrived at this place, and then the last words came
+pub record IsFinished (outlet : Option Room) (place : Place) (fault : Option Fault) (kept : Result (Unit {0}) WriteFault) (o : Outside) (told new : Option Outside)
+    (words : Option Said) (status : ℕ) : Type 0 where
+  pub finishes : (room : Room) → outlet ≡ Some room → Finishes room.bytes (begun o place) told kept
+  pub says : (there : List ℕ) → told ≡ Some (record o { destination = Holds place there }) → new ≡ Some (record o { destination = Holds place there; said = words })
+  pub words_are : words ≡ last_words fault (is_ok kept)
+  pub status_is : status ≡ status_with words
 
 -- The source was read, what the engine wrote has arrived, and then the last words came.
-pub runs_of : {Source Dest : Type 0} (left : Source → Option (List ℕ)) (reads : Source → ℕ) (taken : Dest → Option Room) (writes : Dest → ℕ)
-    (p : PlanView) (dest : List ℕ) (o : Outside) (status samples : ℕ) (given : List ℕ) (opened read : Source) (begins written : Dest) (done : Outcome)
-    (kept : Result (Unit {0}) WriteFault) (told new : Option Outside) (words : Option Said)
-    → source_bytes o p.source ≡ Some given → (EmptiesSource o p dest → ⊥) → is_creatable o dest ≡ true
-    → reads opened ≡ 0 → writes begins ≡ 0 → left opened ≡ Some given → HasTakenNothing (taken begins)
-    → ((c : Call) × Happens (left opened) (left read) (taken begins) (taken written) c × EngineOf p.decode p c done)
-    → Fails done.fault (reads opened) (reads read) (writes begins) (writes written)
-    → ((room : Room) → taken written ≡ Some room → Finishes room.bytes (begun o (place_of dest (new_mode (source_id o p.source)))) told kept)
-    → ((there : List ℕ) → told ≡ Some (record o { destination = Holds (place_of dest (new_mode (source_id o p.source))) there })
-    → new ≡ Some (record o { destination = Holds (place_of dest (new_mode (source_id o p.source))) there; said = words }))
-    → words ≡ last_words done.fault (is_ok kept) → status ≡ status_with words → samples ≡ done.report.samples
+pub runs_of : {Source Dest : Type 0} {left : Source → Option (List ℕ)} {reads : Source → ℕ} {taken : Dest → Option Room} {writes : Dest → ℕ}
+    {p : PlanView} {dest : List ℕ} {o : Outside} {status samples : ℕ} {given : List ℕ} {opened read : Source} {begins written : Dest} {done : Outcome}
+    {kept : Result (Unit {0}) WriteFault} {told new : Option Outside} {words : Option Said}
+    → IsOpened left reads p o given opened → IsBegun taken writes p dest o begins
+    → EngineRan p (left opened) (left read) (taken begins) (taken written) (reads opened) (reads read) (writes begins) (writes written) done
+    → IsFinished (taken written) (place_of dest (new_mode (source_id o p.source))) done.fault kept o told new words status → samples ≡ done.report.samples
     → (after : Outside) × (new ≡ Some after) × Runs left reads taken writes p dest o after status samples
-runs_of left reads taken writes p dest o status samples given opened read begins written done kept told new words
-    source keeps creatable sound unwritten gives empty engine failures finishes says words_are status_is samples_are =
-    let got = arrives_of (taken begins) (taken written) empty engine.0.written engine.1.took (begun o (place_of dest (new_mode (source_id o p.source)))) told kept finishes in (
-      record o { destination = Holds (place_of dest (new_mode (source_id o p.source))) got.0; said = words },
-      says got.0 got.2,
+runs_of {p} {dest} {o} {given} {opened} {read} {begins} {written} {done} {kept} {words} source destination ran finished samples_are =
+    let place = place_of dest (new_mode (source_id o p.source)) in
+    let got = arrives_of destination.empty ran.did.0.written ran.did.1.took (begun o place) kept finished.finishes in (
+      record o { destination = Holds place got.0; said = words },
+      finished.says got.0 got.2,
       record {
         given = given;
-        source = source;
-        keeps_source = keeps;
-        creatable = creatable;
+        source = source.source;
+        keeps_source = destination.keeps_source;
+        creatable = destination.creatable;
         opened = opened;
         read = read;
         begun = begins;
         written = written;
-        sound = sound;
-        unwritten = unwritten;
-        gives = gives;
-        empty = empty;
-        call = engine.0;
+        sound = source.sound;
+        unwritten = destination.unwritten;
+        gives = source.gives;
+        empty = destination.empty;
+        call = ran.did.0;
         outcome = done;
-        happens = engine.1;
-        engine = engine.2;
-        failures = failures;
+        happens = ran.did.1;
+        engine = ran.did.2;
+        failures = ran.failures;
         all = is_ok kept;
         there = got.0;
         arrives = got.1;
-        outside = ap (λ w. record o { destination = Holds (place_of dest (new_mode (source_id o p.source))) got.0; said = w }) words_are;
-        status_is = status_is ∙ ap status_with words_are;
+        outside = ap (λ w. record o { destination = Holds place got.0; said = w }) finished.words_are;
+        status_is = finished.status_is ∙ ap status_with finished.words_are;
         samples_are = samples_are;
       },
     )

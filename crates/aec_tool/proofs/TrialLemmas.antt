@@ -1,15 +1,16 @@
 -- What a test of a code comes to.
 use Rattle.std.proofs.Common.{◌≡◌, ◌∙◌, ◌+◌, ap, ℕ, Bool, true, false, List, Option, Some, None, Result, Ok, Err, refl}
 use Rattle.rice_bits.specs.device.OutletRoom.{Room}
-use Rattle.rice_stream.specs.DevicesInCalls.{Call, Happens, Fails}
+use Rattle.rice_stream.specs.DevicesInCalls.{Call, Happens}
 use Rattle.rice_stream.specs.Decodes.{DecodesBetween}
 use Rattle.rice_stream.specs.declared.outcome.Outcome.{Outcome}
 use Rattle.rice_stream.specs.declared.outcome.Fault.{Fault}
 use Rattle.rice_stream.specs.declared.outcome.Fault.TheVariants.{Read, TooLong}
 use Rattle.aec_tool.specs.OneBehind.{Looks, LooksBehind}
 use Rattle.aec_command.specs.Plan.{PlanView}
-use Rattle.aec_tool.specs.Outside.{Outside, source_bytes}
+use Rattle.aec_tool.specs.Outside.{Outside}
 use Rattle.aec_tool.specs.Performs.{EngineOf, Judges, Tests, test_status, tested}
+use Rattle.aec_tool.proofs.OutsideLemmas.{EngineRan, IsOpened}
 
 -- nothing is looked for
 pub looks_nowhere : {Source : Type 0} (reads : Source → ℕ) (wanted is_wanted : Bool) (bits : ℕ) (given : List ℕ) → is_wanted ≡ wanted → is_wanted ≡ false → Looks reads wanted bits given (Ok None)
@@ -18,47 +19,46 @@ looks_nowhere reads true false bits given e never = let bad : ⊥ = cc in absurd
 looks_nowhere reads false is_wanted bits given e never = refl
 
 -- what was looked for
-pub looks_here : {Source : Type 0} (reads : Source → ℕ) (wanted is_wanted : Bool) (before bits : ℕ) (left : Option (List ℕ)) (given : List ℕ) (more : Bool)
+pub looks_here : {Source : Type 0} (reads : Source → ℕ) {wanted is_wanted : Bool} (before bits : ℕ) {left : Option (List ℕ)} {given : List ℕ} {more : Bool}
     → is_wanted ≡ wanted → is_wanted ≡ true → left ≡ Some given
     → LooksBehind reads before left bits (Ok more) → Looks reads wanted bits given (Ok (Some more))
-looks_here reads false is_wanted before bits left given more e is told looks = let bad : ⊥ = cc in absurd bad
-looks_here reads true is_wanted before bits left given more e is told looks = looks given told
+looks_here reads {wanted = false} before bits e is told looks = let bad : ⊥ = cc in absurd bad
+looks_here reads {wanted = true} before bits {given} e is told looks = looks given told
 
 -- it was not found out
-pub looks_in_vain : {Source : Type 0} (reads : Source → ℕ) (wanted is_wanted : Bool) (before bits : ℕ) (left : Option (List ℕ)) (given : List ℕ) (fault : Fault)
+pub looks_in_vain : {Source : Type 0} (reads : Source → ℕ) {wanted is_wanted : Bool} {before : ℕ} (bits : ℕ) {left : Option (List ℕ)} {given : List ℕ} (fault : Fault)
     → is_wanted ≡ wanted → is_wanted ≡ true → before ≡ 0 → left ≡ Some given
     → LooksBehind reads before left bits (Err fault) → Looks reads wanted bits given (Err fault)
-looks_in_vain reads false is_wanted before bits left given fault e is none told looks = let bad : ⊥ = cc in absurd bad
-looks_in_vain reads true is_wanted before bits left given Read e is none told looks = (looks.0, looks.1 ∙ ap (λ n. n + 1) none)
-looks_in_vain reads true is_wanted before bits left given TooLong e is none told looks = λ bytes same. looks bytes (told ∙ same)
-looks_in_vain reads true is_wanted before bits left given other e is none told looks = absurd looks
+looks_in_vain reads {wanted = false} bits fault e is none told looks = let bad : ⊥ = cc in absurd bad
+looks_in_vain reads {wanted = true} bits Read e is none told looks = (looks.0, looks.1 ∙ ap (λ n. n + 1) none)
+looks_in_vain reads {wanted = true} bits TooLong e is none told looks = λ bytes same. looks bytes (told ∙ same)
+looks_in_vain reads {wanted = true} bits other e is none told looks = absurd looks
 
--- decoding is what a plan that decodes asks for
-pub decoded : (p : PlanView) (decode : Bool) (left left' : Option (List ℕ)) (taken taken' : Option Room) (done : Outcome) → decode ≡ true
+-- what decoding has done is what the engine of a plan that decodes has done
+pub engine_of_decoding : (p : PlanView) {decode : Bool} {left left' : Option (List ℕ)} {taken taken' : Option Room} (done : Outcome) → decode ≡ true
     → DecodesBetween p.setting p.samples left left' taken taken' done.report done.fault
     → (c : Call) × Happens left left' taken taken' c × EngineOf decode p c done
-decoded p true left left' taken taken' done e call = call
-decoded p false left left' taken taken' done e call = let bad : ⊥ = cc in absurd bad
+engine_of_decoding p {decode = true} done e call = call
+engine_of_decoding p {decode = false} done e call = let bad : ⊥ = cc in absurd bad
 
 -- The source was decoded, and what was found is told.
-pub tests_of : {Source Dest : Type 0} (left : Source → Option (List ℕ)) (reads : Source → ℕ) (taken : Dest → Option Room) (writes : Dest → ℕ)
-    (p : PlanView) (o after : Outside) (status samples : ℕ) (given : List ℕ) (opened read : Source) (done : Outcome) (found : Result (Option Bool) Fault) (told : Bool)
-    → source_bytes o p.source ≡ Some given → reads opened ≡ 0 → left opened ≡ Some given
-    → ((c : Call) × Happens (left opened) (left read) None None c × EngineOf p.decode p c done)
-    → Fails done.fault (reads opened) (reads read) 0 0 → Judges left reads taken writes p o given done.report.bits done.fault found
+pub tests_of : {Source Dest : Type 0} {left : Source → Option (List ℕ)} {reads : Source → ℕ} {taken : Dest → Option Room} {writes : Dest → ℕ}
+    {p : PlanView} {o after : Outside} {status samples : ℕ} {given : List ℕ} {opened read : Source} {done : Outcome} (found : Result (Option Bool) Fault) (told : Bool)
+    → IsOpened left reads p o given opened → EngineRan p (left opened) (left read) None None (reads opened) (reads read) 0 0 done
+    → Judges left reads taken writes p o given done.report.bits done.fault found
     → after ≡ tested p.setting done.report found told o → status ≡ test_status found told → samples ≡ done.report.samples → Tests left reads taken writes p o after status samples
-tests_of left reads taken writes p o after status samples given opened read done found told source sound gives engine failures judges outside status_is samples_are = record {
+tests_of {given} {opened} {read} {done} found told source ran judges outside status_is samples_are = record {
   given = given;
-  source = source;
+  source = source.source;
   opened = opened;
   read = read;
-  sound = sound;
-  gives = gives;
-  call = engine.0;
+  sound = source.sound;
+  gives = source.gives;
+  call = ran.did.0;
   outcome = done;
-  happens = engine.1;
-  engine = engine.2;
-  failures = failures;
+  happens = ran.did.1;
+  engine = ran.did.2;
+  failures = ran.failures;
   found = found;
   judges = judges;
   told = told;

@@ -11,8 +11,8 @@ pub fail-requires : goal.fail-requires
 fail-requires g c κs = (
   (refl, tt),
   λ x e. holds_after (λ o. o.said ≡ None) _ _ c.finish-kept.ensures.silent (λ o told.
-      let done = engine_of (plan_view c.args.plan.now) _ _ _ _ _ c.run.result.0 c.run.ensures.encodes c.run.ensures.decodes in
-      let got = arrives_of _ _ (c.requires.empty o told) done.0.written done.1.took o _ c.finish-kept.result (λ room e. c.finish-kept.ensures.finishes o room told e) in
+      let done = engine_of (plan_view c.args.plan.now) c.run.result.0 c.run.ensures.encodes c.run.ensures.decodes in
+      let got = arrives_of (c.requires.empty o told) done.0.written done.1.took o c.finish-kept.result (λ room e. c.finish-kept.ensures.finishes o room told e) in
       (holding o got.0, got.2, c.requires.unsaid o told)) x e,
 )
 
@@ -20,48 +20,55 @@ pub fail-requires-in-None : goal.fail-requires-in-None
 fail-requires-in-None g c κs = (
   (refl, tt),
   λ x e. holds_after (λ o. o.said ≡ None) _ _ c.finish-kept.ensures.silent (λ o told.
-      let done = engine_of (plan_view c.args.plan.now) _ _ _ _ _ c.run.result.0 c.run.ensures.encodes c.run.ensures.decodes in
-      let got = arrives_of _ _ (c.requires.empty o told) done.0.written done.1.took o _ c.finish-kept.result (λ room e. c.finish-kept.ensures.finishes o room told e) in
+      let done = engine_of (plan_view c.args.plan.now) c.run.result.0 c.run.ensures.encodes c.run.ensures.decodes in
+      let got = arrives_of (c.requires.empty o told) done.0.written done.1.took o c.finish-kept.result (λ room e. c.finish-kept.ensures.finishes o room told e) in
       (holding o got.0, got.2, c.requires.unsaid o told)) x e,
 )
 
 -- the engine's fault is told
 pub returns-in-Some : goal.returns-in-Some
 returns-in-Some g c = λ o given told source gives keeps creatable.
-    let done = engine_of (plan_view c.args.plan.now) _ _ _ _ _ c.run.result.0 c.run.ensures.encodes c.run.ensures.decodes in
+    let place = place_of c.args.name.now (new_mode (source_id o c.args.plan.now.source.now)) in
+    let done = engine_of (plan_view c.args.plan.now) c.run.result.0 c.run.ensures.encodes c.run.ensures.decodes in
     let words : Some (Stopped c.in-Some.fault) ≡ last_words c.run.result.0.fault (is_ok c.finish-kept.result) = rw c.in-Some.is refl in
-    runs_of _ _ _ _ (plan_view c.args.plan.now) c.args.name.now o c.fail.result c.run.result.0.report.samples given c.args.source c.run.result.1 c.args.dest
-    c.run.new.outlet c.run.result.0 c.finish-kept.result _ _
-    (Some (Stopped c.in-Some.fault)) source keeps creatable c.requires.sound c.requires.unwritten gives
-    (c.requires.empty (begun o (place_of c.args.name.now (new_mode (source_id o c.args.plan.now.source.now)))) told) done
-    c.run.ensures.failures (λ room e. c.finish-kept.ensures.finishes (begun o (place_of c.args.name.now (new_mode (source_id o c.args.plan.now.source.now)))) room told e)
-    (λ there e. c.fail.ensures.says _ e) words c.fail.ensures.status refl
+    runs_of (record { source = source; sound = c.requires.sound; gives = gives })
+    (record { keeps_source = keeps; creatable = creatable; unwritten = c.requires.unwritten; empty = c.requires.empty (begun o place) told })
+    (record { did = done; failures = c.run.ensures.failures }) (record {
+      finishes = λ room e. c.finish-kept.ensures.finishes (begun o place) room told e;
+      says = λ there e. c.fail.ensures.says _ e;
+      words_are = words;
+      status_is = c.fail.ensures.status;
+    }) refl
 
 -- that not all arrived is told
 pub returns-in-None : goal.returns-in-None
 returns-in-None g c = λ o given told source gives keeps creatable.
-    let done = engine_of (plan_view c.args.plan.now) _ _ _ _ _ c.run.result.0 c.run.ensures.encodes c.run.ensures.decodes in
+    let place = place_of c.args.name.now (new_mode (source_id o c.args.plan.now.source.now)) in
+    let done = engine_of (plan_view c.args.plan.now) c.run.result.0 c.run.ensures.encodes c.run.ensures.decodes in
     let lost : is_ok c.finish-kept.result ≡ false = c.is_err.ensures.negation ∙ ap not c.if-is_err.true in
     let words : Some (Stopped Write) ≡ last_words c.run.result.0.fault (is_ok c.finish-kept.result) = rw (c.in-None.is, lost) refl in
-    runs_of _ _ _ _ (plan_view c.args.plan.now) c.args.name.now o c.fail-in-None.result c.run.result.0.report.samples given c.args.source c.run.result.1
-    c.args.dest c.run.new.outlet c.run.result.0 c.finish-kept.result _ _
-    (Some (Stopped Write)) source keeps creatable c.requires.sound c.requires.unwritten gives
-    (c.requires.empty (begun o (place_of c.args.name.now (new_mode (source_id o c.args.plan.now.source.now)))) told) done
-    c.run.ensures.failures (λ room e. c.finish-kept.ensures.finishes (begun o (place_of c.args.name.now (new_mode (source_id o c.args.plan.now.source.now)))) room told e)
-    (λ there e. c.fail-in-None.ensures.says _ e) words c.fail-in-None.ensures.status refl
+    runs_of (record { source = source; sound = c.requires.sound; gives = gives })
+    (record { keeps_source = keeps; creatable = creatable; unwritten = c.requires.unwritten; empty = c.requires.empty (begun o place) told })
+    (record { did = done; failures = c.run.ensures.failures }) (record {
+      finishes = λ room e. c.finish-kept.ensures.finishes (begun o place) room told e;
+      says = λ there e. c.fail-in-None.ensures.says _ e;
+      words_are = words;
+      status_is = c.fail-in-None.ensures.status;
+    }) refl
 
 -- nothing is told
 pub returns-in-None-2 : goal.returns-in-None-2
 returns-in-None-2 g c = λ o given told source gives keeps creatable.
-    let done = engine_of (plan_view c.args.plan.now) _ _ _ _ _ c.run.result.0 c.run.ensures.encodes c.run.ensures.decodes in
+    let place = place_of c.args.name.now (new_mode (source_id o c.args.plan.now.source.now)) in
+    let done = engine_of (plan_view c.args.plan.now) c.run.result.0 c.run.ensures.encodes c.run.ensures.decodes in
     let all : is_ok c.finish-kept.result ≡ true = c.is_err.ensures.negation ∙ ap not c.if-is_err.false in
     let words : (let none : Option Said = None in none) ≡ last_words c.run.result.0.fault (is_ok c.finish-kept.result) = rw (c.in-None-2.is, all) refl in
-    let said : o.said ≡ None = c.requires.unsaid (begun o (place_of c.args.name.now (new_mode (source_id o c.args.plan.now.source.now)))) told in
-    runs_of _ _ _ _ (plan_view c.args.plan.now) c.args.name.now o c.exit_status.result c.run.result.0.report.samples given c.args.source c.run.result.1
-    c.args.dest c.run.new.outlet c.run.result.0 c.finish-kept.result _ _
-    None source keeps creatable c.requires.sound c.requires.unwritten gives (c.requires.empty (begun o (place_of c.args.name.now (new_mode (source_id o c.args.plan.now.source.now)))) told) done
-    c.run.ensures.failures (λ room e. c.finish-kept.ensures.finishes (begun o (place_of c.args.name.now (new_mode (source_id o c.args.plan.now.source.now)))) room told e)
-    (λ there e. e ∙ ap (λ s. Some (record o {
-      destination = Holds (place_of c.args.name.now (new_mode (source_id o c.args.plan.now.source.now))) there;
-      said = s;
-    })) said) words (c.exit_status.ensures.clean.1 c.in-None-2.is) refl
+    let said : o.said ≡ None = c.requires.unsaid (begun o place) told in
+    runs_of (record { source = source; sound = c.requires.sound; gives = gives })
+    (record { keeps_source = keeps; creatable = creatable; unwritten = c.requires.unwritten; empty = c.requires.empty (begun o place) told })
+    (record { did = done; failures = c.run.ensures.failures }) (record {
+      finishes = λ room e. c.finish-kept.ensures.finishes (begun o place) room told e;
+      says = λ there e. e ∙ ap (λ s. Some (record o { destination = Holds place there; said = s })) said;
+      words_are = words;
+      status_is = c.exit_status.ensures.clean.1 c.in-None-2.is;
+    }) refl
