@@ -2,7 +2,6 @@
 pub mod DevicesInCalls
 pub mod Decodes
 pub mod DecodingState
-pub mod DecodingGoesOn
 pub mod Encodes
 pub mod EncodingState
 pub mod Feeding

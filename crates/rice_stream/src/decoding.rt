@@ -1,15 +1,13 @@
 //! Decodes a code to its samples.
-ghost use Rattle.std.specs.Prelude.{◌≡◌, ◌⊎◌, ◌+◌, ◌-◌, ◌*◌, ◌^◌, ◌<◌, ◌≤◌, IfErr, IfSome, OnErr, OnOk, Option, None, Some, length, take, true};
+ghost use Rattle.std.specs.Prelude.{◌≡◌, ◌⊎◌, ◌+◌, ◌-◌, ◌*◌, ◌^◌, ◌<◌, ◌≤◌, IfErr, IfSome, OnOk, Option, None, Some, length, take, true};
 ghost use Rattle.rice_bits.specs.device.OutletRoom.{Appends};
 ghost use Rattle.rice_bits.specs.Limits.{step_limit, most_bits_read};
 ghost use Rattle.rice_code.specs.decode.BlocksInOnePass.{HasLanes};
 ghost use Rattle.rice_code.specs.decode.BlocksInRow.{GivesBlocks};
-ghost use Rattle.rice_code.specs.Limits.{most_samples_of_bit};
 ghost use Rattle.rice_code.specs.decode.RowsOfFields.{AreCounted};
 ghost use Rattle.rice_stream.specs.DevicesInCalls.{Fails};
 ghost use Rattle.rice_stream.specs.declared.outcome.Fault.TheVariants.{Write};
 ghost use Rattle.rice_stream.specs.Decodes.{DecodesBetween, DecodesWithin, Reports, wanted_of, ended_fault, refusal_fault};
-ghost use Rattle.rice_stream.specs.DecodingGoesOn.{IsDecoding, GoesOn, EndsWithFault};
 
 use crate::outcome::{Fault, Outcome, Report};
 use crate::patience::Patience;
@@ -341,57 +339,6 @@ fn write_blocks<O: Outlet>(
     write_in_calls(outlet, &bytes[..size * blocks])
 }
 
-/// Decodes the next block by its levels, and writes the first `count` samples of it, which are wanted. If decoding ends there, after
-/// `written` samples, an error has its fault, or none where the code has ended.
-#[inline(always)]
-pub(crate) fn write_next_block<I: Intake, O: Outlet>(
-    setting: &Setting,
-    asked: Option<u64>,
-    written: u64,
-    count: usize,
-    decoder: &mut Decoder,
-    reader: &mut BitReader<I>,
-    meter: &mut Meter,
-    levels: &mut ArrayVec<u32, 64>,
-    bytes: &mut [u8; 512],
-    outlet: &mut O,
-) -> Result<(), Option<Fault>>
-    requires count { count ≡ wanted_of asked written setting.now.block }
-    requires some { 0 < count }
-    requires runs { IsDecoding setting.now asked (O.taken outlet.old)
-        decoder.old reader.old meter.old written }
-    requires writes { O.failed outlet.old + 1 < 2 ^ 64 }
-    ensures ok { OnOk result (GoesOn setting.now asked (O.taken outlet.old) (O.taken outlet.new)
-        decoder.old decoder.new reader.old reader.new meter.old meter.new written count) }
-    ensures calm { OnOk result (O.failed outlet.new ≡ O.failed outlet.old) }
-    // The samples of a run that are still to come are fewer with each block, and each bit brings at most so many.
-    ensures less { OnOk result (most_samples_of_bit * (most_bits_read - reader.new.taken)
-        + decoder.new.run * decoder.new.setting.block
-        < most_samples_of_bit * (most_bits_read - reader.old.taken)
-        + decoder.old.run * decoder.old.setting.block) }
-    ensures err { IfErr result (λ fault. EndsWithFault setting.now asked
-        (O.taken outlet.old) (O.taken outlet.new) decoder.old reader.old reader.new
-        meter.old meter.new written (O.failed outlet.old) (O.failed outlet.new) fault) }
-    ensures steps { OnErr result (AreCounted meter.old meter.new reader.old.taken reader.new.taken) }
-{
-    let block = setting.block();
-    let step = match decoder.next_levels(reader, meter, levels) {
-        Ok(step) => step,
-        Err(fault) => return Err(Some(fault_of(fault, written, block))),
-    };
-    match step {
-        NextBlock::Block => {}
-        NextBlock::Done => return Err(end_of(asked, written)),
-    }
-    let wanted_levels = &levels.as_slice()[..count];
-    match write_block(setting, wanted_levels, bytes, outlet) {
-        Ok(()) => {}
-        Err(_) => return Err(Some(Fault::Write)),
-    }
-    meter.tick(count as u64);
-    Ok(())
-}
-
 /// Decodes, whatever is asked for. `WIDTH`, if it is not 0, is the number of bytes of each sample of blocks whose bytes may be decoded
 /// at one stroke, and `SIZE`, if it is not 0, that of the samples of each.
 #[inline(always)]
@@ -486,20 +433,23 @@ fn decode_blocks<I: Intake, O: Outlet, const SIZE: usize, const WIDTH: usize>(
             meter.tick(samples);
             continue 'decode_all;
         }
-        match write_next_block(
-            &own,
-            asked,
-            written,
-            count,
-            &mut decoder,
-            &mut reader,
-            &mut meter,
-            &mut levels,
-            &mut bytes,
-            outlet,
-        ) {
-            Ok(()) => written += count as u64,
-            Err(fault) => return ended(fault, written, reader, &meter),
+        let step = match decoder.next_levels(&mut reader, &mut meter, &mut levels) {
+            Ok(step) => step,
+            Err(fault) => {
+                let fault = fault_of(fault, written, block);
+                return ended(Some(fault), written, reader, &meter);
+            }
+        };
+        match step {
+            NextBlock::Block => {}
+            NextBlock::Done => return ended(end_of(asked, written), written, reader, &meter),
         }
+        let block_levels = &levels.as_slice()[..count];
+        match write_block(&own, block_levels, &mut bytes, outlet) {
+            Ok(()) => {}
+            Err(_) => return ended(Some(Fault::Write), written, reader, &meter),
+        }
+        written += count as u64;
+        meter.tick(count as u64);
     }
 }

@@ -7,12 +7,12 @@ ghost use Rattle.rice_stream.specs.DevicesInCalls.{Fails};
 ghost use Rattle.rice_stream.specs.Decodes.{DecodesBetween, DecodesWithin, wanted_of};
 ghost use Rattle.rice_stream.specs.RowsOfBlocks.{FailsInRow, WritesRow};
 
-use crate::decoding::{ended, is_whole, wanted, write_next_block};
+use crate::decoding::{end_of, ended, fault_of, is_whole, wanted};
 use crate::outcome::{Fault, Outcome};
-use crate::write::write_counted;
+use crate::write::{write_block, write_counted};
 use arrayvec::ArrayVec;
 use rice_bits::{BitReader, Intake, Meter, Outlet};
-use rice_code::Decoder;
+use rice_code::{Decoder, NextBlock};
 use rice_samples::Setting;
 
 /// Returns whether samples are not predicted, and use all bits of `WIDTH` bytes, and intervals are not padded.
@@ -207,20 +207,23 @@ pub(crate) fn decode_plain<I: Intake, O: Outlet, const WIDTH: usize>(
                 }
             }
         }
-        match write_next_block(
-            &own,
-            asked,
-            written,
-            count,
-            &mut decoder,
-            &mut reader,
-            &mut meter,
-            &mut levels,
-            &mut bytes,
-            outlet,
-        ) {
-            Ok(()) => written += count as u64,
-            Err(fault) => return ended(fault, written, reader, &meter),
+        let step = match decoder.next_levels(&mut reader, &mut meter, &mut levels) {
+            Ok(step) => step,
+            Err(fault) => {
+                let fault = fault_of(fault, written, block);
+                return ended(Some(fault), written, reader, &meter);
+            }
+        };
+        match step {
+            NextBlock::Block => {}
+            NextBlock::Done => return ended(end_of(asked, written), written, reader, &meter),
         }
+        let block_levels = &levels.as_slice()[..count];
+        match write_block(&own, block_levels, &mut bytes, outlet) {
+            Ok(()) => {}
+            Err(_) => return ended(Some(Fault::Write), written, reader, &meter),
+        }
+        written += count as u64;
+        meter.tick(count as u64);
     }
 }

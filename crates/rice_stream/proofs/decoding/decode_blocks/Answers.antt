@@ -1,10 +1,15 @@
-use Rattle.std.proofs.Common.{arith, ◌≡◌, ◌+◌, ◌*◌, ℕ, ap, refl, sym, ◌∙◌, subst}
-use Rattle.rice_stream.specs.Decodes.{wanted_of}
-use Rattle.rice_stream.specs.DevicesInCalls.{Fails}
-use Rattle.rice_stream.proofs.lemmas.DecodingEnds.{progress_at_start, reached_ends}
+use Rattle.std.proofs.Common.{arith, ◌≡◌, ◌+◌, ◌-◌, ◌*◌, ◌≤◌, List, ℕ, ap, refl, sym, ◌∙◌, subst, true, Some}
+use Rattle.std.specs.Prelude.{Ok}
+use Rattle.rice_bits.specs.device.OutletRoom.{Appends}
+use Rattle.rice_stream.specs.Decodes.{wanted_of, refusal_fault}
+use Rattle.rice_stream.specs.FailedWrites.{TakesPart}
+use Rattle.rice_stream.proofs.lemmas.DecodingLemmas.{decoder_advances, decoding_is_done, gains_block, moves_of, samples_of_block, stops_in_no_run}
+use Rattle.rice_stream.proofs.lemmas.DecodingEnds.{reports_as, block_is_wanted, progress_at_start, refusal_ends, refusal_fails, ended_ends, done_fails, write_ends, reached_ends, progress_with_block}
 use Rattle.rice_code.specs.decode.DecoderState.{DecoderState}
 use Rattle.rice_stream.proofs.lemmas.SpelledBlocks.{progress_unchanged}
 use Rattle.rice_stream.proofs.lemmas.RowsWritten.{fails_behind, in_block, lanes_row, lanes_written, progress_with_row, row_fails, row_fails_so, row_fails_within, row_takes}
+use Rattle.rice_samples.proofs.lemmas.setting.ValuesByLevels.{length-values}
+use Rattle.rice_stream.proofs.lemmas.SamplesByLevels.{few_legal, few_spelled}
 use Rattle.rice_stream.proofs.lemmas.RunsWritten.{progress_with_run, run_fails, run_shrinks}
 use Rattle.rice_stream.proofs.decoding.decode_blocks.Goals as goal
 
@@ -14,10 +19,155 @@ decode_all-init g c = record {
   writes = refl;
 }
 
+pub write_block-requires-clause-legal : goal.write_block-requires-clause-legal
+write_block-requires-clause-legal g c =
+    let s = c.args.setting.now in
+    let i = c.decode_all.invariant in
+    let old = c.decode_all in
+    let new = c.next_levels.new in
+    let mid = c.next_bytes-blocks.new in
+    let same = c.next_bytes-blocks.ensures.none (omega (arith, c.if-blocks-gt0.false)) in
+    let runs = progress_unchanged same.0 same.1 same.2 i.runs in
+    let a = decoder_advances mid.meter new.meter mid.decoder new.self new.levels.items runs.at_block.setting (ap Ok c.in-Block.is)
+    c.in-Ok-next_levels.ensures.in_run c.in-Ok-next_levels.ensures.reads in
+    let block = samples_of_block s runs.at_block.setting runs.at_block.going a in
+    few_legal s c.wanted-count.result new.levels.items _ c.as_slice.ensures.value block.legal
+
 pub returns-then-count-eq0-clause-call : goal.returns-then-count-eq0-clause-call
 returns-then-count-eq0-clause-call g c =
     let none = sym (c.wanted-count.ensures.value ∙ ap (wanted_of c.args.asked c.decode_all.written) c.block-block.ensures.value) ∙ c.if-count-eq0.true in
     reached_ends c.block-block.ensures.legal c.decode_all.invariant.runs none c.ended.ensures.reports
+
+pub returns-in-Err-next_levels-clause-call : goal.returns-in-Err-next_levels-clause-call
+returns-in-Err-next_levels-clause-call g c =
+    let s = c.args.setting.now in
+    let i = c.decode_all.invariant in
+    let old = c.decode_all in
+    let new = c.next_levels.new in
+    let mid = c.next_bytes-blocks.new in
+    let same = c.next_bytes-blocks.ensures.none (omega (arith, c.if-blocks-gt0.false)) in
+    let runs = progress_unchanged same.0 same.1 same.2 i.runs in
+    let a = decoder_advances mid.meter new.meter mid.decoder new.self new.levels.items runs.at_block.setting refl
+    c.in-Err-next_levels.ensures.in_run c.in-Err-next_levels.ensures.reads in
+    let some = block_is_wanted c.args.asked old.written c.wanted-count.ensures.value c.block-block.ensures.value c.if-count-eq0.false in
+    let tells = reports_as (ap Some (c.fault_of-fault.ensures ∙ ap (refusal_fault c.in-Err-next_levels.fault old.written) c.block-block.ensures.value)) c.ended-in-Err-next_levels.ensures.reports in
+    let legal = c.block-block.ensures.legal in
+    refusal_ends c.in-Err-next_levels.fault legal runs some (stops_in_no_run legal runs a) c.in-Err-next_levels.ensures.steps tells
+
+pub returns-in-Err-next_levels-clause-failures : goal.returns-in-Err-next_levels-clause-failures
+returns-in-Err-next_levels-clause-failures g c =
+    let s = c.args.setting.now in
+    let i = c.decode_all.invariant in
+    let old = c.decode_all in
+    let new = c.next_levels.new in
+    let mid = c.next_bytes-blocks.new in
+    let same = c.next_bytes-blocks.ensures.none (omega (arith, c.if-blocks-gt0.false)) in
+    let runs = progress_unchanged same.0 same.1 same.2 i.runs in
+    let a = decoder_advances mid.meter new.meter mid.decoder new.self new.levels.items runs.at_block.setting refl
+    c.in-Err-next_levels.ensures.in_run c.in-Err-next_levels.ensures.reads in
+    let tells = reports_as (ap Some (c.fault_of-fault.ensures ∙ ap (refusal_fault c.in-Err-next_levels.fault old.written) c.block-block.ensures.value)) c.ended-in-Err-next_levels.ensures.reports in
+    refusal_fails c.in-Err-next_levels.fault runs (stops_in_no_run c.block-block.ensures.legal runs a) i.writes tells
+
+pub returns-in-Done-clause-call : goal.returns-in-Done-clause-call
+returns-in-Done-clause-call g c =
+    let s = c.args.setting.now in
+    let i = c.decode_all.invariant in
+    let old = c.decode_all in
+    let new = c.next_levels.new in
+    let mid = c.next_bytes-blocks.new in
+    let same = c.next_bytes-blocks.ensures.none (omega (arith, c.if-blocks-gt0.false)) in
+    let runs = progress_unchanged same.0 same.1 same.2 i.runs in
+    let a = decoder_advances mid.meter new.meter mid.decoder new.self new.levels.items runs.at_block.setting (ap Ok c.in-Done.is)
+    c.in-Ok-next_levels.ensures.in_run c.in-Ok-next_levels.ensures.reads in
+    let some = block_is_wanted c.args.asked old.written c.wanted-count.ensures.value c.block-block.ensures.value c.if-count-eq0.false in
+    let tells = reports_as c.end_of.ensures c.ended-in-Done.ensures.reports in
+    let ends = decoding_is_done c.block-block.ensures.legal runs a in
+    ended_ends true runs some ends.0 ends.1 c.in-Ok-next_levels.ensures.steps tells
+
+pub returns-in-Done-clause-failures : goal.returns-in-Done-clause-failures
+returns-in-Done-clause-failures g c =
+    let s = c.args.setting.now in
+    let i = c.decode_all.invariant in
+    let old = c.decode_all in
+    let new = c.next_levels.new in
+    let mid = c.next_bytes-blocks.new in
+    let same = c.next_bytes-blocks.ensures.none (omega (arith, c.if-blocks-gt0.false)) in
+    let runs = progress_unchanged same.0 same.1 same.2 i.runs in
+    let a = decoder_advances mid.meter new.meter mid.decoder new.self new.levels.items runs.at_block.setting (ap Ok c.in-Done.is)
+    c.in-Ok-next_levels.ensures.in_run c.in-Ok-next_levels.ensures.reads in
+    let tells = reports_as c.end_of.ensures c.ended-in-Done.ensures.reports in
+    done_fails runs (decoding_is_done c.block-block.ensures.legal runs a) i.writes tells
+
+pub returns-in-Err-write_block-clause-call : goal.returns-in-Err-write_block-clause-call
+returns-in-Err-write_block-clause-call g c =
+    let s = c.args.setting.now in
+    let i = c.decode_all.invariant in
+    let old = c.decode_all in
+    let new = c.next_levels.new in
+    let mid = c.next_bytes-blocks.new in
+    let same = c.next_bytes-blocks.ensures.none (omega (arith, c.if-blocks-gt0.false)) in
+    let runs = progress_unchanged same.0 same.1 same.2 i.runs in
+    let a = decoder_advances mid.meter new.meter mid.decoder new.self new.levels.items runs.at_block.setting (ap Ok c.in-Block.is)
+    c.in-Ok-next_levels.ensures.in_run c.in-Ok-next_levels.ensures.reads in
+    let some = block_is_wanted c.args.asked old.written c.wanted-count.ensures.value c.block-block.ensures.value c.if-count-eq0.false in
+    let is = c.wanted-count.ensures.value ∙ ap (wanted_of c.args.asked old.written) c.block-block.ensures.value in
+    let legal = c.block-block.ensures.legal in
+    let part = subst (λ (l : List ℕ). TakesPart (g.O.Outlet.taken old.outlet) (g.O.Outlet.taken c.write_block.new.outlet) l)
+    (few_spelled s c.wanted-count.result new.levels.items _ c.as_slice.ensures.value) c.in-Err-write_block.ensures.err.0 in
+    write_ends c.wanted-count.result new.self legal runs is some (gains_block legal runs a) part c.ended-in-Err-write_block.ensures.reports
+
+pub decode_all-smaller : goal.decode_all-smaller
+decode_all-smaller g c =
+    let s = c.args.setting.now in
+    let i = c.decode_all.invariant in
+    let old = c.decode_all in
+    let new = c.next_levels.new in
+    let mid = c.next_bytes-blocks.new in
+    let same = c.next_bytes-blocks.ensures.none (omega (arith, c.if-blocks-gt0.false)) in
+    let runs = progress_unchanged same.0 same.1 same.2 i.runs in
+    let a = decoder_advances mid.meter new.meter mid.decoder new.self new.levels.items runs.at_block.setting (ap Ok c.in-Block.is)
+    c.in-Ok-next_levels.ensures.in_run c.in-Ok-next_levels.ensures.reads in
+    let block = samples_of_block s runs.at_block.setting runs.at_block.going a in
+    let counted = c.in-Ok-next_levels.ensures.steps in
+    omega (
+      arith,
+      block.len,
+      length-values s new.levels.items,
+      c.in-Ok-next_levels.ensures.waiting,
+      counted.forward,
+      counted.limit,
+      c.block-block.ensures.range,
+      ap (λ r. r.taken) same.1,
+      ap (λ (d : DecoderState). d.run * d.setting.block) same.0,
+    )
+
+pub decode_all-preserved : goal.decode_all-preserved
+decode_all-preserved g c =
+    let s = c.args.setting.now in
+    let i = c.decode_all.invariant in
+    let old = c.decode_all in
+    let new = c.next_levels.new in
+    let mid = c.next_bytes-blocks.new in
+    let same = c.next_bytes-blocks.ensures.none (omega (arith, c.if-blocks-gt0.false)) in
+    let runs = progress_unchanged same.0 same.1 same.2 i.runs in
+    let a = decoder_advances mid.meter new.meter mid.decoder new.self new.levels.items runs.at_block.setting (ap Ok c.in-Block.is)
+    c.in-Ok-next_levels.ensures.in_run c.in-Ok-next_levels.ensures.reads in
+    let some = block_is_wanted c.args.asked old.written c.wanted-count.ensures.value c.block-block.ensures.value c.if-count-eq0.false in
+    let is = c.wanted-count.ensures.value ∙ ap (wanted_of c.args.asked old.written) c.block-block.ensures.value in
+    let legal = c.block-block.ensures.legal in
+    let at = runs.at_block in
+    let block = samples_of_block s at.setting at.going a in
+    let old_run : mid.decoder.run * mid.decoder.setting.block ≡ mid.decoder.run * s.block = ap (λ t. mid.decoder.run * t.block) at.setting in
+    let new_run : new.self.run * new.self.setting.block ≡ new.self.run * s.block = ap (λ t. new.self.run * t.block) (c.in-Ok-next_levels.ensures.setting ∙ at.setting) in
+    let few : s.block + new.self.run * s.block ≤ mid.decoder.run * s.block + 456 * (new.reader.taken - mid.reader.taken) = omega
+    (arith, block.len, length-values s new.levels.items, c.in-Ok-next_levels.ensures.waiting, old_run, new_run) in
+    let put = subst (λ (l : List ℕ). Appends (g.O.Outlet.taken old.outlet) (g.O.Outlet.taken c.write_block.new.outlet) l)
+    (few_spelled s c.wanted-count.result new.levels.items _ c.as_slice.ensures.value) c.in-Ok-write_block.ensures.ok.0 in
+    record {
+      runs = progress_with_block legal runs is some (gains_block legal runs a) (moves_of at.going a)
+          (record { counted = c.in-Ok-next_levels.ensures.steps; few = few }) c.tick-in-decode_all.ensures put;
+      writes = c.in-Ok-write_block.ensures.ok.1 ∙ i.writes;
+    }
 
 pub returns-then-count-eq0-clause-idle : goal.returns-then-count-eq0-clause-idle
 returns-then-count-eq0-clause-idle g c none = c.ended.ensures.intake ∙ ap (λ r. r.intake) (c.decode_all.invariant.runs.idle none)
@@ -49,8 +199,7 @@ returns-in-Err-write_blocks-clause-call g c =
     let all = c.next_bytes-blocks.result in
     let same : c.known_or-size.result ≡ s.block = c.known_or-size.ensures ∙ c.block-block.ensures.value in
     let err = c.in-Err-write_blocks.ensures.err in
-    let fails = fails_behind {written = old.written} {out = g.O.Outlet.taken old.outlet} {out_new = g.O.Outlet.taken c.write_blocks.new.outlet}
-    {rep = c.failed_behind.result.0.report} (c.requires.lanes (row.lanes some)) (record {
+    let fails = fails_behind (c.requires.lanes (row.lanes some)) (record {
       size_is = same;
       block_is = c.block-block.ensures.value;
       few = row.room;
@@ -75,8 +224,7 @@ returns-in-Err-write_blocks-clause-failures g c =
     let all = c.next_bytes-blocks.result in
     let same : c.known_or-size.result ≡ s.block = c.known_or-size.ensures ∙ c.block-block.ensures.value in
     let err = c.in-Err-write_blocks.ensures.err in
-    let fails = fails_behind {written = old.written} {out = g.O.Outlet.taken old.outlet} {out_new = g.O.Outlet.taken c.write_blocks.new.outlet}
-    {rep = c.failed_behind.result.0.report} (c.requires.lanes (row.lanes some)) (record {
+    let fails = fails_behind (c.requires.lanes (row.lanes some)) (record {
       size_is = same;
       block_is = c.block-block.ensures.value;
       few = row.room;
@@ -101,8 +249,7 @@ returns-in-Err-write_blocks-clause-bounds g c =
     let all = c.next_bytes-blocks.result in
     let same : c.known_or-size.result ≡ s.block = c.known_or-size.ensures ∙ c.block-block.ensures.value in
     let err = c.in-Err-write_blocks.ensures.err in
-    let fails = fails_behind {written = old.written} {out = g.O.Outlet.taken old.outlet} {out_new = g.O.Outlet.taken c.write_blocks.new.outlet}
-    {rep = c.failed_behind.result.0.report} (c.requires.lanes (row.lanes some)) (record {
+    let fails = fails_behind (c.requires.lanes (row.lanes some)) (record {
       size_is = same;
       block_is = c.block-block.ensures.value;
       few = row.room;
@@ -168,36 +315,3 @@ pub decode_all-smaller-in-Ok : goal.decode_all-smaller-in-Ok
 decode_all-smaller-in-Ok g c =
     let less = run_shrinks c.block-block.ensures.legal c.decode_all.invariant.runs.at_block.setting c.in-Ok.ensures.ok in
     omega (arith, less)
-
--- no block was read at one stroke
-pub write_next_block-requires-clause-runs : goal.write_next_block-requires-clause-runs
-write_next_block-requires-clause-runs g c =
-    let same = c.next_bytes-blocks.ensures.none (omega (arith, c.if-blocks-gt0.false)) in
-    record { start = _; out_old = _; runs = progress_unchanged same.0 same.1 same.2 c.decode_all.invariant.runs }
-
-pub returns-in-Err-write_next_block-clause-call : goal.returns-in-Err-write_next_block-clause-call
-returns-in-Err-write_next_block-clause-call g c =
-    let same = c.next_bytes-blocks.ensures.none (omega (arith, c.if-blocks-gt0.false)) in
-    c.in-Err-write_next_block.ensures.err.call _ _ _ _ _ _ (progress_unchanged same.0 same.1 same.2 c.decode_all.invariant.runs) c.ended-in-Err-write_next_block.ensures.reports
-
-pub returns-in-Err-write_next_block-clause-failures : goal.returns-in-Err-write_next_block-clause-failures
-returns-in-Err-write_next_block-clause-failures g c =
-    let i = c.decode_all.invariant in
-    let same = c.next_bytes-blocks.ensures.none (omega (arith, c.if-blocks-gt0.false)) in
-    let fails = c.in-Err-write_next_block.ensures.err.failures _ _ _ _ _ _ (progress_unchanged same.0 same.1 same.2 i.runs) c.ended-in-Err-write_next_block.ensures.reports in
-    subst (λ (n : ℕ). Fails c.ended-in-Err-write_next_block.result.0.fault (g.I.Intake.failed c.args.intake) (g.I.Intake.failed c.ended-in-Err-write_next_block.result.1) n
-    (g.O.Outlet.failed c.write_next_block.new.outlet)) i.writes fails
-
-pub decode_all-smaller : goal.decode_all-smaller
-decode_all-smaller g c =
-    let same = c.next_bytes-blocks.ensures.none (omega (arith, c.if-blocks-gt0.false)) in
-    omega (arith, c.in-Ok-write_next_block.ensures.less, ap (λ r. r.taken) same.1, ap (λ (d : DecoderState). d.run * d.setting.block) same.0)
-
-pub decode_all-preserved : goal.decode_all-preserved
-decode_all-preserved g c =
-    let i = c.decode_all.invariant in
-    let same = c.next_bytes-blocks.ensures.none (omega (arith, c.if-blocks-gt0.false)) in
-    record {
-      runs = c.in-Ok-write_next_block.ensures.ok.runs _ _ (progress_unchanged same.0 same.1 same.2 i.runs);
-      writes = c.in-Ok-write_next_block.ensures.calm ∙ i.writes;
-    }
