@@ -13,7 +13,7 @@ use Rattle.rice_bits.proofs.lemmas.bits.WordsAndNumbers.{length-word}
 use Rattle.rice_samples.specs.Parameters.{Parameters, IsLegal, IsSample, width}
 use Rattle.rice_samples.specs.Places.{cut}
 use Rattle.rice_samples.specs.bytes.Spelling.{spelling, spellings, ordered_bytes}
-use Rattle.rice_samples.specs.bytes.ValueRange.{IsValue, offset}
+use Rattle.rice_samples.specs.bytes.ValueRange.{IsValue}
 use Rattle.rice_samples.specs.predict.Residuals.{twos_complement}
 use Rattle.rice_samples.proofs.lemmas.bytes.SpellingLemmas.{level_spelled, wider_value}
 use Rattle.rice_samples.proofs.lemmas.setting.LevelsOfSamples.{pattern_fits, same_level}

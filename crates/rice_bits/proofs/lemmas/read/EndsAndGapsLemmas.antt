@@ -20,7 +20,6 @@ use Rattle.rice_bits.proofs.lemmas.bits.EightBytes.{bits_of-eight}
 use Rattle.rice_bits.proofs.lemmas.read.WindowLemmas.{take-bits_of}
 use Rattle.rice_bits.proofs.lemmas.bits.BytesAndBits.{bits_of-append, length-bits_of}
 use Rattle.rice_bits.proofs.lemmas.bits.WordsAndNumbers.{length-fundamental_sequence, length-word}
-use Rattle.rice_bits.proofs.lemmas.lanes.WordsInTwoBytes.{map_same}
 
 -- the table's rows
 pub row_of : (byte : ℕ) (d : List ℕ) → byte < 256 → get_or ENDS byte d ≡ end_row byte

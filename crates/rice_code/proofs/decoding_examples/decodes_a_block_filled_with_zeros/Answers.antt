@@ -1,9 +1,8 @@
-use Rattle.std.proofs.Common.{◌∷◌, [], replicate, false, Some, None, refl, lit<, lit≤, pos}
+use Rattle.std.proofs.Common.{◌∷◌, [], replicate, false, None, refl, lit<, lit≤, pos}
 use Rattle.rice_bits.specs.Bits.{word, bits_of}
 use Rattle.rice_samples.specs.Examples.{unprocessed_defaults}
 use Rattle.rice_code.specs.code.Blocks.{BlockData}
 use Rattle.rice_code.specs.code.CodedDataSets.{Split}
-use Rattle.rice_code.specs.code.Decoded.{Reached}
 use Rattle.rice_code.proofs.lemmas.meaning.DecodingWitnesses.{Gives, all_below, unsigned_samples, decoded_by_one}
 use Rattle.rice_code.proofs.decoding_examples.decodes_a_block_filled_with_zeros.Goals as goal
 

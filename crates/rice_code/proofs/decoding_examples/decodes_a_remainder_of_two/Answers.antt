@@ -1,8 +1,7 @@
-use Rattle.std.proofs.Common.{◌∷◌, [], replicate, false, Some, None, refl, lit<, pos}
+use Rattle.std.proofs.Common.{[], replicate, false, Some, None, refl, lit<, pos}
 use Rattle.rice_bits.specs.Bits.{word, bits_of}
 use Rattle.rice_samples.specs.Examples.{defaults}
 use Rattle.rice_code.specs.code.CodedDataSets.{RemainderOfSegment}
-use Rattle.rice_code.specs.code.Decoded.{Ended}
 use Rattle.rice_code.proofs.lemmas.meaning.DecodingWitnesses.{Gives, unsigned_samples, zeros_end, decoded_by_one}
 use Rattle.rice_code.proofs.decoding_examples.decodes_a_remainder_of_two.Goals as goal
 

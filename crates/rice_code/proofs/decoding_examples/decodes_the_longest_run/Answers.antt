@@ -2,7 +2,7 @@ use Rattle.std.proofs.Common.{◌≤◌, ◌∷◌, [], ◌++◌, replicate, fal
 use Rattle.rice_bits.specs.Bits.{word, bits_of}
 use Rattle.rice_samples.specs.Examples.{defaults}
 use Rattle.rice_code.specs.code.CodedDataSets.{ZeroBlocks}
-use Rattle.rice_code.specs.code.Decoded.{Ended, Past}
+use Rattle.rice_code.specs.code.Decoded.{Past}
 use Rattle.rice_code.proofs.lemmas.meaning.DecodingWitnesses.{Gives, unsigned_samples, zeros_end, decoded_by_one, decoded_by_none}
 use Rattle.rice_code.proofs.decoding_examples.decodes_the_longest_run.Goals as goal
 

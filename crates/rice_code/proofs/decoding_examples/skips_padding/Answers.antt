@@ -2,7 +2,6 @@ use Rattle.std.proofs.Common.{◌∷◌, [], ◌++◌, replicate, true, false, S
 use Rattle.rice_bits.specs.Bits.{word, bits_of}
 use Rattle.rice_samples.specs.Examples.{defaults}
 use Rattle.rice_code.specs.code.CodedDataSets.{CodedDataSet, ZeroBlocks, bits_of_set}
-use Rattle.rice_code.specs.code.Decoded.{Reached}
 use Rattle.rice_code.proofs.lemmas.meaning.DecodingWitnesses.{Gives, unsigned_samples, zeros_end, decoded_by_one}
 use Rattle.rice_code.proofs.decoding_examples.skips_padding.Goals as goal
 

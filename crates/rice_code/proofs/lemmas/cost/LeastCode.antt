@@ -16,7 +16,7 @@ use Rattle.rice_code.specs.code.Forms.{IsForm, blocks_in, blocks_in_all, zero_bl
 use Rattle.rice_code.specs.code.Layout.{block_after}
 use Rattle.rice_code.specs.code.SoundBlocks.{IsSoundBlock}
 use Rattle.rice_code.proofs.lemmas.cost.BlockBounds.{shortest_is_form}
-use Rattle.rice_code.proofs.lemmas.cost.WhereSetsEnd.{IsFill, code_end, never_back, sent_bits, taken_bits, taken_end, unfilled, unfilled_is}
+use Rattle.rice_code.proofs.lemmas.cost.WhereSetsEnd.{IsFill, code_end, never_back, sent_bits, taken_bits, taken_end, unfilled_is}
 use Rattle.rice_code.proofs.lemmas.cost.CostIsLength.{cost_is_length, numbered_run_len, remainder_len}
 use Rattle.rice_code.proofs.lemmas.cost.LeastRuns.{IsLeastCodeword, by_run, run_and_more}
 use Rattle.rice_code.proofs.lemmas.cost.SplitSavings.{choice_is_least}

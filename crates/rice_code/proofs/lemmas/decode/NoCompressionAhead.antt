@@ -1,6 +1,6 @@
 -- A block without compression that waits, and is predicted.
 use Rattle.std.proofs.Common.{◌≡◌, ℕ, zero, suc, ◌+◌, ◌-◌, ◌*◌, ◌^◌, ◌<◌, ◌≤◌, Bool, true, List, [], ◌∷◌, ◌++◌, length, take, drop, take-take, replicate, refl, sym, ◌∙◌, ap, subst, arith, Option}
-use Rattle.std.specs.Prelude.{All, flat_map, slice_index_or, IfSome, IfNone}
+use Rattle.std.specs.Prelude.{All, flat_map, slice_index_or}
 use Rattle.std.specs.Simd.Lanes.{put_chunk}
 use Rattle.std.proofs.lemmas.Simd.{take_more_put_chunk}
 use Rattle.std.proofs.Math.Seq.{take-add}
@@ -12,7 +12,7 @@ use Rattle.rice_bits.specs.read.JoinedParts.{joined_parts}
 use Rattle.rice_bits.proofs.lemmas.read.WindowLemmas.{words-front}
 use Rattle.rice_samples.specs.Parameters.{Parameters, id_len, value_at, value_count, values_at, width}
 use Rattle.rice_samples.specs.bytes.Spelling.{spellings}
-use Rattle.rice_samples.specs.predict.Residuals.{pattern, ranks_below}
+use Rattle.rice_samples.specs.predict.Residuals.{ranks_below}
 use Rattle.rice_samples.proofs.lemmas.bytes.LevelsSpelledInByteLanes.{bytes-front, one_byte}
 use Rattle.rice_samples.specs.predict.LevelsOfParts.{AreLevelsOfParts}
 use Rattle.rice_samples.proofs.lemmas.predict.HalfLanes.{last_is as last_at}

@@ -44,7 +44,6 @@ use Rattle.rice_code.proofs.lemmas.code.FormsReadInOneWay.{wide_id}
 use Rattle.rice_code.proofs.lemmas.decode.JoinedResiduals.{high_pieces, low_pieces}
 use Rattle.rice_code.proofs.lemmas.decode.OptionsRead.{coded-placed, zero-placed}
 use Rattle.rice_code.proofs.lemmas.decode.RestoredBlocks.{contents_restored}
-use Rattle.rice_code.proofs.lemmas.decode.RowsOfFields.{all_back}
 
 -- ranks of numbers below `count` are below it
 pub ranks_fit : (count p : ℕ) (xs : List ℕ) → p < count → All (λ x. x < count) xs → All (λ d. d < count) (ranks_below count p xs)

@@ -1,6 +1,6 @@
 -- All bytes are decoded, in one way or another.
 use Rattle.std.proofs.Common.{◌≡◌, ℕ, zero, suc, ◌+◌, ◌-◌, ◌*◌, ◌%◌, ◌<◌, ◌≤◌, ◌⊎◌, inl, inr, Bool, true, false, cond, List, []}
-use Rattle.std.proofs.Common.{◌∷◌, ◌++◌, length, take, drop, replicate, refl, ap, arith, sym, ◌∙◌, subst, length-append, Option, Some, None, ℤ, pos}
+use Rattle.std.proofs.Common.{◌∷◌, ◌++◌, length, take, drop, replicate, refl, ap, arith, sym, ◌∙◌, subst, length-append, Option, Some, None, ℤ}
 use Rattle.std.specs.Prelude.{Contains, IsSomeAnd, OnSome, slice_index}
 use Rattle.std.specs.List.{AllByRecursion}
 use Rattle.std.proofs.lemmas.Bool.{cases_lt}

@@ -1,14 +1,13 @@
 -- Behind a coded data set that is taken, decoding goes on.
 use Rattle.std.proofs.Common.{◌≡◌, ℕ, zero, suc, ◌+◌, ◌-◌, ◌*◌, Bool, List, [], ◌∷◌, ◌++◌, length, take, refl, ap, arith, sym, ◌∙◌, subst, append_assoc, length-append, Option, Some, None, ℤ}
-use Rattle.std.specs.Prelude.{All}
 use Rattle.std.proofs.lemmas.List.Elements.{All-append}
 use Rattle.rice_samples.specs.Parameters.{Parameters, IsLegal, IsSample}
 use Rattle.rice_samples.specs.predict.Residuals.{last_of}
 use Rattle.rice_code.specs.code.Blocks.{blocks_from}
 use Rattle.rice_code.specs.code.CodedDataSets.{CodedDataSet, bits_of_set}
-use Rattle.rice_code.specs.code.Forms.{IsForm, RunIsSound, ResidualsAreSound, blocks_in, blocks_in_all}
+use Rattle.rice_code.specs.code.Forms.{blocks_in, blocks_in_all}
 use Rattle.rice_code.specs.code.Layout.{block_after, padding}
-use Rattle.rice_code.specs.code.Decoded.{DecodedFrom, Ending, IsWanted, EndsWith, cut_to}
+use Rattle.rice_code.specs.code.Decoded.{DecodedFrom, Ending, EndsWith, cut_to}
 use Rattle.rice_code.proofs.lemmas.code.FilledBlocks.{blocks_append}
 use Rattle.rice_code.specs.Laws.{IsWantedSet, MakeBlocks}
 

@@ -5,7 +5,7 @@ use Rattle.std.specs.Int.{next_multiple_of}
 use Rattle.std.proofs.lemmas.List.{drop-append-le, length-replicate, length-take-le, take-append-drop, take-append-le}
 use Rattle.std.proofs.Math.Nat.{mod-lt, mod_self}
 use Rattle.std.proofs.Math.Seq.{take-append-add, take-length}
-use Rattle.rice_bits.specs.Bits.{bits_of, bits_to_byte}
+use Rattle.rice_bits.specs.Bits.{bits_to_byte}
 use Rattle.rice_bits.proofs.lemmas.bits.BytesAndBits.{bits_of-padded, length-bits_of}
 use Rattle.rice_samples.specs.Parameters.{Parameters, IsLegal}
 use Rattle.rice_samples.specs.Places.{block_count}
@@ -20,7 +20,7 @@ use Rattle.rice_code.specs.code.Forms.{blocks_in_all}
 use Rattle.rice_code.specs.code.Layout.{block_after}
 use Rattle.rice_code.proofs.lemmas.code.FilledBlocks.{last_behind, repeated_all}
 use Rattle.rice_code.proofs.lemmas.code.SoundBlocks.{count_blocks, filled_len}
-use Rattle.rice_code.proofs.lemmas.cost.WhereSetsEnd.{padded, padded_is, sent_padded, taken_padded}
+use Rattle.rice_code.proofs.lemmas.cost.WhereSetsEnd.{padded_is, sent_padded, taken_padded}
 use Rattle.rice_code.proofs.lemmas.cost.LeastCode.{ends_no_later}
 use Rattle.rice_code.proofs.lemmas.cost.CostsOfSmallerBlocks.{AreAtMost, BeginAtMost, IsAtMost, at_most_itself}
 

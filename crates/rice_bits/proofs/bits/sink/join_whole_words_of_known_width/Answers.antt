@@ -1,4 +1,4 @@
-use Rattle.std.proofs.Common.{◌+◌, ◌%◌, arith, length}
+use Rattle.std.proofs.Common.{arith}
 use Rattle.rice_bits.proofs.lemmas.bits.WholeWords.{last-joins}
 use Rattle.rice_bits.proofs.bits.sink.join_whole_words_of_known_width.Goals as goal
 

@@ -1,4 +1,4 @@
-use Rattle.std.proofs.Common.{◌+◌, ◌%◌, arith}
+use Rattle.std.proofs.Common.{arith}
 use Rattle.rice_bits.proofs.lemmas.bits.WholeWords.{value-joins, words-joins}
 use Rattle.rice_bits.proofs.bits.whole_words.join_all_but_last_digits.Goals as goal
 

@@ -1,4 +1,4 @@
-use Rattle.std.proofs.Common.{◌≡◌, ◌+◌, arith, length, refl, take}
+use Rattle.std.proofs.Common.{◌≡◌, ◌+◌, arith, refl, take}
 use Rattle.std.specs.Simd.Lanes.{put_chunk}
 use Rattle.std.proofs.lemmas.Simd.{length-put_chunk}
 use Rattle.rice_bits.specs.read.EndsAndGaps.{gaps}

@@ -1,4 +1,4 @@
-use Rattle.std.proofs.Common.{◌+◌, ◌/◌, ◌∙◌, ap, length, refl}
+use Rattle.std.proofs.Common.{◌+◌, ◌/◌, ◌∙◌, ap, refl}
 use Rattle.std.specs.Prelude.{flat_map}
 use Rattle.std.proofs.lemmas.Bool.{iff_false}
 use Rattle.rice_bits.specs.Bits.{fundamental_sequence}

@@ -1,4 +1,4 @@
-use Rattle.std.proofs.Common.{arith, ◌≡◌, ◌≤◌, ◌∙◌, ap, ◌-◌, ◌/◌, ◌^◌, ◌++◌, drop, refl, subst, sym, false}
+use Rattle.std.proofs.Common.{arith, ◌≡◌, ◌≤◌, ◌∙◌, ap, ◌-◌, ◌/◌, ◌^◌, ◌++◌, drop, refl, subst, sym}
 use Rattle.std.specs.Prelude.{All, flat_map}
 use Rattle.std.proofs.lemmas.Bool.{iff_false}
 use Rattle.rice_bits.specs.Bits.{word, fundamental_sequence}

@@ -1,4 +1,4 @@
-use Rattle.std.proofs.Common.{◌+◌, arith, refl}
+use Rattle.std.proofs.Common.{arith, refl}
 use Rattle.rice_code.proofs.lemmas.decode.RowsOfFields.{pairs-taken}
 use Rattle.rice_code.proofs.decode.pairs.take_waiting_pairs.Goals as goal
 

@@ -1,4 +1,4 @@
-use Rattle.std.proofs.Common.{◌^◌, ◌<◌, [], arith, length, take}
+use Rattle.std.proofs.Common.{◌^◌, ◌<◌, arith, length}
 use Rattle.rice_code.proofs.lemmas.decode.RowsOfFields.{put_rest, row-both, row-waiting, words-stop}
 use Rattle.std.proofs.lemmas.Result.{err_from_is_err_and}
 use Rattle.rice_code.proofs.decode.rows_of_fields.read_words.Goals as goal

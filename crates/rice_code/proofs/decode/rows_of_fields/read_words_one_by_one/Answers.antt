@@ -1,4 +1,4 @@
-use Rattle.std.proofs.Common.{arith, ◌^◌, ◌<◌, [], length, refl, take}
+use Rattle.std.proofs.Common.{arith, ◌^◌, ◌<◌, [], length, refl}
 use Rattle.rice_bits.specs.Bits.{word}
 use Rattle.rice_code.proofs.lemmas.decode.RowsOfFields.{row-none, row-word, row-whole, words-stop}
 use Rattle.std.proofs.lemmas.Result.{err_from_is_err_and}

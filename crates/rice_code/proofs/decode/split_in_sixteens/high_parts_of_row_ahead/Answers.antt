@@ -1,4 +1,4 @@
-use Rattle.std.proofs.Common.{arith, take}
+use Rattle.std.proofs.Common.{arith}
 use Rattle.rice_code.proofs.lemmas.decode.SplitInSixteens.{first_of_row, row-highs}
 use Rattle.rice_code.proofs.decode.split_in_sixteens.high_parts_of_row_ahead.Goals as goal
 

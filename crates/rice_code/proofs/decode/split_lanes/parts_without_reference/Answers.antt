@@ -1,4 +1,4 @@
-use Rattle.std.proofs.Common.{◌+◌, refl}
+use Rattle.std.proofs.Common.{refl}
 use Rattle.rice_code.proofs.lemmas.decode.SplitAhead.{plain_ahead}
 use Rattle.rice_code.proofs.decode.split_lanes.parts_without_reference.Goals as goal
 

@@ -1,4 +1,4 @@
-use Rattle.std.proofs.Common.{◌≡◌, ◌+◌, ◌-◌, ◌*◌, ◌∙◌, ap, arith, length, subst, take}
+use Rattle.std.proofs.Common.{◌≡◌, ◌+◌, ◌*◌, ◌∙◌, ap, arith, length, subst, take}
 use Rattle.std.proofs.lemmas.List.{take_all}
 use Rattle.rice_samples.specs.predict.Residuals.{last_number}
 use Rattle.rice_code.specs.decode.WideAhead.{LevelsAhead}

@@ -1,5 +1,4 @@
 use Rattle.std.proofs.Common.{◌≡◌, ◌*◌, ◌∙◌, ap, arith, length, refl, take}
-use Rattle.std.specs.Simd.Lanes.{put_chunk}
 use Rattle.std.proofs.lemmas.List.{take_all}
 use Rattle.rice_samples.specs.Parameters.{values_at}
 use Rattle.rice_samples.specs.bytes.Spelling.{spellings}

@@ -2,7 +2,6 @@ use Rattle.std.proofs.Common.{◌≡◌, ◌∙◌, ap, arith, length, refl, sub
 use Rattle.std.proofs.lemmas.List.{length-take-le}
 use Rattle.rice_samples.specs.Parameters.{IsLegal}
 use Rattle.rice_code.specs.decode.BlocksInOnePass.{HasLanes, SpelledAhead}
-use Rattle.rice_code.specs.decode.Decoder.{with_mark}
 use Rattle.rice_code.specs.decode.DecoderState.{DecoderState}
 use Rattle.rice_code.proofs.lemmas.decode.BlocksInRow.{takes_waiting}
 use Rattle.rice_code.proofs.lemmas.decode.SplitAhead.{bytes_given}

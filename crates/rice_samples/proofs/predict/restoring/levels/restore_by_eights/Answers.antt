@@ -1,5 +1,4 @@
-use Rattle.std.proofs.Common.{arith, ◌+◌, ◌-◌, ◌*◌}
-use Rattle.rice_samples.specs.Parameters.{value_count}
+use Rattle.std.proofs.Common.{arith, ◌+◌, ◌*◌}
 use Rattle.rice_samples.proofs.lemmas.predict.RestoredLevels.{restored-row}
 use Rattle.rice_samples.proofs.predict.restoring.levels.restore_by_eights.Goals as goal
 
