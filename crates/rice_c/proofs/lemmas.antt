@@ -1,9 +1,9 @@
 -- The lemmas of the proofs, by what they speak of.
-pub mod PulledPieceByNumbers
+pub mod BytesOfPulledPiece
 pub mod FedPlaces
-pub mod FedRoom
+pub mod RoomOfPieceSuffices
 pub mod FedOutlets
 pub mod WrittenMemory
 pub mod PulledPieces
 pub mod ReturnedSamples
-pub mod CallRoom
+pub mod RoomOfCallSuffices

@@ -1,7 +1,7 @@
 -- Bits, words and bytes.
 pub mod BytesAndBits
 pub mod EightBytes
-pub mod FirstOneOfWord
+pub mod FrontsOfWords
 pub mod JoinedBits
 pub mod WordsReadInOneWay
 pub mod FieldsAtFront

@@ -14,7 +14,7 @@ use Rattle.rice_samples.proofs.lemmas.bytes.SpellingLengths.{length-spellings, s
 use Rattle.rice_c.specs.declared.feeding.RiceFeed.{RiceFeed}
 use Rattle.rice_c.specs.Feeding.{fault_of, fed}
 use Rattle.rice_c.specs.Laws.{AreFed, FeedsTellPlaces, Push, last_feed, written_by}
-use Rattle.rice_c.proofs.lemmas.CallRoom.{none_of}
+use Rattle.rice_c.proofs.lemmas.RoomOfCallSuffices.{none_of}
 
 -- The first samples of an input were fed, and so many bytes are written.
 record HasPushed (s : Parameters) (input : List ℕ) (feed : RiceFeed) (written : ℕ) : Type 0 where

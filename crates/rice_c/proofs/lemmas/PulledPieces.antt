@@ -33,7 +33,7 @@ use Rattle.rice_c.specs.Calls.{DecodesInto, StandsInFront}
 use Rattle.rice_c.specs.Laws.{ArePulled, DrainsTellPlaces, EndsAll, EnoughIsDecoding, IsPulled, Pull, PullsAreDecoding, WriteInParts, last_drain, place_all}
 use Rattle.rice_c.specs.Reports.{report_of}
 use Rattle.rice_c.specs.Statuses.{status_number, pause_status, fault_status, fault_place, pause_place}
-use Rattle.rice_c.proofs.lemmas.PulledPieceByNumbers.{more_samples}
+use Rattle.rice_c.proofs.lemmas.BytesOfPulledPiece.{more_samples}
 use Rattle.rice_c.proofs.lemmas.ReturnedSamples.{decode_suffices}
 
 -- ---- the pulls, as those of the engine

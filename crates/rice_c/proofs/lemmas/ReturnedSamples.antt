@@ -18,7 +18,7 @@ use Rattle.rice_c.specs.Laws.{ReturnsBytes, ReturnsBytesAndFill, RoomSuffices}
 use Rattle.rice_c.specs.Reports.{report_of}
 use Rattle.rice_c.specs.SufficientRoom.{code_room}
 use Rattle.rice_c.specs.Statuses.{status_number, fault_status}
-use Rattle.rice_c.proofs.lemmas.CallRoom.{encode_wants, decode_wants, write_of, none_of}
+use Rattle.rice_c.proofs.lemmas.RoomOfCallSuffices.{encode_wants, decode_wants, write_of, none_of}
 
 -- with the room that is told, encoding never wants more
 pub encode_suffices : (s : Parameters) (input old new : List ℕ) (r : RiceReport) (status : ℕ) → IsLegal s → EncodesInto s input old new r status

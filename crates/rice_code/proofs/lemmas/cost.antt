@@ -7,6 +7,6 @@ pub mod LeastCode
 pub mod LeastRuns
 pub mod BestSplitsPaid
 pub mod PaddingBounds
-pub mod PairCosts
+pub mod PairsAreLonger
 pub mod SplitSavings
 pub mod CostsOfSmallerBlocks

@@ -21,7 +21,7 @@ use Rattle.std.specs.Int.{to_be_bytes, w64}
 use Rattle.rice_bits.specs.Bits.{bits_of, word}
 use Rattle.rice_bits.specs.read.EndsAndGaps.{ends_after}
 use Rattle.rice_bits.proofs.lemmas.bits.EightBytes.{bits_of-eight, word-mod}
-use Rattle.rice_bits.proofs.lemmas.bits.FirstOneOfWord.{front_below, take-front}
+use Rattle.rice_bits.proofs.lemmas.bits.FrontsOfWords.{front_below, take-front}
 use Rattle.rice_bits.proofs.lemmas.bits.WordsAndNumbers.{length-word}
 use Rattle.rice_bits.proofs.lemmas.read.EndsAndGapsLemmas.{ends-append, ends-count, few-ends}
 use Rattle.rice_bits.specs.lanes.Ends.{in_lanes, places_behind, row_of_place}

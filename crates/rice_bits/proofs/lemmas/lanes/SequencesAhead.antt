@@ -7,7 +7,7 @@ use Rattle.rice_bits.specs.declared.lanes.sequences.Sequences.{Sequences}
 use Rattle.rice_bits.specs.declared.read.window.Window.{Window}
 use Rattle.std.proofs.lemmas.List.{drop-take}
 use Rattle.rice_bits.specs.read.Window.{IsWindow, bits_near, window_bits}
-use Rattle.rice_bits.proofs.lemmas.bits.FirstOneOfWord.{take-front}
+use Rattle.rice_bits.proofs.lemmas.bits.FrontsOfWords.{take-front}
 use Rattle.rice_bits.proofs.lemmas.read.WindowLemmas.{front-ahead, part-waits, word-behind}
 
 -- those at the front of a word that was loaded from the bits behind others

@@ -14,7 +14,7 @@ use Rattle.rice_bits.specs.Bits.{bits_of, word}
 use Rattle.rice_bits.specs.lanes.WordPlaces.{pair_number}
 use Rattle.rice_bits.specs.lanes.WideWordPlaces.{four, places_from, quad_factors, quad_number, quad_places}
 use Rattle.rice_bits.specs.declared.lanes.wide_words.TheConstants.{PLACES, FACTORS}
-use Rattle.rice_bits.proofs.lemmas.bits.FirstOneOfWord.{front_below}
+use Rattle.rice_bits.proofs.lemmas.bits.FrontsOfWords.{front_below}
 use Rattle.rice_bits.proofs.lemmas.bits.WordsAndNumbers.{word-cat}
 use Rattle.rice_bits.proofs.lemmas.lanes.WordsInTwoBytes.{bytes_below, drop-bits_of, pair_word, pieces-joined}
 use Rattle.rice_bits.proofs.lemmas.read.WindowLemmas.{take-bits_of, word-behind, words-joined}

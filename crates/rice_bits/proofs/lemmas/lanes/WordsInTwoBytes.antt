@@ -14,7 +14,7 @@ use Rattle.std.proofs.lemmas.List.FromFn.{get_or-map-range_with_len}
 use Rattle.std.proofs.lemmas.Simd.{Each1-get_or, get_or_wider, pick_l_whole}
 use Rattle.rice_bits.specs.Bits.{bits_of, word}
 use Rattle.rice_bits.specs.read.EightWordPlaces.{eight}
-use Rattle.rice_bits.proofs.lemmas.bits.FirstOneOfWord.{front_below}
+use Rattle.rice_bits.proofs.lemmas.bits.FrontsOfWords.{front_below}
 use Rattle.rice_bits.proofs.lemmas.bits.WordsAndNumbers.{word-cat}
 use Rattle.rice_bits.proofs.lemmas.read.WindowLemmas.{take-bits_of, word-behind}
 use Rattle.rice_bits.specs.lanes.WordPlaces.{pair_number, factors, places}

@@ -13,7 +13,7 @@ use Rattle.std.proofs.lemmas.Simd.{get_or_narrower, get_or_wider, get_or-swz_l_b
 use Rattle.rice_bits.specs.Bits.{word}
 use Rattle.rice_bits.specs.read.EightWordPlaces.{eight, word_places}
 use Rattle.rice_bits.proofs.lemmas.bits.EightBytes.{word-mod}
-use Rattle.rice_bits.proofs.lemmas.bits.FirstOneOfWord.{front_below, take-front}
+use Rattle.rice_bits.proofs.lemmas.bits.FrontsOfWords.{front_below, take-front}
 use Rattle.rice_bits.proofs.lemmas.bits.WordsAndNumbers.{length-word, word-split}
 use Rattle.rice_bits.proofs.lemmas.read.WindowLemmas.{drop-seam, front-ahead, word-behind}
 

@@ -7,7 +7,7 @@ use Rattle.std.proofs.Math.Seq.{take-add}
 use Rattle.std.proofs.lemmas.Grind.{flat_map-append}
 use Rattle.std.proofs.lemmas.List.{append-nil, drop-drop}
 use Rattle.rice_bits.specs.Bits.{word}
-use Rattle.rice_bits.proofs.lemmas.bits.FirstOneOfWord.{front_below, take-front}
+use Rattle.rice_bits.proofs.lemmas.bits.FrontsOfWords.{front_below, take-front}
 use Rattle.rice_bits.proofs.lemmas.read.WindowLemmas.{all-four, front-ahead, word-behind}
 
 -- the first word

@@ -21,7 +21,7 @@ use Rattle.rice_bits.specs.read.Window.{IsWindow, Passes, bits_near, window_bits
 use Rattle.rice_bits.specs.declared.read.window.Window.{Window}
 use Rattle.rice_bits.proofs.lemmas.bits.BytesAndBits.{bits_of-append, bits_of-first, bits_of-zeros, length-bits_of}
 use Rattle.rice_bits.proofs.lemmas.bits.EightBytes.{bits_of-eight}
-use Rattle.rice_bits.proofs.lemmas.bits.FirstOneOfWord.{front_below, take-front, word-moved, word-parts}
+use Rattle.rice_bits.proofs.lemmas.bits.FrontsOfWords.{front_below, take-front, word-moved, word-parts}
 use Rattle.rice_bits.proofs.lemmas.bits.WordsAndNumbers.{length-fundamental_sequence, length-word, number_of-word, word-cat, word-nil, word-split, word-zero}
 
 -- a part of a list is its two parts

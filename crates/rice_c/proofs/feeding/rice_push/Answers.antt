@@ -4,7 +4,7 @@ use Rattle.rice_samples.specs.Parameters.{Parameters, width}
 use Rattle.rice_samples.specs.declared.setting.SettingFault.{SettingFault}
 use Rattle.rice_stream.specs.Feeding.{IsSeam}
 use Rattle.rice_c.specs.SufficientRoom.{push_room}
-use Rattle.rice_c.proofs.lemmas.FedRoom.{push_room_suffices}
+use Rattle.rice_c.proofs.lemmas.RoomOfPieceSuffices.{push_room_suffices}
 use Rattle.rice_c.proofs.feeding.rice_push.Goals as goal
 
 pub returns-in-Ok-clause-room : goal.returns-in-Ok-clause-room

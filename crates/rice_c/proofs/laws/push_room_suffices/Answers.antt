@@ -1,4 +1,4 @@
-use Rattle.rice_c.proofs.lemmas.FedRoom as fed
+use Rattle.rice_c.proofs.lemmas.RoomOfPieceSuffices as fed
 use Rattle.rice_c.proofs.laws.push_room_suffices.Goals as goal
 
 pub returns : goal.returns

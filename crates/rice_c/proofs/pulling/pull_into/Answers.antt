@@ -1,6 +1,6 @@
 use Rattle.std.proofs.Common.{arith, refl, ◌/◌, ◌∙◌, ap}
 use Rattle.rice_c.specs.Statuses.{status_number, pause_place}
-use Rattle.rice_c.proofs.lemmas.PulledPieceByNumbers.{bytes_fit, bytes_written, more_samples}
+use Rattle.rice_c.proofs.lemmas.BytesOfPulledPiece.{bytes_fit, bytes_written, more_samples}
 use Rattle.rice_c.proofs.pulling.pull_into.Goals as goal
 
 pub overflow_sub-report : goal.overflow_sub-report

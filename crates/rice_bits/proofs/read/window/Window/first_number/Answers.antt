@@ -2,7 +2,7 @@ use Rattle.std.proofs.Common.{◌-◌, ◌≤◌, ◌∙◌, ap, arith}
 use Rattle.std.proofs.Math.Nat.{pow-le-pow_right}
 use Rattle.rice_bits.specs.Bits.{word}
 use Rattle.rice_bits.specs.read.Window.{bits_near, window_bits}
-use Rattle.rice_bits.proofs.lemmas.bits.FirstOneOfWord.{front_below}
+use Rattle.rice_bits.proofs.lemmas.bits.FrontsOfWords.{front_below}
 use Rattle.rice_bits.proofs.lemmas.read.WindowLemmas.{first-ahead}
 use Rattle.rice_bits.proofs.read.window.Window.first_number.Goals as goal
 

@@ -6,7 +6,7 @@ use Rattle.std.specs.Int.Count.{leading_unique}
 use lib.Count.{count_leading_zeros}
 use Rattle.rice_bits.specs.Bits.{fundamental_sequence, word}
 use Rattle.rice_bits.specs.read.Window.{bits_near, window_bits}
-use Rattle.rice_bits.proofs.lemmas.bits.FirstOneOfWord.{first_run, take-front, word-parts}
+use Rattle.rice_bits.proofs.lemmas.bits.FrontsOfWords.{first_run, take-front, word-parts}
 use Rattle.rice_bits.proofs.lemmas.bits.WordsAndNumbers.{length-fundamental_sequence, word-zero}
 use Rattle.rice_bits.proofs.lemmas.read.WindowLemmas.{length-window, run-within, near-there, window-front}
 use Rattle.rice_bits.proofs.read.window.Window.len_of_sequence_ahead.Goals as goal

@@ -1,4 +1,4 @@
--- How much room a piece that is fed takes.
+-- The room that is told of a piece which is fed suffices.
 use Rattle.std.proofs.Common.{◌≡◌, ℕ, ◌+◌, ◌-◌, ◌*◌, ◌/◌, ◌<◌, ◌≤◌, false, List, [], ◌∷◌, ◌++◌, length, take, replicate, Option}
 use Rattle.std.proofs.Common.{Some, None, Result, Ok, Err, inl, inr, sym, ◌∙◌, ap, subst, arith, append_assoc, append-nil, length-append, ℤ}
 use Rattle.std.specs.Prelude.{All}
@@ -25,7 +25,7 @@ use Rattle.rice_stream.proofs.lemmas.Seams.{cut_grows}
 use Rattle.rice_c.specs.Feeding.{fault_of}
 use Rattle.rice_c.specs.Laws.{PushRoomSuffices}
 use Rattle.rice_c.specs.SufficientRoom.{push_room}
-use Rattle.rice_c.proofs.lemmas.CallRoom.{bound_le, few_samples, few_whole, stops_short, write_of}
+use Rattle.rice_c.proofs.lemmas.RoomOfCallSuffices.{bound_le, few_samples, few_whole, stops_short, write_of}
 
 -- the samples of a feed are legal
 fed_legal : (s : Parameters) (seam : Seam) (xs : List ℤ) → IsSeam s seam xs → All (IsSample s) xs

@@ -1,4 +1,4 @@
--- The first bits of a word, and its first 1.
+-- The fronts of words, and the first 1 of one.
 use Rattle.std.proofs.Common.{◌≡◌, ℕ, zero, suc, ◌+◌, ◌-◌, ◌*◌, ◌/◌, ◌%◌, ◌^◌, ◌<◌, ◌≤◌, false, ◌++◌, take, replicate, sym, ◌∙◌, ap, subst, arith}
 use Rattle.std.proofs.Math.Nat.{pow-suc}
 use Rattle.std.proofs.Math.Seq.{take-append_seam}

@@ -1,4 +1,4 @@
--- How much room a call takes.
+-- The room that is told of a call suffices: one that wants room had less.
 use Rattle.std.proofs.Common.{◌≡◌, ◌≢◌, ℕ, ◌+◌, ◌*◌, ◌/◌, ◌<◌, ◌≤◌, cond, Bool, true, false, List, [], ◌∷◌, ◌++◌}
 use Rattle.std.proofs.Common.{length, take, replicate, Option, Some, None, inl, inr, ◌⊎◌, refl, ◌∙◌, ap, arith, length-append, ℤ, pos}
 use Rattle.std.specs.Prelude.{All}
