@@ -119,8 +119,10 @@ class Edit:
 
     @property
     def adds_statement(self):
-        """Whether it adds a statement by whose goals it is judged first."""
-        return bool(self.function) and self.change[3].startswith(SEARCHED)
+        """Whether it adds a statement by whose goals it is judged first: a way out of the function, and none to a loop's next turn, whose
+        goals are the loop's."""
+        added = self.change[3] if self.function else ""
+        return added.startswith(SEARCHED) and "return" in added and not re.search(r"\b(continue|break)\b", added)
 
     @property
     def clauses(self):

@@ -8,6 +8,7 @@ is kept afterwards. Where the toolchain is another one, whose `rt` can't have it
 usage: gate.py
 """
 import dataclasses
+import glob
 import os
 import re
 import shutil
@@ -134,8 +135,9 @@ def verdicts_of(keys, given):
 
 
 def controls_of(crate):
-    """Returns a change that is right, and one whose text stands nowhere, each with what has to be said of it."""
-    return {f"{CONTROLS}/{crate.name}.edit": "NOT REFUSED", f"{CONTROLS}/stale.edit": "BAD EDIT"}
+    """Returns changes that are right, and one whose text stands nowhere, each with what has to be said of it."""
+    right = [f"{CONTROLS}/{crate.name}.edit", *sorted(glob.glob(f"{CONTROLS}/{crate.name}-*.edit"))]
+    return {**dict.fromkeys(right, "NOT REFUSED"), f"{CONTROLS}/stale.edit": "BAD EDIT"}
 
 
 def try_edits(crate, paths, number):
