@@ -187,7 +187,9 @@ def change_of(edit, text):
         return first, last, new
     function = edit.function
     start = sum(len(line) + 1 for line in text.split("\n")[: function.first - 1])
-    tactic = "#[tactic(none)] " if edit.by_answers else ""
+    indent = re.match(" *", text[function.start :])[0]
+    # (on a line of its own: its goals are found by the head of the function below)
+    tactic = f"{indent}#[tactic(none)]\n" if edit.by_answers else ""
     twin = text[start : function.start] + tactic + text[function.start : first] + new + text[last : function.end]
     name = function.name.split("::")[-1]
     twin = re.sub(rf"\bfn {name}\b", f"fn {name}{TWIN}{edit.twin}", twin, count=1)
