@@ -63,11 +63,11 @@ pub fn plan_of<'a>(matches: &ArgMatches<'a>) -> Result<Plan<'a>, PlanFault>
     if !test && dest.is_none() {
         return Err(PlanFault::Unreadable);
     }
-    plan_with_entries(matches, decode, samples, dest)
+    plan_of_other_entries(matches, decode, samples, dest)
 }
 
 /// Returns the plan of the entries that are still to be read.
-fn plan_with_entries<'a>(
+fn plan_of_other_entries<'a>(
     matches: &ArgMatches<'a>,
     decode: bool,
     samples: Option<u64>,

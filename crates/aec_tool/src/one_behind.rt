@@ -10,7 +10,7 @@ use rice_stream::Fault;
 const PIECE: usize = 4096;
 
 /// Takes `count` bytes from an intake and forgets them, or all if it has fewer.
-fn skip<I: Intake + Drop>(intake: &mut I, count: u64) -> Result<(), ReadFault>
+fn skip_bytes<I: Intake + Drop>(intake: &mut I, count: u64) -> Result<(), ReadFault>
     requires { I.failed intake.old + 1 < 2 ^ 64 }
     ensures rest { OnOk result ((bytes : List ℕ) → I.left intake.old ≡ Some bytes →
         I.left intake.new ≡ Some (drop count bytes)) }
@@ -67,7 +67,7 @@ pub fn look_behind<I: Intake + Drop>(intake: I, bits: u64) -> Result<bool, Fault
     ensures { LooksBehind I.failed (I.failed intake) (I.left intake) bits result }
 {
     let mut intake = intake;
-    match skip(&mut intake, bits / 8) {
+    match skip_bytes(&mut intake, bits / 8) {
         Ok(()) => has_one(intake, (bits % 8) as u32),
         Err(_) => Err(Fault::Read),
     }

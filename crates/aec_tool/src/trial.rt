@@ -100,7 +100,7 @@ fn judge<'a, S: System<'a>>(
 {
     match outcome.fault {
         Some(fault) => Err(fault),
-        None => look(system, plan, id, outcome.report.bits),
+        None => look_for_one_behind(system, plan, id, outcome.report.bits),
     }
 }
 
@@ -116,7 +116,7 @@ fn is_looked_for(plan: &Plan<'_>, id: Option<FileId>) -> bool
 }
 
 /// Returns whether a 1 is left behind the first `bits` bits of the source, if that is looked for.
-fn look<'a, S: System<'a>>(
+fn look_for_one_behind<'a, S: System<'a>>(
     system: &S,
     plan: &Plan<'a>,
     id: Option<FileId>,

@@ -6,8 +6,8 @@ use crate::cases::Cases;
 use rice_bits::{BitSink, Meter, SliceIn};
 use rice_samples::{
     Block, SampleFault, SampleReader, Segment, Setting, SettingFault, bytes_of as bytes_of_sample,
-    first_levels, from_pattern, level_of_pattern, levels_of, levels_of_patterns, pattern,
-    pattern_of_level, residual, restore, restore_near_first, sample_of, set_unused_bits,
+    first_levels, from_pattern, level_of_pattern, levels_of_patterns, pattern, pattern_of_level,
+    read_legal_levels, residual, restore, restore_near_first, sample_of, set_unused_bits,
     write_spellings, write_spellings_laid_out,
 };
 use std::alloc::Global;
@@ -575,7 +575,7 @@ fn puts_whole_digits(cases: &mut Cases<'_>, block: &Block<'_>) {
     }
     let mut meter = Meter::new();
     let mut sink = BitSink::<20>::new();
-    block.put_whole_digits(0b10110, 5, 16, &mut sink, &mut meter);
+    block.put_number_and_whole_digits(0b10110, 5, 16, &mut sink, &mut meter);
     cases.check(meter.steps() == 141);
     cases.check(sink.len() == 133);
     sink.pad();
@@ -609,8 +609,8 @@ fn samples_in_a_row(rt: HostRuntime) -> Result<(), Fail> {
     assert!(rt; are_below(setting.number_of_values(), &levels));
     assert!(rt; are_below(signed.number_of_values(), &negative));
     let mut segment = Segment::new();
-    segment.push_residuals(&setting, 5, &levels);
-    segment.push_patterns(&signed, &negative);
+    segment.push_residuals_of_levels(&setting, 5, &levels);
+    segment.push_patterns_of_levels(&signed, &negative);
     cases.check(segment.len() == 16);
     let residuals = [2, 1, 0, 1, 7, 255, 255, 255];
     cases.check(is_of(segment.block(0, 8), &residuals));
@@ -733,7 +733,7 @@ fn row_is_read(setting: &Setting, bytes: &[u8], len: usize, levels: &[u32]) -> b
     if len > 4 || !are_bytes_of(setting, bytes, len) {
         return false;
     }
-    let taken = levels_of(setting, bytes, &mut read[..len]);
+    let taken = read_legal_levels(setting, bytes, &mut read[..len]);
     &read[..taken] == levels
 }
 
@@ -772,9 +772,9 @@ fn samples_of_an_intake() -> Result<(), Fail> {
     let mut levels = [0; 4];
     let mut intake = SliceIn::new(&[1, 2, 255, 3, 0, 4]);
     let mut samples = SampleReader::new(setting);
-    cases.check(samples.next(&mut intake, &mut levels) == Ok(2));
+    cases.check(samples.next_levels(&mut intake, &mut levels) == Ok(2));
     cases.check(levels[..2] == [513, 1023]);
-    cases.check(samples.next(&mut intake, &mut levels) == Err(SampleFault::OutOfRange));
+    cases.check(samples.next_levels(&mut intake, &mut levels) == Err(SampleFault::OutOfRange));
     cases.check(first_levels(&setting, &[255, 3, 0, 4], &mut levels) == 1);
     cases.end()
 }
@@ -787,13 +787,13 @@ fn the_end_of_an_intake() -> Result<(), Fail> {
     let mut levels = [0; 4];
     let mut intake = SliceIn::new(&[1, 2, 3]);
     let mut samples = SampleReader::new(setting);
-    cases.check(samples.next(&mut intake, &mut levels) == Ok(1));
-    cases.check(samples.next(&mut intake, &mut levels) == Err(SampleFault::Cut));
+    cases.check(samples.next_levels(&mut intake, &mut levels) == Ok(1));
+    cases.check(samples.next_levels(&mut intake, &mut levels) == Err(SampleFault::Cut));
 
     let mut intake = SliceIn::new(&[1, 2]);
     let mut samples = SampleReader::new(setting);
-    cases.check(samples.next(&mut intake, &mut levels) == Ok(1));
-    cases.check(samples.next(&mut intake, &mut levels) == Ok(0));
+    cases.check(samples.next_levels(&mut intake, &mut levels) == Ok(1));
+    cases.check(samples.next_levels(&mut intake, &mut levels) == Ok(0));
     cases.end()
 }
 

@@ -6,6 +6,6 @@ pub mod DecoderState
 pub mod RowsOfFields
 pub mod PlainBlocks
 pub mod ReadSets
-pub mod BlockResiduals
+pub mod Restoring
 pub mod FieldsAhead
 pub mod WideAhead

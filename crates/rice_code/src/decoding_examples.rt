@@ -26,7 +26,7 @@ pub fn decodes_zeros_behind_the_code()
 {}
 
 /// Where no sample is asked for, nothing is read.
-pub fn decodes_nothing_that_is_not_asked_for()
+pub fn reads_nothing_if_none_are_asked_for()
     ensures { Decoded defaults (bits_of (0xFF ∷ 0xFF ∷ [])) (Some 0) [] Reached 0 }
 {}
 
@@ -37,7 +37,7 @@ pub fn decodes_a_greater_split_than_the_coder_takes()
 {}
 
 /// A block of one sample without preprocessing, filled with zeros: nine bits fewer than the coder's, which repeats that sample.
-pub fn decodes_a_block_filled_with_zeros()
+pub fn decodes_one_sample_and_zeros_as_fill()
     ensures { Decoded unprocessed_defaults (bits_of (0xC0 ∷ 0x3F ∷ 0xE0 ∷ replicate 5 0x00)) (Some 1) (pos 0xF0 ∷
         []) Reached 58 }
 {}
@@ -101,7 +101,7 @@ pub fn decodes_two_references()
 {}
 
 /// 4096 samples from nine bits. Where ten are asked for, these are all that is given.
-pub fn decodes_the_most_samples_of_a_bit()
+pub fn decodes_nine_bits_to_4096_samples()
     ensures all { Decoded (record unprocessed_defaults { block = 64; interval = 64 }) (bits_of (0x00 ∷
         0x80 ∷ [])) None (replicate 4096 (pos 0)) Ended 16 }
     ensures asked { Decoded (record unprocessed_defaults { block = 64; interval = 64 }) (bits_of (0x00 ∷

@@ -13,7 +13,7 @@ pub mod setting;
 pub use blocks::block::Block;
 pub use blocks::segment::{Residuals, Segment};
 pub use bytes::pattern_lanes::bytes_of_patterns;
-pub use bytes::reading::{first_levels, levels_of};
+pub use bytes::reading::{first_levels, read_legal_levels};
 pub use bytes::sample_fault::SampleFault;
 pub use bytes::sample_reader::{MOST_INPUT, SampleReader};
 pub use bytes::spelling::{bytes_of, sample_of};
@@ -22,14 +22,14 @@ pub use bytes::unused_bits::set_unused_bits;
 pub use bytes::writing::{write_spellings, write_spellings_laid_out};
 pub use predict::preprocessor::{from_pattern, pattern, residual, restore};
 pub use predict::residuals::from_levels::pattern_of_level;
-pub use predict::restoring::byte_lanes::{LevelLanes, near_levels, spelled_in_one_byte};
+pub use predict::restoring::byte_lanes::{LevelLanes, near_levels_of_parts, spelled_in_one_byte};
 pub use predict::restoring::bytes_in_turn::{levels_in_turn, levels_of_parts_in_turn};
-pub use predict::restoring::half_lanes::{LevelHalves, near_halves, spelled_in_two_bytes};
-pub use predict::restoring::halves_in_turn::halves_in_turn;
+pub use predict::restoring::half_lanes::{LevelHalves, near_halves_of_parts, spelled_in_two_bytes};
+pub use predict::restoring::halves_in_turn::halves_of_parts_in_turn;
 pub use predict::restoring::levels::{
     level_of_pattern, levels_of_patterns, restore_by_selection, restore_near_first,
 };
-pub use predict::restoring::word_lanes::{LevelWords, near_words};
+pub use predict::restoring::word_lanes::{LevelWords, near_words_of_parts};
 pub use setting::{Setting, SettingFault};
 
 // What it holds, in bytes, on a machine with pointers of eight.

@@ -37,7 +37,7 @@ pub(crate) fn value_of_digits(digits: u32, bits: u32, signed: bool) -> i64
 
 /// Returns the number that one to four bytes spell.
 #[inline]
-pub(crate) fn word_of(bytes: &[u8], msb: bool) -> u32
+pub(crate) fn number_of_bytes(bytes: &[u8], msb: bool) -> u32
     requires { (1 ≤ length bytes.now) × (length bytes.now ≤ 4) }
     ensures bytes { bytes.now ≡ ordered_bytes msb (length bytes.now) result }
     ensures fits { result < 2 ^ (8 * length bytes.now) }

@@ -9,7 +9,7 @@ pub mod FedPieces
 pub mod SamplesByLevels
 pub mod CallsDecodeAsDefined
 pub mod SamplesOfFirstBytes
-pub mod OnePulledPiece
+pub mod PulledPieceSoFar
 pub mod PulledPieces
 pub mod PullingLemmas
 pub mod ReturnedBytes
@@ -19,4 +19,4 @@ pub mod Seams
 pub mod SetsRead
 pub mod SpelledBlocks
 pub mod Strokes
-pub mod WholeBytes
+pub mod BytesOfGrowingCode

@@ -232,7 +232,7 @@ pub(crate) fn blocks_in_lanes<const SIZE: usize, const WIDTH: usize>(setting: &S
 /// Gives the bytes of the next blocks, at most `fit`, if `whole` says that all of the next one is wanted, it is to be looked at, and they
 /// can be decoded at one stroke. Returns how many; if none, nothing has happened to the decoder, the reader, the meter and the bytes.
 #[inline(always)]
-fn next_bytes<I: Intake, const SIZE: usize, const WIDTH: usize>(
+fn next_bytes_at_one_stroke<I: Intake, const SIZE: usize, const WIDTH: usize>(
     setting: &Setting,
     asked: Option<u64>,
     written: u64,
@@ -399,7 +399,7 @@ fn decode_blocks<I: Intake, O: Outlet, const SIZE: usize, const WIDTH: usize>(
         }
         let begin = reader.taken();
         let steps = meter.steps();
-        let blocks = next_bytes::<I, SIZE, WIDTH>(
+        let blocks = next_bytes_at_one_stroke::<I, SIZE, WIDTH>(
             &own,
             asked,
             written,

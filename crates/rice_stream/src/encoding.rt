@@ -14,7 +14,7 @@ ghost use Rattle.rice_code.specs.encode.Coder.{complete_code};
 ghost use Rattle.rice_code.specs.encode.OpenSegment.{HoldsAnySegment};
 
 use crate::outcome::{Fault, Outcome, Report};
-use crate::seam::{Seam, waiting_number};
+use crate::seam::{Seam, take_waiting_number};
 use crate::write::write_whole;
 use rice_bits::{BitSink, Intake, Meter, Outlet, WriteFault};
 use rice_code::{SegmentSink, SizedCoder};
@@ -97,7 +97,7 @@ impl<const N: usize> Encoding<N> {
             width s * length xs ≤ most_input → IsSeam s result xs }
     {
         let waiting_bits = self.sink.len() as u32;
-        let waiting = waiting_number(&mut self.sink);
+        let waiting = take_waiting_number(&mut self.sink);
         Seam {
             samples: self.samples,
             bits: self.bits,
@@ -118,7 +118,7 @@ impl<const N: usize> Encoding<N> {
 
     /// Takes the samples with these levels up to the one that completes a segment, or all of them, and returns their number.
     #[inline]
-    fn take(&mut self, levels: &[u32]) -> usize
+    fn push_to_coder(&mut self, levels: &[u32]) -> usize
         requires ready { (now : Option Room) × CanTake now self.old levels.now }
         ensures count { result ≤ length levels.now }
         ensures some { 0 < length levels.now → 0 < result }
@@ -134,8 +134,12 @@ impl<const N: usize> Encoding<N> {
         pushed.samples
     }
 
-    /// Takes samples as `take` does, writes the bytes that they complete, and returns their number.
-    fn push<O: Outlet>(&mut self, levels: &[u32], outlet: &mut O) -> Result<usize, WriteFault>
+    /// Takes samples as `push_to_coder` does, writes the bytes that they complete, and returns their number.
+    fn push_some_and_write<O: Outlet>(
+        &mut self,
+        levels: &[u32],
+        outlet: &mut O,
+    ) -> Result<usize, WriteFault>
         requires ready { CanTake (O.taken outlet.old) self.old levels.now }
         requires some { 0 < length levels.now }
         requires writes { O.failed outlet.old + 1 < 2 ^ 64 }
@@ -150,7 +154,7 @@ impl<const N: usize> Encoding<N> {
             FailsIn s old (O.taken outlet.new) self.new xs (values_at s levels.now)) }
         ensures raised { OnErr result (O.failed outlet.new ≡ O.failed outlet.old + 1) }
     {
-        let taken = self.take(levels);
+        let taken = self.push_to_coder(levels);
         if self.sink.len() < 8 {
             return Ok(taken);
         }
@@ -177,7 +181,7 @@ impl<const N: usize> Encoding<N> {
     {
         let mut at = 0;
         while at < levels.len() {
-            at += self.push(&levels[at..], outlet)?;
+            at += self.push_some_and_write(&levels[at..], outlet)?;
         }
         Ok(())
     }
@@ -332,7 +336,7 @@ fn encode_by_sized_coder<const N: usize, I: Intake, O: Outlet>(
     let mut samples = SampleReader::new(*setting);
     let mut levels = [0u32; SAMPLES];
     'encode_all: loop {
-        let count = match samples.next(intake, &mut levels) {
+        let count = match samples.next_levels(intake, &mut levels) {
             Ok(count) => count,
             Err(fault) => return encoding.stopped(fault_at(fault, encoding.taken())),
         };

@@ -95,13 +95,13 @@ pub(crate) fn spell_row_ahead<I: Intake, const WIDTH: usize>(
         return 0;
     }
     let most = blocks_wanted(setting, asked, written, fit);
-    decoder.plain_blocks::<I, WIDTH>(most, reader, bytes)
+    decoder.spell_plain_blocks::<I, WIDTH>(most, reader, bytes)
 }
 
 /// Writes the bytes of the `blocks` blocks that wait, and goes past them. Returns how many samples were written. If the outlet fails, an
 /// error has the number of samples of those blocks that were written whole, and the block after them is passed too.
 #[inline(always)]
-fn write_row<I: Intake, O: Outlet, const WIDTH: usize>(
+fn write_row_of_blocks<I: Intake, O: Outlet, const WIDTH: usize>(
     setting: &Setting,
     blocks: usize,
     decoder: &mut Decoder,
@@ -186,7 +186,7 @@ pub(crate) fn decode_plain<I: Intake, O: Outlet, const WIDTH: usize>(
             &own, asked, written, fit, whole, &decoder, &reader, &mut bytes,
         );
         if blocks > 0 {
-            match write_row::<I, O, WIDTH>(
+            match write_row_of_blocks::<I, O, WIDTH>(
                 &own,
                 blocks,
                 &mut decoder,

@@ -142,7 +142,7 @@ fn decode_piece<const SIZE: usize, const WIDTH: usize, const PLAIN: bool>(
             }
             None => {}
         }
-        let found = match next_stand(&own, &here, &mut decoder, &mut reader, &mut levels) {
+        let found = match restore_next_block(&own, &here, &mut decoder, &mut reader, &mut levels) {
             Ok(found) => found,
             Err(fault) => {
                 let _intake = reader.into_inner();
@@ -194,7 +194,7 @@ fn skip_bits(reader: &mut BitReader<SliceIn<'_>>, piece: &[u8], skipped: u32) ->
 
 /// Restores the samples of the next block, by their levels, and returns where decoding stands behind it, or `None` if no 1 is left.
 #[inline(always)]
-fn next_stand(
+fn restore_next_block(
     setting: &Setting,
     stand: &Stand,
     decoder: &mut Decoder,

@@ -48,7 +48,7 @@ impl Seam {
 }
 
 /// Returns the number that the bits of a sink spell, of which there are fewer than eight, and fills their byte with zeros.
-pub fn waiting_number(sink: &mut SegmentSink) -> u32
+pub fn take_waiting_number(sink: &mut SegmentSink) -> u32
     requires { length sink.old < 8 }
     ensures digits { word (length sink.old) result ≡ sink.old }
     ensures fits { result < 2 ^ length sink.old }

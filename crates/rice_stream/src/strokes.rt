@@ -34,7 +34,7 @@ pub(crate) fn copy_at(bytes: &[u8], at: usize, samples: &mut [u8])
 
 /// Writes the spellings of `count` samples that are all `sample` at this place.
 #[inline(always)]
-fn spell_again_at(setting: &Setting, sample: i64, count: usize, at: usize, samples: &mut [u8])
+fn spell_copies_at(setting: &Setting, sample: i64, count: usize, at: usize, samples: &mut [u8])
     requires sample { IsSample setting.now sample }
     requires count { 1 ≤ count }
     requires few { count ≤ 2 ^ 32 }
@@ -80,7 +80,7 @@ pub(crate) fn stand_behind(
 
 /// Writes the samples of blocks of a run at this place.
 #[inline(never)]
-fn next_of_run(
+fn write_next_of_run(
     setting: &Setting,
     stand: &Stand,
     decoder: &mut Decoder,
@@ -109,13 +109,13 @@ fn next_of_run(
     let count = block * blocks as u64;
     let stand = stand_behind(stand, count, reader.taken(), decoder, reader, &meter);
     let len = width * count as usize;
-    spell_again_at(setting, sample, count as usize, at, samples);
+    spell_copies_at(setting, sample, count as usize, at, samples);
     Stroke { stand, len }
 }
 
 /// Writes the samples of the next blocks at this place, at most `most`, if they can be decoded in lanes. Otherwise nothing has happened.
 #[inline(always)]
-fn next_in_lanes<const SIZE: usize, const WIDTH: usize>(
+fn write_next_in_lanes<const SIZE: usize, const WIDTH: usize>(
     setting: &Setting,
     stand: &Stand,
     most: usize,
@@ -156,7 +156,7 @@ fn next_in_lanes<const SIZE: usize, const WIDTH: usize>(
 
 /// Writes the samples of the next blocks at this place, if they are not compressed and wait. Otherwise nothing has happened.
 #[inline(always)]
-fn next_plain_blocks<const WIDTH: usize>(
+fn write_next_plain_blocks<const WIDTH: usize>(
     setting: &Setting,
     stand: &Stand,
     most: usize,
@@ -227,17 +227,17 @@ pub(crate) fn next_stroke<const SIZE: usize, const WIDTH: usize, const PLAIN: bo
     ensures len { length samples.new ≡ length samples.old }
 {
     if decoder.repeats() {
-        return Some(next_of_run(setting, stand, decoder, reader, at, samples));
+        return Some(write_next_of_run(setting, stand, decoder, reader, at, samples));
     }
     if PLAIN {
-        return next_plain_blocks::<WIDTH>(
+        return write_next_plain_blocks::<WIDTH>(
             setting, stand, most, decoder, reader, bytes, at, samples,
         );
     }
     if WIDTH == 0 || !patience.is_due() {
         return None;
     }
-    let found = next_in_lanes::<SIZE, WIDTH>(
+    let found = write_next_in_lanes::<SIZE, WIDTH>(
         setting, stand, most, decoder, reader, bytes, ends, at, samples,
     );
     patience.note(found.is_some());

@@ -45,7 +45,7 @@ pub fn store_word(bytes: &mut [u8], at: usize, digits: u64)
 /// Returns the digits of `byte` and then those of `word`, as the eight bytes that spell them, the first
 /// as the least significant.
 #[inline]
-fn joined_behind_byte(byte: u8, word: u64) -> u64
+fn joined_least_byte_first(byte: u8, word: u64) -> u64
     requires { byte * 2 ^ 56 + word < 2 ^ 64 }
     ensures { to_le_bytes w64 result ≡ to_be_bytes w64 (byte * 2 ^ 56 + word) }
 {
@@ -62,7 +62,7 @@ pub fn join_bytes(bytes: &mut [u8], at: usize, word: u64)
         (to_be_bytes w64 (slice_index bytes.old at * 2 ^ 56 + word) ++ drop (at + 8) bytes.old)) }
 {
     if 8 <= bytes.len() && at <= bytes.len() - 8 {
-        let eight = joined_behind_byte(bytes[at], word);
+        let eight = joined_least_byte_first(bytes[at], word);
         store_least_byte_first(bytes, at, eight);
     } else if at < bytes.len() {
         join_last_bytes(bytes, at, word);
@@ -80,7 +80,7 @@ fn join_last_bytes(bytes: &mut [u8], at: usize, word: u64)
         to_be_bytes w64 (slice_index bytes.old at * 2 ^ 56 + word)) }
 {
     let mut eight = [0; 8];
-    store_least_byte_first(&mut eight, 0, joined_behind_byte(bytes[at], word));
+    store_least_byte_first(&mut eight, 0, joined_least_byte_first(bytes[at], word));
     let left = bytes.len() - at;
     bytes[at..].copy_from_slice(&eight[..left]);
 }
@@ -106,7 +106,7 @@ pub fn move_byte_to_front(bytes: &mut [u8], at: usize)
         drop (count + 1) bytes.old)) }
 {
     let kept = if at < bytes.len() { bytes[at] } else { 0 };
-    store_front_zeros(bytes, at + 1);
+    store_zeros_at_front(bytes, at + 1);
     if !bytes.is_empty() {
         bytes[0] = kept;
     }
@@ -114,20 +114,20 @@ pub fn move_byte_to_front(bytes: &mut [u8], at: usize)
 
 /// Writes zeros to the first bytes, to `count` of them at least, or to all where there are fewer.
 #[inline]
-fn store_front_zeros(bytes: &mut [u8], count: usize)
+fn store_zeros_at_front(bytes: &mut [u8], count: usize)
     ensures { (some : ℕ) × (min count (length bytes.old) ≤ some) × (some ≤ length bytes.old) ×
         (bytes.new ≡ replicate some 0 ++ drop some bytes.old) }
 {
     if count <= 64 && 64 <= bytes.len() {
         u8x64::splat(0).copy_to_slice(bytes);
     } else {
-        store_many_zeros(bytes, count);
+        store_exact_zeros(bytes, count);
     }
 }
 
 /// Writes zeros to exactly the first `count` bytes, or to all where there are fewer.
 #[inline(never)]
-fn store_many_zeros(bytes: &mut [u8], count: usize)
+fn store_exact_zeros(bytes: &mut [u8], count: usize)
     ensures { bytes.new ≡ replicate (min count (length bytes.old)) 0 ++
         drop (min count (length bytes.old)) bytes.old }
 {

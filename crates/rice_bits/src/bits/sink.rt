@@ -4,10 +4,10 @@ ghost use Rattle.rice_bits.specs.Limits.{step_limit};
 ghost use Rattle.rice_bits.specs.Bits.{fundamental_sequence, word, whole_bytes, bits_in_bytes, bits_to_byte, put_width, IsBitSink, IsWholeWidth, Joins, Puts};
 
 use crate::Meter;
-use crate::bits::digits::{low_digits, to_front};
+use crate::bits::digits::{digits_moved_to_front, low_digits};
 use crate::bits::eight_bytes::{front, join_bytes, join_one_at_bit, move_byte_to_front};
 use crate::bits::whole_words::join_all_but_last_digits;
-use crate::bits::word_pairs::two_pairs;
+use crate::bits::word_pairs::two_joined_pairs_at;
 use std::marker::Model;
 
 /// A list of at most `8 * N` bits, gathered into bytes, most significant bit first.
@@ -94,7 +94,7 @@ impl<const N: usize> BitSink<N> {
         ensures { Puts (word width value) width self.old self.new meter.old meter.new }
     {
         meter.tick(width as u64);
-        self.bits = join_digits(&mut self.bytes, self.bits, value, width);
+        self.bits = join_digits_in_memory(&mut self.bytes, self.bits, value, width);
     }
 
     /// Appends the `width` lowest binary digits of each of the words, most significant first, and ticks once for each digit.
@@ -186,7 +186,7 @@ impl<const N: usize> BitSink<N> {
 
 /// Joins the `width` binary digits of `value` to the first `bits` bits, and returns how many bits there are then.
 #[inline(always)]
-fn join_digits(bytes: &mut [u8], bits: u64, value: u64, width: u32) -> u64
+fn join_digits_in_memory(bytes: &mut [u8], bits: u64, value: u64, width: u32) -> u64
     requires width { width ≤ put_width }
     requires value { value < 2 ^ width }
     requires bits { IsBitSink (length bytes.old) bits bytes.old }
@@ -194,7 +194,11 @@ fn join_digits(bytes: &mut [u8], bits: u64, value: u64, width: u32) -> u64
     ensures { Joins (word width value) width bits result bytes.old bytes.new }
 {
     let count = (bits % 8) as u32 + width;
-    join_bytes(bytes, (bits / 8) as usize, to_front(value, count));
+    join_bytes(
+        bytes,
+        (bits / 8) as usize,
+        digits_moved_to_front(value, count),
+    );
     bits + width as u64
 }
 
@@ -263,7 +267,7 @@ fn join_whole_words_of_known_width(
 {
     let left = (bits % 8) as u32 + count;
     let (all, last) = join_all_but_last_digits(bytes, bits, value, count, words, width);
-    join_digits(bytes, all, last % (1 << left), left)
+    join_digits_in_memory(bytes, all, last % (1 << left), left)
 }
 
 /// As `join_words`, one word at a time.
@@ -277,7 +281,7 @@ fn join_each_word(bytes: &mut [u8], bits: u64, words: &[u32], width: u32) -> u64
 {
     let mut bits = bits;
     for i in 0..words.len() {
-        bits = join_digits(bytes, bits, low_digits(words[i], width), width);
+        bits = join_digits_in_memory(bytes, bits, low_digits(words[i], width), width);
     }
     bits
 }
@@ -294,7 +298,7 @@ fn join_words_by_fours(bytes: &mut [u8], bits: u64, words: &[u32], width: u32) -
     let mut bits = bits;
     let fours = words.len() / 4;
     for i in 0..fours {
-        let (first, last) = two_pairs(words, 4 * i, width);
+        let (first, last) = two_joined_pairs_at(words, 4 * i, width);
         bits = join_two_words(bytes, bits, first, last, 2 * width);
     }
     join_each_word(bytes, bits, &words[4 * fours..], width)
@@ -312,6 +316,6 @@ fn join_two_words(bytes: &mut [u8], bits: u64, first: u64, last: u64, width: u32
     ensures { Joins (word width first ++ word width last) (2 * width) bits result bytes.old
         bytes.new }
 {
-    let half = join_digits(bytes, bits, first, width);
-    join_digits(bytes, half, last, width)
+    let half = join_digits_in_memory(bytes, bits, first, width);
+    join_digits_in_memory(bytes, half, last, width)
 }

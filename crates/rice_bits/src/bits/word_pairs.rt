@@ -7,7 +7,7 @@ use std::simd::prelude::*;
 /// Returns two numbers: the first has the `width` lowest digits of the words number `at` and `at + 1`, the other those of the
 /// next two.
 #[inline(always)]
-pub fn two_pairs(words: &[u32], at: usize, width: u32) -> (u64, u64)
+pub fn two_joined_pairs_at(words: &[u32], at: usize, width: u32) -> (u64, u64)
     requires width { width ≤ 28 }
     requires room { at + 4 ≤ length words.now }
     ensures first_fits { result.0 < 2 ^ (2 * width) }

@@ -28,7 +28,7 @@ fn lane_places_moved_by_ones(place: usize, zeros: usize) -> u8x16
 
 /// Moves lanes as many places on as the first `place` bytes of a word have ones, beside `zeros`, with zeros before them.
 #[inline(always)]
-fn moved_by_ones(lanes: u8x16, place: usize, zeros: usize) -> u8x16
+fn lanes_moved_by_ones(lanes: u8x16, place: usize, zeros: usize) -> u8x16
     requires place { place ≤ 6 }
     requires zeros { zeros ≤ 8 * place }
     requires lanes { length lanes ≡ 16 }
@@ -51,7 +51,7 @@ fn ends_of_byte_at(place: usize, byte: u8) -> u8x16
 
 /// Returns the byte at `place` of a word.
 #[inline(always)]
-fn byte_at(front: u64, place: usize) -> u8
+fn byte_of_word_at(front: u64, place: usize) -> u8
     requires { place < 8 }
     ensures { word 8 result ≡ take 8 (drop (8 * place) (word 64 front)) }
 {
@@ -60,7 +60,7 @@ fn byte_at(front: u64, place: usize) -> u8
 
 /// Returns the number of ones in the first bytes of a word.
 #[inline(always)]
-pub fn count_ones_in(front: u64, bytes: usize) -> usize
+pub fn count_ones_in_first_bytes(front: u64, bytes: usize) -> usize
     requires { (1 ≤ bytes) × (bytes ≤ 8) }
     ensures value { result ≡ length (ends_after 0 (take (8 * bytes) (word 64 front))) }
     ensures most { result ≤ 8 * bytes }
@@ -70,7 +70,7 @@ pub fn count_ones_in(front: u64, bytes: usize) -> usize
 
 /// Returns the number of zeros in the first bytes of a word.
 #[inline(always)]
-fn count_zeros_in(front: u64, bytes: usize) -> usize
+fn count_zeros_in_first_bytes(front: u64, bytes: usize) -> usize
     requires { (1 ≤ bytes) × (bytes ≤ 8) }
     ensures value { result + length (ends_after 0 (take (8 * bytes) (word 64 front))) ≡ 8 * bytes }
     ensures most { result ≤ 8 * bytes }
@@ -85,8 +85,8 @@ fn with_ends_of_byte(front: u64, place: usize, before: u8x16) -> u8x16
     requires before { before ≡ in_lanes (ends_after 0 (take (8 * place) (word 64 front))) }
     ensures { result ≡ in_lanes (ends_after 0 (take (8 * (place + 1)) (word 64 front))) }
 {
-    let more = ends_of_byte_at(place, byte_at(front, place));
-    before | moved_by_ones(more, place, count_zeros_in(front, place))
+    let more = ends_of_byte_at(place, byte_of_word_at(front, place));
+    before | lanes_moved_by_ones(more, place, count_zeros_in_first_bytes(front, place))
 }
 
 /// Returns the ends of the ones of the first bytes of a word, as many as there are lanes for, and zeros behind them.
@@ -95,7 +95,7 @@ pub fn first_ends(front: u64, bytes: usize) -> u8x16
     requires { (1 ≤ bytes) × (bytes ≤ 7) }
     ensures { result ≡ in_lanes (ends_after 0 (take (8 * bytes) (word 64 front))) }
 {
-    let mut ends = ends_of_byte_at(0, byte_at(front, 0));
+    let mut ends = ends_of_byte_at(0, byte_of_word_at(front, 0));
     for place in 1..bytes {
         ends = with_ends_of_byte(front, place, ends);
     }

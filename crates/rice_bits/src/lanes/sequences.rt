@@ -3,7 +3,7 @@ ghost use Rattle.std.specs.Prelude.{◌*◌, ◌≤◌, IfSome};
 ghost use Rattle.rice_bits.specs.Bits.{word};
 ghost use Rattle.rice_bits.specs.lanes.Sequences.{BeginWithSequences};
 
-use crate::lanes::ends::{count_ones_in, first_ends};
+use crate::lanes::ends::{count_ones_in_first_bytes, first_ends};
 use crate::lanes::gaps::{gaps_of, len_of_sequences};
 use std::simd::prelude::*;
 
@@ -23,7 +23,7 @@ pub fn first_sequences(front: u64, bytes: usize, count: usize) -> Option<Sequenc
     ensures begin { IfSome result (λ s. BeginWithSequences (word 64 front) count s.numbers s.len) }
     ensures within { IfSome result (λ s. s.len ≤ 8 * bytes) }
 {
-    if count_ones_in(front, bytes) < count {
+    if count_ones_in_first_bytes(front, bytes) < count {
         return None;
     }
     let ends = first_ends(front, bytes);

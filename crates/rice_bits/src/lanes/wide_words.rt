@@ -377,7 +377,7 @@ fn four_bytes_that_hold_each(bytes: u8x16, width: u32, before: usize) -> u32x4
 
 /// Returns the four words of `width` bits behind the first bits of sixteen bytes.
 #[inline(always)]
-fn four_words_in(bytes: u8x16, width: u32, before: usize) -> u32x4
+fn four_words_in_sixteen_bytes(bytes: u8x16, width: u32, before: usize) -> u32x4
     requires width { (1 ≤ width) × (width ≤ 24) }
     requires before { before < 8 }
     requires lanes { length bytes ≡ 16 }
@@ -398,7 +398,7 @@ fn four_words_from(bytes: &[u8], at: usize, width: u32) -> u32x4
     ensures fit { All (λ v. v < 2 ^ width) result }
     ensures bits { flat_map (word width) result ≡ take (4 * width) (drop at (bits_of bytes.now)) }
 {
-    four_words_in(u8x16::from_slice(&bytes[at / 8..]), width, at % 8)
+    four_words_in_sixteen_bytes(u8x16::from_slice(&bytes[at / 8..]), width, at % 8)
 }
 
 /// Returns the eight words of `width` bits from bit `at` on.

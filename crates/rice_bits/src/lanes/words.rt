@@ -257,7 +257,7 @@ fn two_bytes_that_hold_each(bytes: u8x16, width: u32, before: usize) -> u16x8
 
 /// Returns the eight words of `width` bits behind the first bits of sixteen bytes.
 #[inline(always)]
-fn eight_words_in(bytes: u8x16, width: u32, before: usize) -> u16x8
+fn eight_words_in_sixteen_bytes(bytes: u8x16, width: u32, before: usize) -> u16x8
     requires width { width ≤ 9 }
     requires before { before < 8 }
     requires lanes { length bytes ≡ 16 }
@@ -279,7 +279,7 @@ fn eight_words_from(bytes: &[u8], at: usize, width: u32) -> u16x8
     ensures fit { All (λ v. v < 2 ^ width) result }
     ensures bits { flat_map (word width) result ≡ take (8 * width) (drop at (bits_of bytes.now)) }
 {
-    eight_words_in(u8x16::from_slice(&bytes[at / 8..]), width, at % 8)
+    eight_words_in_sixteen_bytes(u8x16::from_slice(&bytes[at / 8..]), width, at % 8)
 }
 
 /// Returns the numbers of both, one after the other, in narrower lanes.

@@ -4,12 +4,12 @@ ghost use Rattle.std.specs.Simd.Lanes.{zip2};
 ghost use Rattle.rice_bits.specs.Bits.{bits_of, word};
 ghost use Rattle.rice_bits.specs.read.EndsAndGaps.{IsSearched, ends_after, gaps};
 
-use crate::read::table_of_ends::ends_of;
+use crate::read::table_of_ends::ends_of_byte;
 use std::simd::prelude::*;
 
 /// Returns the number of ones of `byte`.
 #[inline]
-fn count_ones_of(byte: u8) -> usize
+fn count_ones_of_byte(byte: u8) -> usize
     ensures value { result ≡ length (ends_after 0 (word 8 byte)) }
     ensures few { result ≤ 8 }
 {
@@ -27,9 +27,9 @@ fn write_ends_of_byte(byte: u8, before: u8, found: usize, ends: &mut [u8]) -> us
     ensures ends { take (result + 1) ends.new
         ≡ take (found + 1) ends.old ++ ends_after before (word 8 byte) }
 {
-    let row = u8x8::from_array(ends_of(byte)) + u8x8::splat(before);
+    let row = u8x8::from_array(ends_of_byte(byte)) + u8x8::splat(before);
     row.copy_to_slice(&mut ends[found + 1..]);
-    found + count_ones_of(byte)
+    found + count_ones_of_byte(byte)
 }
 
 /// Writes the ends of the ones of `bytes`, which stand after `before` bits, after the first `found` + 1 places.

@@ -364,7 +364,7 @@ impl<I: Intake> BitReader<I> {
         }
         let mut zeros = 0;
         loop {
-            match self.take_zeros_and_one(meter) {
+            match self.take_some_of_sequence(meter) {
                 Ok((count, true)) => return zeros + count,
                 Ok((count, false)) => zeros += count,
                 Err(_) => return 0,
@@ -373,7 +373,7 @@ impl<I: Intake> BitReader<I> {
     }
 
     /// Takes some zeros, or zeros and a 1. Returns the number of zeros, and whether there was a 1.
-    fn take_zeros_and_one(&mut self, meter: &mut Meter) -> Result<(u64, bool), BitFault>
+    fn take_some_of_sequence(&mut self, meter: &mut Meter) -> Result<(u64, bool), BitFault>
         requires going { self.old.refusal ≡ None }
         requires meter { meter.old + (most_bits_read - self.old.taken) < step_limit }
         ensures one { IfOk result (λ r. r.1 ≡ true →
@@ -498,13 +498,13 @@ impl<I: Intake> BitReader<I> {
 
     /// Returns the number that the first `width` bits that wait spell, where 57 wait. It takes none.
     #[inline(always)]
-    pub fn first_number(&self, width: u32) -> u32
+    pub fn first_number_ahead(&self, width: u32) -> u32
         requires width { width ≤ 32 }
         requires there { 57 ≤ length self.now.waiting }
         ensures below { result < 2 ^ width }
         ensures bits { word width result ≡ take width self.now.waiting }
     {
-        self.window.first_number(width)
+        self.window.first_number_ahead(width)
     }
 
     /// Returns the first `count` fundamental sequences that wait behind the first `skip` bits, as [`sequences_ahead`](Self::sequences_ahead)

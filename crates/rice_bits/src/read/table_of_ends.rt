@@ -264,7 +264,7 @@ static ENDS: [[u8; 8]; 256] = [
 
 /// Returns, for each 1 of `byte`, the number of bits up to and including it, and then zeros.
 #[inline]
-pub fn ends_of(byte: u8) -> [u8; 8]
+pub fn ends_of_byte(byte: u8) -> [u8; 8]
     ensures { result ≡ end_row byte }
 {
     ENDS[byte as usize]

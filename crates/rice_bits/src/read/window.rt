@@ -225,7 +225,7 @@ impl Window {
 
     /// Returns the number that the first `width` bits spell.
     #[inline(always)]
-    pub fn first_number(&self, width: u32) -> u32
+    pub fn first_number_ahead(&self, width: u32) -> u32
         requires window { IsWindow self.now }
         requires width { width ≤ 32 }
         requires there { 57 ≤ length (window_bits self.now) }

@@ -1,6 +1,6 @@
 -- The code: its blocks, coded data sets and their layout.
 pub mod BlocksByPlaceAlone
-pub mod FilledBlocks
+pub mod RepeatedSamples
 pub mod CodeGoesOn
 pub mod Layouts
 pub mod OnesOfForms

@@ -9,7 +9,7 @@ pub mod PartsInTurn
 pub mod PendingRuns
 pub mod PushedCode
 pub mod ChoiceLemmas
-pub mod SegmentBlocks
+pub mod SegmentBlocksInTurn
 pub mod SeveralSamplesHeld
 pub mod ShortLowParts
 pub mod HighParts

@@ -19,8 +19,8 @@ use crate::decode::call_results::{CodeFault, NextBlock};
 use crate::decode::coded_data_set::read_set;
 use crate::decode::no_compression_ahead::{is_uncompressed_ahead, spell_uncompressed_ahead};
 use crate::decode::options::SetSummary;
-use crate::decode::plain_blocks::{last_of_plain, plain_len, spell_plain_row};
-use crate::decode::restoring::{restore_block, restore_zero_block, set_len};
+use crate::decode::plain_blocks::{last_of_plain, plain_len, spell_plain_row_ahead};
+use crate::decode::restoring::{restore_block, restore_zero_block, set_len_of_levels};
 use crate::decode::split_ahead::{spell_ahead, split_of_block_ahead, take_ahead};
 use crate::decode::wide_ahead::{restore_wide_ahead, wide_split_ahead};
 use crate::known_len::known_or;
@@ -123,7 +123,7 @@ fn skip_padding<I: Intake>(
 }
 
 /// Makes these the values at these levels.
-fn write_values(setting: &Setting, levels: &[u32], values: &mut ArrayVec<i64, 64>)
+fn write_values_at_levels(setting: &Setting, levels: &[u32], values: &mut ArrayVec<i64, 64>)
     requires legal { All (λ l. l < value_count setting.now) levels.now }
     requires few { length levels.now ≤ 64 }
     ensures { values.new.items ≡ values_at setting.now levels.now }
@@ -307,7 +307,7 @@ impl Decoder {
     {
         let mut levels = ArrayVec::new();
         let answer = self.next_levels(reader, meter, &mut levels);
-        write_values(&self.setting, levels.as_slice(), samples);
+        write_values_at_levels(&self.setting, levels.as_slice(), samples);
         answer
     }
 
@@ -591,7 +591,7 @@ impl Decoder {
     /// samples are not predicted and use all bits of `WIDTH` bytes. Writes the bytes of these blocks. It takes nothing:
     /// [`pass_plain_blocks`](Self::pass_plain_blocks) does.
     #[inline(always)]
-    pub fn plain_blocks<I: Intake, const WIDTH: usize>(
+    pub fn spell_plain_blocks<I: Intake, const WIDTH: usize>(
         &self,
         most: usize,
         reader: &BitReader<I>,
@@ -603,7 +603,7 @@ impl Decoder {
         ensures most { result ≤ most }
         ensures row { PlainRow reader.now.waiting self.now.setting WIDTH result bytes.new }
     {
-        spell_plain_row::<I, WIDTH>(&self.setting, most, reader, bytes)
+        spell_plain_row_ahead::<I, WIDTH>(&self.setting, most, reader, bytes)
     }
 
     /// Goes past the next `count` blocks, outside a run, which are not compressed and have these bytes.
@@ -696,11 +696,11 @@ impl Decoder {
         }
         // It is laid out for each size of blocks.
         match self.setting.block() {
-            8 => self.read_and_restore::<I, 8>(reader, meter, levels),
-            16 => self.read_and_restore::<I, 16>(reader, meter, levels),
-            32 => self.read_and_restore::<I, 32>(reader, meter, levels),
-            size if size < 64 => self.read_and_restore::<I, 0>(reader, meter, levels),
-            _ => self.read_and_restore::<I, 64>(reader, meter, levels),
+            8 => self.read_set_and_restore_block::<I, 8>(reader, meter, levels),
+            16 => self.read_set_and_restore_block::<I, 16>(reader, meter, levels),
+            32 => self.read_set_and_restore_block::<I, 32>(reader, meter, levels),
+            size if size < 64 => self.read_set_and_restore_block::<I, 0>(reader, meter, levels),
+            _ => self.read_set_and_restore_block::<I, 64>(reader, meter, levels),
         }
     }
 
@@ -740,7 +740,7 @@ impl Decoder {
         let _taken = reader.taken();
         // A copy stays in registers.
         let setting = self.setting;
-        set_len(levels, setting.block() as usize);
+        set_len_of_levels(levels, setting.block() as usize);
         let restored = match restore_wide_ahead(
             &setting,
             self.block,
@@ -759,7 +759,7 @@ impl Decoder {
 
     /// Reads a coded data set, and restores the samples of its first block, which are `SIZE` unless that is 0, by their levels.
     #[inline(never)]
-    fn read_and_restore<I: Intake, const SIZE: usize>(
+    fn read_set_and_restore_block<I: Intake, const SIZE: usize>(
         &mut self,
         reader: &mut BitReader<I>,
         meter: &mut Meter,

@@ -5,7 +5,7 @@ ghost use Rattle.rice_code.specs.decode.RowsOfFields.{HasRoom};
 ghost use Rattle.rice_code.specs.decode.ReadSets.{PartsRead, PartsCut};
 
 use crate::decode::rows_of_fields::{read_sequences, read_words};
-use crate::decode::sound_residuals::{any_number_are_below, join_all_parts};
+use crate::decode::sound_residuals::{are_below_of_any_number, join_all_parts};
 use rice_bits::{BitFault, BitReader, Intake, Meter};
 
 /// Reads the fundamental sequences of the high parts of residuals and then their low parts, words of `k` bits, and joins
@@ -138,7 +138,7 @@ fn take_waiting_short_parts<I: Intake>(
     if most >= 63 {
         return Some(true);
     }
-    Some(any_number_are_below(residuals, least_with_high_part_above(most, k)))
+    Some(are_below_of_any_number(residuals, least_with_high_part_above(most, k)))
 }
 
 /// As `read_sequences_then_words`, with the loops for any number of residuals.

@@ -6,7 +6,7 @@ ghost use Rattle.rice_code.specs.decode.BlocksInOnePass.{HasLanes, HasWidth, Spe
 ghost use Rattle.rice_code.specs.decode.FieldsAhead.{UncompressedAhead};
 
 use crate::decode::split_ahead::{SpelledBlock, has_rows};
-use crate::decode::split_in_sixteens::{behind_omitted, head_ahead, low_parts_in_rows, row_len};
+use crate::decode::split_in_sixteens::{behind_omitted, head_ahead, low_parts_ahead, row_len};
 use rice_bits::{BitReader, Intake};
 use rice_samples::{Setting, levels_in_turn, spelled_in_one_byte};
 use std::simd::prelude::*;
@@ -36,7 +36,7 @@ pub fn is_uncompressed_ahead<I: Intake, const WIDTH: usize>(
 /// Writes the bytes of a row of `size` samples, the first after a sample at level `from`, which have these residuals. Returns the level of
 /// the last. It may write more behind these bytes.
 #[inline(always)]
-fn restore_and_spell(
+fn restore_and_spell_lanes(
     setting: &Setting,
     size: usize,
     from: u32,
@@ -62,7 +62,7 @@ fn restore_and_spell(
 /// Writes the bytes of the block of one row whose words wait behind the first `skip` bits, less those that are omitted, one or none. Its
 /// first sample stands after one at level `from`. Returns the level of the last.
 #[inline(always)]
-fn spell_uncompressed_row<I: Intake>(
+fn spell_block_of_one_row<I: Intake>(
     setting: &Setting,
     size: usize,
     from: u32,
@@ -82,7 +82,7 @@ fn spell_uncompressed_row<I: Intake>(
 {
     let bits = setting.bits();
     let residuals = behind_omitted(reader.words_ahead(skip, bits), omitted);
-    restore_and_spell(setting, size, from, residuals, bytes)
+    restore_and_spell_lanes(setting, size, from, residuals, bytes)
 }
 
 /// Writes the bytes of row `row`, of `count` samples, behind those of the rows before it. Returns the level of the last. It may write more
@@ -110,13 +110,13 @@ fn restore_and_spell_row(
     ensures len { length bytes.new ≡ length bytes.old }
 {
     let lanes = u8x16::from_slice(&residuals[16 * row..]);
-    restore_and_spell(setting, count, from, lanes, &mut bytes[16 * row..])
+    restore_and_spell_lanes(setting, count, from, lanes, &mut bytes[16 * row..])
 }
 
 /// Writes the bytes of the block of several rows whose words wait behind the first `skip` bits, less those that are omitted, one or
 /// none. Its first sample stands after one at level `from`. Returns the level of the last.
 #[inline(always)]
-fn spell_uncompressed_rows<I: Intake>(
+fn spell_block_of_rows<I: Intake>(
     setting: &Setting,
     size: usize,
     from: u32,
@@ -135,7 +135,7 @@ fn spell_uncompressed_rows<I: Intake>(
         bytes.new }
 {
     let bits = setting.bits();
-    let residuals = low_parts_in_rows(reader, size, skip, omitted, bits);
+    let residuals = low_parts_ahead(reader, size, skip, omitted, bits);
     let mut last = from;
     for row in 0..(size + 15) / 16 {
         let count = row_len(size, row);
@@ -181,7 +181,8 @@ pub fn spell_uncompressed_ahead<I: Intake, const SIZE: usize>(
     SpelledBlock { last, len }
 }
 
-/// Writes the bytes of the block whose words wait behind the first `skip` bits, as `spell_uncompressed_row` and `spell_uncompressed_rows` do.
+/// Writes the bytes of the block whose words wait behind the first `skip` bits, as `spell_block_of_one_row` and
+/// `spell_block_of_rows` do.
 #[inline(always)]
 fn spell_uncompressed<I: Intake, const SIZE: usize>(
     setting: &Setting,
@@ -202,7 +203,7 @@ fn spell_uncompressed<I: Intake, const SIZE: usize>(
         bytes.new }
 {
     if has_rows::<SIZE>(size) {
-        return spell_uncompressed_rows(setting, size, from, omitted, skip, reader, bytes);
+        return spell_block_of_rows(setting, size, from, omitted, skip, reader, bytes);
     }
-    spell_uncompressed_row(setting, size, from, omitted, skip, reader, bytes)
+    spell_block_of_one_row(setting, size, from, omitted, skip, reader, bytes)
 }

@@ -12,7 +12,7 @@ ghost use Rattle.rice_code.specs.decode.ReadSets.{BlockRead, BlockCut, PartsRead
 use crate::decode::high_and_low_parts::read_parts;
 use crate::decode::pairs::read_pairs;
 use crate::decode::rows_of_fields::read_words;
-use crate::decode::sound_residuals::{are_sound, joined_are_below};
+use crate::decode::sound_residuals::{are_below_as_high_parts, are_sound};
 use rice_bits::{BitFault, BitReader, Intake, Meter};
 use rice_samples::Setting;
 
@@ -184,7 +184,7 @@ pub fn read_split<I: Intake>(
             sound: false,
         });
     }
-    let sound = joined_are_below(setting.bits(), k, &residuals[first..]);
+    let sound = are_below_as_high_parts(setting.bits(), k, &residuals[first..]);
     Ok(BlockSummary { reference, sound })
 }
 

@@ -91,7 +91,7 @@ pub fn pair_in_table(g: u32) -> (u32, u32)
 
 /// Returns the pair that the number `g` stands for. It counts the sum of the two up from 0, and ticks once for each
 /// turn.
-pub fn pair_of(g: u64, meter: &mut Meter) -> (u32, u32)
+pub fn pair_by_search(g: u64, meter: &mut Meter) -> (u32, u32)
     requires g { g ≤ most_bits_read }
     requires meter { meter.old + g < step_limit }
     ensures pair { pair_code result.0 result.1 ≡ g }
@@ -126,7 +126,7 @@ fn read_pairs_one_by_one<I: Intake>(
 {
     for done in 0..out.len() / 2 {
         let g = reader.take_fs(meter)?;
-        let (a, b) = pair_of(g, meter);
+        let (a, b) = pair_by_search(g, meter);
         out[2 * done] = a;
         out[2 * done + 1] = b;
     }
@@ -136,7 +136,7 @@ fn read_pairs_one_by_one<I: Intake>(
 /// Writes the pair that each number of `codes` stands for to the first places of `out`. Returns the sum of all that it
 /// wrote.
 #[inline]
-fn write_pairs(codes: &[u32], out: &mut [u32]) -> u64
+fn write_pairs_of_codes(codes: &[u32], out: &mut [u32]) -> u64
     requires codes { All (λ g. g < 64) codes.now }
     requires count { length codes.now ≤ 64 }
     requires room { length codes.now ≤ length out.old / 2 }
@@ -173,7 +173,7 @@ fn take_waiting_pairs<I: Intake>(
         meter.old meter.new }
 {
     let some = reader.take_waiting_fs(codes, meter);
-    let turns = write_pairs(&codes[..some], out);
+    let turns = write_pairs_of_codes(&codes[..some], out);
     meter.tick(turns);
     some
 }

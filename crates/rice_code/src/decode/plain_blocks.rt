@@ -80,7 +80,7 @@ pub fn is_plain_ahead<I: Intake, const WIDTH: usize>(
 /// Writes the bytes of the samples of the block without compression that waits behind the first `skip` bits. It takes nothing, and
 /// may write up to 15 bytes more behind these.
 #[inline(always)]
-pub fn spell_plain<I: Intake, const WIDTH: usize>(
+pub fn spell_plain_block_ahead<I: Intake, const WIDTH: usize>(
     setting: &Setting,
     reader: &BitReader<I>,
     skip: usize,
@@ -128,7 +128,7 @@ pub fn last_of_plain<I: Intake, const WIDTH: usize>(
 /// Returns how many blocks without compression wait one behind another, at most `most`, and writes the bytes of their samples. It takes
 /// nothing, and may write more behind these bytes.
 #[inline(always)]
-pub fn spell_plain_row<I: Intake, const WIDTH: usize>(
+pub fn spell_plain_row_ahead<I: Intake, const WIDTH: usize>(
     setting: &Setting,
     most: usize,
     reader: &BitReader<I>,
@@ -146,7 +146,7 @@ pub fn spell_plain_row<I: Intake, const WIDTH: usize>(
         if !is_plain_ahead::<I, WIDTH>(setting, reader, len * i) {
             return i;
         }
-        spell_plain::<I, WIDTH>(setting, reader, len * i, &mut bytes[count * i..]);
+        spell_plain_block_ahead::<I, WIDTH>(setting, reader, len * i, &mut bytes[count * i..]);
     }
     most
 }

@@ -5,7 +5,7 @@ ghost use Rattle.rice_samples.specs.predict.Residuals.{pattern, last_of};
 ghost use Rattle.rice_code.specs.code.Blocks.{block_data, zero_block};
 ghost use Rattle.rice_code.specs.code.SoundBlocks.{block_with};
 ghost use Rattle.rice_code.specs.code.Forms.{IsReference, IsBlock, IsZeroAtReference, AllFit};
-ghost use Rattle.rice_code.specs.decode.BlockResiduals.{residual_at};
+ghost use Rattle.rice_code.specs.decode.Restoring.{residual_at};
 
 use arrayvec::ArrayVec;
 use rice_samples::{
@@ -14,7 +14,7 @@ use rice_samples::{
 
 /// Sets the length to `len`; the contents are unspecified.
 #[inline(always)]
-pub fn set_len(levels: &mut ArrayVec<u32, 64>, len: usize)
+pub fn set_len_of_levels(levels: &mut ArrayVec<u32, 64>, len: usize)
     requires { len ≤ 64 }
     ensures { length levels.new.items ≡ len }
 {
@@ -103,7 +103,7 @@ pub fn restore_block(
 {
     let _block = setting.block();
     let size = residuals.len();
-    set_len(levels, size);
+    set_len_of_levels(levels, size);
     write_levels(
         setting,
         block,
@@ -167,7 +167,7 @@ pub fn restore_zero_block(
     ensures below { result < value_count setting.now }
 {
     let first = level_of_zero(setting, reference, before);
-    set_len(levels, setting.block() as usize);
+    set_len_of_levels(levels, setting.block() as usize);
     fill_all(levels.as_mut_slice(), first);
     first
 }

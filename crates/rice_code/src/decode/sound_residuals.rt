@@ -19,7 +19,7 @@ pub fn join_all_parts(highs: &[u32], k: u32, lows: &mut [u32])
 /// Returns whether all residuals are below 2^`bits`, of which the high parts, without `k` digits, are as small as those of such
 /// numbers.
 #[inline(always)]
-pub fn joined_are_below(bits: u32, k: u32, residuals: &[u32]) -> bool
+pub fn are_below_as_high_parts(bits: u32, k: u32, residuals: &[u32]) -> bool
     requires bits { (1 ≤ bits) × (bits ≤ 32) }
     requires highs { All (λ d. d / 2 ^ k ≤ (2 ^ bits - 1) / 2 ^ k) residuals.now }
     ensures { IsTrue result ↔ All (λ d. d < 2 ^ bits) residuals.now }
@@ -38,15 +38,15 @@ pub fn are_below(residuals: &[u32], count: u64) -> bool
 {
     // The loop is laid out for blocks of 8, with a reference and without.
     match residuals.len() {
-        7 => any_number_are_below(&residuals[..7], count),
-        8 => any_number_are_below(&residuals[..8], count),
-        _ => any_number_are_below(residuals, count),
+        7 => are_below_of_any_number(&residuals[..7], count),
+        8 => are_below_of_any_number(&residuals[..8], count),
+        _ => are_below_of_any_number(residuals, count),
     }
 }
 
 /// As `are_below`, with a loop over residuals of any number.
 #[inline(always)]
-pub fn any_number_are_below(residuals: &[u32], count: u64) -> bool
+pub fn are_below_of_any_number(residuals: &[u32], count: u64) -> bool
     requires { (0 < count) × (count ≤ 2 ^ 32) }
     ensures { IsTrue result ↔ All (λ d. d < count) residuals.now }
 {

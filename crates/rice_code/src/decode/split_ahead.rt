@@ -7,7 +7,7 @@ ghost use Rattle.rice_samples.specs.Parameters.{id_len, value_at, value_count};
 ghost use Rattle.rice_code.specs.decode.BlocksInOnePass.{HasLanes, HasWidth, SpelledAhead, lanes_of};
 ghost use Rattle.rice_code.specs.decode.Decoder.{with_mark};
 
-use crate::decode::split_in_sixteens::{parts_in_rows_ahead, spell_rows};
+use crate::decode::split_in_sixteens::{parts_in_rows_ahead, spell_rows_of_parts};
 use crate::decode::split_lanes::{parts_ahead, spell_parts};
 use rice_bits::{BitReader, Intake, Meter};
 use rice_samples::Setting;
@@ -30,7 +30,7 @@ pub fn split_of_block_ahead<I: Intake, const WIDTH: usize>(
     if reader.waiting() < LOOKS {
         return None;
     }
-    let id = reader.first_number(WIDTH as u32 + 2);
+    let id = reader.first_number_ahead(WIDTH as u32 + 2);
     if id < 1 || id > 3 + 3 * WIDTH as u32 {
         return None;
     }
@@ -149,7 +149,7 @@ fn spell_in_rows<I: Intake, const WIDTH: usize, const TURNS: bool>(
     ensures none { IfNone result (bytes.new ≡ bytes.old) }
 {
     let parts = parts_in_rows_ahead::<I, WIDTH>(setting, size, block, before, k, reader)?;
-    let last = spell_rows::<WIDTH, TURNS>(setting, size, k, &parts, bytes)?;
+    let last = spell_rows_of_parts::<WIDTH, TURNS>(setting, size, k, &parts, bytes)?;
     Some(SpelledBlock {
         last,
         len: parts.len,

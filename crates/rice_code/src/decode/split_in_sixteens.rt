@@ -98,7 +98,7 @@ pub fn behind_omitted(numbers: u8x16, omitted: usize) -> u8x16
 
 /// Writes the numbers to row `row`, of sixteen numbers each.
 #[inline(always)]
-pub fn store_row(rows: &mut [u8], row: usize, numbers: u8x16)
+pub fn store_parts_of_row(rows: &mut [u8], row: usize, numbers: u8x16)
     requires row { 16 * (row + 1) ≤ length rows.old }
     requires few { length rows.old ≤ 64 }
     requires lanes { length numbers ≡ 16 }
@@ -138,7 +138,7 @@ fn high_parts_of_row_ahead<I: Intake>(
 /// Writes the high parts of the residuals of a block of `size` samples whose fundamental sequences wait behind the first `skip` bits, if
 /// each row of them is in one look, and returns the number of their bits. Those that are omitted, one or none, are zeros.
 #[inline(always)]
-pub fn write_high_parts<I: Intake>(
+pub fn write_high_parts_ahead<I: Intake>(
     reader: &BitReader<I>,
     size: usize,
     skip: usize,
@@ -155,11 +155,11 @@ pub fn write_high_parts<I: Intake>(
 {
     let _taken = reader.taken();
     let first = high_parts_of_row_ahead(reader, skip, omitted, 16)?;
-    store_row(highs, 0, first.numbers);
+    store_parts_of_row(highs, 0, first.numbers);
     let mut len = first.len;
     for row in 1..(size + 15) / 16 {
         let next = high_parts_of_row_ahead(reader, skip + len, 0, row_len(size, row))?;
-        store_row(highs, row, next.numbers);
+        store_parts_of_row(highs, row, next.numbers);
         len += next.len;
     }
     Some(len)
@@ -168,7 +168,7 @@ pub fn write_high_parts<I: Intake>(
 /// Returns the low parts of `k` bits of the residuals of a block of `size` samples, which wait behind the first `skip` bits. Those that
 /// are omitted, one or none, are zeros.
 #[inline(always)]
-pub fn low_parts_in_rows<I: Intake>(
+pub fn low_parts_ahead<I: Intake>(
     reader: &BitReader<I>,
     size: usize,
     skip: usize,
@@ -186,11 +186,11 @@ pub fn low_parts_in_rows<I: Intake>(
     let _taken = reader.taken();
     let mut lows = [0; 64];
     let first = behind_omitted(reader.words_ahead(skip, k), omitted);
-    store_row(&mut lows, 0, first);
+    store_parts_of_row(&mut lows, 0, first);
     let second = skip + (16 - omitted) * k as usize;
     for row in 1..(size + 15) / 16 {
         let words = reader.words_ahead(second + 16 * (row - 1) * k as usize, k);
-        store_row(&mut lows, row, first_lanes(words, row_len(size, row)));
+        store_parts_of_row(&mut lows, row, first_lanes(words, row_len(size, row)));
     }
     lows
 }
@@ -222,12 +222,12 @@ pub fn parts_in_rows_ahead<I: Intake, const WIDTH: usize>(
     let _taken = reader.taken();
     let head = head_ahead(setting, block, before, WIDTH + 2, reader);
     let mut highs = [0; 64];
-    let len = write_high_parts(reader, size, head.len, head.omitted, &mut highs)?;
+    let len = write_high_parts_ahead(reader, size, head.len, head.omitted, &mut highs)?;
     let words = head.len + len;
     if reader.waiting() < (words + size * k as usize + 128) as u64 {
         return None;
     }
-    let lows = low_parts_in_rows(reader, size, words, head.omitted, k);
+    let lows = low_parts_ahead(reader, size, words, head.omitted, k);
     Some(PartRows {
         from: head.from,
         highs,
@@ -240,7 +240,7 @@ pub fn parts_in_rows_ahead<I: Intake, const WIDTH: usize>(
 /// the first after a sample at level `from`, if it can, as `spell_parts`. Returns the level of the last. It may write more behind these
 /// bytes.
 #[inline(always)]
-fn spell_row<const WIDTH: usize, const TURNS: bool>(
+fn spell_row_of_parts<const WIDTH: usize, const TURNS: bool>(
     setting: &Setting,
     k: u32,
     from: u32,
@@ -272,7 +272,7 @@ fn spell_row<const WIDTH: usize, const TURNS: bool>(
 /// Writes the bytes of the block with these parts, of `size` samples of `WIDTH` bytes, if it can, as `spell_parts`. Returns the level of
 /// its last sample.
 #[inline(always)]
-pub fn spell_rows<const WIDTH: usize, const TURNS: bool>(
+pub fn spell_rows_of_parts<const WIDTH: usize, const TURNS: bool>(
     setting: &Setting,
     size: usize,
     k: u32,
@@ -295,7 +295,15 @@ pub fn spell_rows<const WIDTH: usize, const TURNS: bool>(
     let mut last = parts.from;
     for row in 0..(size + 15) / 16 {
         let count = row_len(size, row);
-        last = spell_row::<WIDTH, TURNS>(setting, k, last, parts, row, count, &mut spelled)?;
+        last = spell_row_of_parts::<WIDTH, TURNS>(
+            setting,
+            k,
+            last,
+            parts,
+            row,
+            count,
+            &mut spelled,
+        )?;
     }
     bytes[..WIDTH * size].copy_from_slice(&spelled[..WIDTH * size]);
     Some(last)

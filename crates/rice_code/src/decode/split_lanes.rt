@@ -8,8 +8,9 @@ ghost use Rattle.rice_code.specs.decode.BlocksInOnePass.{HasLanes, HasWidth, Par
 
 use rice_bits::{BitReader, Intake, zero_and_all_but_last};
 use rice_samples::{
-    LevelHalves, LevelLanes, Setting, halves_in_turn, level_of_pattern, levels_of_parts_in_turn,
-    near_halves, near_levels, spelled_in_one_byte, spelled_in_two_bytes,
+    LevelHalves, LevelLanes, Setting, halves_of_parts_in_turn, level_of_pattern,
+    levels_of_parts_in_turn, near_halves_of_parts, near_levels_of_parts, spelled_in_one_byte,
+    spelled_in_two_bytes,
 };
 use std::simd::prelude::*;
 
@@ -106,14 +107,14 @@ pub fn parts_ahead<I: Intake, const WIDTH: usize>(
         p.from 16 p.highs p.lows p.len) }
 {
     if begins_interval(setting, block) {
-        return parts_behind_reference::<I, WIDTH>(setting, size, block, before, k, reader);
+        return parts_behind_reference_ahead::<I, WIDTH>(setting, size, block, before, k, reader);
     }
-    parts_without_reference::<I, WIDTH>(setting, size, block, before, k, reader)
+    parts_without_reference_ahead::<I, WIDTH>(setting, size, block, before, k, reader)
 }
 
 /// As `parts_ahead`, for a block that has no reference sample.
 #[inline(always)]
-fn parts_without_reference<I: Intake, const WIDTH: usize>(
+fn parts_without_reference_ahead<I: Intake, const WIDTH: usize>(
     setting: &Setting,
     size: usize,
     block: u64,
@@ -144,7 +145,7 @@ fn parts_without_reference<I: Intake, const WIDTH: usize>(
 
 /// As `parts_ahead`, for a block that has a reference sample.
 #[inline(always)]
-fn parts_behind_reference<I: Intake, const WIDTH: usize>(
+fn parts_behind_reference_ahead<I: Intake, const WIDTH: usize>(
     setting: &Setting,
     size: usize,
     block: u64,
@@ -201,9 +202,9 @@ pub fn spell_parts<const WIDTH: usize, const TURNS: bool>(
     ensures none { IfNone result (bytes.new ≡ bytes.old) }
 {
     if WIDTH == 1 {
-        spell_in_one_byte::<TURNS>(setting, size, k, from, highs, lows, bytes)
+        spell_parts_in_one_byte::<TURNS>(setting, size, k, from, highs, lows, bytes)
     } else {
-        spell_in_two_bytes::<TURNS>(setting, size, k, from, highs, lows, bytes)
+        spell_parts_in_two_bytes::<TURNS>(setting, size, k, from, highs, lows, bytes)
     }
 }
 
@@ -227,7 +228,7 @@ fn row_levels<const TURNS: bool>(
     if TURNS {
         return levels_of_parts_in_turn(setting, from, highs, lows, k);
     }
-    near_levels(setting, from, highs, lows, k)
+    near_levels_of_parts(setting, from, highs, lows, k)
 }
 
 /// Returns the levels of sixteen samples of at most 16 bits, the first after one at level `from`, whose residuals have these parts, as
@@ -250,14 +251,14 @@ fn row_halves<const TURNS: bool>(
     ensures halves { IfSome result (λ l. (length l.first ≡ 8) × (length l.second ≡ 8)) }
 {
     if TURNS {
-        return halves_in_turn(setting, from, highs, lows, k);
+        return halves_of_parts_in_turn(setting, from, highs, lows, k);
     }
-    near_halves(setting, from, highs, lows, k)
+    near_halves_of_parts(setting, from, highs, lows, k)
 }
 
 /// As `spell_parts`, of samples of one byte.
 #[inline(always)]
-fn spell_in_one_byte<const TURNS: bool>(
+fn spell_parts_in_one_byte<const TURNS: bool>(
     setting: &Setting,
     size: usize,
     k: u32,
@@ -284,7 +285,7 @@ fn spell_in_one_byte<const TURNS: bool>(
 
 /// As `spell_parts`, of samples of two bytes.
 #[inline(always)]
-fn spell_in_two_bytes<const TURNS: bool>(
+fn spell_parts_in_two_bytes<const TURNS: bool>(
     setting: &Setting,
     size: usize,
     k: u32,

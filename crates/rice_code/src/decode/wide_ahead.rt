@@ -7,9 +7,9 @@ ghost use Rattle.rice_code.specs.decode.BlocksInOnePass.{BlockAhead};
 ghost use Rattle.rice_code.specs.decode.WideAhead.{EightLevels, LevelsAhead, RestoredAhead};
 
 use crate::decode::split_ahead::SpelledBlock;
-use crate::decode::split_in_sixteens::{head_ahead, write_high_parts};
+use crate::decode::split_in_sixteens::{head_ahead, write_high_parts_ahead};
 use rice_bits::{BitReader, Intake};
-use rice_samples::{Setting, near_words};
+use rice_samples::{Setting, near_words_of_parts};
 use std::simd::prelude::*;
 
 /// The bits of an identifier.
@@ -75,7 +75,7 @@ fn eight_behind_omitted(numbers: u8x16, omitted: usize) -> u8x8
 /// behind the first `skip` bits, less those that are omitted, one or none. `None` if they are long, or not all samples are near to those
 /// before them.
 #[inline(always)]
-fn restore_block_of_eight<I: Intake>(
+fn restore_eight_ahead<I: Intake>(
     setting: &Setting,
     from: u32,
     omitted: usize,
@@ -101,7 +101,7 @@ fn restore_block_of_eight<I: Intake>(
     }
     let highs = eight_behind_omitted(sequences.numbers, omitted);
     let lows = words_behind_omitted(reader.wide_words_ahead(words, k), omitted);
-    let near = near_words(setting, from, highs, lows, k)?;
+    let near = near_words_of_parts(setting, from, highs, lows, k)?;
     near.levels.copy_to_slice(levels);
     Some(SpelledBlock {
         last: near.levels.to_array()[7],
@@ -112,7 +112,7 @@ fn restore_block_of_eight<I: Intake>(
 /// Writes eight levels behind the first `at`, of samples the first of which stands after one at level `from`, and whose residuals have the
 /// high parts behind the first `at` and these low parts. Returns the last. `None` if not all samples are near to those before them.
 #[inline(always)]
-fn restore_eight_at(
+fn restore_eight_of_parts_at(
     setting: &Setting,
     from: u32,
     k: u32,
@@ -132,7 +132,7 @@ fn restore_eight_at(
     ensures some { IfSome result (λ l. EightLevels setting.now from k at
         (take 8 (drop at highs.now)) lows levels.old levels.new l) }
 {
-    let near = near_words(setting, from, u8x8::from_slice(&highs[at..]), lows, k)?;
+    let near = near_words_of_parts(setting, from, u8x8::from_slice(&highs[at..]), lows, k)?;
     near.levels.copy_to_slice(&mut levels[at..]);
     Some(near.levels.to_array()[7])
 }
@@ -141,7 +141,7 @@ fn restore_eight_at(
 /// the low parts that wait behind the first `skip` bits, less those that are omitted, one or none. Returns the last. `None` if not all
 /// samples are near to those before them.
 #[inline(always)]
-fn restore_block_of_eights<I: Intake>(
+fn restore_eights_ahead<I: Intake>(
     setting: &Setting,
     from: u32,
     omitted: usize,
@@ -166,18 +166,18 @@ fn restore_block_of_eights<I: Intake>(
 {
     let _taken = reader.taken();
     let first = words_behind_omitted(reader.wide_words_ahead(skip, k), omitted);
-    let mut last = restore_eight_at(setting, from, k, highs, first, 0, levels)?;
+    let mut last = restore_eight_of_parts_at(setting, from, k, highs, first, 0, levels)?;
     let second = skip + (8 - omitted) * k as usize;
     for eight in 1..levels.len() / 8 {
         let lows = reader.wide_words_ahead(second + 8 * (eight - 1) * k as usize, k);
-        last = restore_eight_at(setting, last, k, highs, lows, 8 * eight, levels)?;
+        last = restore_eight_of_parts_at(setting, last, k, highs, lows, 8 * eight, levels)?;
     }
     Some(last)
 }
 
-/// As `restore_block_of_eight`, of a block of rows of sixteen samples.
+/// As `restore_eight_ahead`, of a block of rows of sixteen samples.
 #[inline(always)]
-fn restore_rows<I: Intake>(
+fn restore_rows_ahead<I: Intake>(
     setting: &Setting,
     from: u32,
     omitted: usize,
@@ -200,11 +200,11 @@ fn restore_rows<I: Intake>(
     let _taken = reader.taken();
     let size = levels.len();
     let mut highs = [0; 64];
-    let words = skip + write_high_parts(reader, size, skip, omitted, &mut highs)?;
+    let words = skip + write_high_parts_ahead(reader, size, skip, omitted, &mut highs)?;
     if reader.waiting() < (words + size * k as usize) as u64 + LOOK {
         return None;
     }
-    let last = restore_block_of_eights(setting, from, omitted, words, k, &highs, reader, levels)?;
+    let last = restore_eights_ahead(setting, from, omitted, words, k, &highs, reader, levels)?;
     Some(SpelledBlock {
         last,
         len: words + (size - omitted) * k as usize,
@@ -239,7 +239,7 @@ pub fn restore_wide_ahead<I: Intake>(
     let head = head_ahead(setting, block, before, ID_LEN, reader);
     let size = levels.len();
     if size == 8 {
-        return restore_block_of_eight(
+        return restore_eight_ahead(
             setting,
             head.from,
             head.omitted,
@@ -252,7 +252,7 @@ pub fn restore_wide_ahead<I: Intake>(
     if size % 16 != 0 {
         return None;
     }
-    restore_rows(
+    restore_rows_ahead(
         setting,
         head.from,
         head.omitted,

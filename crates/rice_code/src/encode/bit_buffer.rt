@@ -42,7 +42,7 @@ impl BitBuffer {
 
     /// Returns a buffer of the `width` binary digits of `value`.
     #[inline(always)]
-    pub fn of(value: u64, width: u32) -> Self
+    pub fn of_digits(value: u64, width: u32) -> Self
         requires width { width ≤ put_width }
         requires value { value < 2 ^ width }
         ensures bits { result ≡ word width value }
@@ -133,7 +133,7 @@ impl BitBuffer {
 
     /// Puts the bits, and then the `width` lowest digits of each residual of the block, which come in eights.
     #[inline(always)]
-    pub fn put_with_digits_of_block(
+    pub fn put_then_whole_words_of_block(
         &self,
         block: &Block<'_>,
         width: u32,
@@ -151,7 +151,7 @@ impl BitBuffer {
         ensures steps { meter.new ≡ meter.old + length self.now + length block.now * (width + 1) }
     {
         let count = self.width;
-        block.put_whole_digits(self.value, count, width, sink, meter);
+        block.put_number_and_whole_digits(self.value, count, width, sink, meter);
     }
 
     /// Puts the bits into the sink, and is empty then.

@@ -25,7 +25,7 @@ use rice_samples::{Block, Residuals};
 /// It is never inlined, so that the loop over the blocks stays short, and takes the parts of the block,
 /// which are passed in registers.
 #[inline(never)]
-fn code_block<const SIZE: usize, const REFERENCE: bool>(
+fn code_block_not_zero<const SIZE: usize, const REFERENCE: bool>(
     setting: &PreparedSetting,
     word: u32,
     residuals: Block<'_>,
@@ -117,7 +117,7 @@ fn put_run_before_block(
 /// Takes the block after `run` zero blocks that are pending, from block `first` on: a zero block joins them, another ends
 /// the run. Returns the number of blocks that are pending then.
 #[inline(always)]
-fn code_next<const SIZE: usize>(
+fn code_next_or_add_to_run<const SIZE: usize>(
     setting: &PreparedSetting,
     reference: Option<u32>,
     first: usize,
@@ -149,8 +149,8 @@ fn code_next<const SIZE: usize>(
     put_run_before_block(setting, reference, first, run, sink, meter);
     let (own, residuals) = block.into_parts();
     match own {
-        Some(word) => code_block::<SIZE, true>(setting, word, residuals, sink, meter),
-        None => code_block::<SIZE, false>(setting, 0, residuals, sink, meter),
+        Some(word) => code_block_not_zero::<SIZE, true>(setting, word, residuals, sink, meter),
+        None => code_block_not_zero::<SIZE, false>(setting, 0, residuals, sink, meter),
     }
     0
 }
@@ -230,7 +230,7 @@ fn code_blocks_of_size<const SIZE: usize, const N: usize>(
     let mut run: u32 = 0;
     for i in 0..count {
         let block = HeldBlock::new(reference_of(reference, i), segment.block(i, known));
-        run = code_next::<SIZE>(
+        run = code_next_or_add_to_run::<SIZE>(
             setting,
             reference,
             i - run as usize,

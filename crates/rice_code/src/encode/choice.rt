@@ -6,7 +6,7 @@ ghost use Rattle.rice_samples.specs.blocks.Stops.{IsFirstStop};
 ghost use Rattle.rice_code.specs.code.CodedDataSets.{Split, cost};
 ghost use Rattle.rice_code.specs.code.Choice.{shortest, IsBestSplit, best_split};
 ghost use Rattle.rice_code.specs.code.SoundBlocks.{IsSoundData};
-ghost use Rattle.rice_code.specs.encode.ChosenOption.{chosen_set, head_len, IsSplitWithin};
+ghost use Rattle.rice_code.specs.encode.SetOfChoice.{chosen_set, head_len, IsSplitWithin};
 
 use crate::encode::cost::{coded_len, no_compression_cost, second_extension_cost, split_cost};
 use crate::encode::held_block::HeldBlock;
@@ -59,7 +59,7 @@ fn split_stop(
 {
     let residuals = block.residuals();
     if setting.bits() <= 26 {
-        return residuals.first_small_stop(setting.k_max(), price, meter);
+        return residuals.first_stop_of_small_residuals(setting.k_max(), price, meter);
     }
     residuals.first_stop(setting.k_max(), price, meter)
 }

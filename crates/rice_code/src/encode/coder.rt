@@ -157,7 +157,7 @@ impl<const N: usize> SizedCoder<N> {
     {
         let taken = levels.len().min(self.segment.room());
         meter.tick(taken as u64);
-        self.segment.hold_all(&levels[..taken]);
+        self.segment.hold_levels(&levels[..taken]);
         if self.segment.is_whole() {
             let bits = self.segment.code(sink, meter);
             self.segment.begin_next();

@@ -5,7 +5,7 @@ ghost use Rattle.rice_bits.specs.Limits.{step_limit};
 ghost use Rattle.rice_samples.specs.Parameters.{k_max};
 ghost use Rattle.rice_code.specs.code.CodedDataSets.{NoCompression, SecondExtension, Split, sent_residuals, cost};
 ghost use Rattle.rice_code.specs.code.SoundBlocks.{IsSoundData};
-ghost use Rattle.rice_code.specs.encode.ChosenOption.{head_len};
+ghost use Rattle.rice_code.specs.encode.SetOfChoice.{head_len};
 ghost use Rattle.rice_code.specs.encode.SentParts.{pairs_len};
 
 use crate::encode::held_block::HeldBlock;

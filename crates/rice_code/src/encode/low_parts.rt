@@ -5,7 +5,7 @@ ghost use Rattle.rice_code.specs.encode.SentParts.{HasRoomForLow, AddsLow};
 
 use crate::encode::SegmentSink;
 use crate::encode::bit_buffer::BitBuffer;
-use rice_bits::{Meter, join, low_digits, two_pairs};
+use rice_bits::{Meter, join, low_digits, two_joined_pairs_at};
 use rice_samples::Block;
 
 /// Adds the `width` lowest digits of each residual from number `from` on.
@@ -113,6 +113,6 @@ fn four_low_parts_joined(four: (u32, u32, u32, u32), width: u32) -> u64
     ensures bits { word (4 * width) result ≡
         word width four.0 ++ word width four.1 ++ word width four.2 ++ word width four.3 }
 {
-    let (first, last) = two_pairs(&[four.0, four.1, four.2, four.3], 0, width);
+    let (first, last) = two_joined_pairs_at(&[four.0, four.1, four.2, four.3], 0, width);
     join(first, 2 * width, last)
 }

@@ -60,7 +60,7 @@ impl<const N: usize> OpenSegment<N> {
             start: 0,
             residuals: Residuals::empty(),
             reference: None,
-            previous: level_of(&setting, 0),
+            previous: level_of_sample(&setting, 0),
             end,
         }
     }
@@ -80,7 +80,7 @@ impl<const N: usize> OpenSegment<N> {
             start,
             residuals: Residuals::empty(),
             reference: None,
-            previous: level_of(&setting, previous),
+            previous: level_of_sample(&setting, previous),
             end,
         }
     }
@@ -156,11 +156,11 @@ impl<const N: usize> OpenSegment<N> {
         let residual = next_residual(&self.setting, first, previous, x);
         note_reference(&self.setting, first, &mut self.reference, x);
         self.residuals.push(residual);
-        self.previous = level_of(&self.setting, x);
+        self.previous = level_of_sample(&self.setting, x);
     }
 
     /// Adds the residuals of the samples with these levels, for which the segment has room.
-    pub fn hold_all(&mut self, levels: &[u32])
+    pub fn hold_levels(&mut self, levels: &[u32])
         requires legal { All (λ l. l < value_count self.old.setting) levels.now }
         requires room { length self.old.residuals + length levels.now ≤
             self.old.setting.block * blocks_left self.old.setting self.old.start }
@@ -173,15 +173,15 @@ impl<const N: usize> OpenSegment<N> {
         if self.is_reference_next() {
             let first = levels[0];
             self.reference = Some(pattern_of_level(self.setting.plain(), first));
-            self.hold_after(first, levels);
+            self.hold_levels_after(first, levels);
         } else {
-            self.hold_after(self.previous, levels);
+            self.hold_levels_after(self.previous, levels);
         }
     }
 
     /// Adds the residuals of samples: of the first one after the sample at level `before`, and of each other after the one before
     /// it.
-    fn hold_after(&mut self, before: u32, levels: &[u32])
+    fn hold_levels_after(&mut self, before: u32, levels: &[u32])
         requires some { 0 < length levels.now }
         requires before { before < value_count self.old.setting }
         requires legal { All (λ l. l < value_count self.old.setting) levels.now }
@@ -257,7 +257,7 @@ impl<const N: usize> OpenSegment<N> {
     {
         self.residuals.clear();
         self.reference = None;
-        self.previous = level_of(&self.setting, 0);
+        self.previous = level_of_sample(&self.setting, 0);
         self.start = 0;
         self.end = residuals_from(&self.setting, 0);
     }
@@ -265,7 +265,7 @@ impl<const N: usize> OpenSegment<N> {
 
 /// Returns the level of the sample `x`.
 #[inline]
-fn level_of(setting: &PreparedSetting, x: i64) -> u32
+fn level_of_sample(setting: &PreparedSetting, x: i64) -> u32
     requires { IsSample setting.now x }
     ensures below { result < value_count setting.now }
     ensures value { value_at setting.now result ≡ x }
@@ -355,9 +355,9 @@ fn push_each_after_the_one_before<const N: usize>(
         (value_at setting.now previous) (values_at setting.now levels.now) }
 {
     if setting.preprocess() {
-        segment.push_residuals(setting.plain(), previous, levels);
+        segment.push_residuals_of_levels(setting.plain(), previous, levels);
     } else {
-        segment.push_patterns(setting.plain(), levels);
+        segment.push_patterns_of_levels(setting.plain(), levels);
     }
 }
 

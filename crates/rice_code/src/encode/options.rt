@@ -7,7 +7,7 @@ ghost use Rattle.rice_code.specs.encode.BitBuffer.{HasRoomFor, HasRoomForOption,
 ghost use Rattle.rice_code.specs.code.Runs.{run_of_blocks};
 ghost use Rattle.rice_code.specs.encode.HeldBlocks.{zeros_of_run};
 ghost use Rattle.rice_code.specs.code.SoundBlocks.{IsSoundData};
-ghost use Rattle.rice_code.specs.encode.ChosenOption.{head_len};
+ghost use Rattle.rice_code.specs.encode.SetOfChoice.{head_len};
 
 use crate::encode::SegmentSink;
 use crate::encode::bit_buffer::BitBuffer;
@@ -44,7 +44,7 @@ fn begin_set(
         meter.old + width + reference_len setting.now reference }
     ensures alone { reference ≡ None → length result ≡ width }
 {
-    let mut fields = BitBuffer::of(identifier as u64, width);
+    let mut fields = BitBuffer::of_digits(identifier as u64, width);
     if let Some(v) = reference {
         fields.add(v as u64, setting.bits(), sink, meter);
         return fields;
@@ -86,7 +86,7 @@ pub fn put_no_compression<const SIZE: usize>(
     let mut fields = begin_set(setting, (1 << id) - 1, id, block.reference(), sink, meter);
     if from == 0 && residuals.len() % 8 == 0 && is_whole_width(bits) {
         if SIZE == 8 || SIZE == 16 {
-            fields.put_with_digits_of_block(residuals, bits, sink, meter);
+            fields.put_then_whole_words_of_block(residuals, bits, sink, meter);
             return;
         }
         let mut steps = Meter::new();
@@ -123,7 +123,7 @@ fn put_whole(
         length block.entry * width }
     ensures steps { meter.new ≡ meter.old + length fields + length block.entry * (width + 1) }
 {
-    fields.put_with_digits_of_block(&block, width, sink, meter);
+    fields.put_then_whole_words_of_block(&block, width, sink, meter);
 }
 
 /// Returns whether words of `width` digits are bytes, and some of them have 64 digits.

@@ -96,13 +96,13 @@ fn eight_low_parts_joined(block: &Block<'_>, at: usize, width: u32, meter: &mut 
     let _len = block.len();
     let a = block.four_at(at, meter);
     let b = block.four_at(at + 4, meter);
-    let (first, last) = two_fours_joined(a, b, width);
+    let (first, last) = each_four_joined(a, b, width);
     join(first, 4 * width, last)
 }
 
 /// Returns two numbers, each of which has the lowest digits of four numbers, one after the other.
 #[inline(always)]
-fn two_fours_joined(a: (u32, u32, u32, u32), b: (u32, u32, u32, u32), width: u32) -> (u64, u64)
+fn each_four_joined(a: (u32, u32, u32, u32), b: (u32, u32, u32, u32), width: u32) -> (u64, u64)
     requires { width ≤ 7 }
     ensures first_fits { result.0 < 2 ^ (4 * width) }
     ensures last_fits { result.1 < 2 ^ (4 * width) }

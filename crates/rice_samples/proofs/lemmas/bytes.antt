@@ -1,10 +1,10 @@
 -- Spelling, and reading samples from bytes.
 pub mod BufferOfReader
 pub mod LevelsSpelledInByteLanes
-pub mod GivenSamples
+pub mod SampleReaderLemmas
 pub mod LevelPatterns
 pub mod ReadLevels
-pub mod ReadSamples
+pub mod SamplesInTurn
 pub mod UnusedBits
 pub mod SpellingLemmas
 pub mod SpellingLengths

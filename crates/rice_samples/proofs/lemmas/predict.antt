@@ -9,7 +9,7 @@ pub mod ByteRanks
 pub mod SumsOfWays
 pub mod NumbersThatFit16Bits
 pub mod NearEights
-pub mod DistinctPatterns
+pub mod DistinctPatternsAndResiduals
 pub mod RankLaws
 pub mod RankedLevels
 pub mod Ranks

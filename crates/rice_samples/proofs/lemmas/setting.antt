@@ -4,4 +4,4 @@ pub mod CutLemmas
 pub mod ValuesAboveLeast
 pub mod LevelsOfSamples
 pub mod PlaceLemmas
-pub mod ValuesByLevels
+pub mod ValuesAtLevels

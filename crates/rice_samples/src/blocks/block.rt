@@ -8,7 +8,7 @@ ghost use Rattle.rice_samples.specs.blocks.Stops.{IsFirstStop};
 ghost use Rattle.rice_samples.specs.Parameters.{IsBlockSize};
 
 use crate::blocks::pair_codeword_lengths::{pair_sum, pair_sum_in_32_bits};
-use crate::blocks::stops::{first_small_stop, first_stop};
+use crate::blocks::stops::{first_stop, first_stop_of_small_residuals};
 use crate::blocks::tests_and_sums::{all_of, all_zero, sum_shifted};
 use rice_bits::{BitSink, Meter};
 use std::marker::Model;
@@ -16,8 +16,8 @@ use std::marker::Model;
 /// The residuals of a block, an even number of them up to 64, lent by a segment. Contracts see their list.
 ///
 /// Each look at a residual is a step. The calls below tick one for each residual of the block, `at` ticks one, `four_at` four,
-/// `put_digits` and `put_whole_digits` one for each that they put and one for each digit, and `first_stop` and
-/// `first_small_stop` the looks of the definition.
+/// `put_digits` and `put_number_and_whole_digits` one for each that they put and one for each digit, and `first_stop` and
+/// `first_stop_of_small_residuals` the looks of the definition.
 /// `len` and `sized` tick none. No other call reveals anything about the residuals. A block is never empty.
 #[derive(Drop)]
 pub struct Block<'a> {
@@ -110,7 +110,12 @@ impl Block<'_> {
 
     /// Does what `first_stop` does, for residuals that are so small that their sum is below 2^32.
     #[inline(always)]
-    pub fn first_small_stop(&self, limit: u32, price: u64, meter: &mut Meter) -> (u32, u64)
+    pub fn first_stop_of_small_residuals(
+        &self,
+        limit: u32,
+        price: u64,
+        meter: &mut Meter,
+    ) -> (u32, u64)
         requires small { All (λ d. d < 2 ^ 26) self.now }
         requires limit { limit ≤ 29 }
         requires price { price ≤ 64 }
@@ -120,7 +125,7 @@ impl Block<'_> {
         ensures steps { meter.new ≡ meter.old + length self.now * (min (result.0 + 1) limit + 1) }
     {
         let items = self.items;
-        let (k, sum) = first_small_stop(items, limit, price);
+        let (k, sum) = first_stop_of_small_residuals(items, limit, price);
         self.tick_looks(k, limit, meter);
         (k, sum as u64)
     }
@@ -207,7 +212,7 @@ impl Block<'_> {
     /// Appends the `count` binary digits of `value`, and then the `width` lowest ones of each residual, where these come in
     /// eights, to the sink, for a step for each residual, and a step for each digit. The digits go out 64 at a time.
     #[inline(always)]
-    pub fn put_whole_digits<const N: usize>(
+    pub fn put_number_and_whole_digits<const N: usize>(
         &self,
         value: u64,
         count: u32,

@@ -97,7 +97,7 @@ impl<const N: usize> Residuals<N> {
     /// Adds the residuals of the samples with these levels: of the first one after the sample at level `p`, and of each other after
     /// the one before it.
     #[inline]
-    pub fn push_residuals(&mut self, setting: &Setting, p: u32, levels: &[u32])
+    pub fn push_residuals_of_levels(&mut self, setting: &Setting, p: u32, levels: &[u32])
         requires before { p < value_count setting.now }
         requires legal { All (λ l. l < value_count setting.now) levels.now }
         requires room { length self.old + length levels.now ≤ N }
@@ -113,7 +113,7 @@ impl<const N: usize> Residuals<N> {
 
     /// Adds the patterns of the samples with these levels.
     #[inline]
-    pub fn push_patterns(&mut self, setting: &Setting, levels: &[u32])
+    pub fn push_patterns_of_levels(&mut self, setting: &Setting, levels: &[u32])
         requires legal { All (λ l. l < value_count setting.now) levels.now }
         requires room { length self.old + length levels.now ≤ N }
         ensures value { self.new ≡ self.old ++ map (pattern setting.now)

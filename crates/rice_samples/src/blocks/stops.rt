@@ -17,16 +17,16 @@ pub(crate) fn first_stop(items: &[u32], limit: u32, price: u64) -> (u32, u64)
 {
     // The loops unroll where the length is known.
     match items.len() {
-        8 => stop_of(all_of(items, 8), limit, price),
-        16 => stop_of(all_of(items, 16), limit, price),
-        32 => stop_of(all_of(items, 32), limit, price),
-        _ => stop_of(items, limit, price),
+        8 => first_stop_from_sure_digits(all_of(items, 8), limit, price),
+        16 => first_stop_from_sure_digits(all_of(items, 16), limit, price),
+        32 => first_stop_from_sure_digits(all_of(items, 32), limit, price),
+        _ => first_stop_from_sure_digits(items, limit, price),
     }
 }
 
 /// Finds that `k`, beginning after the digits that surely take more than `price` off.
 #[inline(always)]
-fn stop_of(items: &[u32], limit: u32, price: u64) -> (u32, u64)
+fn first_stop_from_sure_digits(items: &[u32], limit: u32, price: u64) -> (u32, u64)
     requires size { IsBlockSize (length items.now) }
     requires limit { limit ≤ 29 }
     requires price { price ≤ 64 }
@@ -49,7 +49,7 @@ fn stop_of(items: &[u32], limit: u32, price: u64) -> (u32, u64)
 
 /// Does what `first_stop` does, for numbers that are so small that their sum is below 2^32.
 #[inline(always)]
-pub(crate) fn first_small_stop(items: &[u32], limit: u32, price: u64) -> (u32, u32)
+pub(crate) fn first_stop_of_small_residuals(items: &[u32], limit: u32, price: u64) -> (u32, u32)
     requires size { IsBlockSize (length items.now) }
     requires small { All (λ d. d < 2 ^ 26) items.now }
     requires limit { limit ≤ 29 }
@@ -58,16 +58,16 @@ pub(crate) fn first_small_stop(items: &[u32], limit: u32, price: u64) -> (u32, u
 {
     // The loops unroll where the length is known.
     match items.len() {
-        8 => small_stop_of(all_of(items, 8), limit, price),
-        16 => small_stop_of(all_of(items, 16), limit, price),
-        32 => small_stop_of(all_of(items, 32), limit, price),
-        _ => small_stop_of(items, limit, price),
+        8 => first_stop_of_small_from_sure_digits(all_of(items, 8), limit, price),
+        16 => first_stop_of_small_from_sure_digits(all_of(items, 16), limit, price),
+        32 => first_stop_of_small_from_sure_digits(all_of(items, 32), limit, price),
+        _ => first_stop_of_small_from_sure_digits(items, limit, price),
     }
 }
 
-/// Does what `stop_of` does, for these numbers.
+/// Does what `first_stop_from_sure_digits` does, for these numbers.
 #[inline(always)]
-fn small_stop_of(items: &[u32], limit: u32, price: u64) -> (u32, u32)
+fn first_stop_of_small_from_sure_digits(items: &[u32], limit: u32, price: u64) -> (u32, u32)
     requires size { IsBlockSize (length items.now) }
     requires small { All (λ d. d < 2 ^ 26) items.now }
     requires limit { limit ≤ 29 }

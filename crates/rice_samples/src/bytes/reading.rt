@@ -6,12 +6,12 @@ ghost use Rattle.rice_samples.specs.bytes.ValueRange.{offset};
 
 use crate::Setting;
 use crate::bytes::spelling::sample_of;
-use crate::patterns::word_of;
+use crate::patterns::number_of_bytes;
 use rice_bits::low_digits;
 
 /// Reads the levels of the samples that the bytes spell, `width()` bytes each, up to the first bytes that spell no sample, and
 /// returns their number. What `levels` holds after them is unspecified.
-pub fn levels_of(setting: &Setting, bytes: &[u8], levels: &mut [u32]) -> usize
+pub fn read_legal_levels(setting: &Setting, bytes: &[u8], levels: &mut [u32]) -> usize
     requires { length bytes.now ≡ width_of setting.now * length levels.old }
     ensures count { result ≤ length levels.new }
     ensures len { length levels.new ≡ length levels.old }
@@ -20,7 +20,7 @@ pub fn levels_of(setting: &Setting, bytes: &[u8], levels: &mut [u32]) -> usize
 {
     read_levels_of(setting, bytes, levels);
     // Where samples have all bits of their bytes, any bytes spell samples.
-    if setting.bits() == 8 * setting.width() || are_levels_of_samples(setting, levels) {
+    if setting.bits() == 8 * setting.width() || are_levels_in_range(setting, levels) {
         return levels.len();
     }
     read_levels_one_by_one(setting, bytes, levels)
@@ -45,11 +45,11 @@ pub fn first_levels(setting: &Setting, bytes: &[u8], levels: &mut [u32]) -> usiz
 {
     let width = setting.width() as usize;
     let count = levels.len().min(bytes.len() / width);
-    levels_of(setting, &bytes[..width * count], &mut levels[..count])
+    read_legal_levels(setting, &bytes[..width * count], &mut levels[..count])
 }
 
 /// Returns whether all of these are levels of samples.
-fn are_levels_of_samples(setting: &Setting, levels: &[u32]) -> bool
+fn are_levels_in_range(setting: &Setting, levels: &[u32]) -> bool
     ensures { result ≡ true → All (λ l. l < value_count setting.now) levels.now }
 {
     let greatest = (setting.number_of_values() - 1) as u32;
@@ -60,7 +60,7 @@ fn are_levels_of_samples(setting: &Setting, levels: &[u32]) -> bool
     all
 }
 
-/// Reads the levels one by one, as `levels_of` does.
+/// Reads the levels one by one, as `read_legal_levels` does.
 fn read_levels_one_by_one(setting: &Setting, bytes: &[u8], levels: &mut [u32]) -> usize
     requires { length bytes.now ≡ width_of setting.now * length levels.old }
     ensures count { result ≤ length levels.new }
@@ -127,7 +127,7 @@ fn read_levels_laid_out(
     let _width = setting.width();
     let offset = offset_with(setting, signed);
     for i in 0..levels.len() {
-        let word = word_of(&bytes[width * i..width * i + width], msb);
+        let word = number_of_bytes(&bytes[width * i..width * i + width], msb);
         levels[i] = low_digits(word.wrapping_add(offset), 8 * width as u32) as u32;
     }
 }

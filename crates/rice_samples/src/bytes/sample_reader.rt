@@ -65,7 +65,7 @@ fn bytes_to_ask_for(given: u64, waiting: usize) -> usize
 }
 
 /// Puts the next bytes, at most `most`, after those that wait in the buffer, and returns their number.
-fn refill<I: Intake>(
+fn fill_behind_waiting<I: Intake>(
     intake: &mut I,
     buffer: &mut [u8],
     waiting: usize,
@@ -148,7 +148,7 @@ impl SampleReader {
         self.at = 0;
         self.end = waiting;
         let most = bytes_to_ask_for(self.given, waiting);
-        let count = match refill(intake, &mut self.buffer, waiting, most) {
+        let count = match fill_behind_waiting(intake, &mut self.buffer, waiting, most) {
             Ok(count) => count,
             Err(_) => return Err(SampleFault::Read),
         };
@@ -165,7 +165,7 @@ impl SampleReader {
 
     /// Takes the samples that wait, as many as `levels` has room for, and returns their number: 0 if the first bytes spell none.
     #[inline]
-    fn take(&mut self, levels: &mut [u32]) -> usize
+    fn take_waiting_levels(&mut self, levels: &mut [u32]) -> usize
         requires some { width_of self.old.setting ≤ length self.old.waiting }
         requires room { 0 < length levels.old }
         ensures count { result ≤ length levels.new }
@@ -190,7 +190,7 @@ impl SampleReader {
     /// the intake. What `levels` holds after them is unspecified.
     ///
     /// An error says why the next sample could not be read: [`SampleFault`] has each case. Those before it were all given.
-    pub fn next<I: Intake>(
+    pub fn next_levels<I: Intake>(
         &mut self,
         intake: &mut I,
         levels: &mut [u32],
@@ -228,7 +228,7 @@ impl SampleReader {
                 };
             }
         }
-        match self.take(levels) {
+        match self.take_waiting_levels(levels) {
             0 => Err(SampleFault::OutOfRange),
             count => Ok(count),
         }

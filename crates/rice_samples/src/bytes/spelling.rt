@@ -4,7 +4,7 @@ ghost use Rattle.rice_samples.specs.Parameters.{IsSample, width};
 ghost use Rattle.rice_samples.specs.bytes.Spelling.{spelling};
 
 use crate::Setting;
-use crate::patterns::{bytes_with, digits_of, word_of};
+use crate::patterns::{bytes_with, digits_of, number_of_bytes};
 use arrayvec::ArrayVec;
 
 /// Returns the sample that `width()` bytes spell, or `None` if they spell no sample: if the unused high bits
@@ -17,7 +17,7 @@ pub fn sample_of(setting: &Setting, bytes: &[u8]) -> Option<i64>
     ensures value { IfSome result (λ x. IsSample setting.now x ×
         (bytes.now ≡ spelling setting.now x)) }
 {
-    let word = word_of(bytes, setting.msb());
+    let word = number_of_bytes(bytes, setting.msb());
     let level = (word as u64 + setting.offset()) % (1 << (8 * setting.width()));
     if level < setting.number_of_values() {
         Some(setting.value_at(level))

@@ -5,7 +5,7 @@ ghost use Rattle.rice_samples.specs.bytes.UnusedBits.{SpellsOne, SpellsPatterns}
 
 use crate::Setting;
 use crate::bytes::spelling::bytes_of;
-use crate::patterns::word_of;
+use crate::patterns::number_of_bytes;
 use crate::predict::preprocessor::from_pattern;
 use rice_bits::low_digits;
 
@@ -25,7 +25,7 @@ fn set_unused_bits_of_one(setting: &Setting, bytes: &mut [u8])
     requires { length bytes.old ≡ width setting.now }
     ensures { SpellsOne setting.now bytes.old bytes.new }
 {
-    let word = word_of(bytes, setting.msb());
+    let word = number_of_bytes(bytes, setting.msb());
     let sample = from_pattern(setting, low_digits(word, setting.bits()) as u32);
     bytes.copy_from_slice(bytes_of(setting, sample).as_slice());
 }

@@ -16,7 +16,7 @@ use Rattle.rice_code.specs.code.Forms.{IsForm, RunIsSound, ResidualsAreSound, bl
 use Rattle.rice_code.specs.code.SoundBlocks.{AreSoundBlocks}
 use Rattle.rice_code.specs.code.Layout.{block_after, padding}
 use Rattle.rice_code.proofs.lemmas.meaning.DecodingGoesOn.{decoding_goes_on}
-use Rattle.rice_code.proofs.lemmas.code.FilledBlocks.{last_append, blocks_append}
+use Rattle.rice_code.proofs.lemmas.code.RepeatedSamples.{last_append, blocks_append}
 use Rattle.rice_code.proofs.lemmas.code.SoundBlocks.{last_legal}
 use Rattle.rice_code.proofs.lemmas.meaning.AllBytesAreDecoded.{blocks_have_samples, blocks_are_sound}
 use Rattle.rice_stream.specs.DecodingState.{DecodedSoFar, AreOfRun}

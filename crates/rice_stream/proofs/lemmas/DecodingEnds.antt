@@ -24,7 +24,7 @@ use Rattle.rice_samples.specs.Places.{place}
 use Rattle.rice_samples.specs.predict.Residuals.{last_of}
 use Rattle.rice_samples.specs.bytes.Spelling.{spellings}
 use Rattle.rice_code.specs.code.Decoded.{Decoded, Ending, EndsWith, Reached, Ended, CutOff, Past, Large, BeginsUnsound, IsWanted, cut_to}
-use Rattle.rice_code.proofs.lemmas.code.FilledBlocks.{last_append}
+use Rattle.rice_code.proofs.lemmas.code.RepeatedSamples.{last_append}
 use Rattle.rice_code.proofs.lemmas.code.BlocksByPlaceAlone.{place_step}
 use Rattle.rice_code.specs.code.CodedDataSets.{CodedDataSet, bits_of_set, turns}
 use Rattle.rice_code.specs.decode.Decoder.{StopsBy, SetEnds, SetRefused, with_mark}

@@ -22,7 +22,7 @@ use Rattle.rice_stream.specs.declared.outcome.Fault.{Fault}
 use Rattle.rice_stream.specs.declared.outcome.Fault.TheVariants.{Read, Write, TooLong, SampleOutOfRange, SampleCut, CodeEnds, RunPastSegment, ResidualTooLarge}
 use Rattle.rice_stream.proofs.lemmas.EncodingBounds.{Settles, early_bounded, all_bounded}
 use Rattle.rice_stream.proofs.lemmas.EncodingLemmas.{Follows-all, fails_among, settled_by}
-use Rattle.rice_samples.proofs.lemmas.bytes.GivenSamples.{reads_then, reads_before}
+use Rattle.rice_samples.proofs.lemmas.bytes.SampleReaderLemmas.{reads_then, reads_before}
 use Rattle.rice_samples.proofs.lemmas.bytes.SpellingLengths.{length-spellings, some_width, narrow_width}
 use Rattle.rice_stream.proofs.lemmas.SamplesOfFirstBytes.{few_more}
 

@@ -26,13 +26,13 @@ use Rattle.rice_stream.specs.Encodes.{ReportsAll}
 use Rattle.rice_stream.specs.FailedWrites.{TakesPart}
 use Rattle.rice_stream.specs.declared.encoding.Encoding.{Encoding}
 use Rattle.rice_stream.specs.declared.outcome.Report.{Report}
-use Rattle.rice_samples.proofs.lemmas.bytes.GivenSamples.{reads_then}
+use Rattle.rice_samples.proofs.lemmas.bytes.SampleReaderLemmas.{reads_then}
 use Rattle.rice_samples.proofs.lemmas.bytes.SpellingLengths.{spellings-append}
 use Rattle.std.proofs.Math.Seq.{take-append_seam}
 use Rattle.std.proofs.lemmas.List.{length-take-le}
 use Rattle.std.proofs.lemmas.List.Elements.{All-take}
 use Rattle.rice_stream.proofs.lemmas.EncodingBounds.{Settles, taken_settles, early_bounded, all_bounded, few_steps, few_bits}
-use Rattle.rice_stream.proofs.lemmas.WholeBytes.{length-part, more_bytes, more_rest}
+use Rattle.rice_stream.proofs.lemmas.BytesOfGrowingCode.{length-part, more_bytes, more_rest}
 
 -- nothing follows what was written, what follows it goes on, and where nothing was written before it is all
 pub Follows-nil : (now : Option Room) → Follows (afresh now) now []

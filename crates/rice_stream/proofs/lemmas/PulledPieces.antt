@@ -22,7 +22,7 @@ use Rattle.rice_stream.specs.declared.stand.Pause.TheVariants as pauses
 use Rattle.rice_stream.specs.declared.stand.Stand.{Stand}
 use Rattle.rice_stream.proofs.lemmas.DecodedSamples.{at_end, ends_here, ends_reached}
 use Rattle.rice_stream.proofs.lemmas.DecodingLemmas.{same_place}
-use Rattle.rice_stream.proofs.lemmas.OnePulledPiece.{drop_front}
+use Rattle.rice_stream.proofs.lemmas.PulledPieceSoFar.{drop_front}
 
 -- Bits of a code were pulled from where decoding began, and a stand is behind them.
 record HasPulled (s : Parameters) (code : List ℕ) (o : Origin) (stand : Stand) : Type 0 where

@@ -18,7 +18,7 @@ use Rattle.rice_stream.specs.Decodes.{wanted_of}
 use Rattle.rice_stream.specs.DecodingState.{DecodingProgress}
 use Rattle.rice_stream.specs.RunsOfBlocks.{FailsInRun, WritesRun, repeated}
 use Rattle.rice_stream.specs.FailedWrites.{TakesPart}
-use Rattle.rice_code.proofs.lemmas.code.FilledBlocks.{last_replicate}
+use Rattle.rice_code.proofs.lemmas.code.RepeatedSamples.{last_replicate}
 use Rattle.rice_code.specs.code.Decoded.{cut_to}
 use Rattle.rice_code.specs.declared.decode.call_results.NextBlock.TheVariants.{Block}
 use Rattle.rice_bits.proofs.lemmas.device.OutletLemmas.{Appends-trans}

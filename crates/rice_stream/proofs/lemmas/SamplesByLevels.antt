@@ -5,7 +5,7 @@ use Rattle.std.proofs.lemmas.List.{take-map}
 use Rattle.std.proofs.lemmas.List.Elements.{All-cons, All-head, All-nil, All-tail, All-take}
 use Rattle.rice_samples.specs.Parameters.{Parameters, IsSample, value_at, value_count, values_at}
 use Rattle.rice_samples.specs.bytes.Spelling.{spellings}
-use Rattle.rice_samples.proofs.lemmas.setting.ValuesByLevels.{level_of_value}
+use Rattle.rice_samples.proofs.lemmas.setting.ValuesAtLevels.{level_of_value}
 
 level_is_legal : (s : Parameters) (l : ℕ) → IsSample s (value_at s l) → l < value_count s
 level_is_legal s l h = subst (λ n. n < value_count s) (level_of_value s l) h.1

@@ -10,7 +10,7 @@ use Rattle.rice_stream.specs.EncodingState.{Beginning, Pushes}
 use Rattle.rice_stream.specs.declared.encoding.Encoding.{Encoding}
 use Rattle.rice_stream.specs.declared.outcome.Fault.{Fault}
 use Rattle.rice_stream.specs.declared.outcome.Fault.TheVariants.{Read, Write, TooLong, SampleOutOfRange, SampleCut, CodeEnds, RunPastSegment, ResidualTooLarge}
-use Rattle.rice_samples.proofs.lemmas.bytes.GivenSamples.{reads_before}
+use Rattle.rice_samples.proofs.lemmas.bytes.SampleReaderLemmas.{reads_before}
 use Rattle.rice_samples.proofs.lemmas.bytes.SpellingLengths.{length-spellings}
 
 -- what spells no sample spells none with more behind it

@@ -15,7 +15,7 @@ use Rattle.rice_code.specs.decode.DecoderState.{DecoderState, IsDecoderState}
 use Rattle.rice_code.specs.decode.RowsOfFields.{AreCounted}
 use Rattle.rice_code.specs.decode.PlainBlocks.{GivesRow}
 use Rattle.rice_code.specs.declared.decode.call_results.NextBlock.TheVariants.{Block}
-use Rattle.rice_code.proofs.lemmas.code.FilledBlocks.{last_replicate}
+use Rattle.rice_code.proofs.lemmas.code.RepeatedSamples.{last_replicate}
 use Rattle.rice_code.proofs.lemmas.code.SoundBlocks.{last_legal}
 use Rattle.rice_code.proofs.lemmas.decode.DecoderLemmas.{place_moves}
 use Rattle.rice_stream.specs.Pulling.{Origin, IsStand, GivesMore, WritesStroke, IsReadFrom, ahead, stand_at, state_of}

@@ -23,7 +23,7 @@ use Rattle.rice_code.proofs.lemmas.code.Layouts.{laid_append, laid_inside}
 use Rattle.rice_code.proofs.lemmas.cost.PaddingBounds.{are_blocks}
 use Rattle.rice_code.proofs.lemmas.code.SoundBlocks.{all_take, blocks_sound, count_blocks}
 use Rattle.rice_code.proofs.lemmas.code.SegmentsOneByOne.{sets_of_segments}
-use Rattle.rice_code.proofs.lemmas.code.FilledBlocks.{last_append, blocks_append}
+use Rattle.rice_code.proofs.lemmas.code.RepeatedSamples.{last_append, blocks_append}
 use Rattle.rice_code.proofs.lemmas.code.WholeBlocks.{not_filled}
 
 -- samples after whole blocks are filled as if they stood alone

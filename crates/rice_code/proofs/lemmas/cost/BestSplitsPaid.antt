@@ -24,7 +24,7 @@ use Rattle.rice_code.specs.code.Choice.{IsBestSplit, best_split, shortest, other
 use Rattle.rice_samples.proofs.lemmas.blocks.FallingSums.{cut_sum, sum_halves}
 use Rattle.rice_code.proofs.lemmas.cost.SplitSavings.{coded_sum, best_where_it_stops, best_where_it_ends, first_more}
 use Rattle.rice_code.proofs.lemmas.encode.ChoiceLemmas.{best_split_is}
-use Rattle.rice_code.proofs.lemmas.encode.SegmentBlocks.{most_of_one, looks_zero, sound_of, shortest_len}
+use Rattle.rice_code.proofs.lemmas.encode.SegmentBlocksInTurn.{most_of_one, looks_zero, sound_of, shortest_len}
 use Rattle.rice_code.proofs.lemmas.encode.PushedCode.{blocks_go_on}
 use Rattle.rice_code.proofs.lemmas.code.SoundBlocks.{blocks_sound_behind, count_blocks, last_legal, code_is_bounded}
 use Rattle.rice_code.proofs.lemmas.code.CodeGoesOn.{bits_go_on}

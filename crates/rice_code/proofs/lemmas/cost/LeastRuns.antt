@@ -18,7 +18,7 @@ use Rattle.rice_code.proofs.lemmas.cost.WhereSetsEnd.{IsFill, code_end, ends_lat
 use Rattle.rice_code.proofs.lemmas.cost.CostsOfSmallerBlocks.{BeginAtMost, zero_at_most}
 use Rattle.rice_code.proofs.lemmas.encode.OptionTexts.{run_cost, run_text_len}
 use Rattle.rice_code.proofs.lemmas.encode.PendingRuns.{count_zeros, is_zero_zeros, skip_zeros}
-use Rattle.rice_code.proofs.lemmas.encode.SegmentBlocks.{left_inside}
+use Rattle.rice_code.proofs.lemmas.encode.SegmentBlocksInTurn.{left_inside}
 use Rattle.rice_code.proofs.lemmas.meaning.CoveredBlocks.{bool_cases, data_sets_inside, data_sets_plain, data_sets_start, nothing_more, run_cons, run_inside}
 use Rattle.rice_code.proofs.lemmas.meaning.CoveredBlocks.{skipped, skipped_go, skipped_nil, skipped_plain, skipped_stop, zero_run_is}
 

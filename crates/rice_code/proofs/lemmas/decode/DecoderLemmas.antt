@@ -8,7 +8,7 @@ use Rattle.std.proofs.Math.Nat.{mod-eq_of_lt}
 use Rattle.std.proofs.Math.Nat.{mul-le-mul_left}
 use Rattle.std.proofs.lemmas.List.{length-replicate}
 use Rattle.std.proofs.lemmas.List.Elements.{All-replicate}
-use Rattle.rice_code.proofs.lemmas.code.FilledBlocks.{last_replicate, repeated_block}
+use Rattle.rice_code.proofs.lemmas.code.RepeatedSamples.{last_replicate, repeated_block}
 use Rattle.rice_bits.specs.Bits.{word, fundamental_sequence}
 use Rattle.rice_bits.proofs.lemmas.bits.WordsAndNumbers.{length-word, length-fundamental_sequence}
 use Rattle.rice_code.proofs.lemmas.code.FormsReadInOneWay.{long_id}

@@ -18,7 +18,7 @@ use Rattle.rice_samples.specs.predict.LevelsOfParts.{AreLevelsOfParts}
 use Rattle.rice_samples.proofs.lemmas.predict.HalfLanes.{last_is as last_at}
 use Rattle.rice_samples.proofs.lemmas.predict.LaneRanks.{length-ranks_below}
 use Rattle.rice_samples.proofs.lemmas.setting.ValuesAboveLeast.{sample_at}
-use Rattle.rice_samples.proofs.lemmas.setting.ValuesByLevels.{legal_values, length-values, ranks_of_values}
+use Rattle.rice_samples.proofs.lemmas.setting.ValuesAtLevels.{legal_values, length-values, ranks_of_values}
 use Rattle.rice_code.specs.code.Blocks.{BlockData}
 use Rattle.rice_code.specs.code.CodedDataSets.{NoCompression, reference_bits}
 use Rattle.rice_code.specs.code.Forms.{IsReference}

@@ -27,10 +27,10 @@ use Rattle.rice_samples.specs.predict.Residuals.{last_of, pattern}
 use Rattle.rice_samples.specs.bytes.PatternLanes.{OrdersWords}
 use Rattle.rice_samples.specs.bytes.Spelling.{ordered_bytes}
 use Rattle.rice_samples.proofs.lemmas.bytes.LanesOfWholeBytes.{SamplesOfWords, samples_of_words}
-use Rattle.rice_samples.proofs.lemmas.predict.DistinctPatterns.{same_pattern}
+use Rattle.rice_samples.proofs.lemmas.predict.DistinctPatternsAndResiduals.{same_pattern}
 use Rattle.rice_samples.proofs.lemmas.setting.ValuesAboveLeast.{sample_at}
 use Rattle.rice_samples.proofs.lemmas.setting.LevelsOfSamples.{pattern_fits}
-use Rattle.rice_samples.proofs.lemmas.setting.ValuesByLevels.{last_at}
+use Rattle.rice_samples.proofs.lemmas.setting.ValuesAtLevels.{last_at}
 use Rattle.rice_code.specs.code.Blocks.{BlockData}
 use Rattle.rice_code.specs.code.CodedDataSets.{NoCompression, bits_of_set}
 use Rattle.rice_code.specs.code.Forms.{IsReference}

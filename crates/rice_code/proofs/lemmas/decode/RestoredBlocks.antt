@@ -15,9 +15,9 @@ use Rattle.rice_samples.specs.Places.{is_reference, is_reference_sample, place}
 use Rattle.rice_samples.specs.predict.Residuals.{residual, residuals, rank, ranks, pattern}
 use Rattle.rice_code.specs.code.Blocks.{block_data, zero_block}
 use Rattle.rice_code.specs.code.Forms.{IsReference}
-use Rattle.rice_code.specs.decode.BlockResiduals.{residual_at}
+use Rattle.rice_code.specs.decode.Restoring.{residual_at}
 use Rattle.rice_code.proofs.lemmas.meaning.CoveredBlocks.{bool_cases}
-use Rattle.rice_code.proofs.lemmas.code.FilledBlocks.{Repeats, repeated_all, same_rank}
+use Rattle.rice_code.proofs.lemmas.code.RepeatedSamples.{Repeats, repeated_all, same_rank}
 
 -- of a block's samples only the first is a reference, if the block has one
 pub reference_within : (s : Parameters) (b j : ℕ) → j < s.block → is_reference_sample s (s.block * b + j) ≡ (is_reference s b && j == 0)

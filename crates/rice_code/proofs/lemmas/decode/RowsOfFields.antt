@@ -18,7 +18,7 @@ use Rattle.rice_bits.proofs.lemmas.read.WindowLemmas.{length-words}
 use Rattle.rice_bits.proofs.lemmas.bits.WordsAndNumbers.{length-fundamental_sequence}
 use Rattle.rice_bits.specs.declared.read.fault.BitFault.{BitFault}
 use Rattle.rice_samples.specs.blocks.Pairs.{pair_code, pair_codes}
-use Rattle.rice_samples.proofs.lemmas.bytes.ReadSamples.{flat_map-push}
+use Rattle.rice_samples.proofs.lemmas.bytes.SamplesInTurn.{flat_map-push}
 use Rattle.rice_code.proofs.lemmas.meaning.CoveredBlocks.{and-split}
 use Rattle.rice_code.specs.decode.RowsOfFields.{PairsTaken, AreCounted, HasRoom, Row, CountRow, CountsRead, PairRow, ones}
 

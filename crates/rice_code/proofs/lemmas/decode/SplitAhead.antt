@@ -34,7 +34,7 @@ use Rattle.rice_samples.specs.predict.Residuals.{last_of, pattern, rank_below, r
 use Rattle.rice_samples.proofs.lemmas.predict.LaneRanks.{length-ranks_below}
 use Rattle.rice_samples.proofs.lemmas.predict.Ranks.{rank_fits}
 use Rattle.rice_samples.proofs.lemmas.setting.ValuesAboveLeast.{sample_at}
-use Rattle.rice_samples.proofs.lemmas.setting.ValuesByLevels.{last_value, legal_values, length-values, ranks_of_values}
+use Rattle.rice_samples.proofs.lemmas.setting.ValuesAtLevels.{last_value, legal_values, length-values, ranks_of_values}
 use Rattle.rice_code.specs.code.Blocks.{BlockData}
 use Rattle.rice_code.specs.code.CodedDataSets.{Split, bits_of_set, reference_bits, sent_from}
 use Rattle.rice_code.specs.code.Forms.{IsReference}

@@ -19,7 +19,7 @@ use Rattle.rice_code.specs.encode.OpenSegment.{CoderState, is_empty, next_residu
 use Rattle.rice_code.specs.encode.HeldBlocks.{held_blocks}
 use Rattle.rice_code.specs.code.SoundBlocks.{block_with}
 use Rattle.rice_code.proofs.lemmas.meaning.CoveredBlocks.{bool_cases, and-split}
-use Rattle.rice_code.proofs.lemmas.code.FilledBlocks.{last_append}
+use Rattle.rice_code.proofs.lemmas.code.RepeatedSamples.{last_append}
 use Rattle.rice_code.proofs.lemmas.code.SegmentPlaces.{place_inside}
 
 -- the next residual and the reference after it

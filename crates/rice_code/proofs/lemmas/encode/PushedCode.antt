@@ -28,7 +28,7 @@ use Rattle.rice_code.specs.code.Layout.{layout}
 use Rattle.rice_code.specs.Bounds.{block_bound}
 use Rattle.rice_code.specs.CoderSteps.{least_looks, most_looks, least_looks_at, most_looks_at, least_steps, most_steps, coding_steps, segment_steps}
 use Rattle.rice_code.proofs.lemmas.meaning.CoveredBlocks.{bool_cases}
-use Rattle.rice_code.proofs.lemmas.code.FilledBlocks.{last_append, blocks_append}
+use Rattle.rice_code.proofs.lemmas.code.RepeatedSamples.{last_append, blocks_append}
 use Rattle.rice_code.proofs.lemmas.code.CodeGoesOn.{filled_behind, own_blocks, code_goes_on, bits_go_on}
 use Rattle.rice_code.proofs.lemmas.encode.HeldSamples.{held_are, one_more, holds_fill, all_first}
 use Rattle.rice_code.proofs.lemmas.code.Layouts.{laid_plain, laid_at}

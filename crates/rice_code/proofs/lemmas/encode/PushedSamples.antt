@@ -10,7 +10,7 @@ use Rattle.std.proofs.lemmas.List.Elements.{recursion_from_All, All-take}
 use Rattle.rice_samples.specs.Parameters.{Parameters, IsSample, value_at, value_count, values_at}
 use Rattle.rice_samples.specs.Places.{blocks_left, cut}
 use Rattle.rice_samples.proofs.lemmas.setting.PlaceLemmas.{some_left}
-use Rattle.rice_samples.proofs.lemmas.setting.ValuesByLevels.{legal_values, length-values}
+use Rattle.rice_samples.proofs.lemmas.setting.ValuesAtLevels.{legal_values, length-values}
 use Rattle.rice_code.specs.code.Code.{complete_samples}
 use Rattle.rice_code.specs.encode.Coder.{HasTaken, IsCoder, PushesSamples, CompletesNone, CompletesAll}
 use Rattle.rice_code.specs.code.Blocks.{fill_count}

@@ -7,7 +7,7 @@ use Rattle.rice_samples.specs.Parameters.{Parameters, IsSample, level, value_cou
 use Rattle.rice_samples.specs.Places.{blocks_left}
 use Rattle.rice_samples.specs.predict.Residuals.{pattern, rank, ranks, last_of}
 use Rattle.rice_code.specs.encode.OpenSegment.{CoderState, IsOpen, is_empty, is_first, next_residual, next_residuals, next_references, later_residuals, state_after, state_after_all, state_with_later}
-use Rattle.rice_code.proofs.lemmas.code.FilledBlocks.{same_rank}
+use Rattle.rice_code.proofs.lemmas.code.RepeatedSamples.{same_rank}
 use Rattle.rice_code.proofs.lemmas.code.SoundBlocks.{last_legal}
 
 -- samples after others, with preprocessing and without

@@ -16,7 +16,7 @@ use Rattle.rice_samples.specs.predict.Residuals.{pattern, rank, residual, residu
 use Rattle.rice_samples.proofs.lemmas.setting.PlaceLemmas.{some_left, reference_begins}
 use Rattle.rice_samples.proofs.lemmas.setting.LevelsOfSamples.{zero_is_sample}
 use Rattle.rice_samples.proofs.lemmas.predict.ResidualLemmas.{zero_at_reference}
-use Rattle.rice_samples.proofs.lemmas.predict.DistinctPatterns.{inside_block, no_reference_at}
+use Rattle.rice_samples.proofs.lemmas.predict.DistinctPatternsAndResiduals.{inside_block, no_reference_at}
 use Rattle.rice_samples.proofs.lemmas.predict.InverseRanksAndPatterns.{has_pattern, has_rank}
 use Rattle.rice_code.specs.code.Blocks.{BlockData, block_data, blocks_from, zero_block}
 use Rattle.rice_code.specs.code.CodedDataSets.{CodedDataSet, NoCompression, SecondExtension, Split, ZeroBlocks, RemainderOfSegment, bits_of_set}

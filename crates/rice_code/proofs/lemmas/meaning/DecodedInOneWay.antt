@@ -9,7 +9,7 @@ use Rattle.rice_bits.proofs.lemmas.bits.WordsReadInOneWay.{bits_read}
 use Rattle.rice_samples.specs.Parameters.{Parameters, IsLegal, IsSample}
 use Rattle.rice_samples.specs.Places.{is_reference, is_reference_sample}
 use Rattle.rice_samples.specs.predict.Residuals.{pattern, residuals, residual, last_of}
-use Rattle.rice_samples.proofs.lemmas.predict.DistinctPatterns.{same_pattern, same_residual, same_residuals, inside_block, no_reference_at}
+use Rattle.rice_samples.proofs.lemmas.predict.DistinctPatternsAndResiduals.{same_pattern, same_residual, same_residuals, inside_block, no_reference_at}
 use Rattle.rice_code.specs.code.Blocks.{BlockData, block_data, blocks_from}
 use Rattle.rice_code.specs.code.CodedDataSets.{CodedDataSet, NoCompression, SecondExtension, Split, ZeroBlocks, RemainderOfSegment, bits_of_set}
 use Rattle.rice_code.specs.code.Forms.{IsForm, RunIsSound, ResidualsAreSound, blocks_in, blocks_in_all}

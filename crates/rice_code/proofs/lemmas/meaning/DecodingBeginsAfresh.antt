@@ -19,7 +19,7 @@ use Rattle.rice_code.specs.code.Decoded.{AreTaken, Decoded, DecodedFrom, Ending,
 use Rattle.rice_code.specs.code.Forms.{RunIsSound, blocks_in, blocks_in_all}
 use Rattle.rice_code.specs.code.Layout.{block_after, padding, Lies}
 use Rattle.rice_code.proofs.lemmas.code.BlocksByPlaceAlone.{place_on, same_blocks}
-use Rattle.rice_code.proofs.lemmas.code.FilledBlocks.{blocks_append}
+use Rattle.rice_code.proofs.lemmas.code.RepeatedSamples.{blocks_append}
 use Rattle.rice_code.proofs.lemmas.code.Layouts.{ends_inside, lies_at}
 use Rattle.rice_code.proofs.lemmas.code.SegmentsOneByOne.{ends_before}
 use Rattle.rice_code.proofs.lemmas.cost.PaddingBounds.{interval_begins_segment}

@@ -8,7 +8,7 @@ use Rattle.rice_code.specs.code.CodedDataSets.{CodedDataSet, bits_of_set}
 use Rattle.rice_code.specs.code.Forms.{blocks_in, blocks_in_all}
 use Rattle.rice_code.specs.code.Layout.{block_after, padding}
 use Rattle.rice_code.specs.code.Decoded.{DecodedFrom, Ending, EndsWith, cut_to}
-use Rattle.rice_code.proofs.lemmas.code.FilledBlocks.{blocks_append}
+use Rattle.rice_code.proofs.lemmas.code.RepeatedSamples.{blocks_append}
 use Rattle.rice_code.specs.Laws.{IsWantedSet, MakeBlocks}
 
 take_parts : (n : ℕ) (xs ys : List ℤ) → take n xs ++ take (n - length xs) ys ≡ take n (xs ++ ys)

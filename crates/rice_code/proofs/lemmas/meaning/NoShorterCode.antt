@@ -18,7 +18,7 @@ use Rattle.rice_code.specs.code.CodedDataSets.{CodedDataSet}
 use Rattle.rice_code.specs.code.Decoded.{AreTaken, Decoded, Ending, cut_to}
 use Rattle.rice_code.specs.code.Forms.{blocks_in_all}
 use Rattle.rice_code.specs.code.Layout.{block_after}
-use Rattle.rice_code.proofs.lemmas.code.FilledBlocks.{last_behind, repeated_all}
+use Rattle.rice_code.proofs.lemmas.code.RepeatedSamples.{last_behind, repeated_all}
 use Rattle.rice_code.proofs.lemmas.code.SoundBlocks.{count_blocks, filled_len}
 use Rattle.rice_code.proofs.lemmas.cost.WhereSetsEnd.{padded_is, sent_padded, taken_padded}
 use Rattle.rice_code.proofs.lemmas.cost.LeastCode.{ends_no_later}

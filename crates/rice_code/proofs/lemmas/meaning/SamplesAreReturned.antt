@@ -26,7 +26,7 @@ use Rattle.rice_code.proofs.lemmas.code.Layouts.{lies_laid, lies_inside}
 use Rattle.rice_code.proofs.lemmas.cost.PaddingBounds.{are_blocks, interval_begins_segment, sets_begin}
 use Rattle.rice_code.proofs.lemmas.code.SoundBlocks.{all_append, all_replicate, last_legal, count_blocks, filled_len, blocks_sound_behind}
 use Rattle.rice_code.proofs.lemmas.meaning.SentSetsAreTaken.{are_taken}
-use Rattle.rice_code.proofs.lemmas.code.FilledBlocks.{blocks_append, repeated_blocks, last_repeats}
+use Rattle.rice_code.proofs.lemmas.code.RepeatedSamples.{blocks_append, repeated_blocks, last_repeats}
 
 -- What the output of samples decodes to, whether their number is known or not.
 pub record Returned (s : Parameters) (xs : List ℤ) : Type 0 where

@@ -1,6 +1,6 @@
 use Rattle.rice_samples.proofs.laws.patterns_are_all_numbers.Goals as goal
 use Rattle.rice_samples.proofs.lemmas.setting.LevelsOfSamples.{pattern_fits}
-use Rattle.rice_samples.proofs.lemmas.predict.DistinctPatterns.{same_pattern}
+use Rattle.rice_samples.proofs.lemmas.predict.DistinctPatternsAndResiduals.{same_pattern}
 use Rattle.rice_samples.proofs.lemmas.predict.InverseRanksAndPatterns.{has_pattern}
 
 pub returns-clause-bounded : goal.returns-clause-bounded

@@ -14,7 +14,7 @@ use Rattle.rice_samples.proofs.lemmas.bytes.SpellingLemmas.{level_from_pattern, 
 use Rattle.rice_samples.proofs.lemmas.predict.InverseRanksAndPatterns.{has_pattern}
 use Rattle.rice_samples.proofs.lemmas.setting.ValuesAboveLeast.{gap_above, sample_at}
 use Rattle.rice_samples.proofs.lemmas.setting.LevelsOfSamples.{pattern_fits}
-use Rattle.rice_samples.proofs.lemmas.setting.ValuesByLevels.{value_of_level}
+use Rattle.rice_samples.proofs.lemmas.setting.ValuesAtLevels.{value_of_level}
 
 -- a level that the offset has turned is that of the value with this pattern
 pattern_of_level : (s : Parameters) (v : ℕ) → 1 ≤ s.bits → v < value_count s → pattern s (value_at s ((v + offset s) % 2 ^ s.bits)) ≡ v

@@ -3,7 +3,7 @@ use Rattle.std.proofs.Common.{◌≡◌, ◌≢◌, ℕ, ℤ, ◌+◌, ◌-◌, 
 use Rattle.std.proofs.lemmas.List.{take-map, take_all}
 use Rattle.rice_samples.specs.Parameters.{Parameters, IsSample, value_at, value_count, values_at, width}
 use Rattle.rice_samples.specs.bytes.Spelling.{IsNoSpelling, ReadsSamples, spelling, spellings}
-use Rattle.rice_samples.proofs.lemmas.setting.ValuesByLevels.{legal_values, length-values}
+use Rattle.rice_samples.proofs.lemmas.setting.ValuesAtLevels.{legal_values, length-values}
 
 -- one level more was read
 pub reads_levels : (s : Parameters) (bytes levels : List ℕ) (i : ℕ) → All (λ l. l < value_count s) (take i levels) → take (width s * i) bytes ≡ spellings s (values_at s (take i levels)) →

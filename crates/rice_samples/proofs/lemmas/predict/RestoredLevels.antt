@@ -9,7 +9,7 @@ use borrow.Rule.Slice.PartMut.{put_mid}
 use Rattle.rice_samples.specs.Parameters.{Parameters, value_count}
 use Rattle.rice_samples.specs.predict.Residuals.{rank_below, ranks_below, last_number}
 use Rattle.rice_samples.specs.predict.RestoredLevels.{CanRestore, Restores}
-use Rattle.rice_samples.proofs.lemmas.bytes.ReadSamples.{one_legal}
+use Rattle.rice_samples.proofs.lemmas.bytes.SamplesInTurn.{one_legal}
 
 last_number-push : (p : ℕ) (xs : List ℕ) (x : ℕ) → last_number p (xs ++ x ∷ []) ≡ x
 last_number-push p [] x = refl

@@ -2,7 +2,7 @@ use Rattle.std.proofs.Common.{◌^◌, ◌%◌, ◌∙◌, ap, arith, w64}
 use Rattle.std.specs.Int.{cast_unsigned}
 use Rattle.std.proofs.lemmas.Int.{to_z-of_z}
 use Rattle.std.proofs.lemmas.Nat.{one_shl}
-use Rattle.rice_samples.proofs.lemmas.predict.DistinctPatterns.{low_digits}
+use Rattle.rice_samples.proofs.lemmas.predict.DistinctPatternsAndResiduals.{low_digits}
 use Rattle.rice_samples.proofs.patterns.digits_of.Goals as goal
 
 pub returns-clause-value : goal.returns-clause-value

@@ -20,7 +20,7 @@ pub struct LevelLanes {
 /// first after a sample at level `before`, and each other after the one before it. `None` if not all are near to those before
 /// them.
 #[inline(always)]
-pub fn near_levels(
+pub fn near_levels_of_parts(
     setting: &Setting,
     before: u32,
     highs: u8x16,

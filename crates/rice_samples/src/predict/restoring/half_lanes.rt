@@ -21,7 +21,7 @@ pub struct LevelHalves {
 /// first after a sample at level `before`, and each other after the one before it. `None` if not all are near to those before
 /// them.
 #[inline(always)]
-pub fn near_halves(
+pub fn near_halves_of_parts(
     setting: &Setting,
     before: u32,
     highs: u8x16,

@@ -26,7 +26,7 @@ struct Turns {
 /// Returns the levels of sixteen samples, of which the residuals have these high parts and these low parts of `width` bits: the first
 /// after a sample at level `before`, and each other after the one before it. `None` if a residual is too large.
 #[inline(never)]
-pub fn halves_in_turn(
+pub fn halves_of_parts_in_turn(
     setting: &Setting,
     before: u32,
     highs: u8x16,

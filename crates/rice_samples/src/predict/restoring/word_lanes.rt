@@ -17,7 +17,7 @@ pub struct LevelWords {
 /// Returns the levels of eight samples, of which the residuals have these high parts and these low parts of `width` bits: the first
 /// after a sample at level `before`, and each other after the one before it. `None` if not all are near to those before them.
 #[inline(always)]
-pub fn near_words(
+pub fn near_words_of_parts(
     setting: &Setting,
     before: u32,
     highs: u8x8,

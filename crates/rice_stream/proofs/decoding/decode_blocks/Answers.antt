@@ -8,7 +8,7 @@ use Rattle.rice_stream.proofs.lemmas.DecodingEnds.{reports_as, block_is_wanted, 
 use Rattle.rice_code.specs.decode.DecoderState.{DecoderState}
 use Rattle.rice_stream.proofs.lemmas.SpelledBlocks.{progress_unchanged}
 use Rattle.rice_stream.proofs.lemmas.RowsWritten.{fails_behind, in_block, lanes_row, lanes_written, progress_with_row, row_fails, row_fails_so, row_fails_within, row_takes}
-use Rattle.rice_samples.proofs.lemmas.setting.ValuesByLevels.{length-values}
+use Rattle.rice_samples.proofs.lemmas.setting.ValuesAtLevels.{length-values}
 use Rattle.rice_stream.proofs.lemmas.SamplesByLevels.{few_legal, few_spelled}
 use Rattle.rice_stream.proofs.lemmas.RunsWritten.{progress_with_run, run_fails, run_shrinks}
 use Rattle.rice_stream.proofs.decoding.decode_blocks.Goals as goal
@@ -25,8 +25,8 @@ write_block-requires-clause-legal g c =
     let i = c.decode_all.invariant in
     let old = c.decode_all in
     let new = c.next_levels.new in
-    let mid = c.next_bytes-blocks.new in
-    let same = c.next_bytes-blocks.ensures.none (omega (arith, c.if-blocks-gt0.false)) in
+    let mid = c.next_bytes_at_one_stroke-blocks.new in
+    let same = c.next_bytes_at_one_stroke-blocks.ensures.none (omega (arith, c.if-blocks-gt0.false)) in
     let runs = progress_unchanged same.0 same.1 same.2 i.runs in
     let a = decoder_advances mid.meter new.meter mid.decoder new.self new.levels.items runs.at_block.setting (ap Ok c.in-Block.is)
     c.in-Ok-next_levels.ensures.in_run c.in-Ok-next_levels.ensures.reads in
@@ -44,8 +44,8 @@ returns-in-Err-next_levels-clause-call g c =
     let i = c.decode_all.invariant in
     let old = c.decode_all in
     let new = c.next_levels.new in
-    let mid = c.next_bytes-blocks.new in
-    let same = c.next_bytes-blocks.ensures.none (omega (arith, c.if-blocks-gt0.false)) in
+    let mid = c.next_bytes_at_one_stroke-blocks.new in
+    let same = c.next_bytes_at_one_stroke-blocks.ensures.none (omega (arith, c.if-blocks-gt0.false)) in
     let runs = progress_unchanged same.0 same.1 same.2 i.runs in
     let a = decoder_advances mid.meter new.meter mid.decoder new.self new.levels.items runs.at_block.setting refl
     c.in-Err-next_levels.ensures.in_run c.in-Err-next_levels.ensures.reads in
@@ -60,8 +60,8 @@ returns-in-Err-next_levels-clause-failures g c =
     let i = c.decode_all.invariant in
     let old = c.decode_all in
     let new = c.next_levels.new in
-    let mid = c.next_bytes-blocks.new in
-    let same = c.next_bytes-blocks.ensures.none (omega (arith, c.if-blocks-gt0.false)) in
+    let mid = c.next_bytes_at_one_stroke-blocks.new in
+    let same = c.next_bytes_at_one_stroke-blocks.ensures.none (omega (arith, c.if-blocks-gt0.false)) in
     let runs = progress_unchanged same.0 same.1 same.2 i.runs in
     let a = decoder_advances mid.meter new.meter mid.decoder new.self new.levels.items runs.at_block.setting refl
     c.in-Err-next_levels.ensures.in_run c.in-Err-next_levels.ensures.reads in
@@ -74,8 +74,8 @@ returns-in-Done-clause-call g c =
     let i = c.decode_all.invariant in
     let old = c.decode_all in
     let new = c.next_levels.new in
-    let mid = c.next_bytes-blocks.new in
-    let same = c.next_bytes-blocks.ensures.none (omega (arith, c.if-blocks-gt0.false)) in
+    let mid = c.next_bytes_at_one_stroke-blocks.new in
+    let same = c.next_bytes_at_one_stroke-blocks.ensures.none (omega (arith, c.if-blocks-gt0.false)) in
     let runs = progress_unchanged same.0 same.1 same.2 i.runs in
     let a = decoder_advances mid.meter new.meter mid.decoder new.self new.levels.items runs.at_block.setting (ap Ok c.in-Done.is)
     c.in-Ok-next_levels.ensures.in_run c.in-Ok-next_levels.ensures.reads in
@@ -90,8 +90,8 @@ returns-in-Done-clause-failures g c =
     let i = c.decode_all.invariant in
     let old = c.decode_all in
     let new = c.next_levels.new in
-    let mid = c.next_bytes-blocks.new in
-    let same = c.next_bytes-blocks.ensures.none (omega (arith, c.if-blocks-gt0.false)) in
+    let mid = c.next_bytes_at_one_stroke-blocks.new in
+    let same = c.next_bytes_at_one_stroke-blocks.ensures.none (omega (arith, c.if-blocks-gt0.false)) in
     let runs = progress_unchanged same.0 same.1 same.2 i.runs in
     let a = decoder_advances mid.meter new.meter mid.decoder new.self new.levels.items runs.at_block.setting (ap Ok c.in-Done.is)
     c.in-Ok-next_levels.ensures.in_run c.in-Ok-next_levels.ensures.reads in
@@ -104,8 +104,8 @@ returns-in-Err-write_block-clause-call g c =
     let i = c.decode_all.invariant in
     let old = c.decode_all in
     let new = c.next_levels.new in
-    let mid = c.next_bytes-blocks.new in
-    let same = c.next_bytes-blocks.ensures.none (omega (arith, c.if-blocks-gt0.false)) in
+    let mid = c.next_bytes_at_one_stroke-blocks.new in
+    let same = c.next_bytes_at_one_stroke-blocks.ensures.none (omega (arith, c.if-blocks-gt0.false)) in
     let runs = progress_unchanged same.0 same.1 same.2 i.runs in
     let a = decoder_advances mid.meter new.meter mid.decoder new.self new.levels.items runs.at_block.setting (ap Ok c.in-Block.is)
     c.in-Ok-next_levels.ensures.in_run c.in-Ok-next_levels.ensures.reads in
@@ -122,8 +122,8 @@ decode_all-smaller g c =
     let i = c.decode_all.invariant in
     let old = c.decode_all in
     let new = c.next_levels.new in
-    let mid = c.next_bytes-blocks.new in
-    let same = c.next_bytes-blocks.ensures.none (omega (arith, c.if-blocks-gt0.false)) in
+    let mid = c.next_bytes_at_one_stroke-blocks.new in
+    let same = c.next_bytes_at_one_stroke-blocks.ensures.none (omega (arith, c.if-blocks-gt0.false)) in
     let runs = progress_unchanged same.0 same.1 same.2 i.runs in
     let a = decoder_advances mid.meter new.meter mid.decoder new.self new.levels.items runs.at_block.setting (ap Ok c.in-Block.is)
     c.in-Ok-next_levels.ensures.in_run c.in-Ok-next_levels.ensures.reads in
@@ -147,8 +147,8 @@ decode_all-preserved g c =
     let i = c.decode_all.invariant in
     let old = c.decode_all in
     let new = c.next_levels.new in
-    let mid = c.next_bytes-blocks.new in
-    let same = c.next_bytes-blocks.ensures.none (omega (arith, c.if-blocks-gt0.false)) in
+    let mid = c.next_bytes_at_one_stroke-blocks.new in
+    let same = c.next_bytes_at_one_stroke-blocks.ensures.none (omega (arith, c.if-blocks-gt0.false)) in
     let runs = progress_unchanged same.0 same.1 same.2 i.runs in
     let a = decoder_advances mid.meter new.meter mid.decoder new.self new.levels.items runs.at_block.setting (ap Ok c.in-Block.is)
     c.in-Ok-next_levels.ensures.in_run c.in-Ok-next_levels.ensures.reads in
@@ -177,13 +177,13 @@ bounds-ends-some g c =
     let s = c.args.setting.now in
     let i = c.decode_all.invariant in
     let old = c.decode_all in
-    let new = c.next_bytes-blocks.new in
-    let row = c.next_bytes-blocks.ensures in
+    let new = c.next_bytes_at_one_stroke-blocks.new in
+    let row = c.next_bytes_at_one_stroke-blocks.ensures in
     let some = c.if-blocks-gt0.true in
     let given = row.some some in
-    let all = c.next_bytes-blocks.result in
+    let all = c.next_bytes_at_one_stroke-blocks.result in
     let same : c.known_or-size.result ≡ s.block = c.known_or-size.ensures ∙ c.block-block.ensures.value in
-    let bytes = lanes_row s g.row.WIDTH c.known_or-size.result all new.bytes (c.requires.lanes (row.lanes some)) same row.room c.next_bytes-blocks.array_long in
+    let bytes = lanes_row s g.row.WIDTH c.known_or-size.result all new.bytes (c.requires.lanes (row.lanes some)) same row.room c.next_bytes_at_one_stroke-blocks.array_long in
     let inside = in_block all c.in-Err-write_blocks.taken (g.row.WIDTH * c.known_or-size.result) bytes.some (omega (arith, c.in-Err-write_blocks.ensures.err.0, bytes.long)) in
     omega (arith, inside, row.few)
 
@@ -192,18 +192,18 @@ returns-in-Err-write_blocks-clause-call g c =
     let s = c.args.setting.now in
     let i = c.decode_all.invariant in
     let old = c.decode_all in
-    let new = c.next_bytes-blocks.new in
-    let row = c.next_bytes-blocks.ensures in
+    let new = c.next_bytes_at_one_stroke-blocks.new in
+    let row = c.next_bytes_at_one_stroke-blocks.ensures in
     let some = c.if-blocks-gt0.true in
     let given = row.some some in
-    let all = c.next_bytes-blocks.result in
+    let all = c.next_bytes_at_one_stroke-blocks.result in
     let same : c.known_or-size.result ≡ s.block = c.known_or-size.ensures ∙ c.block-block.ensures.value in
     let err = c.in-Err-write_blocks.ensures.err in
     let fails = fails_behind (c.requires.lanes (row.lanes some)) (record {
       size_is = same;
       block_is = c.block-block.ensures.value;
       few = row.room;
-      bytes_are = c.next_bytes-blocks.array_long;
+      bytes_are = c.next_bytes_at_one_stroke-blocks.array_long;
     }) given.1 (record {
       bits = c.taken-begin.ensures.value;
       steps_are = c.steps-steps.ensures.value;
@@ -217,18 +217,18 @@ returns-in-Err-write_blocks-clause-failures g c =
     let s = c.args.setting.now in
     let i = c.decode_all.invariant in
     let old = c.decode_all in
-    let new = c.next_bytes-blocks.new in
-    let row = c.next_bytes-blocks.ensures in
+    let new = c.next_bytes_at_one_stroke-blocks.new in
+    let row = c.next_bytes_at_one_stroke-blocks.ensures in
     let some = c.if-blocks-gt0.true in
     let given = row.some some in
-    let all = c.next_bytes-blocks.result in
+    let all = c.next_bytes_at_one_stroke-blocks.result in
     let same : c.known_or-size.result ≡ s.block = c.known_or-size.ensures ∙ c.block-block.ensures.value in
     let err = c.in-Err-write_blocks.ensures.err in
     let fails = fails_behind (c.requires.lanes (row.lanes some)) (record {
       size_is = same;
       block_is = c.block-block.ensures.value;
       few = row.room;
-      bytes_are = c.next_bytes-blocks.array_long;
+      bytes_are = c.next_bytes_at_one_stroke-blocks.array_long;
     }) given.1 (record {
       bits = c.taken-begin.ensures.value;
       steps_are = c.steps-steps.ensures.value;
@@ -242,18 +242,18 @@ returns-in-Err-write_blocks-clause-bounds g c =
     let s = c.args.setting.now in
     let i = c.decode_all.invariant in
     let old = c.decode_all in
-    let new = c.next_bytes-blocks.new in
-    let row = c.next_bytes-blocks.ensures in
+    let new = c.next_bytes_at_one_stroke-blocks.new in
+    let row = c.next_bytes_at_one_stroke-blocks.ensures in
     let some = c.if-blocks-gt0.true in
     let given = row.some some in
-    let all = c.next_bytes-blocks.result in
+    let all = c.next_bytes_at_one_stroke-blocks.result in
     let same : c.known_or-size.result ≡ s.block = c.known_or-size.ensures ∙ c.block-block.ensures.value in
     let err = c.in-Err-write_blocks.ensures.err in
     let fails = fails_behind (c.requires.lanes (row.lanes some)) (record {
       size_is = same;
       block_is = c.block-block.ensures.value;
       few = row.room;
-      bytes_are = c.next_bytes-blocks.array_long;
+      bytes_are = c.next_bytes_at_one_stroke-blocks.array_long;
     }) given.1 (record {
       bits = c.taken-begin.ensures.value;
       steps_are = c.steps-steps.ensures.value;
@@ -267,15 +267,15 @@ decode_all-preserved-then-blocks-gt0 g c =
     let s = c.args.setting.now in
     let i = c.decode_all.invariant in
     let old = c.decode_all in
-    let new = c.next_bytes-blocks.new in
-    let row = c.next_bytes-blocks.ensures in
+    let new = c.next_bytes_at_one_stroke-blocks.new in
+    let row = c.next_bytes_at_one_stroke-blocks.ensures in
     let some = c.if-blocks-gt0.true in
     let given = row.some some in
-    let all = c.next_bytes-blocks.result in
+    let all = c.next_bytes_at_one_stroke-blocks.result in
     let same : c.known_or-size.result ≡ s.block = c.known_or-size.ensures ∙ c.block-block.ensures.value in
     let ok = c.in-Ok-write_blocks.ensures.ok in
     let wrote = lanes_written
-    (g.O.Outlet.taken old.outlet) (g.O.Outlet.taken c.write_blocks.new.outlet) (c.requires.lanes (row.lanes some)) same row.room c.next_bytes-blocks.array_long
+    (g.O.Outlet.taken old.outlet) (g.O.Outlet.taken c.write_blocks.new.outlet) (c.requires.lanes (row.lanes some)) same row.room c.next_bytes_at_one_stroke-blocks.array_long
     (ap (λ k. k * all) c.block-block.ensures.value) given.1 ok.0 in
     record {
       runs = progress_with_row c.block-block.ensures.legal i.runs given.0 wrote (row.wanted some) c.tick-then-blocks-gt0.ensures;
@@ -287,15 +287,15 @@ decode_all-smaller-then-blocks-gt0 g c =
     let s = c.args.setting.now in
     let i = c.decode_all.invariant in
     let old = c.decode_all in
-    let new = c.next_bytes-blocks.new in
-    let row = c.next_bytes-blocks.ensures in
+    let new = c.next_bytes_at_one_stroke-blocks.new in
+    let row = c.next_bytes_at_one_stroke-blocks.ensures in
     let some = c.if-blocks-gt0.true in
     let given = row.some some in
-    let all = c.next_bytes-blocks.result in
+    let all = c.next_bytes_at_one_stroke-blocks.result in
     let same : c.known_or-size.result ≡ s.block = c.known_or-size.ensures ∙ c.block-block.ensures.value in
     let ok = c.in-Ok-write_blocks.ensures.ok in
     let wrote = lanes_written
-    (g.O.Outlet.taken old.outlet) (g.O.Outlet.taken c.write_blocks.new.outlet) (c.requires.lanes (row.lanes some)) same row.room c.next_bytes-blocks.array_long
+    (g.O.Outlet.taken old.outlet) (g.O.Outlet.taken c.write_blocks.new.outlet) (c.requires.lanes (row.lanes some)) same row.room c.next_bytes_at_one_stroke-blocks.array_long
     (ap (λ k. k * all) c.block-block.ensures.value) given.1 ok.0 in
     let more = row_takes c.block-block.ensures.legal i.runs given.0 some wrote in
     let none : new.decoder.run * new.decoder.setting.block ≡ 0 = ap (λ n. n * new.decoder.setting.block) given.1.run ∙ omega arith in

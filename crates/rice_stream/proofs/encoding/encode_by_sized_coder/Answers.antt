@@ -4,7 +4,7 @@ use Rattle.std.proofs.lemmas.List.{length-take-le, take-map}
 use Rattle.std.proofs.KnownBytes.{Consumes-nil}
 use Rattle.rice_samples.specs.Parameters.{Parameters, value_at, value_count, values_at, width}
 use Rattle.rice_samples.specs.bytes.SampleReader.{GivesSamples}
-use Rattle.rice_samples.proofs.lemmas.setting.ValuesByLevels.{length-values}
+use Rattle.rice_samples.proofs.lemmas.setting.ValuesAtLevels.{length-values}
 use Rattle.rice_stream.specs.EncodingState.{afresh, FailsIn, IsEncodingOf}
 use Rattle.rice_stream.specs.Encodes.{fault_at, EncodesBetween}
 use Rattle.rice_stream.specs.declared.outcome.Fault.{Fault}
@@ -36,7 +36,7 @@ pub returns-in-Err-clause-call : goal.returns-in-Err-clause-call
 returns-in-Err-clause-call g c =
     let i = c.encode_all.invariant in
     let fault = c.fault_at.ensures ∙ ap (fault_at c.in-Err.fault) c.taken.ensures in
-    reading_ends c.next.new.self c.in-Err.fault i.runs c.in-Err.ensures.err c.in-Err.ensures.limits.0 c.in-Err.ensures.limits.1
+    reading_ends c.next_levels.new.self c.in-Err.fault i.runs c.in-Err.ensures.err c.in-Err.ensures.limits.0 c.in-Err.ensures.limits.1
     (λ xs h. c.stopped.ensures.told c.args.setting.now xs h) (c.stopped.ensures.fault ∙ ap Some fault)
 
 pub returns-in-Err-clause-bounds : goal.returns-in-Err-clause-bounds
@@ -58,10 +58,10 @@ pub returns-then-count-eq0-clause-call : goal.returns-then-count-eq0-clause-call
 returns-then-count-eq0-clause-call g c =
     let s = c.args.setting.now in
     let left = g.I.Intake.left c.encode_all.intake in
-    let new = g.I.Intake.left c.next.new.intake in
+    let new = g.I.Intake.left c.next_levels.new.intake in
     let start = g.O.Outlet.taken c.args.outlet.now in
-    let values = values_at c.encode_all.samples.setting c.next.new.levels in
-    let gives = subst (λ (n : ℕ). GivesSamples c.encode_all.samples c.next.new.self left new (take n values)) c.if-count-eq0.true c.in-Ok.ensures.gives in
+    let values = values_at c.encode_all.samples.setting c.next_levels.new.levels in
+    let gives = subst (λ (n : ℕ). GivesSamples c.encode_all.samples c.next_levels.new.self left new (take n values)) c.if-count-eq0.true c.in-Ok.ensures.gives in
     let runs = reads_none c.encode_all.invariant.runs gives in
     let did = c.finish.ensures.did s (afresh start) runs.samples runs.holds in
     let end = c.in-Ok.ensures.end c.if-count-eq0.true in
@@ -81,7 +81,7 @@ push_all_levels-requires g c =
     let start = g.O.Outlet.taken c.args.outlet.now in
     let says = c.in-Ok.ensures in
     let few = few_given i.runs says.gives in
-    let n = taken_count c.encode_all.samples.setting c.next.new.levels c.in-Ok.count says.count in (
+    let n = taken_count c.encode_all.samples.setting c.next_levels.new.levels c.in-Ok.count says.count in (
       search rules,
       (
         record {
@@ -89,7 +89,7 @@ push_all_levels-requires g c =
           start = afresh start;
           before = i.runs.samples;
           holds = i.runs.holds;
-          legal = subst (λ (s : Parameters). All (λ l. l < value_count s) (take c.in-Ok.count c.next.new.levels)) i.runs.setting says.legal;
+          legal = subst (λ (s : Parameters). All (λ l. l < value_count s) (take c.in-Ok.count c.next_levels.new.levels)) i.runs.setting says.legal;
           few = omega (arith, few, n.0, n.1, says.limits.1);
         },
         omega (arith, c.requires.writes, i.writes),
@@ -103,8 +103,8 @@ encode_all-smaller g c =
     let start = g.O.Outlet.taken c.args.outlet.now in
     let says = c.in-Ok.ensures in
     let few = few_given runs says.gives in
-    let n = taken_count c.encode_all.samples.setting c.next.new.levels c.in-Ok.count says.count in
-    let more = take c.in-Ok.count c.next.new.levels in
+    let n = taken_count c.encode_all.samples.setting c.next_levels.new.levels c.in-Ok.count says.count in
+    let more = take c.in-Ok.count c.next_levels.new.levels in
     let all = c.in-Ok-push_all_levels.ensures.ok s (afresh start) runs.samples runs.holds in
     omega (arith, few, n.0, n.1, says.limits.1, runs.holds.counts.samples, all.counts.samples, length-append runs.samples (values_at s more), length-values s more, c.if-count-eq0.false)
 
@@ -113,13 +113,13 @@ encode_all-preserved g c =
     let s = c.args.setting.now in
     let i = c.encode_all.invariant in
     let left = g.I.Intake.left c.encode_all.intake in
-    let new = g.I.Intake.left c.next.new.intake in
+    let new = g.I.Intake.left c.next_levels.new.intake in
     let start = g.O.Outlet.taken c.args.outlet.now in
     let taken = g.O.Outlet.taken c.push_all_levels.new.outlet in
-    let levels = c.next.new.levels in
+    let levels = c.next_levels.new.levels in
     let n = c.in-Ok.count in
     let ys = take n (values_at s levels) in
-    let gives = subst (λ (s : Parameters). GivesSamples c.encode_all.samples c.next.new.self left new (take n (values_at s levels))) i.runs.setting c.in-Ok.ensures.gives in
+    let gives = subst (λ (s : Parameters). GivesSamples c.encode_all.samples c.next_levels.new.self left new (take n (values_at s levels))) i.runs.setting c.in-Ok.ensures.gives in
     let holds = subst (λ (l : List ℤ). IsEncodingOf s (afresh start) taken c.push_all_levels.new.self (i.runs.samples ++ l)) (sym (take-map (value_at s) n levels))
     (c.in-Ok-push_all_levels.ensures.ok s (afresh start) i.runs.samples i.runs.holds) in
     record {
@@ -135,19 +135,19 @@ returns-in-Err-push_all_levels-clause-call g c =
     let runs = c.encode_all.invariant.runs in
     let left_old = g.I.Intake.left c.args.intake.now in
     let left = g.I.Intake.left c.encode_all.intake in
-    let new = g.I.Intake.left c.next.new.intake in
+    let new = g.I.Intake.left c.next_levels.new.intake in
     let start = g.O.Outlet.taken c.args.outlet.now in
     let taken = g.O.Outlet.taken c.push_all_levels.new.outlet in
-    let levels = c.next.new.levels in
+    let levels = c.next_levels.new.levels in
     let says = c.in-Ok.ensures in
     let n = c.in-Ok.count in
     let ys = take n (values_at s levels) in
     let o = c.stopped-in-Err-push_all_levels in
-    let gives = subst (λ (s : Parameters). GivesSamples c.encode_all.samples c.next.new.self left new (take n (values_at s levels))) runs.setting says.gives in
+    let gives = subst (λ (s : Parameters). GivesSamples c.encode_all.samples c.next_levels.new.self left new (take n (values_at s levels))) runs.setting says.gives in
     let fails = subst (λ (l : List ℤ). FailsIn s (afresh start) taken c.push_all_levels.new.self runs.samples l) (sym (take-map (value_at s) n levels))
     (c.in-Err-push_all_levels.ensures.err s (afresh start) runs.samples runs.holds) in
     let count : length ys ≡ n = (taken_count s levels n says.count).1 in
-    let piece : width s * n + length c.next.new.self.waiting ≤ 4096 = subst (λ (s : Parameters). width s * n + length c.next.new.self.waiting ≤ 4096) runs.setting says.piece in
+    let piece : width s * n + length c.next_levels.new.self.waiting ≤ 4096 = subst (λ (s : Parameters). width s * n + length c.next_levels.new.self.waiting ≤ 4096) runs.setting says.piece in
     subst (λ (f : Option Fault). EncodesBetween s left_old new start taken o.result.report f) (sym o.ensures.fault)
     (writing_ends o.result.report runs gives fails (omega (arith, piece, ap (λ n. width s * n) count)) says.limits.1 (λ xs h. o.ensures.told s xs h))
 
@@ -164,4 +164,4 @@ pub returns-in-Err-clause-failures : goal.returns-in-Err-clause-failures
 returns-in-Err-clause-failures g c =
     let i = c.encode_all.invariant in
     let fault = c.stopped.ensures.fault ∙ ap Some c.fault_at.ensures in
-    reading_fails c.in-Err.fault c.taken.result (g.I.Intake.failed c.next.new.intake) fault c.in-Err.ensures.failures i.reads i.writes
+    reading_fails c.in-Err.fault c.taken.result (g.I.Intake.failed c.next_levels.new.intake) fault c.in-Err.ensures.failures i.reads i.writes

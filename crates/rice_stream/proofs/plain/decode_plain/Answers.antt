@@ -5,7 +5,7 @@ use Rattle.rice_stream.specs.Decodes.{wanted_of, refusal_fault}
 use Rattle.rice_stream.specs.FailedWrites.{TakesPart}
 use Rattle.rice_stream.proofs.lemmas.DecodingLemmas.{decoder_advances, decoding_is_done, gains_block, moves_of, samples_of_block, stops_in_no_run}
 use Rattle.rice_stream.proofs.lemmas.DecodingEnds.{reports_as, block_is_wanted, progress_at_start, refusal_ends, refusal_fails, ended_ends, done_fails, write_ends, reached_ends, progress_with_block}
-use Rattle.rice_samples.proofs.lemmas.setting.ValuesByLevels.{length-values}
+use Rattle.rice_samples.proofs.lemmas.setting.ValuesAtLevels.{length-values}
 use Rattle.rice_stream.proofs.lemmas.SamplesByLevels.{few_legal, few_spelled}
 use Rattle.rice_stream.proofs.lemmas.RowsWritten.{progress_with_row, row_fails, row_fails_so, row_fails_within, row_takes}
 use Rattle.rice_stream.proofs.plain.decode_plain.Goals as goal
@@ -153,7 +153,7 @@ pub returns-in-Err-clause-failures : goal.returns-in-Err-clause-failures
 returns-in-Err-clause-failures g c =
     let i = c.decode_all.invariant in
     let row = c.spell_row_ahead-blocks.ensures in
-    row_fails_so (g.O.Outlet.failed c.args.outlet.now) (g.O.Outlet.failed c.write_row.new.outlet) i.runs (row.run c.if-blocks-gt0.true) c.in-Err.ensures.err
+    row_fails_so (g.O.Outlet.failed c.args.outlet.now) (g.O.Outlet.failed c.write_row_of_blocks.new.outlet) i.runs (row.run c.if-blocks-gt0.true) c.in-Err.ensures.err
     (c.in-Err.ensures.failure ∙ ap (λ n. n + 1) i.writes) c.ended-in-Err.ensures.reports
 
 pub returns-in-Err-clause-bounds : goal.returns-in-Err-clause-bounds
@@ -178,5 +178,6 @@ decode_all-smaller-in-Ok g c =
     let row = c.spell_row_ahead-blocks.ensures in
     let some = c.if-blocks-gt0.true in
     let more = row_takes c.block-block.ensures.legal i.runs (row.run some) some c.in-Ok.ensures.ok in
-    let none : c.write_row.new.decoder.run * c.write_row.new.decoder.setting.block ≡ 0 = ap (λ n. n * c.write_row.new.decoder.setting.block) c.in-Ok.ensures.run ∙ omega arith in
+    let none : c.write_row_of_blocks.new.decoder.run * c.write_row_of_blocks.new.decoder.setting.block ≡ 0 = ap (λ n. n * c.write_row_of_blocks.new.decoder.setting.block) c.in-Ok.ensures.run
+    ∙ omega arith in
     omega (arith, more, none, c.in-Ok.ensures.counted.limit)

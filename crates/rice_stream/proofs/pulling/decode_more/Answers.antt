@@ -1,4 +1,4 @@
-use Rattle.rice_stream.proofs.lemmas.OnePulledPiece.{refuses_piece}
+use Rattle.rice_stream.proofs.lemmas.PulledPieceSoFar.{refuses_piece}
 use Rattle.rice_stream.proofs.pulling.decode_more.Goals as goal
 
 pub returns-then-is_too_long : goal.returns-then-is_too_long

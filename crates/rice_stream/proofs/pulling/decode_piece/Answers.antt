@@ -6,13 +6,13 @@ use Rattle.rice_bits.specs.Bits.{bits_of}
 use Rattle.rice_bits.proofs.lemmas.bits.BytesAndBits.{length-bits_of}
 use Rattle.rice_samples.specs.Parameters.{values_at, width}
 use Rattle.rice_samples.specs.bytes.Spelling.{spellings}
-use Rattle.rice_samples.proofs.lemmas.setting.ValuesByLevels.{length-values}
+use Rattle.rice_samples.proofs.lemmas.setting.ValuesAtLevels.{length-values}
 use Rattle.rice_code.specs.declared.decode.call_results.CodeFault.TheVariants as faults
 use Rattle.rice_stream.specs.Pulling.{DecodesMore, GoesOnAt, IsReadFrom, TakesNext, ahead, state_of}
 use Rattle.rice_stream.specs.declared.stand.Pause.{Pause}
 use Rattle.rice_stream.specs.declared.stand.Stand.{Stand}
 use Rattle.rice_stream.specs.declared.stand.Pause.TheVariants as pauses
-use Rattle.rice_stream.proofs.lemmas.OnePulledPiece.{ends_so, failed_once, has_none, has_room, more_so_far, never_too_long, none_so_far, nothing_ahead, refused_so, pulled_so_far-unchanged}
+use Rattle.rice_stream.proofs.lemmas.PulledPieceSoFar.{ends_so, failed_once, has_none, has_room, more_so_far, never_too_long, none_so_far, nothing_ahead, refused_so, pulled_so_far-unchanged}
 use Rattle.rice_stream.proofs.pulling.decode_piece.Goals as goal
 
 pub decode_all-init : goal.decode_all-init
@@ -79,8 +79,8 @@ decode_all-preserved-in-Some g c =
           more_so_far so (k.more.gives o (front ++ so.bits) (given ++ so.samples) so.stands) k.len_is k.wrote;
     }
 
-pub next_stand-requires : goal.next_stand-requires
-next_stand-requires g c =
+pub restore_next_block-requires : goal.restore_next_block-requires
+restore_next_block-requires g c =
     let know = c.requires.stand in
     let i = c.decode_all.invariant in
     let aligned : c.decode_all.here.run ≡ 0 → c.decode_all.reader.taken % 8 ≡ c.decode_all.here.bits % 8 = search rules in
@@ -98,15 +98,15 @@ pub decode_all-preserved : goal.decode_all-preserved
 decode_all-preserved g c =
     let s = c.args.setting.now in
     let i = c.decode_all.invariant in
-    let levels = c.next_stand.new.levels.items in
+    let levels = c.restore_next_block.new.levels.items in
     let at = c.decode_all.at in
     let n = c.width.result * c.block.result in
     let out = c.next_stroke.new.samples in
     let r = c.next_stroke.new.reader in
-    let new = c.next_stand.new.reader in
+    let new = c.restore_next_block.new.reader in
     let here = c.decode_all.here in
     let next = c.in-Some-found.next in
-    let k = subst (λ (v : Option Stand). IfSome v (λ next. GoesOnAt s here next c.next_stand.new.decoder r new × (length levels ≡ s.block))) c.in-Some-found.is c.in-Ok.ensures.goes_on in
+    let k = subst (λ (v : Option Stand). IfSome v (λ next. GoesOnAt s here next c.restore_next_block.new.decoder r new × (length levels ≡ s.block))) c.in-Some-found.is c.in-Ok.ensures.goes_on in
     let same = c.as_slice.ensures.value in
     let count : c.block.result ≡ length levels = c.block.ensures.value ∙ sym k.1 in
     let size : width s * length c.as_slice.result.now ≡ n = (λ j. sym c.width.ensures.value j * (ap length same ∙ sym count) j) in
@@ -129,8 +129,8 @@ returns-in-None-found g c = λ o front given h.
     let i = c.decode_all.invariant in
     let so = pulled_so_far-unchanged c.in-None.ensures.did.1 c.in-None.ensures.did.2 (i.so_far o front given h) in
     let s = c.args.setting.now in
-    let t = subst (λ (v : Option Stand). TakesNext s o (front ++ so.bits) (given ++ so.samples) c.decode_all.here c.next_stroke.new.reader c.next_stand.new.reader
-    (values_at s c.next_stand.new.levels.items) (Ok v)) c.in-None-found.is (c.in-Ok.ensures.takes o (front ++ so.bits) (given ++ so.samples) so.stands) in
+    let t = subst (λ (v : Option Stand). TakesNext s o (front ++ so.bits) (given ++ so.samples) c.decode_all.here c.next_stroke.new.reader c.restore_next_block.new.reader
+    (values_at s c.restore_next_block.new.levels.items) (Ok v)) c.in-None-found.is (c.in-Ok.ensures.takes o (front ++ so.bits) (given ++ so.samples) so.stands) in
     ends_so pauses.Blank so (
       has_room c.args.setting.now (length so.samples) c.width.ensures.value c.block.ensures.value c.decode_all-test.true i.within so.count i.len,
       t.0,
@@ -141,8 +141,8 @@ pub pause_of-requires-clause-read : goal.pause_of-requires-clause-read
 pause_of-requires-clause-read g c = λ read.
     let know = c.requires.stand in
     let so = pulled_so_far-unchanged c.in-None.ensures.did.1 c.in-None.ensures.did.2 (c.decode_all.invariant.so_far know.0 know.1 know.2 know.3) in
-    let failed = failed_once c.args.setting.now know.0 (know.1 ++ so.bits) (know.2 ++ so.samples) c.decode_all.here c.next_stroke.new.reader c.next_stand.new.reader
-    (values_at c.args.setting.now c.next_stand.new.levels.items) (record {
+    let failed = failed_once c.args.setting.now know.0 (know.1 ++ so.bits) (know.2 ++ so.samples) c.decode_all.here c.next_stroke.new.reader c.restore_next_block.new.reader
+    (values_at c.args.setting.now c.restore_next_block.new.levels.items) (record {
       fault_is = read;
       takes = c.in-Err.ensures.takes know.0 (know.1 ++ so.bits) (know.2 ++ so.samples) so.stands;
     }) in
@@ -152,8 +152,8 @@ pub pause_of-requires-clause-long : goal.pause_of-requires-clause-long
 pause_of-requires-clause-long g c = λ long.
     let know = c.requires.stand in
     let so = pulled_so_far-unchanged c.in-None.ensures.did.1 c.in-None.ensures.did.2 (c.decode_all.invariant.so_far know.0 know.1 know.2 know.3) in
-    never_too_long c.args.setting.now know.0 (know.1 ++ so.bits) (know.2 ++ so.samples) c.decode_all.here c.next_stroke.new.reader c.next_stand.new.reader
-    (values_at c.args.setting.now c.next_stand.new.levels.items) (record {
+    never_too_long c.args.setting.now know.0 (know.1 ++ so.bits) (know.2 ++ so.samples) c.decode_all.here c.next_stroke.new.reader c.restore_next_block.new.reader
+    (values_at c.args.setting.now c.restore_next_block.new.levels.items) (record {
       fault_is = long;
       takes = c.in-Err.ensures.takes know.0 (know.1 ++ so.bits) (know.2 ++ so.samples) so.stands;
     })
@@ -163,14 +163,15 @@ returns-in-Err g c = λ o front given h.
     let s = c.args.setting.now in
     let i = c.decode_all.invariant in
     let so = pulled_so_far-unchanged c.in-None.ensures.did.1 c.in-None.ensures.did.2 (i.so_far o front given h) in
-    let never : c.in-Err.fault ≡ faults.Read → ⊥ = λ read. let failed = failed_once s o (front ++ so.bits) (given ++ so.samples) c.decode_all.here c.next_stroke.new.reader c.next_stand.new.reader
-    (values_at s c.next_stand.new.levels.items) (record {
+    let never : c.in-Err.fault ≡ faults.Read → ⊥ = λ read. let failed = failed_once s o (front ++ so.bits)
+    (given ++ so.samples) c.decode_all.here c.next_stroke.new.reader c.restore_next_block.new.reader
+    (values_at s c.restore_next_block.new.levels.items) (record {
       fault_is = read;
       takes = c.in-Err.ensures.takes o (front ++ so.bits) (given ++ so.samples) so.stands;
     }) in absurd (omega (arith, failed, c.into_inner-intake-in-Err.ensures.failed)) in
     let room = has_room s (length so.samples) c.width.ensures.value c.block.ensures.value c.decode_all-test.true i.within so.count i.len in
     subst (λ (p : Pause). DecodesMore s o front given c.args.piece.now c.args.stand.now c.args.samples.now c.next_stroke.new.samples c.decode_all.here p) (sym c.pause_of.ensures)
-    (refused_so (values_at s c.next_stand.new.levels.items) c.next_stroke.new.reader c.next_stand.new.reader c.in-Err.fault so room
+    (refused_so (values_at s c.restore_next_block.new.levels.items) c.next_stroke.new.reader c.restore_next_block.new.reader c.in-Err.fault so room
     (c.in-Err.ensures.takes o (front ++ so.bits) (given ++ so.samples) so.stands) never (c.requires.fits))
 
 pub returns : goal.returns

@@ -1,6 +1,6 @@
 use Rattle.std.proofs.Common.{◌≡◌, ◌-◌, ◌%◌, ◌<◌, ◌≤◌, Bool, List, ℤ, length}
 use Rattle.rice_stream.specs.Pulling.{Origin, IsReadFrom, IsStand, ahead, state_of}
-use Rattle.rice_stream.proofs.lemmas.OnePulledPiece.{PulledSoFar}
+use Rattle.rice_stream.proofs.lemmas.PulledPieceSoFar.{PulledSoFar}
 use Rattle.rice_stream.proofs.pulling.decode_piece.Given as goal
 
 abbrev pub invariant-decode_all : goal.invariant-decode_all

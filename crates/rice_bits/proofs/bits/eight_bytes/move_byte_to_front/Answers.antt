@@ -48,6 +48,6 @@ byte_kept c = elim c.if-at-bytes.branch [
 
 pub returns-then-not-is_empty : goal.returns-then-not-is_empty
 returns-then-not-is_empty c =
-    let some = c.store_front_zeros.ensures in
-    front_kept c.args.bytes.now c.store_front_zeros.new.bytes c.args.at some.0 c.if-at-bytes.kept
+    let some = c.store_zeros_at_front.ensures in
+    front_kept c.args.bytes.now c.store_zeros_at_front.new.bytes c.args.at some.0 c.if-at-bytes.kept
     (omega (arith, not_none _ (sym c.is_empty.ensures ∙ c.if-not-is_empty.true))) some.1 some.2 some.3 (byte_kept c)

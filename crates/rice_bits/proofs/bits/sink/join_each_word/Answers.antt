@@ -10,5 +10,5 @@ loop-i-preserved c =
     let ws = c.args.words.now in
     let i = c.loop-i.i in
     let low = low_word w _ _ c.low_digits.ensures.value in
-    join-more c.loop-i.invariant c.join_digits-bits.ensures
+    join-more c.loop-i.invariant c.join_digits_in_memory-bits.ensures
     (one_word_more (word w) ws i c.loop-i-test.true ∙ ap (λ d. flat_map (word w) (take i ws) ++ d) (sym low)) (omega arith)

@@ -14,8 +14,8 @@ loop-i-preserved c =
     let w = c.args.width in
     let ws = c.args.words.now in
     let i = c.loop-i.i in
-    let front = c.two_pairs-first.ensures.first in
-    let back = c.two_pairs-first.ensures.last in
+    let front = c.two_joined_pairs_at-first.ensures.first in
+    let back = c.two_joined_pairs_at-first.ensures.last in
     join-more c.loop-i.invariant c.join_two_words-bits.ensures
     (four_words_more (word w) ws i (omega (arith, c.loop-i-test.true)) ∙ ap (λ d. flat_map (word w) (take (4 * i) ws) ++ d) (sym (λ j. front j ++ back j))) (omega arith)
 

@@ -13,8 +13,8 @@ returns-then-most-ge63-clause-some g c =
 pub returns-clause-some : goal.returns-clause-some
 returns-clause-some g c =
     let waited = c.take_waiting_parts in
-    let says = rw c.least_with_high_part_above.ensures.value at c.any_number_are_below.ensures in
-    subst (λ n. PartsRead c.args.reader.now waited.new.self c.args.most c.args.k c.any_number_are_below.result n waited.new.numbers) waited.auto.numbers
-    (parts_waited c.args.reader.now waited.new.self c.args.most c.args.k c.any_number_are_below.result waited.new.numbers
+    let says = rw c.least_with_high_part_above.ensures.value at c.are_below_of_any_number.ensures in
+    subst (λ n. PartsRead c.args.reader.now waited.new.self c.args.most c.args.k c.are_below_of_any_number.result n waited.new.numbers) waited.auto.numbers
+    (parts_waited c.args.reader.now waited.new.self c.args.most c.args.k c.are_below_of_any_number.result waited.new.numbers
     (c.if-not-take_waiting_parts.ensures.takes refl) (λ e. inr (says.0 e))
     (iff_false says))

@@ -32,8 +32,8 @@ returns-then-not-small-clause-ok g c =
     split_large c.in_ok-reference.ensures.reference c.requires.k part.1 c.in_ok-reference.ensures.ok
     (rw (c.number_of_values-values.ensures.value, c.if-not-small.true) at c.in_ok-small.ensures.ok) refl (omega (arith, c.in_ok-reference.ensures.steps, c.in_ok-small.ensures.steps))
 
-pub joined_are_below-sound-requires-clause-highs : goal.joined_are_below-sound-requires-clause-highs
-joined_are_below-sound-requires-clause-highs g c =
+pub are_below_as_high_parts-sound-requires-clause-highs : goal.are_below_as_high_parts-sound-requires-clause-highs
+are_below_as_high_parts-sound-requires-clause-highs g c =
     let k = c.args.k in
     let many = value_count c.args.setting.now in
     let sent = drop c.write_zero_for_reference-first.result c.read_sent.new.residuals in
@@ -48,8 +48,8 @@ returns-clause-ok g c =
     let first = c.write_zero_for_reference-first in
     let part = sent_part c.args.setting.now c.in_ok-reference.reference first.result first.new.residuals c.number_of_values-values.ensures.legal first.ensures.first
     (first.auto.residuals ∙ c.requires.size) in
-    let says = rw (up_to_end first.result c.read_sent.new.residuals, c.bits.ensures.value) at c.joined_are_below-sound.ensures in
-    split_joined c.joined_are_below-sound.result
+    let says = rw (up_to_end first.result c.read_sent.new.residuals, c.bits.ensures.value) at c.are_below_as_high_parts-sound.ensures in
+    split_joined c.are_below_as_high_parts-sound.result
     (record { reference = c.in_ok-reference.ensures.reference; small = c.requires.k; parts = part.1 }) c.in_ok-reference.ensures.ok
     (rw c.number_of_values-values.ensures.value at c.in_ok-small.ensures.ok) c.if-not-small.false
     (omega (arith, c.in_ok-reference.ensures.steps, c.in_ok-small.ensures.steps))

@@ -22,8 +22,9 @@ returns-in_err-g-clause-err g c =
 
 pub loop-done-preserved : goal.loop-done-preserved
 loop-done-preserved g c = record {
-  row = pairs-more c.pair_of-a.result.0 c.pair_of-a.result.1 c.take_fs.new.meter
-      c.loop-done.invariant.row c.in_ok-g.ensures.ok (record { code = c.pair_of-a.ensures.pair; most = c.pair_of-a.ensures.turns }) c.in_ok-g.ensures.steps c.pair_of-a.ensures.steps
-      (two_more c.loop-done.done c.loop-done.out c.pair_of-a.result.0 c.pair_of-a.result.1 (omega (arith, c.loop-done-test.true, c.loop-done.auto.out)));
+  row = pairs-more c.pair_by_search-a.result.0 c.pair_by_search-a.result.1 c.take_fs.new.meter
+      c.loop-done.invariant.row c.in_ok-g.ensures.ok (record { code = c.pair_by_search-a.ensures.pair; most = c.pair_by_search-a.ensures.turns }) c.in_ok-g.ensures.steps
+      c.pair_by_search-a.ensures.steps
+      (two_more c.loop-done.done c.loop-done.out c.pair_by_search-a.result.0 c.pair_by_search-a.result.1 (omega (arith, c.loop-done-test.true, c.loop-done.auto.out)));
   limit = c.in_ok-g.ensures.most;
 }

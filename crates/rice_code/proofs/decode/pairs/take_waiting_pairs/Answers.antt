@@ -5,7 +5,7 @@ use Rattle.rice_code.proofs.decode.pairs.take_waiting_pairs.Goals as goal
 pub tick-requires : goal.tick-requires
 tick-requires g c =
     let waiting = c.take_waiting_fs-some in
-    let written = c.write_pairs-turns in
+    let written = c.write_pairs_of_codes-turns in
     let taken = pairs-taken waiting.new.zeros written.new.out waiting.new.meter
     (record {
       enough = waiting.ensures.within;
@@ -19,7 +19,7 @@ tick-requires g c =
 pub returns-clause-taken : goal.returns-clause-taken
 returns-clause-taken g c =
     let waiting = c.take_waiting_fs-some in
-    let written = c.write_pairs-turns in
+    let written = c.write_pairs_of_codes-turns in
     pairs-taken waiting.new.zeros written.new.out waiting.new.meter
     (record {
       enough = waiting.ensures.within;

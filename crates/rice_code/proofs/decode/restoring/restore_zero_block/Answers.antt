@@ -2,10 +2,10 @@ use Rattle.std.proofs.Common.{arith, ℕ, zero, suc, ℤ, ◌≡◌, ◌<◌, �
 use Rattle.std.proofs.lemmas.List.Elements.{All-replicate}
 use Rattle.std.specs.List.{refill}
 use Rattle.rice_samples.specs.Parameters.{value_at, value_count, values_at}
-use Rattle.rice_samples.proofs.lemmas.setting.ValuesByLevels.{values_replicate}
+use Rattle.rice_samples.proofs.lemmas.setting.ValuesAtLevels.{values_replicate}
 use Rattle.rice_samples.specs.predict.Residuals.{last_of}
 use Rattle.rice_code.specs.code.Blocks.{block_data}
-use Rattle.rice_code.proofs.lemmas.code.FilledBlocks.{last_replicate}
+use Rattle.rice_code.proofs.lemmas.code.RepeatedSamples.{last_replicate}
 use Rattle.rice_code.proofs.lemmas.decode.RestoredBlocks.{refill_all, zeros_restored}
 use Rattle.rice_code.proofs.decode.restoring.restore_zero_block.Goals as goal
 
@@ -18,8 +18,8 @@ returns-clause-contents c =
     let s = c.args.setting.now in
     let first = c.level_of_zero-first in
     let x = value_at s first.result in
-    let old = c.set_len.new.levels.items in
-    let count : length c.as_mut_slice.result.now ≡ s.block = ap length c.as_mut_slice.ensures.value ∙ (c.set_len.ensures ∙ c.block.ensures.value) in
+    let old = c.set_len_of_levels.new.levels.items in
+    let count : length c.as_mut_slice.result.now ≡ s.block = ap length c.as_mut_slice.ensures.value ∙ (c.set_len_of_levels.ensures ∙ c.block.ensures.value) in
     let whole : refill (length old) old c.fill_all.new.levels ≡ c.fill_all.new.levels = refill_all old c.fill_all.new.levels (c.fill_all.auto.levels ∙ ap length c.as_mut_slice.ensures.value) in
     let all : values_at s (refill (length old) old c.fill_all.new.levels) ≡ replicate s.block x = ap (values_at s)
     (whole ∙ (c.fill_all.ensures ∙ ap (λ n. replicate n first.result) count)) ∙ values_replicate s s.block first.result in
@@ -31,7 +31,7 @@ pub returns-clause-legal : goal.returns-clause-legal
 returns-clause-legal c =
     let s = c.args.setting.now in
     let l = c.level_of_zero-first.result in
-    let old = c.set_len.new.levels.items in
+    let old = c.set_len_of_levels.new.levels.items in
     let n = length c.as_mut_slice.result.now in
     let whole : refill (length old) old c.fill_all.new.levels ≡ c.fill_all.new.levels = refill_all old c.fill_all.new.levels (c.fill_all.auto.levels ∙ ap length c.as_mut_slice.ensures.value) in
     subst (λ (ls : List ℕ). All (λ k. k < value_count s) ls) (sym (whole ∙ c.fill_all.ensures)) (All-replicate (λ k. k < value_count s) n l c.level_of_zero-first.ensures.below)
@@ -42,8 +42,8 @@ returns-clause-last c =
     let first = c.level_of_zero-first in
     let x = value_at s first.result in
     let p = value_at s c.args.before in
-    let old = c.set_len.new.levels.items in
-    let count : length c.as_mut_slice.result.now ≡ s.block = ap length c.as_mut_slice.ensures.value ∙ (c.set_len.ensures ∙ c.block.ensures.value) in
+    let old = c.set_len_of_levels.new.levels.items in
+    let count : length c.as_mut_slice.result.now ≡ s.block = ap length c.as_mut_slice.ensures.value ∙ (c.set_len_of_levels.ensures ∙ c.block.ensures.value) in
     let whole : refill (length old) old c.fill_all.new.levels ≡ c.fill_all.new.levels = refill_all old c.fill_all.new.levels (c.fill_all.auto.levels ∙ ap length c.as_mut_slice.ensures.value) in
     let all : values_at s (refill (length old) old c.fill_all.new.levels) ≡ replicate s.block x = ap (values_at s)
     (whole ∙ (c.fill_all.ensures ∙ ap (λ n. replicate n first.result) count)) ∙ values_replicate s s.block first.result in

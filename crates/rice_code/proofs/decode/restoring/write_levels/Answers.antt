@@ -2,7 +2,7 @@ use Rattle.std.proofs.Common.{arith, ℕ, ◌≤◌, ◌≡◌, ◌∙◌, ap, s
 use Rattle.std.specs.Prelude.{IfNone}
 use Rattle.rice_samples.specs.Parameters.{Parameters, value_at, values_at}
 use Rattle.rice_samples.proofs.lemmas.setting.ValuesAboveLeast.{sample_at}
-use Rattle.rice_samples.proofs.lemmas.setting.ValuesByLevels.{legal_values, length-values, ranks_of_values}
+use Rattle.rice_samples.proofs.lemmas.setting.ValuesAtLevels.{legal_values, length-values, ranks_of_values}
 use Rattle.rice_code.proofs.lemmas.decode.RestoredBlocks.{contents_plain, contents_restored}
 use Rattle.rice_code.proofs.decode.restoring.write_levels.Goals as goal
 

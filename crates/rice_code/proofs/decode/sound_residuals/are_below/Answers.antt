@@ -5,8 +5,8 @@ use Rattle.rice_code.proofs.decode.sound_residuals.are_below.Goals as goal
 
 pub returns-in-7 : goal.returns-in-7
 returns-in-7 c =
-    subst (λ xs. IsTrue c.any_number_are_below.result ↔ All (λ d. d < c.args.count) xs) (take_all 7 c.args.residuals.now (omega (arith, c.in-7.is))) c.any_number_are_below.ensures
+    subst (λ xs. IsTrue c.are_below_of_any_number.result ↔ All (λ d. d < c.args.count) xs) (take_all 7 c.args.residuals.now (omega (arith, c.in-7.is))) c.are_below_of_any_number.ensures
 
 pub returns-in-8 : goal.returns-in-8
 returns-in-8 c =
-    subst (λ xs. IsTrue c.any_number_are_below-in-8.result ↔ All (λ d. d < c.args.count) xs) (take_all 8 c.args.residuals.now (omega (arith, c.in-8.is))) c.any_number_are_below-in-8.ensures
+    subst (λ xs. IsTrue c.are_below_of_any_number-in-8.result ↔ All (λ d. d < c.args.count) xs) (take_all 8 c.args.residuals.now (omega (arith, c.in-8.is))) c.are_below_of_any_number-in-8.ensures

@@ -9,9 +9,9 @@ returns-clause-some g c =
     let a = c.args in
     let size = a.size in
     let head = c.head_ahead-head in
-    let highs = c.write_high_parts.new.highs in
+    let highs = c.write_high_parts_ahead.new.highs in
     let high = c.in_ok-len in
-    let lows = c.low_parts_in_rows-lows in
+    let lows = c.low_parts_ahead-lows in
     let most = c.requires.lanes.few in
     let part : (size - head.result.omitted) * a.k ≤ size * a.k = mul-le-mul_right a.k (omega arith) in
     rows_parts c.requires.lanes c.requires.split c.requires.id

@@ -12,12 +12,12 @@ returns-then-size-eq8-clause-some g c =
     let s = a.setting.now in
     let waiting = a.reader.now.waiting in
     let head = c.head_ahead-head in
-    let levels = c.restore_block_of_eight.new.levels in
+    let levels = c.restore_eight_ahead.new.levels in
     if_some (λ r. RestoredAhead waiting s head.result.from a.k head.result.len head.result.omitted levels r.last r.len)
-    (λ r. BlockAhead waiting s a.block (value_at s a.before) levels r.len × (r.last ≡ slice_index_or levels (s.block - 1) 0)) c.restore_block_of_eight.result
+    (λ r. BlockAhead waiting s a.block (value_at s a.before) levels r.len × (r.last ≡ slice_index_or levels (s.block - 1) 0)) c.restore_eight_ahead.result
     (λ r found. wide_block c.requires.preprocess (omega (arith, c.block-block.ensures.range))
-    (wide_splits s a.k c.requires.wide c.requires.split.1) c.requires.id head.ensures (c.restore_block_of_eight.ensures.len ∙ omega (arith, c.if-size-eq8.true, c.requires.size)) found)
-    c.restore_block_of_eight.ensures.some
+    (wide_splits s a.k c.requires.wide c.requires.split.1) c.requires.id head.ensures (c.restore_eight_ahead.ensures.len ∙ omega (arith, c.if-size-eq8.true, c.requires.size)) found)
+    c.restore_eight_ahead.ensures.some
 
 pub returns-clause-some : goal.returns-clause-some
 returns-clause-some g c =
@@ -25,8 +25,8 @@ returns-clause-some g c =
     let s = a.setting.now in
     let waiting = a.reader.now.waiting in
     let head = c.head_ahead-head in
-    let levels = c.restore_rows.new.levels in
+    let levels = c.restore_rows_ahead.new.levels in
     if_some (λ r. RestoredAhead waiting s head.result.from a.k head.result.len head.result.omitted levels r.last r.len)
-    (λ r. BlockAhead waiting s a.block (value_at s a.before) levels r.len × (r.last ≡ slice_index_or levels (s.block - 1) 0)) c.restore_rows.result
+    (λ r. BlockAhead waiting s a.block (value_at s a.before) levels r.len × (r.last ≡ slice_index_or levels (s.block - 1) 0)) c.restore_rows_ahead.result
     (λ r found. wide_block c.requires.preprocess (omega (arith, c.block-block.ensures.range))
-    (wide_splits s a.k c.requires.wide c.requires.split.1) c.requires.id head.ensures (c.restore_rows.ensures.len ∙ c.requires.size) found) c.restore_rows.ensures.some
+    (wide_splits s a.k c.requires.wide c.requires.split.1) c.requires.id head.ensures (c.restore_rows_ahead.ensures.len ∙ c.requires.size) found) c.restore_rows_ahead.ensures.some

@@ -12,12 +12,12 @@ use Rattle.rice_code.specs.code.SoundBlocks.{block_with, IsSoundData}
 use Rattle.rice_code.specs.CoderSteps.{least_looks, most_looks}
 use Rattle.rice_code.proofs.lemmas.meaning.CoveredBlocks.{bool_cases}
 use Rattle.rice_code.proofs.lemmas.encode.PendingRuns.{held_at, held_len}
-use Rattle.rice_code.proofs.lemmas.encode.SegmentBlocks.{to_come, held, held_range, held_sound, sound_of, next_zero, next_other, at_end, sum_next, most_of_all, looks_zero}
-use Rattle.rice_code.proofs.lemmas.encode.SegmentBlocks.{looks_other, room_other, room_within, meter_fits, meter_ends, length_both, looks_more, other_same, least_more, most_more}
+use Rattle.rice_code.proofs.lemmas.encode.SegmentBlocksInTurn.{to_come, held, held_range, held_sound, sound_of, next_zero, next_other, at_end, sum_next, most_of_all, looks_zero}
+use Rattle.rice_code.proofs.lemmas.encode.SegmentBlocksInTurn.{looks_other, room_other, room_within, meter_fits, meter_ends, length_both, looks_more, other_same, least_more, most_more}
 use Rattle.rice_code.proofs.encode.blocks.code_blocks_of_size.Goals as goal
 
-pub code_next-run-requires-clause-sound : goal.code_next-run-requires-clause-sound
-code_next-run-requires-clause-sound g c =
+pub code_next_or_add_to_run-run-requires-clause-sound : goal.code_next_or_add_to_run-run-requires-clause-sound
+code_next_or_add_to_run-run-requires-clause-sound g c =
     let s = c.args.setting.now in
     let ds = c.args.segment.now in
     let i = c.loop-i.i in
@@ -26,8 +26,8 @@ code_next-run-requires-clause-sound g c =
     let e : c.new-block.result ≡ held s c.args.reference ds i = c.new-block.ensures ∙ (λ j. block_with (c.reference_of.ensures j) (block j)) in
     subst (IsSoundData s) (sym e) (sound_of s (c.args.start + i) _ (held_sound s c.args.start c.args.reference c.args.count ds i c.loop-i-test.true c.requires.sound))
 
-pub code_next-run-requires-clause-look : goal.code_next-run-requires-clause-look
-code_next-run-requires-clause-look g c =
+pub code_next_or_add_to_run-run-requires-clause-look : goal.code_next_or_add_to_run-run-requires-clause-look
+code_next_or_add_to_run-run-requires-clause-look g c =
     let s = c.args.setting.now in
     let cs = held_blocks s c.args.reference c.args.count c.args.segment.now in
     let all = bits_of_sets s (data_sets s c.args.start false cs) in
@@ -43,8 +43,8 @@ code_next-run-requires-clause-look g c =
     let more = looks_more s.block (k_max s) in
     omega (arith, fits, more)
 
-pub code_next-run-requires-clause-room : goal.code_next-run-requires-clause-room
-code_next-run-requires-clause-room g c =
+pub code_next_or_add_to_run-run-requires-clause-room : goal.code_next_or_add_to_run-run-requires-clause-room
+code_next_or_add_to_run-run-requires-clause-room g c =
     let s = c.args.setting.now in
     let ds = c.args.segment.now in
     let i = c.loop-i.i in
@@ -93,7 +93,7 @@ loop-i-preserved g c =
     let next = held_at s r n i ds c.loop-i-test.true in
     let low = sum_next (least_looks s) i cs (held s r ds i) (drop (i + 1) cs) next in
     let high = sum_next (most_looks s) i cs (held s r ds i) (drop (i + 1) cs) next in
-    let after = c.code_next-run.ensures in
+    let after = c.code_next_or_add_to_run-run.ensures in
     elim (bool_cases (is_zero_block raw)) [
       | inl z ↦
           let zh = sym (ap is_zero_block e) ∙ z in
@@ -120,14 +120,15 @@ loop-i-preserved g c =
           more ∙ (λ j. bits_of_sets s (pending_run false (reference_at r (i - run)) run) ++ (bits_of_set s (shortest s (sym e j)) ++ to_come s start r n ds (i + 1) 0)) in
           record {
             inside = omega (arith, ends.run_is);
-            same = ap (λ v. c.code_next-run.new.sink ++ to_come s start r n ds (i + 1) v) ends.run_is
-                ∙ other_same c.loop-i.sink c.code_next-run.new.sink
+            same = ap (λ v. c.code_next_or_add_to_run-run.new.sink ++ to_come s start r n ds (i + 1) v) ends.run_is
+                ∙ other_same c.loop-i.sink c.code_next_or_add_to_run-run.new.sink
                 (bits_of_sets s (pending_run false (reference_at c.args.reference (c.loop-i.i - c.loop-i.run)) run)) (bits_of_set s (shortest s raw))
                 (to_come s start r n ds (i + 1) 0) (c.args.sink.now ++ all) ends.bits
                 (sym (ap (λ v. c.loop-i.sink ++ v) more') ∙ inv.same);
             steps_from = rw low (least_more (length c.args.sink.now) put (sum_by (least_looks s) (take i cs))
                 one (record { before = inv.steps_from; more = omega (arith, ends.steps_from); put_is = omega (arith, len) }) (looks.0 ∙ ap (λ k. s.block * (k + 3) - 1) (sym k)));
-            steps_to = rw high (most_more c.args.meter.now c.loop-i.meter c.code_next-run.new.meter (length c.loop-i.sink) (length c.args.sink.now) put (sum_by (most_looks s) (take i cs))
+            steps_to = rw high (most_more c.args.meter.now c.loop-i.meter c.code_next_or_add_to_run-run.new.meter (length c.loop-i.sink) (length c.args.sink.now) put (sum_by (most_looks s)
+                (take i cs))
                 (record { before = inv.steps_to; more = omega (arith, ends.steps_to); put_is = omega (arith, len) }) (looks.1 ∙ ap (λ k. s.block * (min (k + 1) (k_max s) + 5)) (sym k)));
           }
     ]

@@ -1,5 +1,5 @@
 use Rattle.std.proofs.Common.{arith}
-use Rattle.rice_code.proofs.lemmas.encode.SegmentBlocks.{length-pending_bits}
+use Rattle.rice_code.proofs.lemmas.encode.SegmentBlocksInTurn.{length-pending_bits}
 use Rattle.rice_code.proofs.encode.blocks.put_pending_run.Goals as goal
 
 pub put_run-requires-clause-room : goal.put_run-requires-clause-room

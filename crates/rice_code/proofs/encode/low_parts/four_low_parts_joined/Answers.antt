@@ -6,14 +6,16 @@ use Rattle.rice_code.proofs.encode.low_parts.four_low_parts_joined.Goals as goal
 pub join-requires-clause-high : goal.join-requires-clause-high
 join-requires-clause-high c =
     let n = 2 * c.args.width in
-    high_small n n c.two_pairs-first.result.0 c.two_pairs-first.result.1 c.two_pairs-first.ensures.first_fits c.two_pairs-first.ensures.last_fits (omega (arith, c.requires))
+    high_small n n c.two_joined_pairs_at-first.result.0 c.two_joined_pairs_at-first.result.1 c.two_joined_pairs_at-first.ensures.first_fits c.two_joined_pairs_at-first.ensures.last_fits (omega
+    (arith, c.requires))
 
 pub returns-clause-fits : goal.returns-clause-fits
 returns-clause-fits c =
     let n = 2 * c.args.width in
     let size : n + n ≡ 4 * c.args.width = omega arith in
     subst (λ m. c.join.result < 2 ^ m) size
-    (joined_fits n n c.two_pairs-first.result.0 c.two_pairs-first.result.1 c.join.result c.two_pairs-first.ensures.first_fits c.two_pairs-first.ensures.last_fits c.join.ensures)
+    (joined_fits n n c.two_joined_pairs_at-first.result.0 c.two_joined_pairs_at-first.result.1 c.join.result c.two_joined_pairs_at-first.ensures.first_fits
+    c.two_joined_pairs_at-first.ensures.last_fits c.join.ensures)
 
 pub returns-clause-bits : goal.returns-clause-bits
 returns-clause-bits c =
@@ -23,5 +25,6 @@ returns-clause-bits c =
     let front = word w c.args.four.0 ++ word w c.args.four.1 in
     let back = word w c.args.four.2 ++ word w c.args.four.3 in
     ap (λ m. word m c.join.result) size
-    ∙ (joined_words n n c.two_pairs-first.result.0 c.two_pairs-first.result.1 c.two_pairs-first.ensures.last_fits c.two_pairs-first.ensures.first c.two_pairs-first.ensures.last c.join.ensures
+    ∙ (joined_words n n c.two_joined_pairs_at-first.result.0 c.two_joined_pairs_at-first.result.1 c.two_joined_pairs_at-first.ensures.last_fits c.two_joined_pairs_at-first.ensures.first
+    c.two_joined_pairs_at-first.ensures.last c.join.ensures
     ∙ sym (append_assoc front (word w c.args.four.2) (word w c.args.four.3)))

@@ -4,7 +4,7 @@ use Rattle.std.proofs.Math.Nat.{le-div_iff_mul-le}
 use Rattle.std.proofs.lemmas.List.{length-drop, length-map, length-take-le}
 use Rattle.rice_samples.specs.Parameters.{value_at, width}
 use Rattle.rice_samples.specs.bytes.Spelling.{IsNoSpelling}
-use Rattle.rice_samples.proofs.lemmas.bytes.GivenSamples.{stops_first}
+use Rattle.rice_samples.proofs.lemmas.bytes.SampleReaderLemmas.{stops_first}
 use Rattle.rice_samples.proofs.bytes.reading.first_levels.Goals as goal
 
 pub returns-clause-stop : goal.returns-clause-stop
@@ -13,7 +13,7 @@ returns-clause-stop c more room =
     let w = c.width-width.result in
     let bytes = c.args.bytes.now in
     let levels = c.args.levels.now in
-    let read = c.levels_of in
+    let read = c.read_legal_levels in
     let n = read.result in
     let count = c.min-count.result in
     let is : w ≡ width s = c.width-width.ensures.value in

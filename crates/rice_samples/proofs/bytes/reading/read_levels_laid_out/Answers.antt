@@ -3,7 +3,7 @@ use Rattle.rice_samples.specs.Parameters.{value_at}
 use Rattle.rice_samples.specs.predict.Residuals.{twos_complement}
 use Rattle.rice_samples.specs.bytes.Spelling.{spelling, ordered_bytes}
 use Rattle.rice_samples.proofs.lemmas.bytes.LevelPatterns.{level_of_word}
-use Rattle.rice_samples.proofs.lemmas.bytes.ReadSamples.{one_len, one_read, one_legal}
+use Rattle.rice_samples.proofs.lemmas.bytes.SamplesInTurn.{one_len, one_read, one_legal}
 use Rattle.rice_samples.proofs.bytes.reading.read_levels_laid_out.Goals as goal
 
 pub loop-i-preserved : goal.loop-i-preserved
@@ -13,7 +13,7 @@ loop-i-preserved c =
     let i = c.loop-i.i in
     let levels = c.loop-i.levels in
     let bytes = c.args.bytes.now in
-    let word = c.word_of-word in
+    let word = c.number_of_bytes-word in
     let level = c.low_digits in
     let len = one_len w i (length c.args.levels.now) bytes (omega arith) c.requires.len in
     let fits : word.result < 2 ^ (8 * w) = subst (λ (n : ℕ). word.result < 2 ^ (8 * n)) len word.ensures.fits in

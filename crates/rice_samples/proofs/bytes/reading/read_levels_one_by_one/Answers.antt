@@ -2,8 +2,8 @@ use Rattle.std.proofs.Common.{rules, arith, ◌≡◌, ◌<◌, ◌∙◌, ap, s
 use Rattle.std.proofs.lemmas.Int.{to_z-of_z}
 use Rattle.rice_samples.specs.Parameters.{level, value_at, value_count, values_at}
 use Rattle.rice_samples.specs.bytes.Spelling.{ReadsSamples, spelling}
-use Rattle.rice_samples.proofs.lemmas.bytes.ReadSamples.{one_read, one_legal}
-use Rattle.rice_samples.proofs.lemmas.setting.ValuesByLevels.{value_of_level}
+use Rattle.rice_samples.proofs.lemmas.bytes.SamplesInTurn.{one_read, one_legal}
+use Rattle.rice_samples.proofs.lemmas.setting.ValuesAtLevels.{value_of_level}
 use Rattle.rice_samples.proofs.lemmas.bytes.ReadLevels.{no_spelling, reads_levels}
 use Rattle.rice_samples.proofs.bytes.reading.read_levels_one_by_one.Goals as goal
 

@@ -8,7 +8,7 @@ use Rattle.rice_samples.proofs.bytes.spelling.sample_of.Goals as goal
 pub returns-then-level-number_of_values-clause-value : goal.returns-then-level-number_of_values-clause-value
 returns-then-level-number_of_values-clause-value c =
     let s = c.args.setting.now in
-    let word = c.word_of-word in
+    let word = c.number_of_bytes-word in
     let w = c.width.ensures in
     let x = c.value_at in
     let fits : FitsSigned w64 x.result = search rules in
@@ -31,7 +31,7 @@ returns-then-level-number_of_values-clause-value c =
 pub returns-else-level-number_of_values-clause-none : goal.returns-else-level-number_of_values-clause-none
 returns-else-level-number_of_values-clause-none c = λ y sample spells.
     let s = c.args.setting.now in
-    let word = c.word_of-word in
+    let word = c.number_of_bytes-word in
     let w = c.width.ensures in
     let shift = one_shl (8 * c.width.result) 64 (omega arith) in
     let e = level_spelled word.result y w.legal (record {

@@ -3,7 +3,7 @@ use Rattle.rice_samples.specs.Parameters.{value_at, value_count}
 use Rattle.rice_samples.specs.predict.Residuals.{twos_complement}
 use Rattle.rice_samples.specs.bytes.Spelling.{spelling, ordered_bytes}
 use Rattle.rice_samples.proofs.lemmas.bytes.LevelPatterns.{word_of_level}
-use Rattle.rice_samples.proofs.lemmas.bytes.ReadSamples.{one_len, one_written}
+use Rattle.rice_samples.proofs.lemmas.bytes.SamplesInTurn.{one_len, one_written}
 use Rattle.rice_samples.proofs.bytes.writing.write_spellings_laid_out.Goals as goal
 
 pub loop-i-preserved : goal.loop-i-preserved

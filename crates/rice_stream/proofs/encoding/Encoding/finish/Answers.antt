@@ -3,7 +3,7 @@ use Rattle.rice_stream.specs.EncodingState.{Follows}
 use Rattle.rice_bits.specs.Bits.{padded_bits, whole_bytes}
 use Rattle.rice_code.specs.code.Code.{code, output, early_output}
 use Rattle.rice_code.specs.encode.Coder.{complete_code}
-use Rattle.rice_stream.proofs.lemmas.WholeBytes.{more_bytes}
+use Rattle.rice_stream.proofs.lemmas.BytesOfGrowingCode.{more_bytes}
 use Rattle.rice_stream.proofs.lemmas.EncodingLemmas.{Follows-trans, part_follows}
 use Rattle.rice_stream.proofs.encoding.Encoding.finish.Goals as goal
 

@@ -5,7 +5,7 @@ use Rattle.std.proofs.lemmas.List.{drop-map, length-take-le}
 use Rattle.std.proofs.lemmas.List.Elements.{All-drop}
 use Rattle.std.proofs.lemmas.Result.{err_from_is_err_and}
 use Rattle.rice_samples.specs.Parameters.{Parameters, value_at, value_count, values_at}
-use Rattle.rice_samples.proofs.lemmas.setting.ValuesByLevels.{length-values}
+use Rattle.rice_samples.proofs.lemmas.setting.ValuesAtLevels.{length-values}
 use Rattle.rice_stream.specs.EncodingState.{IsEncodingOf, FailsIn}
 use Rattle.rice_stream.proofs.lemmas.EncodingLemmas.{fails_later}
 use Rattle.rice_stream.proofs.encoding.Encoding.push_all_levels.Goals as goal
@@ -24,8 +24,8 @@ loop-at-init g c = record {
   failures = refl;
 }
 
-pub push-requires : goal.push-requires
-push-requires g c =
+pub push_some_and_write-requires : goal.push_some_and_write-requires
+push_some_and_write-requires g c =
     let k = c.requires.ready in
     let levels = c.args.levels.now in
     let samples = values_at k.setting levels in
@@ -50,10 +50,10 @@ pub returns-in_err-at-clause-err : goal.returns-in_err-at-clause-err
 returns-in_err-at-clause-err g c =
     let at = c.loop-at.at in
     let levels = c.args.levels.now in
-    let new = g.O.Outlet.taken c.push.new.outlet in
+    let new = g.O.Outlet.taken c.push_some_and_write.new.outlet in
     let p = err_from_is_err_and c.from_residual.result c.from_residual.ensures.1 in
-    rw (p.1) (λ s old xs h. fails_later s old new c.push.new.self xs (values_at s levels) at
-    (subst (λ (l : List ℤ). FailsIn s old new c.push.new.self (xs ++ take at (values_at s levels)) l) (samples_from s at levels)
+    rw (p.1) (λ s old xs h. fails_later s old new c.push_some_and_write.new.self xs (values_at s levels) at
+    (subst (λ (l : List ℤ). FailsIn s old new c.push_some_and_write.new.self (xs ++ take at (values_at s levels)) l) (samples_from s at levels)
     (c.in_err-at.ensures.err s old (xs ++ take at (values_at s levels)) (c.loop-at.invariant.holds s old xs h))))
 
 pub loop-at-preserved : goal.loop-at-preserved
@@ -62,14 +62,14 @@ loop-at-preserved g c =
     let levels = c.args.levels.now in
     let i = c.loop-at.invariant in
     let n = c.in_ok-at.field-0 in
-    let new = g.O.Outlet.taken c.push.new.outlet in
+    let new = g.O.Outlet.taken c.push_some_and_write.new.outlet in
     record {
       within = omega (arith, i.within, c.in_ok-at.ensures.count.1, ap length (from at levels), length-drop at levels);
       holds = λ s old xs h. (let samples = values_at s levels in
           let same : (xs ++ take at samples) ++ take n (values_at s (take (length levels - at) (drop at levels))) ≡ xs ++ take (at + n) samples = ap
           (λ l. (xs ++ take at samples) ++ take n l) (samples_from s at levels) ∙ append_assoc xs (take at samples) (take n (drop at samples))
           ∙ ap (λ l. xs ++ l) (sym (take-add at n samples)) in
-          subst (λ (l : List ℤ). IsEncodingOf s old new c.push.new.self l) same (c.in_ok-at.ensures.ok s old (xs ++ take at samples) (i.holds s old xs h)));
+          subst (λ (l : List ℤ). IsEncodingOf s old new c.push_some_and_write.new.self l) same (c.in_ok-at.ensures.ok s old (xs ++ take at samples) (i.holds s old xs h)));
       failures = c.in_ok-at.ensures.calm ∙ i.failures;
     }
 

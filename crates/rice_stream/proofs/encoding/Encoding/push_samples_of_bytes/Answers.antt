@@ -5,9 +5,9 @@ use Rattle.std.proofs.Math.Seq.{take-length}
 use Rattle.std.proofs.lemmas.List.{drop-drop, length-take, take-map}
 use Rattle.rice_samples.specs.Parameters.{Parameters, value_at, values_at, width}
 use Rattle.rice_samples.proofs.lemmas.bytes.SpellingLengths.{some_width}
-use Rattle.rice_samples.proofs.lemmas.setting.ValuesByLevels.{length-values}
+use Rattle.rice_samples.proofs.lemmas.setting.ValuesAtLevels.{length-values}
 use Rattle.rice_samples.specs.bytes.Spelling.{Reads, IsNoSpelling}
-use Rattle.rice_samples.proofs.lemmas.bytes.GivenSamples.{reads_then}
+use Rattle.rice_samples.proofs.lemmas.bytes.SampleReaderLemmas.{reads_then}
 use Rattle.rice_stream.specs.EncodingState.{IsEncodingOf, FailsIn}
 use Rattle.rice_stream.proofs.lemmas.EncodingLemmas.{fails_among, fails_behind}
 use Rattle.rice_stream.proofs.lemmas.SamplesOfFirstBytes.{few_more}

@@ -14,7 +14,7 @@ returns g c s old now xs h all limit =
       steps = c.steps.result;
       previous = to_z w64 (of_z w64 c.previous.result);
       start = c.start.result;
-      waiting = c.waiting_number-waiting.result;
+      waiting = c.take_waiting_number-waiting.result;
       waiting_bits = c.len-waiting_bits.result;
     } in
     seam_of h all limit (record {
@@ -24,6 +24,6 @@ returns g c s old now xs h all limit =
       previous = to_z-of_z w64 c.previous.result fits ∙ c.previous.ensures;
       start = c.start.ensures;
       waiting_bits = c.len-waiting_bits.ensures.value;
-      waiting = c.waiting_number-waiting.ensures.digits;
-      fits = c.waiting_number-waiting.ensures.fits;
+      waiting = c.take_waiting_number-waiting.ensures.digits;
+      fits = c.take_waiting_number-waiting.ensures.fits;
     }) c.requires

@@ -2,7 +2,7 @@ use Rattle.std.proofs.Common.{arith, ◌-◌, ◌∙◌, refl}
 use Rattle.std.proofs.lemmas.Grind.{common_steps}
 use Rattle.rice_samples.specs.Parameters.{value_at}
 use Rattle.rice_samples.proofs.lemmas.setting.ValuesAboveLeast.{sample_at}
-use Rattle.rice_samples.proofs.lemmas.setting.ValuesByLevels.{legal_values, length-values}
+use Rattle.rice_samples.proofs.lemmas.setting.ValuesAtLevels.{legal_values, length-values}
 use Rattle.rice_code.proofs.lemmas.decode.DecoderLemmas.{place_moves, goes_on}
 use Rattle.rice_code.proofs.decode.decoder.Decoder.next_levels.Goals as goal
 

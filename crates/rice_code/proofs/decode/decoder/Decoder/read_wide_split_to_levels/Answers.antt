@@ -18,7 +18,7 @@ returns-clause-some g c _ =
     let new = c.go_to_next_block-answer.new in
     let restored = c.in-Some.restored in
     let levels = c.restore_wide_ahead.new.levels in
-    let places = c.set_len.new.levels.items in
+    let places = c.set_len_of_levels.new.levels.items in
     let size = c.block.result in
     let legal = subst (λ (p : DecoderState). IsLegal p.setting) view c.self.invariant.1.legal in
     let some = subst (λ (p : DecoderState). 1 ≤ p.setting.block) view (omega (arith, c.block.ensures.range, c.block.ensures.value)) in
@@ -27,7 +27,7 @@ returns-clause-some g c _ =
     c.in-Some.ensures.some in
     subst (λ (ls : List ℕ). Answers (with_mark start) new.reader c.args.meter.now new.meter p new.self (values_at p.setting ls) (Ok Block)
     × (length ls + new.self.run * new.self.setting.block ≤ most_samples_of_bit * (new.reader.taken - start.taken)))
-    (sym (places_written size levels places (c.restore_wide_ahead.ensures.len ∙ sym c.block.ensures.value) c.set_len.ensures))
+    (sym (places_written size levels places (c.restore_wide_ahead.ensures.len ∙ sym c.block.ensures.value) c.set_len_of_levels.ensures))
     (levels_given {start = start} {p = p} legal some known.0 (record {
       mark = refl;
       bits = c.take_ahead.ensures.takes;
@@ -43,6 +43,7 @@ returns-clause-legal g c _ =
     let start = c.args.reader.now in
     let p = c.args.self.now in
     let levels = c.restore_wide_ahead.new.levels in
-    let places = c.set_len.new.levels.items in
+    let places = c.set_len_of_levels.new.levels.items in
     let known = subst (λ (p : DecoderState). BlockAhead start.waiting p.setting p.block p.before levels c.in-Some.restored.len) view c.in-Some.ensures.some.0 in
-    subst (All (λ l. l < value_count p.setting)) (sym (places_written c.block.result levels places (c.restore_wide_ahead.ensures.len ∙ sym c.block.ensures.value) c.set_len.ensures)) known.legal
+    subst (All (λ l. l < value_count p.setting)) (sym (places_written c.block.result levels places (c.restore_wide_ahead.ensures.len
+    ∙ sym c.block.ensures.value) c.set_len_of_levels.ensures)) known.legal

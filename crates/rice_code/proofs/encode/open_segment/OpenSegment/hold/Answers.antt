@@ -16,13 +16,13 @@ pub invariant_of-self : goal.invariant_of-self
 invariant_of-self g c =
     let same = to_z-of_z w64 c.args.x c.ranges.x in
     let sample = subst (IsSample c.self.inside.setting) (sym same) (subst (λ (v : CoderState). IsSample v.setting c.args.x) (sym c.self.view_is) c.requires.sample) in (
-      c.level_of-self-inside.ensures.below,
+      c.level_of_sample-self-inside.ensures.below,
       record {
         legal = c.self.invariant.1.legal;
         place = c.self.invariant.1.place;
         begins = c.self.invariant.1.begins;
         few = search rules;
-        previous = sample_at c.self.inside.setting c.level_of-self-inside.result c.level_of-self-inside.ensures.below;
+        previous = sample_at c.self.inside.setting c.level_of_sample-self-inside.result c.level_of_sample-self-inside.ensures.below;
         reference = noted_fits (c.self.inside.setting.preprocess && c.is_first-first.result) _ c.self.inside.reference c.note_reference.new.reference
             (value_count c.self.inside.setting) c.note_reference.ensures (pattern_fits c.self.inside.setting _ c.self.invariant.1.legal.bits_from sample)
             c.self.invariant.1.reference;

@@ -2,7 +2,7 @@ use Rattle.std.proofs.Common.{arith, ◌<◌, ◌∙◌, ap, sym, map}
 use Rattle.rice_samples.specs.Parameters.{value_count, values_at}
 use Rattle.rice_samples.specs.predict.Residuals.{pattern}
 use Rattle.rice_samples.proofs.lemmas.bytes.LevelPatterns.{one_of_pattern, unsigned_patterns}
-use Rattle.rice_samples.proofs.lemmas.bytes.ReadSamples.{one_legal}
+use Rattle.rice_samples.proofs.lemmas.bytes.SamplesInTurn.{one_legal}
 use Rattle.rice_samples.proofs.predict.restoring.levels.levels_of_patterns.Goals as goal
 
 pub returns-then-not-signed-clause-patterns : goal.returns-then-not-signed-clause-patterns

@@ -1,0 +1,26 @@
+use Rattle.std.proofs.Common.{[], replicate, false, None, refl, lit<, lit≤, pos}
+use Rattle.rice_bits.specs.Bits.{word, bits_of}
+use Rattle.rice_samples.specs.Examples.{unprocessed_defaults}
+use Rattle.rice_code.specs.code.CodedDataSets.{RemainderOfSegment}
+use Rattle.rice_code.proofs.lemmas.meaning.DecodingWitnesses.{Gives, unsigned_samples, zeros_end, decoded_by_one}
+use Rattle.rice_code.proofs.decoding_examples.decodes_nine_bits_to_4096_samples.Goals as goal
+
+gives : Gives (record unprocessed_defaults { block = 64; interval = 64 }) (RemainderOfSegment None) (replicate 4096 (pos 0))
+gives = record {
+  form = record { there = refl; fits = tt };
+  run = tt;
+  residuals = tt;
+  legal = unsigned_samples (record unprocessed_defaults { block = 64; interval = 64 }) refl (replicate 4096 0) refl;
+  len = refl;
+  blocks = refl;
+}
+
+pub returns-clause-all : goal.returns-clause-all
+unfolding word bits_of
+returns-clause-all c = decoded_by_one gives []
+    (replicate 7 false) refl refl tt 7 (zeros_end (record unprocessed_defaults { block = 64; interval = 64 }) None 64 7 tt)
+
+pub returns-clause-asked : goal.returns-clause-asked
+unfolding word bits_of
+returns-clause-asked c = decoded_by_one gives []
+    (replicate 7 false) refl refl (lit< tt) 0 (lit≤ tt, refl)
