@@ -3,7 +3,8 @@
 
 A crate's must-fail/clauses.md has a table of edits with the clauses whose goals they open, which `scripts/edits` holds them
 to, and one of clauses that no edit can turn, with reasons. Here each clause of a public function (its `ensures`) has to stand
-in one of them, and nothing else may. The laws are functions that do nothing, so there is nothing in them to turn.
+in one of them, and nothing else may. The laws are functions that do nothing, so there is nothing in them to turn. A third table has
+the edits whose goals `scripts/edits` searches for at once, though their functions have answers.
 
 An edit of one function's body has that function's name before the hyphen of its own, behind its type or its file where there is more.
 
@@ -21,6 +22,7 @@ ENSURES = re.compile(r"(?m)^ *ensures(?: (\w+))? \{")
 MODULE = re.compile(r"(?m)^pub mod (\w+);")
 EXPORTED = re.compile(r"(?m)^pub use ([\w:]+?)(?:::\{(.*?)\})?;")
 TURNED = re.compile(r"(?m)^\| `([\w-]+)` \| `(\S+)` \| (`\w+`(?:, `\w+`)*) \|$")
+SEARCHED = re.compile(r"(?m)^\| `([\w-]+)` \|$")
 EXCUSED = re.compile(r"(?m)^\| `(\S+::\S+)` \| (`\w+`(?:, `\w+`)*) \| (\S.*) \|$")
 # The name of a clause that has none of its own.
 UNNAMED = "ensures"
@@ -92,6 +94,11 @@ def excused(crate):
     return {(function, it) for function, names, _ in EXCUSED.findall(read(page(crate))) for it in re.findall(r"\w+", names)}
 
 
+def searched(crate):
+    """Returns the edits whose goals are searched for at once, since their functions' answers do not tell that they are wrong."""
+    return {*SEARCHED.findall(read(page(crate)))}
+
+
 def function_of(crate, path, texts):
     """Returns the name of the function whose body alone an edit changes, or None."""
     text = read(path)
@@ -113,9 +120,9 @@ def misnamed(crate, texts):
 
 
 def unread_rows(crate):
-    """Returns the rows of the crate's page that are neither of these."""
+    """Returns the rows of the crate's page that are none of these."""
     rows = [it for it in read(page(crate)).splitlines() if it.startswith("| `")]
-    return [it for it in rows if not TURNED.match(it) and not EXCUSED.match(it)]
+    return [it for it in rows if not any(kind.match(it) for kind in (TURNED, EXCUSED, SEARCHED))]
 
 
 def faults(crate):
@@ -129,7 +136,7 @@ def faults(crate):
     found += [f"no clause of a public function: {name} {it}" for name, it in sorted(excuses - clauses)]
     found += [f"an edit turns what is excused: {name} {it}" for name, it in sorted(excuses & named)]
     found += [f"no function {name}" for name in sorted({it for it, _ in named} - own)]
-    found += [f"no edit {it}" for it in sorted(edits) if not os.path.exists(f"crates/{crate}/must-fail/{it}.edit")]
+    found += [f"no edit {it}" for it in sorted({*edits, *searched(crate)}) if not os.path.exists(f"crates/{crate}/must-fail/{it}.edit")]
     found += [f"the edit {edit} is not named after {it}" for edit, it in misnamed(crate, sources(crate))]
     return [f"{page(crate)}: {it}" for it in found], [len(functions), len(clauses), len(clauses & named), len(excuses)]
 

@@ -13,7 +13,7 @@ must-fail/clauses.md names the clauses that an edit turns, a goal of each has to
 Where goals of its function have written answers, and goals of each clause that it turns, an edit is first judged by these alone:
 its twin asks for no tactic, and a goal without an answer counts for nothing. So is one that adds a statement with `#[tactic(auto)]`
 before it, by the goals of this statement, which are searched for. Where all of these are proved, it is tried again, with all its goals
-searched for.
+searched for, and its line says so: clauses.md has such edits in a table of their own, and they are searched for at once.
 
 usage: edits [NAME ..]         the edits of these names, or of the crates of these names; all, if none is named
        edits --since COMMIT    the edits of functions whose text, definitions or proofs that commit, or one after it, changed
@@ -54,6 +54,8 @@ FALSE, OPEN, LIMIT, UNFIT, GONE = WHYS = [
 WORK = rtlib.KEPT[1]
 # The number of open goals that are told of an edit.
 MOST = 3
+# What is said of an edit that its function's answers did not tell.
+TRIED_TWICE = "; its answers alone did not tell"
 
 
 @dataclasses.dataclass
@@ -116,6 +118,11 @@ class Edit:
         """Whether its function has answers which are written, some for each clause that the edit turns."""
         have = {(self.function.name, clause_of(it)) for it in self.answered}
         return bool(have) and {*self.clauses} <= have
+
+    @property
+    def is_searched(self):
+        """Whether it is known that its function's answers, and the goals of what it adds, do not tell that it is wrong."""
+        return self.name.split("/")[1] in clauses.searched(self.crate.name)
 
     @property
     def adds_statement(self):
@@ -402,20 +409,25 @@ def with_twins(edits):
 
 def tried(edits):
     """Returns the verdict on each edit of a crate that is proved, and has kept its work, by the edit's path."""
-    found = {it.path: tried_alone(it) for it in edits if it.why or not it.function}
+    found, twice = {it.path: tried_alone(it) for it in edits if it.why or not it.function}, set()
     left = [it for it in edits if it.path not in found]
     for it in left:
-        it.by_answers = it.has_twin and (it.has_answers or it.adds_statement)
+        it.by_answers = it.has_twin and not it.is_searched and (it.has_answers or it.adds_statement)
+    first = {it.path for it in left if it.by_answers and not it.is_control}
     while left:
         now = with_twins(left)
         verdicts = tried_together(now)
-        found.update({path: it for path, it in verdicts.items() if it})
+        for path, it in verdicts.items():
+            if it:
+                found[path] = it
+            elif path in first:
+                twice.add(path)
         if not any([*verdicts.values(), *(it.by_answers for it in now)]):
             found.update({it.path: tried_alone(it) for it in now})
         for it in now:
             it.by_answers = False
         left = [it for it in left if it.path not in found]
-    return found
+    return {path: dataclasses.replace(it, said=f"{it.said}{TRIED_TWICE}") if path in twice else it for path, it in found.items()}
 
 
 def edits_of(crate):

@@ -59,11 +59,12 @@ class Lanes:
 
     def jobs_of(self, key):
         """Returns among how many processors a task that begins now shares its check. A proof beside which no other runs, for which most
-        of the others wait, has those that are idle, and two at least: more cost much more of a processor, and end it little sooner."""
+        of the others wait, has those that are idle, and where there are four, two at least: more cost much more of a processor, and end
+        it little sooner."""
         is_alone = not any(it[1] == "proof" for it in self.running.values())
-        if key[1] != "proof" or self.processors < 4 or not is_alone:
+        if key[1] != "proof" or not is_alone:
             return 1
-        return max(2, self.processors - len(self.running))
+        return max(2 if self.processors >= 4 else 1, self.processors - len(self.running))
 
     def timed(self, key, jobs):
         start = time.monotonic()
