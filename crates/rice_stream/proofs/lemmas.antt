@@ -13,6 +13,7 @@ pub mod PulledPieceSoFar
 pub mod PulledPieces
 pub mod PullingLemmas
 pub mod ReturnedBytes
+pub mod RowsOfSegments
 pub mod RowsWritten
 pub mod RunsWritten
 pub mod Seams

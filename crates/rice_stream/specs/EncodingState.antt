@@ -1,8 +1,8 @@
 -- A coder at work: which samples it has taken, and what is written of their code.
-use Rattle.std.specs.Prelude.{◌≡◌, ℕ, ◌+◌, ◌<◌, ◌≤◌, Bool, List, [], ◌∷◌, ◌++◌, length, take, drop, All, Option, Some, None, Result, Ok, Err, ℤ}
+use Rattle.std.specs.Prelude.{◌≡◌, ℕ, ◌+◌, ◌-◌, ◌^◌, ◌<◌, ◌≤◌, Bool, List, [], ◌∷◌, ◌++◌, length, take, drop, All, Option, Some, None, Result, Ok, Err, ℤ}
 use Rattle.std.specs.Io.KnownBytes.{Consumes}
 use Rattle.rice_bits.specs.device.OutletRoom.{Room, Appends}
-use Rattle.rice_bits.specs.Bits.{bits_in_bytes}
+use Rattle.rice_bits.specs.Bits.{bits_in_bytes, word}
 use Rattle.rice_samples.specs.Limits.{most_input}
 use Rattle.rice_samples.specs.Parameters.{Parameters, value_count, width}
 use Rattle.rice_samples.specs.bytes.SampleReader.{SamplesAhead}
@@ -11,8 +11,10 @@ use Rattle.rice_stream.specs.DevicesInCalls.{StopsBetween}
 use Rattle.rice_code.specs.code.Code.{code_bits, output, early_output, complete_samples}
 use Rattle.rice_code.specs.encode.Coder.{HasTaken, complete_code}
 use Rattle.rice_code.specs.CoderSteps.{least_steps, most_steps}
+use Rattle.rice_code.specs.encode.OpenSegment.{state_between}
 use Rattle.rice_stream.specs.declared.encoding.Encoding.{Encoding}
 use Rattle.rice_stream.specs.declared.outcome.Fault.{Fault}
+use Rattle.rice_stream.specs.declared.seam.Seam.{Seam}
 use Rattle.rice_stream.specs.declared.outcome.Fault.TheVariants.{Write, SampleOutOfRange}
 
 -- the bits of the bytes that are whole
@@ -58,11 +60,59 @@ pub record CanTake {N : ℕ} (taken : Option Room) (e : Encoding N) (levels : Li
   pub legal : All (λ l. l < value_count setting) levels
   pub few : length before + length levels ≤ most_input
 
--- An encoding that held xs has taken these samples too. Only the last of them can have made a segment whole.
-pub record TakesSamples {N : ℕ} (s : Parameters) (e : Encoding N) (xs more : List ℤ) : Type 0 where
-  pub counts : CountsSamples s e (xs ++ more)
-  pub code_is : complete_code s (xs ++ more) ≡ whole_part (complete_code s xs) ++ e.sink
-  pub before_last : (m : ℕ) → m < length more → complete_samples s (xs ++ take m more) ≡ complete_samples s xs
+-- An encoding has taken the samples ys. Its sink holds their code from the byte on that the code of xs, which is written, leaves unfinished.
+pub record HoldsCode {N : ℕ} (s : Parameters) (e : Encoding N) (xs ys : List ℤ) : Type 0 where
+  pub counts : CountsSamples s e ys
+  pub code_is : complete_code s ys ≡ whole_part (complete_code s xs) ++ e.sink
+
+-- such an encoding can take the samples with these levels too
+pub record CanTakeMore {N : ℕ} (e : Encoding N) (levels : List ℕ) : Type 0 where
+  pub setting : Parameters
+  pub written : List ℤ
+  pub before : List ℤ
+  pub holds : HoldsCode setting e written before
+  pub legal : All (λ l. l < value_count setting) levels
+  pub few : length before + length levels ≤ most_input
+
+-- and one whose whole bytes are all written
+pub record CanTakeFrom {N : ℕ} (e : Encoding N) (levels : List ℕ) : Type 0 where
+  pub setting : Parameters
+  pub before : List ℤ
+  pub holds : HoldsCode setting e before before
+  pub legal : All (λ l. l < value_count setting) levels
+  pub few : length before + length levels ≤ most_input
+
+-- It has taken these samples too, and their code goes on from that of those before. Only the last of them can have made a segment whole.
+pub record TakesSamples {N : ℕ} (s : Parameters) (e : Encoding N) (xs ys more : List ℤ) : Type 0 where
+  pub counts : CountsSamples s e (ys ++ more)
+  pub code_is : complete_code s (ys ++ more) ≡ whole_part (complete_code s xs) ++ e.sink
+  pub bits : List Bool
+  pub goes_on : complete_code s (ys ++ more) ≡ complete_code s ys ++ bits
+  pub before_last : (m : ℕ) → m < length more → complete_samples s (ys ++ take m more) ≡ complete_samples s ys
+
+-- the code of the samples goes on from that of the first of them, however many these are
+abbrev pub GoesOnInside : Parameters → List ℤ → List ℤ → Type 0
+GoesOnInside s xs ys = (m : ℕ) → m ≤ length ys → (bits : List Bool) × (complete_code s (xs ++ ys) ≡ complete_code s (xs ++ take m ys) ++ bits)
+
+-- The samples make whole segments, and a row of segments begins behind them: it counts them, and has the bits of the byte that is not whole.
+pub record IsRowStart (s : Parameters) (start : Seam) (xs : List ℤ) : Type 0 where
+  pub taken : HasTaken (state_between s start.start start.previous) xs
+  pub samples : start.samples ≡ length xs
+  pub bits : start.bits ≡ code_bits s (complete_samples s xs)
+  pub least : length xs + least_steps s (complete_samples s xs) ≤ start.steps
+  pub most : start.steps ≤ length xs + most_steps s (complete_samples s xs)
+  pub waiting : word start.waiting_bits start.waiting ≡ drop (bits_in_bytes (length (complete_code s xs))) (complete_code s xs)
+  pub few : start.waiting_bits < 8
+  pub fits : start.waiting < 2 ^ start.waiting_bits
+
+-- an encoding has taken samples after xs up to the one with which the code passes n whole bytes
+pub record StopsAt {N : ℕ} (s : Parameters) (e : Encoding N) (xs ys : List ℤ) (n : ℕ) : Type 0 where
+  pub taken : ℕ
+  pub some : 0 < taken
+  pub within : taken ≤ length ys
+  pub counts : CountsSamples s e (xs ++ take taken ys)
+  pub least : length (early_output s (xs ++ take (taken - 1) ys)) ≤ n
+  pub most : n < length (early_output s (xs ++ take taken ys))
 
 -- an outlet has taken bytes up to a place between the ends of two texts
 pub record TakesBetween (old new : Option Room) (from to : List ℕ) : Type 0 where

@@ -1,21 +1,21 @@
 //! From samples to their code.
 ghost use Rattle.std.specs.Prelude.{◌≡◌, ◌+◌, ◌-◌, ◌*◌, ◌^◌, ◌<◌, ◌≤◌, List, [], ◌++◌, length, take, true, Option, Some, OnOk, OnErr, IfOk, ℤ};
 ghost use Rattle.rice_bits.specs.device.OutletRoom.{Room};
-ghost use Rattle.rice_bits.specs.Bits.{padded_bits};
+ghost use Rattle.rice_bits.specs.Bits.{padded_bits, word};
 ghost use Rattle.rice_samples.specs.Limits.{most_input, longest_segment};
 ghost use Rattle.rice_samples.specs.Parameters.{Parameters, values_at, width};
 ghost use Rattle.rice_stream.specs.DevicesInCalls.{Fails};
 ghost use Rattle.rice_stream.specs.Encodes.{EncodesBetween, EncodesWithin, ReportsTaken, ReportsAll, fault_at};
-ghost use Rattle.rice_stream.specs.EncodingState.{Beginning, afresh, whole_part, CanTake, TakesSamples, CountsSamples, IsEncodingOf, FailsIn, WritesRest, CanPush, PushesBytes, PushFails};
+ghost use Rattle.rice_stream.specs.EncodingState.{Beginning, afresh, whole_part, CanTake, CanTakeMore, CanTakeFrom, HoldsCode, TakesSamples, GoesOnInside, IsRowStart, StopsAt, CountsSamples, IsEncodingOf, FailsIn, WritesRest, CanPush, PushesBytes, PushFails};
 ghost use Rattle.rice_samples.specs.Places.{cut};
 ghost use Rattle.rice_stream.specs.Feeding.{IsSeam, IsSomeSeam, StandsAt, behind};
-ghost use Rattle.rice_code.specs.code.Code.{code};
-ghost use Rattle.rice_code.specs.encode.Coder.{complete_code};
-ghost use Rattle.rice_code.specs.encode.OpenSegment.{HoldsAnySegment};
+ghost use Rattle.rice_code.specs.code.Code.{code, early_output};
+ghost use Rattle.rice_code.specs.encode.Coder.{HasTaken, complete_code};
+ghost use Rattle.rice_code.specs.encode.OpenSegment.{HoldsAnySegment, HasRoomForSegment};
 
 use crate::outcome::{Fault, Outcome, Report};
 use crate::seam::{Seam, take_waiting_number};
-use crate::write::write_whole;
+use crate::write::{write_counted, write_whole};
 use rice_bits::{BitSink, Intake, Meter, Outlet, WriteFault};
 use rice_code::{SegmentSink, SizedCoder};
 use rice_samples::{SampleFault, SampleReader, Setting, first_levels};
@@ -117,14 +117,14 @@ impl<const N: usize> Encoding<N> {
     }
 
     /// Takes the samples with these levels up to the one that completes a segment, or all of them, and returns their number.
-    #[inline]
+    #[inline(always)]
     fn push_to_coder(&mut self, levels: &[u32]) -> usize
-        requires ready { (now : Option Room) × CanTake now self.old levels.now }
+        requires ready { CanTakeMore self.old levels.now }
+        requires room { HasRoomForSegment self.old.coder.setting self.old.sink }
         ensures count { result ≤ length levels.now }
         ensures some { 0 < length levels.now → 0 < result }
-        ensures took { (s : Parameters) (old : Beginning) (now : Option Room) (xs : List ℤ) →
-            IsEncodingOf s old now self.old xs →
-            TakesSamples s self.new xs (take result (values_at s levels.now)) }
+        ensures took { (s : Parameters) (xs ys : List ℤ) → HoldsCode s self.old xs ys →
+            TakesSamples s self.new xs ys (take result (values_at s levels.now)) }
     {
         let pushed = self
             .coder
@@ -134,7 +134,21 @@ impl<const N: usize> Encoding<N> {
         pushed.samples
     }
 
-    /// Takes samples as `push_to_coder` does, writes the bytes that they complete, and returns their number.
+    /// Does what `push_to_coder` does, in a call of its own.
+    #[inline(never)]
+    fn push_to_coder_in_a_call(&mut self, levels: &[u32]) -> usize
+        requires ready { CanTakeMore self.old levels.now }
+        requires room { HasRoomForSegment self.old.coder.setting self.old.sink }
+        ensures count { result ≤ length levels.now }
+        ensures some { 0 < length levels.now → 0 < result }
+        ensures took { (s : Parameters) (xs ys : List ℤ) → HoldsCode s self.old xs ys →
+            TakesSamples s self.new xs ys (take result (values_at s levels.now)) }
+    {
+        self.push_to_coder(levels)
+    }
+
+    /// Takes some samples, at least one, writes the bytes that they complete, and returns their number. What is written and
+    /// reported is as if each segment were written before the sample after it is taken.
     fn push_some_and_write<O: Outlet>(
         &mut self,
         levels: &[u32],
@@ -154,7 +168,46 @@ impl<const N: usize> Encoding<N> {
             FailsIn s old (O.taken outlet.new) self.new xs (values_at s levels.now)) }
         ensures raised { OnErr result (O.failed outlet.new ≡ O.failed outlet.old + 1) }
     {
-        let taken = self.push_to_coder(levels);
+        if self.is_between_short_segments() {
+            return self.push_row(levels, outlet);
+        }
+        self.push_segment(levels, outlet)
+    }
+
+    /// Returns whether the samples so far make whole segments, where segments are so short that several are written at once.
+    #[inline(always)]
+    fn is_between_short_segments(&self) -> bool
+        ensures { result ≡ true → (xs : List ℤ) → HasTaken self.now.coder xs →
+            cut self.now.coder.setting (length xs) ≡ length xs }
+    {
+        // Where blocks are longest, the sink has room for a single segment.
+        if N > SHORT || self.coder.most_before() < 4096 {
+            return false;
+        }
+        self.coder.pending() == 0
+    }
+
+    /// Takes samples as `push_to_coder` does, writes the bytes that they complete, and returns their number.
+    fn push_segment<O: Outlet>(
+        &mut self,
+        levels: &[u32],
+        outlet: &mut O,
+    ) -> Result<usize, WriteFault>
+        requires ready { CanTake (O.taken outlet.old) self.old levels.now }
+        requires some { 0 < length levels.now }
+        requires writes { O.failed outlet.old + 1 < 2 ^ 64 }
+        ensures count { IfOk result (λ n. (0 < n) × (n ≤ length levels.now)) }
+        ensures ok { IfOk result (λ n. (s : Parameters) (old : Beginning) (xs : List ℤ) →
+            IsEncodingOf s old (O.taken outlet.old) self.old xs →
+            IsEncodingOf s old (O.taken outlet.new) self.new
+            (xs ++ take n (values_at s levels.now))) }
+        ensures calm { OnOk result (O.failed outlet.new ≡ O.failed outlet.old) }
+        ensures err { OnErr result ((s : Parameters) (old : Beginning) (xs : List ℤ) →
+            IsEncodingOf s old (O.taken outlet.old) self.old xs →
+            FailsIn s old (O.taken outlet.new) self.new xs (values_at s levels.now)) }
+        ensures raised { OnErr result (O.failed outlet.new ≡ O.failed outlet.old + 1) }
+    {
+        let taken = self.push_to_coder_in_a_call(levels);
         if self.sink.len() < 8 {
             return Ok(taken);
         }
@@ -162,7 +215,124 @@ impl<const N: usize> Encoding<N> {
         Ok(taken)
     }
 
-    /// Takes all samples, and writes the bytes that each segment completes before it takes the next sample.
+    /// Takes the samples of many segments, and writes the bytes that they complete in one call. Where the outlet fails, the
+    /// samples are taken once more, up to those of the segment that it has not taken whole.
+    fn push_row<O: Outlet>(&mut self, levels: &[u32], outlet: &mut O) -> Result<usize, WriteFault>
+        requires between { (xs : List ℤ) → HasTaken self.old.coder xs →
+            cut self.old.coder.setting (length xs) ≡ length xs }
+        requires ready { CanTake (O.taken outlet.old) self.old levels.now }
+        requires some { 0 < length levels.now }
+        requires writes { O.failed outlet.old + 1 < 2 ^ 64 }
+        ensures count { IfOk result (λ n. (0 < n) × (n ≤ length levels.now)) }
+        ensures ok { IfOk result (λ n. (s : Parameters) (old : Beginning) (xs : List ℤ) →
+            IsEncodingOf s old (O.taken outlet.old) self.old xs →
+            IsEncodingOf s old (O.taken outlet.new) self.new
+            (xs ++ take n (values_at s levels.now))) }
+        ensures calm { OnOk result (O.failed outlet.new ≡ O.failed outlet.old) }
+        ensures err { OnErr result ((s : Parameters) (old : Beginning) (xs : List ℤ) →
+            IsEncodingOf s old (O.taken outlet.old) self.old xs →
+            FailsIn s old (O.taken outlet.new) self.new xs (values_at s levels.now)) }
+        ensures raised { OnErr result (O.failed outlet.new ≡ O.failed outlet.old + 1) }
+    {
+        let start = self.row_start();
+        let taken = self.take_row(levels);
+        match write_counted(outlet, self.sink.whole()) {
+            Ok(()) => {
+                self.sink.drop_whole();
+                Ok(taken)
+            }
+            Err(count) => {
+                self.go_back(&start);
+                self.take_past(&levels[..taken], count);
+                Err(WriteFault)
+            }
+        }
+    }
+
+    /// Takes samples segment after segment, as long as the sink has room for the code of one more, or all of them, and returns their
+    /// number.
+    fn take_row(&mut self, levels: &[u32]) -> usize
+        requires { CanTakeFrom self.old levels.now }
+        ensures count { result ≤ length levels.now }
+        ensures some { 0 < length levels.now → 0 < result }
+        ensures holds { (s : Parameters) (xs : List ℤ) → HoldsCode s self.old xs xs →
+            HoldsCode s self.new xs (xs ++ take result (values_at s levels.now)) }
+        ensures inside { (s : Parameters) (xs : List ℤ) → HoldsCode s self.old xs xs →
+            GoesOnInside s xs (take result (values_at s levels.now)) }
+    {
+        let most = self.coder.most_before();
+        let mut at = 0;
+        while at < levels.len() {
+            if self.sink.len() > most {
+                return at;
+            }
+            at += self.push_to_coder(&levels[at..]);
+        }
+        at
+    }
+
+    /// Returns what the encoding counts, where its coder stands, and the bits that wait, which it keeps.
+    fn row_start(&mut self) -> Seam
+        requires { length self.old.sink < 8 }
+        ensures start { (s : Parameters) (old : Beginning) (now : Option Room) (xs : List ℤ) →
+            IsEncodingOf s old now self.old xs → cut s (length xs) ≡ length xs →
+            IsRowStart s result xs }
+        ensures same { self.new ≡ self.old }
+    {
+        let waiting_bits = self.sink.len() as u32;
+        let waiting = take_waiting_number(&mut self.sink);
+        replace_bits(&mut self.sink, waiting, waiting_bits);
+        Seam {
+            samples: self.samples,
+            bits: self.bits,
+            steps: self.meter.steps(),
+            previous: self.coder.previous(),
+            start: self.coder.start(),
+            waiting,
+            waiting_bits,
+        }
+    }
+
+    /// Goes back to where a row began.
+    #[cold]
+    #[inline(never)]
+    fn go_back(&mut self, start: &Seam)
+        requires { (s : Parameters) × (xs : List ℤ) × (self.old.coder.setting ≡ s) ×
+            IsRowStart s start.now xs × (length xs ≤ most_input) }
+        ensures { (s : Parameters) (xs : List ℤ) → self.old.coder.setting ≡ s →
+            IsRowStart s start.now xs → HoldsCode s self.new xs xs }
+    {
+        self.coder.go_back(start.start, start.previous);
+        self.meter = Meter::new();
+        self.meter.tick(start.steps);
+        self.samples = start.samples;
+        self.bits = start.bits;
+        replace_bits(&mut self.sink, start.waiting, start.waiting_bits);
+    }
+
+    /// Takes samples segment after segment, up to the one with which the code passes `count` more whole bytes.
+    #[cold]
+    #[inline(never)]
+    fn take_past(&mut self, levels: &[u32], count: usize)
+        requires { CanTakeFrom self.old levels.now }
+        ensures { (s : Parameters) (xs : List ℤ) → HoldsCode s self.old xs xs →
+            length (early_output s xs) + count < length (early_output s (xs ++ values_at s levels.now)) →
+            StopsAt s self.new xs (values_at s levels.now) (length (early_output s xs) + count) }
+    {
+        let mut at = 0;
+        let mut left = count as u64;
+        while at < levels.len() {
+            at += self.push_to_coder_in_a_call(&levels[at..]);
+            let bytes = self.sink.len() / 8;
+            if left < bytes {
+                return;
+            }
+            left -= bytes;
+            self.sink.drop_whole();
+        }
+    }
+
+    /// Takes all samples, and writes the bytes that they complete, as if those of each segment before the sample after it is taken.
     fn push_all_levels<O: Outlet>(
         &mut self,
         levels: &[u32],
@@ -274,6 +444,19 @@ impl<const N: usize> Encoding<N> {
     }
 }
 
+/// Makes these digits the only bits of a sink.
+fn replace_bits(sink: &mut SegmentSink, value: u32, width: u32)
+    requires width { width < 8 }
+    requires value { value < 2 ^ width }
+    ensures { sink.new ≡ word width value }
+{
+    // Nothing is left of whole bytes.
+    sink.pad();
+    sink.drop_whole();
+    let mut aside = Meter::new();
+    sink.put(value, width, &mut aside);
+}
+
 /// Returns the fault of an encoding whose next sample, number `index`, can not be read.
 fn fault_at(fault: SampleFault, index: u64) -> Fault
     ensures { result ≡ fault_at fault index }
@@ -289,7 +472,8 @@ fn fault_at(fault: SampleFault, index: u64) -> Fault
 /// Encodes the samples that the intake's bytes spell, and writes their code to the outlet.
 ///
 /// It asks for at most 4,096 bytes at a time and for at most 2^48 in all, and then for one more.
-/// The whole bytes of the code of each segment that a sample completes are written before the next sample is taken.
+/// What is written and reported is as if the whole bytes of the code of each segment were written before the sample after it is
+/// taken. They are written before more bytes are asked for.
 pub fn encode<I: Intake, O: Outlet>(setting: &Setting, intake: &mut I, outlet: &mut O) -> Outcome
     requires reads { I.failed intake.old + 1 < 2 ^ 64 }
     requires writes { O.failed outlet.old + 1 < 2 ^ 64 }

@@ -1,8 +1,9 @@
 -- What a coder holds of the segment that it fills: its residuals, and how each call changes it.
-use Rattle.std.specs.Prelude.{◌≡◌, ℕ, ◌+◌, ◌*◌, ◌/◌, ◌<◌, ◌≤◌, Bool, true, false, ◌&&◌, ◌==◌, if◌then◌else◌, List, [], ◌∷◌, ◌++◌, length, replicate, Option, Some, None, IfSome, sum_by, ℤ, pos}
+use Rattle.std.specs.Prelude.{◌≡◌, ℕ, ◌+◌, ◌*◌, ◌/◌, ◌<◌, ◌≤◌, ◌⊎◌, Bool, true, false, ◌&&◌, ◌==◌, if◌then◌else◌, List, [], ◌∷◌, ◌++◌, length, replicate, Option, Some, None, IfSome, sum_by, ℤ, pos}
 use Rattle.rice_samples.specs.Parameters.{Parameters, IsLegal, IsSample, value_count}
 use Rattle.rice_samples.specs.Places.{place, begins_segment, blocks_left}
 use Rattle.rice_samples.specs.predict.Residuals.{pattern, rank, last_of}
+use Rattle.rice_code.specs.Bounds.{block_bound}
 use Rattle.rice_code.specs.code.Blocks.{BlockData}
 use Rattle.rice_code.specs.code.Code.{data_sets}
 use Rattle.rice_code.specs.code.CodedDataSets.{CodedDataSet, bits_of_set}
@@ -40,6 +41,10 @@ is_empty (d ∷ ds) = false
 -- so many residuals are as many as any segment has
 abbrev pub HoldsAnySegment : ℕ → Parameters → Type 0
 HoldsAnySegment size s = (b : ℕ) → s.block * blocks_left s b ≤ size
+
+-- A sink of 16,432 bytes has room for the code of a segment: it holds less than a byte, or so much is left.
+abbrev pub HasRoomForSegment : Parameters → List Bool → Type 0
+HasRoomForSegment s sink = (length sink ≤ 7) ⊎ (length sink + 64 * block_bound s ≤ 131456)
 
 -- a coder that holds nothing
 abbrev pub empty_state : Parameters → CoderState

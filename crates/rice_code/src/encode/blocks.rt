@@ -166,6 +166,7 @@ fn reference_of(reference: Option<u32>, i: usize) -> Option<u32>
 }
 
 /// Appends the code of the first `count` blocks of a segment that begins at place `start`.
+#[inline(always)]
 pub fn code_blocks<const N: usize>(
     setting: &PreparedSetting,
     start: u32,

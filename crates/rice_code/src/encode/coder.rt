@@ -59,7 +59,8 @@ impl SizedCoder<4096> {
 }
 
 impl<const N: usize> SizedCoder<N> {
-    ghost use Rattle.rice_code.specs.encode.OpenSegment.{HoldsAnySegment, state_between};
+    ghost use Rattle.rice_code.specs.Bounds.{block_bound};
+    ghost use Rattle.rice_code.specs.encode.OpenSegment.{HoldsAnySegment, HasRoomForSegment, state_between};
     ghost use Rattle.rice_code.specs.code.Code.{complete_samples};
     ghost use Rattle.rice_code.specs.code.Blocks.{fill_count_of};
     ghost use Rattle.rice_code.specs.encode.Coder.{HasTaken, AddsCode, PushesSamples, CompletesNone, CompletesAll};
@@ -88,6 +89,23 @@ impl<const N: usize> SizedCoder<N> {
         SizedCoder {
             segment: OpenSegment::resume(setting, start, previous),
         }
+    }
+
+    /// Goes back to the end of whole segments, as `resume` begins there.
+    pub fn go_back(&mut self, start: u32, previous: i64)
+        requires { (xs : List ℤ) × HasTaken (state_between self.old.setting start previous) xs }
+        ensures { self.new ≡ state_between self.old.setting start previous }
+    {
+        self.segment.go_to(start, previous);
+    }
+
+    /// Returns how many bits a sink may hold where `push_some` is to find room for the code of a segment.
+    #[inline]
+    pub fn most_before(&self) -> u64
+        ensures room { result + 64 * block_bound self.now.setting ≤ 131456 }
+        ensures some { 64 ≤ result }
+    {
+        self.segment.most_before()
     }
 
     /// Returns the place in its interval at which the segment begins that is not whole yet.
@@ -129,7 +147,7 @@ impl<const N: usize> SizedCoder<N> {
         meter.tick(1);
         self.segment.hold(x);
         if self.segment.is_whole() {
-            let bits = self.segment.code(sink, meter);
+            let bits = self.segment.code_apart(sink, meter);
             self.segment.begin_next();
             bits
         } else {
@@ -141,9 +159,10 @@ impl<const N: usize> SizedCoder<N> {
     /// them. Does what `push` does with each of them in turn, so only the last of them appends code.
     ///
     /// A step is a sample, a bit put, padding aside, or a look at a residual.
+    #[inline(always)]
     pub fn push_some(&mut self, levels: &[u32], sink: &mut SegmentSink, meter: &mut Meter) -> Pushed
         requires legal { All (λ l. l < value_count self.old.setting) levels.now }
-        requires room { length sink.old ≤ 7 }
+        requires room { HasRoomForSegment self.old.setting sink.old }
         requires meter { meter.old + segment_steps self.old.setting < step_limit }
         ensures taken { result.samples ≤ length levels.now }
         ensures some { 0 < length levels.now → 0 < result.samples }
@@ -199,7 +218,7 @@ impl<const N: usize> SizedCoder<N> {
         ensures setting { self.new.setting ≡ self.old.setting }
     {
         self.segment.fill(meter);
-        let bits = self.segment.code(sink, meter);
+        let bits = self.segment.code_apart(sink, meter);
         self.segment.restart();
         bits
     }

@@ -6,9 +6,10 @@ ghost use Rattle.rice_samples.specs.Limits.{longest_interval, longest_segment};
 ghost use Rattle.rice_samples.specs.Parameters.{IsLegal, IsSample, value_at, value_count, values_at};
 ghost use Rattle.rice_samples.specs.Places.{blocks_left};
 ghost use Rattle.rice_samples.specs.predict.Residuals.{pattern, rank};
+ghost use Rattle.rice_code.specs.Bounds.{block_bound};
 ghost use Rattle.rice_code.specs.CoderSteps.{coding_steps};
 ghost use Rattle.rice_code.specs.code.Blocks.{fill_count};
-ghost use Rattle.rice_code.specs.encode.OpenSegment.{IsOpen, IsWhole, HoldsAnySegment, empty_state, state_between, state_after, state_after_all, state_with_later, later_residuals, state_with_fill, state_after_segment, HoldsSoundBlocks, CodesHeld, is_first};
+ghost use Rattle.rice_code.specs.encode.OpenSegment.{IsOpen, IsWhole, HoldsAnySegment, HasRoomForSegment, empty_state, state_between, state_after, state_after_all, state_with_later, later_residuals, state_with_fill, state_after_segment, HoldsSoundBlocks, CodesHeld, is_first};
 
 use crate::encode::SegmentSink;
 use crate::encode::blocks::code_blocks;
@@ -119,6 +120,17 @@ impl<const N: usize> OpenSegment<N> {
         self.end - self.residuals.len()
     }
 
+    /// Returns how many bits a sink may hold, so that there is room for the code of the segment behind them.
+    #[inline]
+    pub fn most_before(&self) -> u64
+        ensures room { result + 64 * block_bound self.now.setting ≤ 131456 }
+        ensures some { 64 ≤ result }
+    {
+        // Of the sink's 16,432 bytes, 64 blocks take an identifier and words of as many bits as there may be.
+        let size = self.setting.block();
+        8 * 16_432 - 64 * (5 + 32 * size as u64)
+    }
+
     /// Returns whether the residuals make the segment whole.
     #[inline]
     pub fn is_whole(&self) -> bool
@@ -212,9 +224,10 @@ impl<const N: usize> OpenSegment<N> {
 
     /// Appends the code of its blocks, with the padding of the interval that they end. Returns the
     /// number of its bits, padding aside.
+    #[inline(always)]
     pub fn code(&self, sink: &mut SegmentSink, meter: &mut Meter) -> u64
         requires blocks { HoldsSoundBlocks self.now }
-        requires room { length sink.old ≤ 7 }
+        requires room { HasRoomForSegment self.now.setting sink.old }
         requires meter { meter.old + coding_steps self.now.setting < step_limit }
         ensures { CodesHeld self.now sink.old sink.new result meter.old meter.new }
     {
@@ -235,6 +248,17 @@ impl<const N: usize> OpenSegment<N> {
         bits
     }
 
+    /// Does what `code` does, in a call of its own.
+    #[inline(never)]
+    pub fn code_apart(&self, sink: &mut SegmentSink, meter: &mut Meter) -> u64
+        requires blocks { HoldsSoundBlocks self.now }
+        requires room { HasRoomForSegment self.now.setting sink.old }
+        requires meter { meter.old + coding_steps self.now.setting < step_limit }
+        ensures { CodesHeld self.now sink.old sink.new result meter.old meter.new }
+    {
+        self.code(sink, meter)
+    }
+
     /// Goes on to the next segment.
     pub fn begin_next(&mut self)
         requires { IsWhole self.old }
@@ -249,6 +273,19 @@ impl<const N: usize> OpenSegment<N> {
         let start = next_start(&self.setting, self.start);
         self.end = residuals_from(&self.setting, start);
         self.start = start;
+    }
+
+    /// Goes to the segment that begins at the place `start` of its interval, after the sample `previous`, without residuals.
+    pub fn go_to(&mut self, start: u32, previous: i64)
+        requires open { IsOpen (state_between self.old.setting start previous)
+            (self.old.setting.block * blocks_left self.old.setting start) }
+        ensures { self.new ≡ state_between self.old.setting start previous }
+    {
+        self.residuals.clear();
+        self.reference = None;
+        self.previous = level_of_sample(&self.setting, previous);
+        self.start = start;
+        self.end = residuals_from(&self.setting, start);
     }
 
     /// Goes back to the first segment, without residuals.

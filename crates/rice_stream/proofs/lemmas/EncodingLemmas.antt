@@ -20,7 +20,7 @@ use Rattle.rice_code.specs.encode.OpenSegment.{CoderState}
 use Rattle.rice_code.specs.code.Code.{code, code_bits, early_output}
 use Rattle.rice_code.specs.CoderSteps.{least_looks, most_looks, least_looks_at, most_looks_at, least_steps, most_steps, segment_steps}
 use Rattle.rice_code.proofs.lemmas.encode.PushedCode.{segment_steps_few}
-use Rattle.rice_stream.specs.EncodingState.{Beginning, afresh, Follows, CountsSamples, IsEncodingOf, TakesSamples, TakesBetween, FollowsBetween, FailsAt, FailsIn, MeetsFailure, whole_part}
+use Rattle.rice_stream.specs.EncodingState.{Beginning, afresh, CanTake, CanTakeMore, Follows, CountsSamples, IsEncodingOf, HoldsCode, TakesSamples, TakesBetween, FollowsBetween, FailsAt, FailsIn, MeetsFailure, whole_part}
 use Rattle.rice_stream.specs.DevicesInCalls.{StopsBetween}
 use Rattle.rice_stream.specs.Encodes.{ReportsAll}
 use Rattle.rice_stream.specs.FailedWrites.{TakesPart}
@@ -86,28 +86,49 @@ sink_place s old now e xs h pads =
     let m = length-drop (bits_in_bytes (length (complete_code s xs))) (complete_code s xs) in
     omega arith
 
+-- an encoding between two writes holds its code so
+pub holds_code : {N : ℕ} {s : Parameters} {old : Beginning} {now : Option Room} {e : Encoding N} {xs : List ℤ} → IsEncodingOf s old now e xs → HoldsCode s e xs xs
+holds_code {s} {old} {now} {e} {xs} h = record { counts = h.counts; code_is = sym (sink_goes_on s old now e xs h) }
+
+-- and can take what it could
+pub can_take_more : {N : ℕ} {taken : Option Room} {e : Encoding N} {levels : List ℕ} → CanTake taken e levels → CanTakeMore e levels
+can_take_more c = record { setting = c.setting; written = c.before; before = c.before; holds = holds_code c.holds; legal = c.legal; few = c.few }
+
+pub can_take_short : {N : ℕ} {taken : Option Room} {e : Encoding N} {levels : List ℕ} → CanTake taken e levels → length e.sink ≤ 7
+can_take_short {taken = taken} {e = e} c = sink_short c.setting c.start taken e c.before c.holds
+
+-- the sink stands at the place in a byte where the code does, however much it holds
+pub code_place : {N : ℕ} (s : Parameters) (e : Encoding N) (xs ys : List ℤ) → HoldsCode s e xs ys → IsAlignedWith s (complete_samples s ys) e.sink
+code_place s e xs ys h pads =
+    let n = ap length h.code_is in
+    let m = length-append (whole_part (complete_code s xs)) e.sink in
+    let p = length-part (complete_code s xs) in
+    omega arith
+
 -- samples are taken
-pub taken_on : {N : ℕ} {s : Parameters} {old : Beginning} {now : Option Room} {e f : Encoding N} {xs ys : List ℤ} {n : ℕ} → IsEncodingOf s old now e xs →
+pub taken_on : {N : ℕ} {s : Parameters} {e f : Encoding N} {xs zs ys : List ℤ} {n : ℕ} → HoldsCode s e xs zs →
     PushesSamples e.coder f.coder ys e.sink f.sink n e.meter f.meter → f.bits ≡ e.bits + n → f.samples ≡ e.samples + length ys
-    → ((m : ℕ) → m < length ys → CompletesNone e.coder (take m ys)) → TakesSamples s f xs ys
-taken_on {s} {old} {now} {e} {f} {xs} {ys} {n} h pushes bits samples before =
+    → ((m : ℕ) → m < length ys → CompletesNone e.coder (take m ys)) → TakesSamples s f xs zs ys
+taken_on {s} {e} {f} {xs} {zs} {ys} {n} h pushes bits samples before =
     let stands = h.counts.stands in
-    let adds : AddsCode s (complete_samples s xs) (complete_samples s (xs ++ ys)) e.sink f.sink n (length ys) e.meter f.meter =
-    subst (λ (t : Parameters). AddsCode t (complete_samples t xs) (complete_samples t (xs ++ ys)) e.sink f.sink n (length ys) e.meter f.meter) h.counts.setting (pushes.adds xs stands) in
-    let k = adds.code_is (sink_place s old now e xs h) in
+    let adds : AddsCode s (complete_samples s zs) (complete_samples s (zs ++ ys)) e.sink f.sink n (length ys) e.meter f.meter =
+    subst (λ (t : Parameters). AddsCode t (complete_samples t zs) (complete_samples t (zs ++ ys)) e.sink f.sink n (length ys) e.meter f.meter) h.counts.setting (pushes.adds zs stands) in
+    let k = adds.code_is (code_place s e xs zs h) in
     let part = whole_part (complete_code s xs) in
-    let c = length-append xs ys in
+    let c = length-append zs ys in
     record {
       counts = record {
         setting = pushes.setting ∙ h.counts.setting;
-        stands = pushes.taken xs stands;
+        stands = pushes.taken zs stands;
         samples = omega (arith, samples, h.counts.samples, c);
         bits = omega (arith, bits, adds.bits, h.counts.bits);
         least = omega (arith, adds.steps.least, h.counts.least, c);
         most = omega (arith, adds.steps.most, h.counts.most, c);
       };
-      code_is = k.completes ∙ ap (λ l. l ++ k.bits) (sym (sink_goes_on s old now e xs h)) ∙ append_assoc part e.sink k.bits ∙ ap (λ l. part ++ l) (sym k.appended);
-      before_last = λ m lt. subst (λ (t : Parameters). complete_samples t (xs ++ take m ys) ≡ complete_samples t xs) h.counts.setting (before m lt xs stands);
+      code_is = k.completes ∙ ap (λ l. l ++ k.bits) h.code_is ∙ append_assoc part e.sink k.bits ∙ ap (λ l. part ++ l) (sym k.appended);
+      bits = k.bits;
+      goes_on = k.completes;
+      before_last = λ m lt. subst (λ (t : Parameters). complete_samples t (zs ++ take m ys) ≡ complete_samples t zs) h.counts.setting (before m lt zs stands);
     }
 
 -- nothing is whole
@@ -166,20 +187,20 @@ part_follows old now new from more to took part e = record {
 }
 
 -- some samples have a last one
-record Parts (ys : List ℤ) : Type 0 where
+pub record Parts (ys : List ℤ) : Type 0 where
   pub before : List ℤ
   pub last : ℤ
   pub split : ys ≡ before ++ last ∷ []
 
 -- samples have a last one
-parts_of : (ys : List ℤ) → 0 < length ys → Parts ys
+pub parts_of : (ys : List ℤ) → 0 < length ys → Parts ys
 parts_of [] h = absurd (omega arith)
 parts_of (y ∷ []) h = record { before = []; last = y; split = refl }
 parts_of (y ∷ z ∷ ys) h = let p = parts_of (z ∷ ys) (omega arith) in record { before = y ∷ p.before; last = p.last; split = ap (λ l. y ∷ l) p.split }
 
 -- not all that the samples complete was written
 pub fails_in : {N : ℕ} {s : Parameters} {old : Beginning} {now new : Option Room} {e f g : Encoding N} {xs samples : List ℤ} {n : ℕ}
-    → IsEncodingOf s old now e xs → TakesSamples s f xs (take n samples) → 0 < n → n ≤ length samples → TakesPart now new (whole_bytes f.sink)
+    → IsEncodingOf s old now e xs → TakesSamples s f xs xs (take n samples) → 0 < n → n ≤ length samples → TakesPart now new (whole_bytes f.sink)
     → CountsSamples s g (xs ++ take n samples) → FailsIn s old new g xs samples
 fails_in {s} {old} {now} {new} {f} {g} {xs} {samples} {n} h takes some within part counts =
     let ys = take n samples in

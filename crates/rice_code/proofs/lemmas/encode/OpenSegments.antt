@@ -12,7 +12,7 @@ use Rattle.rice_samples.specs.Places.{place, blocks_left}
 use Rattle.rice_samples.proofs.lemmas.setting.LevelsOfSamples.{zero_is_sample}
 use Rattle.rice_samples.proofs.lemmas.setting.PlaceLemmas.{some_left}
 use Rattle.rice_code.specs.code.Code.{data_sets}
-use Rattle.rice_code.specs.encode.OpenSegment.{CoderState, IsOpen, HoldsAnySegment, empty_state, state_after_segment, next_start}
+use Rattle.rice_code.specs.encode.OpenSegment.{CoderState, IsOpen, HoldsAnySegment, HasRoomForSegment, empty_state, state_after_segment, next_start}
 use Rattle.rice_code.specs.encode.OpenSegment.{blocks_held, contents_held, sets_held, code_held, HoldsSoundBlocks, CodesHeld}
 use Rattle.rice_code.specs.code.CodedDataSets.{bits_of_set, bits_of_sets}
 use Rattle.rice_code.specs.encode.HeldBlocks.{held_blocks, code_of_blocks, PutsBlocks}
@@ -49,6 +49,13 @@ segment_room s n h k =
     let b : block_bound s ≤ 2053 = omega (arith, a, i, j) in
     let c : n * block_bound s ≤ n * 2053 = mul-le-mul_left n b in
     omega (arith, c)
+
+-- which a sink has behind what it holds
+pub room_behind : (s : Parameters) (n : ℕ) (sink : List Bool) → IsLegal s → n ≤ 64 → HasRoomForSegment s sink → length sink + n * block_bound s ≤ 131456
+room_behind s n sink legal few (inl short) = omega (arith, short, segment_room s n legal few)
+room_behind s n sink legal few (inr room) =
+    let all : n * block_bound s ≤ 64 * block_bound s = mul-le-mul_right (block_bound s) few in
+    omega (arith, all, room)
 
 -- and the steps
 pub segment_meter : (n bound looks m len : ℕ) → n ≤ 64 → len ≤ n * bound → m + 64 * (bound + looks) < 2 ^ 62 → m + len + n * looks < 2 ^ 62

@@ -7,26 +7,26 @@ use Rattle.rice_code.specs.code.Code.{code_bits, complete_samples}
 use Rattle.rice_code.specs.encode.Coder.{CompletesNone}
 use Rattle.rice_stream.specs.EncodingState.{TakesSamples}
 use Rattle.rice_stream.specs.declared.encoding.Encoding.{Encoding}
-use Rattle.rice_stream.proofs.lemmas.EncodingLemmas.{counts_small, early_small, sink_short, taken_on}
+use Rattle.rice_stream.proofs.lemmas.EncodingLemmas.{counts_small, early_small, taken_on}
 use Rattle.rice_stream.proofs.encoding.Encoding.push_to_coder.Goals as goal
 
-of_setting : {N : ℕ} (s own : Parameters) (e : Encoding N) (xs : List ℤ) (levels : List ℕ) (n : ℕ) → own ≡ s
-    → TakesSamples s e xs (take n (values_at own levels)) → TakesSamples s e xs (take n (values_at s levels))
-of_setting s own e xs levels n same h = subst (λ (t : Parameters). TakesSamples s e xs (take n (values_at t levels))) same h
+of_setting : {N : ℕ} (s own : Parameters) (e : Encoding N) (xs ys : List ℤ) (levels : List ℕ) (n : ℕ) → own ≡ s
+    → TakesSamples s e xs ys (take n (values_at own levels)) → TakesSamples s e xs ys (take n (values_at s levels))
+of_setting s own e xs ys levels n same h = subst (λ (t : Parameters). TakesSamples s e xs ys (take n (values_at t levels))) same h
 
 pub push_some-pushed-requires : goal.push_some-pushed-requires
 push_some-pushed-requires g c =
-    let can = c.requires.ready.1 in
+    let can = c.requires.ready in
     let legal = subst (λ (t : Parameters). All (λ l. l < value_count t) c.args.levels.now) (sym can.holds.counts.setting) can.legal in
     let small = counts_small can.setting _ can.before can.holds.counts in
-    (search rules, (legal, (sink_short can.setting can.start c.requires.ready.0 _ can.before can.holds, omega (arith, small.1, small.2, can.few))))
+    (search rules, (legal, (c.requires.room, omega (arith, small.1, small.2, can.few))))
 
 pub overflow_add-self : goal.overflow_add-self
-overflow_add-self g c = let can = c.requires.ready.1 in omega (arith, can.holds.counts.samples, can.few, c.push_some-pushed.ensures.taken)
+overflow_add-self g c = let can = c.requires.ready in omega (arith, can.holds.counts.samples, can.few, c.push_some-pushed.ensures.taken)
 
 pub overflow_add-self-2 : goal.overflow_add-self-2
 overflow_add-self-2 g c =
-    let can = c.requires.ready.1 in
+    let can = c.requires.ready in
     let k = can.holds.counts in
     let p = c.push_some-pushed in
     let xs = can.before in
@@ -39,7 +39,7 @@ overflow_add-self-2 g c =
     omega (arith, small, same, k.bits, can.few, length-append xs zs, len, p.ensures.taken)
 
 pub returns-clause-took : goal.returns-clause-took
-returns-clause-took g c s old now xs h =
+returns-clause-took g c s xs ys h =
     let e = c.args.self.now in
     let p = c.push_some-pushed in
     let own = e.coder.setting in
@@ -48,4 +48,4 @@ returns-clause-took g c s old now xs h =
     let len : length (take n samples) ≡ n = length-take-le n samples (omega (arith, p.ensures.taken, length-values own c.args.levels.now)) in
     let before : (m : ℕ) → m < length (take n samples) → CompletesNone e.coder (take m (take n samples)) =
     λ m lt. subst (CompletesNone e.coder) (sym (take-take m n samples (omega (arith, lt, len)))) (p.ensures.before_last m (omega (arith, lt, len))) in
-    of_setting s own _ xs c.args.levels.now n h.counts.setting (taken_on h p.ensures.pushes refl (ap (λ m. e.samples + m) (sym len)) before)
+    of_setting s own _ xs ys c.args.levels.now n h.counts.setting (taken_on h p.ensures.pushes refl (ap (λ m. e.samples + m) (sym len)) before)

@@ -1,16 +1,16 @@
-use Rattle.std.proofs.Common.{◌∙◌, [], ap, rules, subst, sym}
+use Rattle.std.proofs.Common.{◌∙◌, [], ap, inl, rules, subst, sym}
 use Rattle.rice_code.specs.encode.Coder.{IsCoder, HasTaken}
 use Rattle.rice_code.specs.encode.OpenSegment.{CoderState, empty_state}
 use Rattle.rice_code.proofs.lemmas.encode.PushedCode.{finish_sound, finish_adds, none_taken}
 use Rattle.rice_code.proofs.lemmas.encode.PushedSamples.{filled_has_steps}
 use Rattle.rice_code.proofs.encode.coder.SizedCoder.finish_reset.Goals as goal
 
-pub code-bits-requires : goal.code-bits-requires
-code-bits-requires g c = (
+pub code_apart-bits-requires : goal.code_apart-bits-requires
+code_apart-bits-requires g c = (
   search rules,
   (
     finish_sound c.self.inside.segment c.fill.new.self c.fill.ensures.value c.self.invariant,
-    (c.requires.room, filled_has_steps _ c.self.view_is c.self.invariant c.fill.ensures.value c.requires.meter c.fill.ensures.steps),
+    (inl c.requires.room, filled_has_steps _ c.self.view_is c.self.invariant c.fill.ensures.value c.requires.meter c.fill.ensures.steps),
   ),
 )
 
@@ -20,7 +20,7 @@ invariant_of-self g c =
     subst IsCoder (sym (c.restart.ensures ∙ ap (λ (v : CoderState). empty_state v.setting) c.fill.ensures.value)) (record { samples = []; taken = none_taken c.self.inside.segment.setting legal })
 
 pub returns-clause-adds : goal.returns-clause-adds
-returns-clause-adds g c xs h = finish_adds c.self.view_is c.fill.ensures.value c.code-bits.ensures c.fill.ensures.steps h
+returns-clause-adds g c xs h = finish_adds c.self.view_is c.fill.ensures.value c.code_apart-bits.ensures c.fill.ensures.steps h
 
 pub returns-clause-taken : goal.returns-clause-taken
 returns-clause-taken g c =

@@ -1,9 +1,10 @@
-use Rattle.std.proofs.Common.{rules, arith, refl, ap, ◌+◌, ◌*◌, ◌≤◌}
+use Rattle.std.proofs.Common.{rules, arith, refl, ap, subst, sym, ◌+◌, ◌*◌, ◌≤◌}
 use Rattle.std.proofs.Math.Nat.{mul-le-mul_left}
 use Rattle.rice_samples.specs.Parameters.{k_max}
 use Rattle.rice_samples.specs.Places.{blocks_left}
 use Rattle.rice_samples.proofs.lemmas.setting.PlaceLemmas.{some_left}
 use Rattle.rice_code.specs.CoderSteps.{segment_steps}
+use Rattle.rice_code.specs.encode.OpenSegment.{CoderState, HasRoomForSegment}
 use Rattle.rice_code.proofs.lemmas.encode.PushedCode.{short_of}
 use Rattle.rice_code.proofs.lemmas.encode.PushedSamples.{holds_levels, steps_of_levels, whole_is_sound, whole_has_steps, whole_pushes}
 use Rattle.rice_code.proofs.lemmas.encode.PushedSamples.{whole_completes_all, open_pushes, still_short, none_before_level, is_coder_after}
@@ -14,7 +15,9 @@ code-bits-requires g c =
     let more = holds_levels c.args.levels.now c.self.view_is c.self.invariant c.requires.legal (omega (arith, c.room.ensures, c.min-taken.ensures))
     (omega (arith, c.min-taken.ensures)) c.hold_levels.ensures in
     let steps = steps_of_levels c.args.self.now.setting c.args.levels.now _ _ _ (omega (arith, c.min-taken.ensures)) c.tick.ensures in
-    (search rules, (whole_is_sound _ _ _ _ more (search rules), (c.requires.room, whole_has_steps _ _ _ _ _ _ more c.requires.meter steps)))
+    let P : CoderState → Type 0 = λ v. HasRoomForSegment v.setting c.args.sink.now in
+    let room = subst P (sym c.hold_levels.ensures) (subst P (sym c.self.view_is) c.requires.room) in
+    (search rules, (whole_is_sound _ _ _ _ more (search rules), (room, whole_has_steps _ _ _ _ _ _ more c.requires.meter steps)))
 
 pub invariant_of-self : goal.invariant_of-self
 invariant_of-self g c =

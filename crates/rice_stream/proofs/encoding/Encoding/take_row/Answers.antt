@@ -1,0 +1,75 @@
+use Rattle.std.proofs.Common.{arith, rules, ◌≡◌, ◌<◌, ◌≤◌, ◌++◌, zero, suc, refl, length, take, ap, sym, ◌∙◌, subst, inr, append-nil, length-append, length-drop, List, ℕ, ℤ}
+use Rattle.std.specs.Prelude.{All}
+use Rattle.std.proofs.lemmas.List.{length-take-le}
+use Rattle.std.proofs.lemmas.List.Elements.{All-drop}
+use Rattle.rice_samples.specs.Parameters.{value_count, values_at}
+use Rattle.rice_samples.proofs.lemmas.setting.ValuesAtLevels.{length-values}
+use Rattle.rice_code.specs.Bounds.{block_bound}
+use Rattle.rice_stream.specs.EncodingState.{HoldsCode}
+use Rattle.rice_stream.proofs.lemmas.RowsOfSegments.{levels_from, samples_from, code_short, goes_on_at_first, row_goes_on, row_inside}
+use Rattle.rice_stream.proofs.encoding.Encoding.take_row.Goals as goal
+
+pub loop-at-init : goal.loop-at-init
+loop-at-init g c = record {
+  within = omega arith;
+  begins = λ e. code_short c.requires.holds;
+  holds = λ s xs h. subst (λ (l : List ℤ). HoldsCode s c.args.self.now xs l) (sym (append-nil xs)) h;
+  inside = λ s xs h. goes_on_at_first s xs;
+}
+
+pub returns-then-len-most-clause-some : goal.returns-then-len-most-clause-some
+returns-then-len-most-clause-some g c some =
+    let i = c.loop-at.invariant in
+    let short : c.loop-at.at ≡ 0 → length c.loop-at.self.sink ≤ 7 = i.begins in
+    some_taken c.loop-at.at (length c.loop-at.self.sink) c.most_before-most.result short (omega (arith, c.most_before-most.ensures.some)) (omega (arith, c.if-len-most.true, c.len.ensures.value))
+  where
+    some_taken : (n size most : ℕ) → (n ≡ 0 → size ≤ 7) → 64 ≤ most → most < size → 0 < n
+    some_taken zero size most short some over = absurd (omega (arith, short refl, some, over))
+    some_taken (suc n) size most short some over = omega arith
+
+pub push_to_coder-at-requires : goal.push_to_coder-at-requires
+push_to_coder-at-requires g c =
+    let k = c.requires in
+    let levels = c.args.levels.now in
+    let samples = values_at k.setting levels in
+    let at = c.loop-at.at in
+    let i = c.loop-at.invariant in
+    let holds = i.holds k.setting k.before k.holds in
+    let len = length-values k.setting levels in
+    let same = ap block_bound (holds.counts.setting ∙ sym k.holds.counts.setting) in (
+      search rules,
+      (
+        record {
+          setting = k.setting;
+          written = k.before;
+          before = k.before ++ take at samples;
+          holds = holds;
+          legal = subst (All (λ l. l < value_count k.setting)) (sym (levels_from at levels)) (All-drop (λ l. l < value_count k.setting) at levels k.legal);
+          few = omega (arith, k.few, length-append k.before (take at samples), length-take-le at samples (omega (arith, i.within, len)), ap length (levels_from at levels), length-drop at levels, i.within);
+        },
+        inr (omega (arith, c.most_before-most.ensures.room, c.if-len-most.false, c.len.ensures.value, same)),
+      ),
+    )
+
+pub loop-at-smaller : goal.loop-at-smaller
+loop-at-smaller g c =
+    let at = c.loop-at.at in
+    let levels = c.args.levels.now in
+    let left = ap length (levels_from at levels) in
+    let some = c.push_to_coder-at.ensures.some (omega (arith, left, length-drop at levels, c.loop-at-test.true)) in
+    omega (arith, some, c.loop-at-test.true)
+
+pub loop-at-preserved : goal.loop-at-preserved
+loop-at-preserved g c =
+    let at = c.loop-at.at in
+    let levels = c.args.levels.now in
+    let i = c.loop-at.invariant in
+    let n = c.push_to_coder-at.result in
+    let left = ap length (levels_from at levels) in
+    let some = c.push_to_coder-at.ensures.some (omega (arith, left, length-drop at levels, c.loop-at-test.true)) in
+    record {
+      within = omega (arith, i.within, c.push_to_coder-at.ensures.count, left, length-drop at levels);
+      begins = λ e. absurd (omega (arith, e, some));
+      holds = λ s xs h. row_goes_on xs (values_at s levels) at n (c.push_to_coder-at.ensures.took s xs (xs ++ take at (values_at s levels)) (i.holds s xs h)) (ap (take n) (samples_from s at levels));
+      inside = λ s xs h. row_inside xs (values_at s levels) at n (c.push_to_coder-at.ensures.took s xs (xs ++ take at (values_at s levels)) (i.holds s xs h)) (ap (take n) (samples_from s at levels)) (i.inside s xs h);
+    }

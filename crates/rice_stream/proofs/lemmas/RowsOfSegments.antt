@@ -1,0 +1,235 @@
+-- A row of segments, whose bytes are written in one call: the code goes on from segment to segment, and where the outlet fails one of them is not whole.
+use Rattle.std.proofs.Common.{◌≡◌, ℕ, zero, suc, ◌+◌, ◌-◌, ◌*◌, ◌/◌, ◌^◌, ◌<◌, ◌≤◌, Bool, List, [], ◌∷◌, ◌++◌, length, take, drop, Option, ℤ}
+use Rattle.std.proofs.Common.{refl, ap, arith, sym, ◌∙◌, subst, inl, inr, append_assoc, append-nil, length-append, length-drop, take-append-drop}
+use Rattle.std.proofs.Math.Seq.{take-add, take-length, take-append-add, take-append_seam}
+use Rattle.std.proofs.lemmas.Bool.{cases_lt}
+use Rattle.std.proofs.lemmas.List.{drop-map, length-take-le, take-append-le, take-take}
+use Rattle.rice_bits.specs.device.OutletRoom.{Room, Appends}
+use Rattle.rice_bits.specs.Bits.{bits_in_bytes, whole_bytes, word}
+use Rattle.rice_bits.proofs.lemmas.bits.BytesAndBits.{bits_of-whole_bytes, length-bits_of}
+use Rattle.rice_samples.specs.Parameters.{Parameters, value_at, values_at}
+use Rattle.rice_samples.specs.Places.{cut}
+use Rattle.rice_code.specs.code.Code.{early_output, code}
+use Rattle.rice_code.specs.encode.Coder.{HasTaken, complete_code}
+use Rattle.rice_code.specs.encode.OpenSegment.{CoderState, state_between}
+use Rattle.rice_code.proofs.lemmas.encode.PushedCode.{holds_nothing}
+use Rattle.rice_stream.specs.DevicesInCalls.{StopsBetween}
+use Rattle.rice_stream.specs.EncodingState.{Beginning, CountsSamples, IsEncodingOf, HoldsCode, TakesSamples, GoesOnInside, IsRowStart, StopsAt, FailsIn, whole_part}
+use Rattle.rice_stream.specs.declared.encoding.Encoding.{Encoding}
+use Rattle.rice_stream.specs.declared.seam.Seam.{Seam}
+use Rattle.rice_stream.proofs.lemmas.EncodingLemmas.{Follows-trans, counts_small, parts_of}
+use Rattle.rice_stream.proofs.lemmas.Seams.{IsSeamOf}
+use Rattle.rice_stream.proofs.lemmas.BytesOfGrowingCode.{length-part, more_bytes, more_rest}
+
+-- the levels from a place on, and the samples
+pub levels_from : (at : ℕ) (levels : List ℕ) → take (length levels - at) (drop at levels) ≡ drop at levels
+levels_from at levels = ap (λ n. take n (drop at levels)) (sym (length-drop at levels)) ∙ take-length (drop at levels)
+
+pub samples_from : (s : Parameters) (at : ℕ) (levels : List ℕ) → values_at s (take (length levels - at) (drop at levels)) ≡ drop at (values_at s levels)
+samples_from s at levels = ap (values_at s) (levels_from at levels) ∙ sym (drop-map (value_at s) at levels)
+
+-- some samples, and some of those behind them
+pub samples_on : (xs samples : List ℤ) (at n : ℕ) → (xs ++ take at samples) ++ take n (drop at samples) ≡ xs ++ take (at + n) samples
+samples_on xs samples at n = append_assoc xs (take at samples) (take n (drop at samples)) ∙ ap (λ l. xs ++ l) (sym (take-add at n samples))
+
+-- how many bytes are whole
+pub length-whole : (bits : List Bool) → length (whole_bytes bits) ≡ length bits / 8
+length-whole bits =
+    omega (arith, length-bits_of (whole_bytes bits), ap length (bits_of-whole_bytes bits), length-take-le (bits_in_bytes (length bits)) bits (omega arith))
+
+-- less than a byte waits where all whole bytes are written
+pub code_short : {N : ℕ} {s : Parameters} {e : Encoding N} {xs : List ℤ} → HoldsCode s e xs xs → length e.sink ≤ 7
+code_short {s = s} {e = e} {xs = xs} h =
+    omega (arith, ap length h.code_is, length-append (whole_part (complete_code s xs)) e.sink, length-part (complete_code s xs))
+
+-- bytes that are whole stay where the code goes on
+early_goes_on : (s : Parameters) (xs ys : List ℤ) (bits : List Bool) → complete_code s ys ≡ complete_code s xs ++ bits → (more : List ℕ) × (early_output s ys ≡ early_output s xs ++ more)
+early_goes_on s xs ys bits e =
+    let a = complete_code s xs in
+    let n = bits_in_bytes (length a) in
+    let all : whole_part a ++ (drop n a ++ bits) ≡ complete_code s ys = sym (append_assoc (take n a) (drop n a) bits) ∙ ap (λ l. l ++ bits) (take-append-drop n a) ∙ sym e in
+    (whole_bytes (drop n a ++ bits), more_bytes a (complete_code s ys) (drop n a ++ bits) all)
+
+-- no samples complete anything
+pub goes_on_at_first : (s : Parameters) (xs : List ℤ) → GoesOnInside s xs []
+goes_on_at_first s xs zero le = ([], sym (append-nil (complete_code s (xs ++ []))))
+goes_on_at_first s xs (suc m) le = absurd (omega (arith, le))
+
+-- the code of a row goes on with each segment
+pub goes_on_inside : {N : ℕ} {s : Parameters} {f : Encoding N} {ws : List ℤ} (xs ys more : List ℤ) → GoesOnInside s xs ys → TakesSamples s f ws (xs ++ ys) more → GoesOnInside s xs (ys ++ more)
+goes_on_inside {s = s} xs ys more inside t m le =
+    let all : complete_code s (xs ++ (ys ++ more)) ≡ complete_code s (xs ++ ys) ++ t.bits = ap (complete_code s) (sym (append_assoc xs ys more)) ∙ t.goes_on in
+    let size = length-append ys more in
+    elim (cases_lt (length ys) m) [
+      | inr small ↦
+          let p = inside m small in
+          let same : take m ys ≡ take m (ys ++ more) = sym (take-append-le m ys more small) in (
+            p.0 ++ t.bits,
+            all ∙ ap (λ l. l ++ t.bits) p.1 ∙ append_assoc (complete_code s (xs ++ take m ys)) p.0 t.bits ∙ ap (λ l. complete_code s (xs ++ l) ++ (p.0 ++ t.bits)) same,
+          )
+      | inl large ↦
+          let k = m - length ys in
+          let part : take m (ys ++ more) ≡ ys ++ take k more = ap (λ i. take i (ys ++ more)) (let i : m ≡ length ys + k = omega (arith, large) in i) ∙ take-append-add ys more k in
+          let place : xs ++ take m (ys ++ more) ≡ (xs ++ ys) ++ take k more = ap (λ l. xs ++ l) part ∙ sym (append_assoc xs ys (take k more)) in
+          elim (cases_lt k (length more)) [
+            | inl inner ↦
+                let same : complete_code s (xs ++ ys) ≡ complete_code s (xs ++ take m (ys ++ more)) = ap (code s) (sym (t.before_last k inner)) ∙ ap (complete_code s) (sym place) in
+                (t.bits, all ∙ ap (λ l. l ++ t.bits) same)
+            | inr whole ↦
+                let n : m ≡ length (ys ++ more) = omega (arith, size, le, large, whole) in
+                let same : ys ++ more ≡ take m (ys ++ more) = sym (ap (λ i. take i (ys ++ more)) n ∙ take-length (ys ++ more)) in
+                ([], ap (λ l. complete_code s (xs ++ l)) same ∙ sym (append-nil (complete_code s (xs ++ take m (ys ++ more)))))
+          ]
+    ]
+
+-- a text's beginning that is as long as one of its beginnings or longer, and shorter than another, stops between these
+between_beginnings : (all from to a b : List ℕ) (n : ℕ) → all ≡ from ++ a → all ≡ to ++ b → length from ≤ n → n < length to → StopsBetween from to (take n all)
+between_beginnings all from to a b n e f le lt = record {
+  more = take (n - length from) a;
+  missing = drop n to;
+  begins = ap (take n) e ∙ ap (λ i. take i (from ++ a)) (let i : n ≡ length from + (n - length from) = omega (arith, le) in i) ∙ take-append-add from a (n - length from);
+  stops = sym (take-append-drop n to) ∙ ap (λ l. l ++ drop n to) (sym (ap (take n) f ∙ take-append-le n to b (omega (arith, lt))));
+  short = λ none. absurd (omega (arith, ap length none, length-drop n to, lt));
+}
+
+-- the whole bytes that a sink holds are those that follow
+pub row_bytes : {N : ℕ} {s : Parameters} {f : Encoding N} {xs ys : List ℤ} → HoldsCode s f xs ys → early_output s ys ≡ early_output s xs ++ whole_bytes f.sink
+row_bytes {s = s} {f = f} {xs = xs} {ys = ys} h = more_bytes (complete_code s xs) (complete_code s ys) f.sink (sym h.code_is)
+
+-- The outlet took a part of the bytes of a row, and the samples up to those that pass that part are taken.
+pub fails_in_row : {N : ℕ} {s : Parameters} {old : Beginning} {now new : Option Room} {e f g : Encoding N} {xs samples : List ℤ} (n count : ℕ)
+    → IsEncodingOf s old now e xs → n ≤ length samples → HoldsCode s f xs (xs ++ take n samples) → GoesOnInside s xs (take n samples)
+    → Appends now new (take count (whole_bytes f.sink)) → StopsAt s g xs (take n samples) (length (early_output s xs) + count) → FailsIn s old new g xs samples
+fails_in_row {s = s} {old = old} {now = now} {new = new} {f = f} {g = g} {xs = xs} {samples = samples} n count h within holds inside took stop =
+    let ys = take n samples in
+    let k = stop.taken in
+    let ks = take k ys in
+    let size : length ks ≡ k = length-take-le k ys stop.within in
+    let p = parts_of ks (omega (arith, size, stop.some)) in
+    let len : length ks ≡ length p.before + 1 = ap length p.split ∙ length-append p.before (p.last ∷ []) in
+    let front : take (length p.before) ks ≡ p.before = ap (take (length p.before)) p.split ∙ take-append_seam p.before (p.last ∷ []) in
+    let index : k - 1 ≡ length p.before = omega (arith, len, size) in
+    let before : take (k - 1) ys ≡ p.before = ap (λ i. take i ys) index ∙ sym (take-take (length p.before) k ys (omega (arith, len, size))) ∙ front in
+    let all : xs ++ ks ≡ (xs ++ p.before) ++ p.last ∷ [] = ap (λ l. xs ++ l) p.split ∙ sym (append_assoc xs p.before (p.last ∷ [])) in
+    let text = early_output s (xs ++ ys) in
+    let row : text ≡ early_output s xs ++ whole_bytes f.sink = row_bytes holds in
+    let goes_from = inside (k - 1) (omega (arith, stop.within)) in
+    let goes_to = inside k stop.within in
+    let from = early_goes_on s (xs ++ take (k - 1) ys) (xs ++ ys) goes_from.0 goes_from.1 in
+    let to = early_goes_on s (xs ++ ks) (xs ++ ys) goes_to.0 goes_to.1 in
+    let m = length (early_output s xs) + count in
+    let between = between_beginnings text (early_output s (xs ++ take (k - 1) ys)) (early_output s (xs ++ ks)) from.0 to.0 m from.1 to.1 stop.least stop.most in
+    let written : take m text ≡ early_output s xs ++ take count (whole_bytes f.sink) = ap (take m) row ∙ take-append-add (early_output s xs) (whole_bytes f.sink) count in
+    let inner : length ys ≡ n = length-take-le n samples within in
+    let first : ks ≡ take k samples = take-take k n samples (omega (arith, inner, stop.within)) in
+    record {
+      before = p.before;
+      last = p.last;
+      behind = drop k samples;
+      split = sym (take-append-drop k samples) ∙ ap (λ l. l ++ drop k samples) (sym first ∙ p.split) ∙ append_assoc p.before (p.last ∷ []) (drop k samples);
+      fails = record {
+        counts = subst (CountsSamples s g) all stop.counts;
+        takes = record {
+          written = early_output s xs ++ take count (whole_bytes f.sink);
+          stops = subst (λ (l : List ℕ). StopsBetween (early_output s (xs ++ p.before)) (early_output s ((xs ++ p.before) ++ p.last ∷ [])) l) written
+              (subst (λ (l : List ℤ). StopsBetween (early_output s (xs ++ p.before)) (early_output s l) (take m text)) all
+              (subst (λ (l : List ℤ). StopsBetween (early_output s (xs ++ l)) (early_output s (xs ++ ks)) (take m text)) before between));
+          took = Follows-trans old now new (early_output s xs) (take count (whole_bytes f.sink)) h.took took;
+        };
+      };
+    }
+
+-- where a row begins, of an encoding between two segments
+pub row_start_of : {N : ℕ} {s : Parameters} {old : Beginning} {now : Option Room} {e : Encoding N} {start : Seam} {xs : List ℤ} → IsEncodingOf s old now e xs
+    → cut s (length xs) ≡ length xs → IsSeamOf N e start → length e.sink < 8 → IsRowStart s start xs
+row_start_of {s = s} {e = e} {start = start} {xs = xs} h all holds few =
+    let nothing : e.coder ≡ state_between e.coder.setting e.coder.start e.coder.previous = holds_nothing e.coder xs h.counts.stands (ap (λ t. cut t (length xs)) h.counts.setting ∙ all) in
+    let same : e.coder ≡ state_between s start.start start.previous = nothing ∙ (λ i. state_between (h.counts.setting i) (sym holds.start i) (sym holds.previous i)) in
+    record {
+      taken = subst (λ c. HasTaken c xs) same h.counts.stands;
+      samples = holds.samples ∙ h.counts.samples;
+      bits = holds.bits ∙ h.counts.bits;
+      least = omega (arith, holds.steps, h.counts.least);
+      most = omega (arith, holds.steps, h.counts.most);
+      waiting = ap (λ n. word n start.waiting) holds.waiting_bits ∙ holds.waiting ∙ h.sink;
+      few = omega (arith, holds.waiting_bits, few);
+      fits = subst (λ n. start.waiting < 2 ^ n) (sym holds.waiting_bits) holds.fits;
+    }
+
+-- the steps so far are few
+pub row_steps : (s : Parameters) (start : Seam) (xs : List ℤ) → IsRowStart s start xs → start.steps ≤ 73 * length xs + 4700
+row_steps s start xs r =
+    let e : Encoding 0 = record { coder = state_between s start.start start.previous; sink = []; meter = start.steps; samples = start.samples; bits = start.bits } in
+    let counts : CountsSamples s e xs = record { setting = refl; stands = r.taken; samples = r.samples; bits = r.bits; least = r.least; most = r.most } in
+    (counts_small s e xs counts).1
+
+-- an encoding that goes back there
+pub back_at_start : {N : ℕ} {s : Parameters} {start : Seam} {xs : List ℤ} {e : Encoding N} → IsRowStart s start xs → e.coder ≡ state_between s start.start start.previous
+    → e.sink ≡ word start.waiting_bits start.waiting → e.meter ≡ start.steps → e.samples ≡ start.samples → e.bits ≡ start.bits → HoldsCode s e xs xs
+back_at_start {s = s} {start = start} {xs = xs} {e = e} r coder sink meter samples bits =
+    let a = complete_code s xs in
+    record {
+      counts = record {
+        setting = ap (λ (v : CoderState). v.setting) coder;
+        stands = subst (λ c. HasTaken c xs) (sym coder) r.taken;
+        samples = samples ∙ r.samples;
+        bits = bits ∙ r.bits;
+        least = omega (arith, meter, r.least);
+        most = omega (arith, meter, r.most);
+      };
+      code_is = sym (ap (λ l. whole_part a ++ l) (sink ∙ r.waiting) ∙ take-append-drop (bits_in_bytes (length a)) a);
+    }
+
+-- one more segment of a row is taken
+pub row_goes_on : {N : ℕ} {s : Parameters} {f : Encoding N} {ws more : List ℤ} (xs samples : List ℤ) (at n : ℕ) → TakesSamples s f ws (xs ++ take at samples) more → more ≡ take n (drop at samples)
+    → HoldsCode s f ws (xs ++ take (at + n) samples)
+row_goes_on {s = s} {f = f} {ws = ws} xs samples at n t is =
+    subst (HoldsCode s f ws) (ap (λ l. (xs ++ take at samples) ++ l) is ∙ samples_on xs samples at n) (record { counts = t.counts; code_is = t.code_is })
+
+pub row_inside : {N : ℕ} {s : Parameters} {f : Encoding N} {ws more : List ℤ} (xs samples : List ℤ) (at n : ℕ) → TakesSamples s f ws (xs ++ take at samples) more → more ≡ take n (drop at samples)
+    → GoesOnInside s xs (take at samples) → GoesOnInside s xs (take (at + n) samples)
+row_inside {s = s} {more = more} xs samples at n t is inside =
+    subst (GoesOnInside s xs) (ap (λ l. take at samples ++ l) is ∙ sym (take-add at n samples)) (goes_on_inside xs (take at samples) more inside t)
+
+-- what is whole with one more segment
+module _ {N : ℕ} {s : Parameters} {f : Encoding N} {more : List ℤ} (xs samples : List ℤ) (at n left goal : ℕ) (t : TakesSamples s f (xs ++ take at samples) (xs ++ take at samples) more) (is : more ≡ take n (drop at samples)) where
+  whole_so_far : length (early_output s (xs ++ take (at + n) samples)) ≡ length (early_output s (xs ++ take at samples)) + length f.sink / 8
+  whole_so_far =
+      let zs = xs ++ take at samples in
+      let e = more_bytes (complete_code s zs) (complete_code s (zs ++ more)) f.sink (sym t.code_is) in
+      let same = ap (λ l. length (early_output s l)) (ap (λ l. zs ++ l) is ∙ samples_on xs samples at n) in
+      omega (arith, same, ap length e, length-append (early_output s zs) (whole_bytes f.sink), length-whole f.sink)
+
+  -- these bytes pass the place that is looked for
+  pub stops_here : 0 < n → at + n ≤ length samples → length (early_output s (xs ++ take at samples)) + left ≡ goal → left < length f.sink / 8 → StopsAt s f xs samples goal
+  stops_here some within here passes =
+      let zs = xs ++ take at samples in
+      let m = n - 1 in
+      let inner : length more ≡ n = ap length is ∙ length-take-le n (drop at samples) (omega (arith, length-drop at samples, within)) in
+      let place : zs ++ take m more ≡ xs ++ take (at + n - 1) samples =
+      ap (λ l. zs ++ take m l) is ∙ ap (λ l. zs ++ l) (take-take m n (drop at samples) (omega arith)) ∙ samples_on xs samples at m
+      ∙ ap (λ i. xs ++ take i samples) (let i : at + m ≡ at + n - 1 = omega (arith, some) in i) in
+      let before : early_output s (xs ++ take (at + n - 1) samples) ≡ early_output s zs =
+      ap (early_output s) (sym place) ∙ ap (λ l. whole_bytes (code s l)) (t.before_last m (omega (arith, inner, some))) in
+      record {
+        taken = at + n;
+        some = omega (arith, some);
+        within = within;
+        counts = subst (CountsSamples s f) (ap (λ l. zs ++ l) is ∙ samples_on xs samples at n) t.counts;
+        least = omega (arith, ap length before, here);
+        most = omega (arith, whole_so_far, here, passes);
+      }
+
+  -- or they do not, and are dropped
+  pub passes_on : (g : Encoding N) (bytes : ℕ) → g.sink ≡ drop (bits_in_bytes (length f.sink)) f.sink → CountsSamples s g ((xs ++ take at samples) ++ more)
+      → length (early_output s (xs ++ take at samples)) + left ≡ goal → bytes ≡ length f.sink / 8 → bytes ≤ left →
+      HoldsCode s g (xs ++ take (at + n) samples) (xs ++ take (at + n) samples) × (length (early_output s (xs ++ take (at + n) samples)) + (left - bytes) ≡ goal)
+  passes_on g bytes dropped counts here all enough =
+      let zs = xs ++ take at samples in
+      let b = complete_code s (zs ++ more) in
+      let rest = more_rest (complete_code s zs) b f.sink (sym t.code_is) in
+      let holds : HoldsCode s g (zs ++ more) (zs ++ more) = record {
+        counts = counts;
+        code_is = sym (ap (λ l. whole_part b ++ l) (dropped ∙ rest) ∙ take-append-drop (bits_in_bytes (length b)) b);
+      } in
+      (subst (λ (l : List ℤ). HoldsCode s g l l) (ap (λ l. zs ++ l) is ∙ samples_on xs samples at n) holds, omega (arith, whole_so_far, here, all, enough))
