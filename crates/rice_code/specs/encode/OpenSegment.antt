@@ -7,6 +7,7 @@ use Rattle.rice_code.specs.Bounds.{block_bound}
 use Rattle.rice_code.specs.code.Blocks.{BlockData}
 use Rattle.rice_code.specs.code.Code.{data_sets}
 use Rattle.rice_code.specs.code.CodedDataSets.{CodedDataSet, bits_of_set}
+use Rattle.rice_code.specs.encode.BitBuffer.{sink_bits}
 use Rattle.rice_code.specs.code.SoundBlocks.{AreSoundBlocks}
 use Rattle.rice_code.specs.CoderSteps.{least_looks, most_looks}
 use Rattle.rice_code.specs.encode.HeldBlocks.{held_blocks}
@@ -42,9 +43,9 @@ is_empty (d ∷ ds) = false
 abbrev pub HoldsAnySegment : ℕ → Parameters → Type 0
 HoldsAnySegment size s = (b : ℕ) → s.block * blocks_left s b ≤ size
 
--- A sink of 16,432 bytes has room for the code of a segment: it holds less than a byte, or so much is left.
+-- A coder's sink has room for the code of a segment: it holds less than a byte, or so much is left.
 abbrev pub HasRoomForSegment : Parameters → List Bool → Type 0
-HasRoomForSegment s sink = (length sink ≤ 7) ⊎ (length sink + 64 * block_bound s ≤ 131456)
+HasRoomForSegment s sink = (length sink ≤ 7) ⊎ (length sink + 64 * block_bound s ≤ sink_bits)
 
 -- a coder that holds nothing
 abbrev pub empty_state : Parameters → CoderState

@@ -60,6 +60,7 @@ impl SizedCoder<4096> {
 
 impl<const N: usize> SizedCoder<N> {
     ghost use Rattle.rice_code.specs.Bounds.{block_bound};
+    ghost use Rattle.rice_code.specs.encode.BitBuffer.{sink_bits};
     ghost use Rattle.rice_code.specs.encode.OpenSegment.{HoldsAnySegment, HasRoomForSegment, state_between};
     ghost use Rattle.rice_code.specs.code.Code.{complete_samples};
     ghost use Rattle.rice_code.specs.code.Blocks.{fill_count_of};
@@ -102,7 +103,7 @@ impl<const N: usize> SizedCoder<N> {
     /// Returns how many bits a sink may hold where `push_some` is to find room for the code of a segment.
     #[inline]
     pub fn most_before(&self) -> u64
-        ensures room { result + 64 * block_bound self.now.setting ≤ 131456 }
+        ensures room { result + 64 * block_bound self.now.setting ≤ sink_bits }
         ensures some { 64 ≤ result }
     {
         self.segment.most_before()
@@ -147,7 +148,7 @@ impl<const N: usize> SizedCoder<N> {
         meter.tick(1);
         self.segment.hold(x);
         if self.segment.is_whole() {
-            let bits = self.segment.code_apart(sink, meter);
+            let bits = self.segment.code_in_a_call(sink, meter);
             self.segment.begin_next();
             bits
         } else {
@@ -218,7 +219,7 @@ impl<const N: usize> SizedCoder<N> {
         ensures setting { self.new.setting ≡ self.old.setting }
     {
         self.segment.fill(meter);
-        let bits = self.segment.code_apart(sink, meter);
+        let bits = self.segment.code_in_a_call(sink, meter);
         self.segment.restart();
         bits
     }

@@ -9,6 +9,7 @@ ghost use Rattle.rice_samples.specs.predict.Residuals.{pattern, rank};
 ghost use Rattle.rice_code.specs.Bounds.{block_bound};
 ghost use Rattle.rice_code.specs.CoderSteps.{coding_steps};
 ghost use Rattle.rice_code.specs.code.Blocks.{fill_count};
+ghost use Rattle.rice_code.specs.encode.BitBuffer.{sink_bits};
 ghost use Rattle.rice_code.specs.encode.OpenSegment.{IsOpen, IsWhole, HoldsAnySegment, HasRoomForSegment, empty_state, state_between, state_after, state_after_all, state_with_later, later_residuals, state_with_fill, state_after_segment, HoldsSoundBlocks, CodesHeld, is_first};
 
 use crate::encode::SegmentSink;
@@ -123,7 +124,7 @@ impl<const N: usize> OpenSegment<N> {
     /// Returns how many bits a sink may hold, so that there is room for the code of the segment behind them.
     #[inline]
     pub fn most_before(&self) -> u64
-        ensures room { result + 64 * block_bound self.now.setting ≤ 131456 }
+        ensures room { result + 64 * block_bound self.now.setting ≤ sink_bits }
         ensures some { 64 ≤ result }
     {
         // Of the sink's 16,432 bytes, 64 blocks take an identifier and words of as many bits as there may be.
@@ -250,7 +251,7 @@ impl<const N: usize> OpenSegment<N> {
 
     /// Does what `code` does, in a call of its own.
     #[inline(never)]
-    pub fn code_apart(&self, sink: &mut SegmentSink, meter: &mut Meter) -> u64
+    pub fn code_in_a_call(&self, sink: &mut SegmentSink, meter: &mut Meter) -> u64
         requires blocks { HoldsSoundBlocks self.now }
         requires room { HasRoomForSegment self.now.setting sink.old }
         requires meter { meter.old + coding_steps self.now.setting < step_limit }

@@ -12,6 +12,7 @@ use Rattle.rice_samples.specs.Places.{place, blocks_left}
 use Rattle.rice_samples.proofs.lemmas.setting.LevelsOfSamples.{zero_is_sample}
 use Rattle.rice_samples.proofs.lemmas.setting.PlaceLemmas.{some_left}
 use Rattle.rice_code.specs.code.Code.{data_sets}
+use Rattle.rice_code.specs.encode.BitBuffer.{sink_bits}
 use Rattle.rice_code.specs.encode.OpenSegment.{CoderState, IsOpen, HoldsAnySegment, HasRoomForSegment, empty_state, state_after_segment, next_start}
 use Rattle.rice_code.specs.encode.OpenSegment.{blocks_held, contents_held, sets_held, code_held, HoldsSoundBlocks, CodesHeld}
 use Rattle.rice_code.specs.code.CodedDataSets.{bits_of_set, bits_of_sets}
@@ -51,7 +52,7 @@ segment_room s n h k =
     omega (arith, c)
 
 -- which a sink has behind what it holds
-pub room_behind : (s : Parameters) (n : ℕ) (sink : List Bool) → IsLegal s → n ≤ 64 → HasRoomForSegment s sink → length sink + n * block_bound s ≤ 131456
+pub room_behind : (s : Parameters) (n : ℕ) (sink : List Bool) → IsLegal s → n ≤ 64 → HasRoomForSegment s sink → length sink + n * block_bound s ≤ sink_bits
 room_behind s n sink legal few (inl short) = omega (arith, short, segment_room s n legal few)
 room_behind s n sink legal few (inr room) =
     let all : n * block_bound s ≤ 64 * block_bound s = mul-le-mul_right (block_bound s) few in

@@ -5,8 +5,8 @@ use Rattle.rice_code.proofs.lemmas.encode.PushedCode.{finish_sound, finish_adds,
 use Rattle.rice_code.proofs.lemmas.encode.PushedSamples.{filled_has_steps}
 use Rattle.rice_code.proofs.encode.coder.SizedCoder.finish_reset.Goals as goal
 
-pub code_apart-bits-requires : goal.code_apart-bits-requires
-code_apart-bits-requires g c = (
+pub code_in_a_call-bits-requires : goal.code_in_a_call-bits-requires
+code_in_a_call-bits-requires g c = (
   search rules,
   (
     finish_sound c.self.inside.segment c.fill.new.self c.fill.ensures.value c.self.invariant,
@@ -20,7 +20,7 @@ invariant_of-self g c =
     subst IsCoder (sym (c.restart.ensures ∙ ap (λ (v : CoderState). empty_state v.setting) c.fill.ensures.value)) (record { samples = []; taken = none_taken c.self.inside.segment.setting legal })
 
 pub returns-clause-adds : goal.returns-clause-adds
-returns-clause-adds g c xs h = finish_adds c.self.view_is c.fill.ensures.value c.code_apart-bits.ensures c.fill.ensures.steps h
+returns-clause-adds g c xs h = finish_adds c.self.view_is c.fill.ensures.value c.code_in_a_call-bits.ensures c.fill.ensures.steps h
 
 pub returns-clause-taken : goal.returns-clause-taken
 returns-clause-taken g c =

@@ -12,15 +12,15 @@ hold-requires g c =
     let sample = subst (IsSample c.self.inside.segment.setting) (sym same) (subst (λ (v : CoderState). IsSample v.setting c.args.x) (sym c.self.view_is) c.requires.sample) in
     (search rules, (sample, short_of c.self.inside.segment c.self.invariant.samples c.self.invariant.taken))
 
-pub code_apart-bits-requires : goal.code_apart-bits-requires
-code_apart-bits-requires g c =
+pub code_in_a_call-bits-requires : goal.code_in_a_call-bits-requires
+code_in_a_call-bits-requires g c =
     let more = holds_one c.self.view_is c.self.invariant c.requires.sample (to_z-of_z w64 c.args.x c.ranges.x) c.hold.ensures in
     (search rules, (whole_is_sound _ _ _ _ more (search rules), (inl c.requires.room, whole_has_steps _ _ _ _ _ _ more c.requires.meter c.tick.ensures)))
 
 pub invariant_of-self : goal.invariant_of-self
 invariant_of-self g c =
     let more = holds_one c.self.view_is c.self.invariant c.requires.sample (to_z-of_z w64 c.args.x c.ranges.x) c.hold.ensures in
-    is_coder_after more (whole_pushes more (search rules) c.begin_next.ensures c.code_apart-bits.ensures c.tick.ensures)
+    is_coder_after more (whole_pushes more (search rules) c.begin_next.ensures c.code_in_a_call-bits.ensures c.tick.ensures)
 
 pub invariant_of-self-else-is_whole : goal.invariant_of-self-else-is_whole
 invariant_of-self-else-is_whole g c =
@@ -30,7 +30,7 @@ invariant_of-self-else-is_whole g c =
 pub returns-then-is_whole : goal.returns-then-is_whole
 returns-then-is_whole g c =
     let more = holds_one c.self.view_is c.self.invariant c.requires.sample (to_z-of_z w64 c.args.x c.ranges.x) c.hold.ensures in
-    whole_pushes more (search rules) c.begin_next.ensures c.code_apart-bits.ensures c.tick.ensures
+    whole_pushes more (search rules) c.begin_next.ensures c.code_in_a_call-bits.ensures c.tick.ensures
 
 pub returns-else-is_whole : goal.returns-else-is_whole
 returns-else-is_whole g c =
