@@ -20,7 +20,8 @@ use Rattle.rice_code.specs.encode.OpenSegment.{CoderState}
 use Rattle.rice_code.specs.code.Code.{code, code_bits, early_output}
 use Rattle.rice_code.specs.CoderSteps.{least_looks, most_looks, least_looks_at, most_looks_at, least_steps, most_steps, segment_steps}
 use Rattle.rice_code.proofs.lemmas.encode.PushedCode.{segment_steps_few}
-use Rattle.rice_stream.specs.EncodingState.{Beginning, afresh, CanTake, CanTakeMore, Follows, CountsSamples, IsEncodingOf, HoldsCode, TakesSamples, TakesBetween, FollowsBetween, FailsAt, FailsIn, MeetsFailure, whole_part}
+use Rattle.rice_stream.specs.EncodingState.{Beginning, afresh, CanTake, CanTakeMore, Follows, CountsSamples, IsEncodingOf, HoldsCode, TakesSamples, TakesBetween}
+use Rattle.rice_stream.specs.EncodingState.{FollowsBetween, FailsAt, FailsIn, MeetsFailure, whole_part}
 use Rattle.rice_stream.specs.DevicesInCalls.{StopsBetween}
 use Rattle.rice_stream.specs.Encodes.{ReportsAll}
 use Rattle.rice_stream.specs.FailedWrites.{TakesPart}

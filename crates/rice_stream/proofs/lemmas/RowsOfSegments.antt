@@ -83,8 +83,8 @@ goes_on_inside {s = s} xs ys more inside t m le =
     ]
 
 -- a text's beginning that is as long as one of its beginnings or longer, and shorter than another, stops between these
-between_beginnings : (all from to a b : List ℕ) (n : ℕ) → all ≡ from ++ a → all ≡ to ++ b → length from ≤ n → n < length to → StopsBetween from to (take n all)
-between_beginnings all from to a b n e f le lt = record {
+between_beginnings : {all from to : List ℕ} (a b : List ℕ) (n : ℕ) → all ≡ from ++ a → all ≡ to ++ b → length from ≤ n → n < length to → StopsBetween from to (take n all)
+between_beginnings {all = all} {from = from} {to = to} a b n e f le lt = record {
   more = take (n - length from) a;
   missing = drop n to;
   begins = ap (take n) e ∙ ap (λ i. take i (from ++ a)) (let i : n ≡ length from + (n - length from) = omega (arith, le) in i) ∙ take-append-add from a (n - length from);
@@ -118,7 +118,7 @@ fails_in_row {s = s} {old = old} {now = now} {new = new} {f = f} {g = g} {xs = x
     let from = early_goes_on s (xs ++ take (k - 1) ys) (xs ++ ys) goes_from.0 goes_from.1 in
     let to = early_goes_on s (xs ++ ks) (xs ++ ys) goes_to.0 goes_to.1 in
     let m = length (early_output s xs) + count in
-    let between = between_beginnings text (early_output s (xs ++ take (k - 1) ys)) (early_output s (xs ++ ks)) from.0 to.0 m from.1 to.1 stop.least stop.most in
+    let between = between_beginnings from.0 to.0 m from.1 to.1 stop.least stop.most in
     let written : take m text ≡ early_output s xs ++ take count (whole_bytes f.sink) = ap (take m) row ∙ take-append-add (early_output s xs) (whole_bytes f.sink) count in
     let inner : length ys ≡ n = length-take-le n samples within in
     let first : ks ≡ take k samples = take-take k n samples (omega (arith, inner, stop.within)) in
@@ -192,7 +192,8 @@ row_inside {s = s} {more = more} xs samples at n t is inside =
     subst (GoesOnInside s xs) (ap (λ l. take at samples ++ l) is ∙ sym (take-add at n samples)) (goes_on_inside xs (take at samples) more inside t)
 
 -- what is whole with one more segment
-module _ {N : ℕ} {s : Parameters} {f : Encoding N} {more : List ℤ} (xs samples : List ℤ) (at n left goal : ℕ) (t : TakesSamples s f (xs ++ take at samples) (xs ++ take at samples) more) (is : more ≡ take n (drop at samples)) where
+module _ {N : ℕ} {s : Parameters} {f : Encoding N} {more : List ℤ} (xs samples : List ℤ) (at n left goal : ℕ)
+    (t : TakesSamples s f (xs ++ take at samples) (xs ++ take at samples) more) (is : more ≡ take n (drop at samples)) where
   whole_so_far : length (early_output s (xs ++ take (at + n) samples)) ≡ length (early_output s (xs ++ take at samples)) + length f.sink / 8
   whole_so_far =
       let zs = xs ++ take at samples in

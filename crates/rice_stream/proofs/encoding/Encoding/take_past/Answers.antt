@@ -36,7 +36,8 @@ push_to_coder_in_a_call-at-requires g c =
           before = k.before ++ take at samples;
           holds = holds;
           legal = subst (All (λ l. l < value_count k.setting)) (sym (levels_from at levels)) (All-drop (λ l. l < value_count k.setting) at levels k.legal);
-          few = omega (arith, k.few, length-append k.before (take at samples), length-take-le at samples (omega (arith, i.within, len)), ap length (levels_from at levels), length-drop at levels, i.within);
+          few = omega (arith, k.few, length-append k.before (take at samples), length-take-le at samples (omega (arith, i.within, len)),
+            ap length (levels_from at levels), length-drop at levels, i.within);
         },
         inl (code_short holds),
       ),
@@ -53,7 +54,8 @@ returns-then-left-bytes g c s xs h enough =
     let left = ap length (levels_from at levels) in
     let some = c.push_to_coder_in_a_call-at.ensures.some (omega (arith, left, length-drop at levels, c.loop-at-test.true)) in
     let within : at + n ≤ length samples = omega (arith, i.within, c.push_to_coder_in_a_call-at.ensures.count, left, length-drop at levels, length-values s levels) in
-    stops_here xs samples at n c.loop-at.left (length (early_output s xs) + c.args.count) (c.push_to_coder_in_a_call-at.ensures.took s (xs ++ take at samples) (xs ++ take at samples) p.0) (ap (take n) (samples_from s at levels)) some within p.1
+    stops_here xs samples at n c.loop-at.left (length (early_output s xs) + c.args.count) (c.push_to_coder_in_a_call-at.ensures.took s (xs ++ take at samples) (xs ++ take at samples) p.0)
+    (ap (take n) (samples_from s at levels)) some within p.1
     (omega (arith, c.if-left-bytes.true, c.len-bytes.ensures.value))
 
 pub loop-at-smaller : goal.loop-at-smaller
@@ -77,7 +79,8 @@ loop-at-preserved g c =
           let zs = xs ++ take at (values_at s levels) in
           let t = c.push_to_coder_in_a_call-at.ensures.took s zs zs p.0 in
           let k = t.counts in
-          passes_on xs (values_at s levels) at n c.loop-at.left (length (early_output s xs) + c.args.count) t (ap (take n) (samples_from s at levels)) _ (c.len-bytes.result / 8) c.drop_whole.ensures.bits
+          passes_on xs (values_at s levels) at n c.loop-at.left (length (early_output s xs) + c.args.count) t (ap (take n) (samples_from s at levels))
+          _ (c.len-bytes.result / 8) c.drop_whole.ensures.bits
           (record { setting = k.setting; stands = k.stands; samples = k.samples; bits = k.bits; least = k.least; most = k.most })
           p.1 (ap (λ m. m / 8) c.len-bytes.ensures.value) (omega (arith, c.if-left-bytes.false)));
     }
