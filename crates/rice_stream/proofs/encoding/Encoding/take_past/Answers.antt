@@ -36,8 +36,15 @@ push_to_coder_in_a_call-at-requires g c =
           before = k.before ++ take at samples;
           holds = holds;
           legal = subst (All (λ l. l < value_count k.setting)) (sym (levels_from at levels)) (All-drop (λ l. l < value_count k.setting) at levels k.legal);
-          few = omega (arith, k.few, length-append k.before (take at samples), length-take-le at samples (omega (arith, i.within, len)),
-            ap length (levels_from at levels), length-drop at levels, i.within);
+          few = omega (
+            arith,
+            k.few,
+            length-append k.before (take at samples),
+            length-take-le at samples (omega (arith, i.within, len)),
+            ap length (levels_from at levels),
+            length-drop at levels,
+            i.within,
+          );
         },
         inl (code_short holds),
       ),

@@ -45,8 +45,15 @@ push_to_coder-at-requires g c =
           before = k.before ++ take at samples;
           holds = holds;
           legal = subst (All (λ l. l < value_count k.setting)) (sym (levels_from at levels)) (All-drop (λ l. l < value_count k.setting) at levels k.legal);
-          few = omega (arith, k.few, length-append k.before (take at samples), length-take-le at samples (omega (arith, i.within, len)),
-            ap length (levels_from at levels), length-drop at levels, i.within);
+          few = omega (
+            arith,
+            k.few,
+            length-append k.before (take at samples),
+            length-take-le at samples (omega (arith, i.within, len)),
+            ap length (levels_from at levels),
+            length-drop at levels,
+            i.within,
+          );
         },
         inr (omega (arith, c.most_before-most.ensures.room, c.if-len-most.false, c.len.ensures.value, same)),
       ),
@@ -73,5 +80,5 @@ loop-at-preserved g c =
       begins = λ e. absurd (omega (arith, e, some));
       holds = λ s xs h. row_goes_on xs (values_at s levels) at n (c.push_to_coder-at.ensures.took s xs (xs ++ take at (values_at s levels)) (i.holds s xs h)) (ap (take n) (samples_from s at levels));
       inside = λ s xs h. row_inside xs (values_at s levels) at n (c.push_to_coder-at.ensures.took s xs (xs ++ take at (values_at s levels)) (i.holds s xs h))
-        (ap (take n) (samples_from s at levels)) (i.inside s xs h);
+          (ap (take n) (samples_from s at levels)) (i.inside s xs h);
     }
