@@ -4,7 +4,7 @@ use Rattle.std.specs.Io.KnownBytes.{Consumes}
 use Rattle.rice_bits.specs.device.OutletRoom.{Room, Appends}
 use Rattle.rice_bits.specs.Bits.{bits_in_bytes, word}
 use Rattle.rice_samples.specs.Limits.{most_input}
-use Rattle.rice_samples.specs.Parameters.{Parameters, value_count, width}
+use Rattle.rice_samples.specs.Parameters.{Parameters, value_count, values_at, width}
 use Rattle.rice_samples.specs.bytes.SampleReader.{SamplesAhead}
 use Rattle.rice_samples.specs.bytes.Spelling.{Reads, EndsSpelling, NoSpelling}
 use Rattle.rice_stream.specs.DevicesInCalls.{StopsBetween}
@@ -90,6 +90,10 @@ pub record TakesSamples {N : ℕ} (s : Parameters) (e : Encoding N) (xs ys more 
   pub goes_on : complete_code s (ys ++ more) ≡ complete_code s ys ++ bits
   pub before_last : (m : ℕ) → m < length more → complete_samples s (ys ++ take m more) ≡ complete_samples s ys
 
+-- whatever it held, it takes the first n samples of these levels so
+abbrev pub TakesFirst : {N : ℕ} → Encoding N → Encoding N → ℕ → List ℕ → Type 0
+TakesFirst e e_new n levels = (s : Parameters) (xs ys : List ℤ) → HoldsCode s e xs ys → TakesSamples s e_new xs ys (take n (values_at s levels))
+
 -- the code of the samples goes on from that of the first of them, however many these are
 abbrev pub GoesOnInside : Parameters → List ℤ → List ℤ → Type 0
 GoesOnInside s xs ys = (m : ℕ) → m ≤ length ys → (bits : List Bool) × (complete_code s (xs ++ ys) ≡ complete_code s (xs ++ take m ys) ++ bits)
@@ -138,6 +142,14 @@ pub record FailsIn {N : ℕ} (s : Parameters) (old : Beginning) (new : Option Ro
   pub behind : List ℤ
   pub split : samples ≡ before ++ last ∷ behind
   pub fails : FailsAt s old new e (xs ++ before) last
+
+-- whatever samples were taken, the first n of these are taken too, and an outlet has taken their code
+abbrev pub WritesFirst : {N : ℕ} → Option Room → Option Room → Encoding N → Encoding N → ℕ → List ℕ → Type 0
+WritesFirst taken taken_new e e_new n levels = (s : Parameters) (old : Beginning) (xs : List ℤ) → IsEncodingOf s old taken e xs → IsEncodingOf s old taken_new e_new (xs ++ take n (values_at s levels))
+
+-- and the outlet failed after one of these
+abbrev pub FailsAmong : {N : ℕ} → Option Room → Option Room → Encoding N → Encoding N → List ℕ → Type 0
+FailsAmong taken taken_new e e_new levels = (s : Parameters) (old : Beginning) (xs : List ℤ) → IsEncodingOf s old taken e xs → FailsIn s old taken_new e_new xs (values_at s levels)
 
 -- an outlet has taken the code of all samples, or not all of it
 abbrev pub WritesRest : Parameters → Beginning → Option Room → List ℤ → Option Fault → Type 0

@@ -6,7 +6,7 @@ ghost use Rattle.rice_samples.specs.Limits.{most_input, longest_segment};
 ghost use Rattle.rice_samples.specs.Parameters.{Parameters, values_at, width};
 ghost use Rattle.rice_stream.specs.DevicesInCalls.{Fails};
 ghost use Rattle.rice_stream.specs.Encodes.{EncodesBetween, EncodesWithin, ReportsTaken, ReportsAll, fault_at};
-ghost use Rattle.rice_stream.specs.EncodingState.{Beginning, afresh, whole_part, CanTake, CanTakeMore, CanTakeFrom, HoldsCode, TakesSamples, GoesOnInside, IsRowStart, StopsAt, CountsSamples, IsEncodingOf, FailsIn, WritesRest, CanPush, PushesBytes, PushFails};
+ghost use Rattle.rice_stream.specs.EncodingState.{Beginning, afresh, whole_part, CanTake, CanTakeMore, CanTakeFrom, HoldsCode, TakesFirst, GoesOnInside, IsRowStart, StopsAt, CountsSamples, IsEncodingOf, WritesFirst, FailsAmong, WritesRest, CanPush, PushesBytes, PushFails};
 ghost use Rattle.rice_samples.specs.Places.{cut};
 ghost use Rattle.rice_stream.specs.Feeding.{IsSeam, IsSomeSeam, StandsAt, behind};
 ghost use Rattle.rice_code.specs.code.Code.{code, early_output};
@@ -29,6 +29,9 @@ pub(crate) const LONGEST: usize = 4096;
 /// The most samples of an interval of which the residuals of a segment are held in a short row. To clear a long one takes longer
 /// than to code a few such intervals.
 pub(crate) const SHORT: usize = 128;
+
+/// The fewest bits of the segments before the last one of a row. Where blocks are longest, the sink has room for one segment alone.
+const LEAST_BITS_OF_ROW: u64 = 4096;
 
 /// A coder with room for `N` residuals, its sink, its meter, and what it has counted for the report.
 #[derive(Drop)]
@@ -123,8 +126,7 @@ impl<const N: usize> Encoding<N> {
         requires room { HasRoomForSegment self.old.coder.setting self.old.sink }
         ensures count { result ≤ length levels.now }
         ensures some { 0 < length levels.now → 0 < result }
-        ensures took { (s : Parameters) (xs ys : List ℤ) → HoldsCode s self.old xs ys →
-            TakesSamples s self.new xs ys (take result (values_at s levels.now)) }
+        ensures took { TakesFirst self.old self.new result levels.now }
     {
         let pushed = self
             .coder
@@ -141,8 +143,7 @@ impl<const N: usize> Encoding<N> {
         requires room { HasRoomForSegment self.old.coder.setting self.old.sink }
         ensures count { result ≤ length levels.now }
         ensures some { 0 < length levels.now → 0 < result }
-        ensures took { (s : Parameters) (xs ys : List ℤ) → HoldsCode s self.old xs ys →
-            TakesSamples s self.new xs ys (take result (values_at s levels.now)) }
+        ensures took { TakesFirst self.old self.new result levels.now }
     {
         self.push_to_coder(levels)
     }
@@ -158,14 +159,9 @@ impl<const N: usize> Encoding<N> {
         requires some { 0 < length levels.now }
         requires writes { O.failed outlet.old + 1 < 2 ^ 64 }
         ensures count { IfOk result (λ n. (0 < n) × (n ≤ length levels.now)) }
-        ensures ok { IfOk result (λ n. (s : Parameters) (old : Beginning) (xs : List ℤ) →
-            IsEncodingOf s old (O.taken outlet.old) self.old xs →
-            IsEncodingOf s old (O.taken outlet.new) self.new
-            (xs ++ take n (values_at s levels.now))) }
+        ensures ok { IfOk result (λ n. WritesFirst (O.taken outlet.old) (O.taken outlet.new) self.old self.new n levels.now) }
         ensures calm { OnOk result (O.failed outlet.new ≡ O.failed outlet.old) }
-        ensures err { OnErr result ((s : Parameters) (old : Beginning) (xs : List ℤ) →
-            IsEncodingOf s old (O.taken outlet.old) self.old xs →
-            FailsIn s old (O.taken outlet.new) self.new xs (values_at s levels.now)) }
+        ensures err { OnErr result (FailsAmong (O.taken outlet.old) (O.taken outlet.new) self.old self.new levels.now) }
         ensures raised { OnErr result (O.failed outlet.new ≡ O.failed outlet.old + 1) }
     {
         if self.is_between_short_segments() {
@@ -180,8 +176,7 @@ impl<const N: usize> Encoding<N> {
         ensures { result ≡ true → (xs : List ℤ) → HasTaken self.now.coder xs →
             cut self.now.coder.setting (length xs) ≡ length xs }
     {
-        // Where blocks are longest, the sink has room for a single segment.
-        if N > SHORT || self.coder.most_before() < 4096 {
+        if N > SHORT || self.coder.most_before() < LEAST_BITS_OF_ROW {
             return false;
         }
         self.coder.pending() == 0
@@ -197,14 +192,9 @@ impl<const N: usize> Encoding<N> {
         requires some { 0 < length levels.now }
         requires writes { O.failed outlet.old + 1 < 2 ^ 64 }
         ensures count { IfOk result (λ n. (0 < n) × (n ≤ length levels.now)) }
-        ensures ok { IfOk result (λ n. (s : Parameters) (old : Beginning) (xs : List ℤ) →
-            IsEncodingOf s old (O.taken outlet.old) self.old xs →
-            IsEncodingOf s old (O.taken outlet.new) self.new
-            (xs ++ take n (values_at s levels.now))) }
+        ensures ok { IfOk result (λ n. WritesFirst (O.taken outlet.old) (O.taken outlet.new) self.old self.new n levels.now) }
         ensures calm { OnOk result (O.failed outlet.new ≡ O.failed outlet.old) }
-        ensures err { OnErr result ((s : Parameters) (old : Beginning) (xs : List ℤ) →
-            IsEncodingOf s old (O.taken outlet.old) self.old xs →
-            FailsIn s old (O.taken outlet.new) self.new xs (values_at s levels.now)) }
+        ensures err { OnErr result (FailsAmong (O.taken outlet.old) (O.taken outlet.new) self.old self.new levels.now) }
         ensures raised { OnErr result (O.failed outlet.new ≡ O.failed outlet.old + 1) }
     {
         let taken = self.push_to_coder_in_a_call(levels);
@@ -224,14 +214,9 @@ impl<const N: usize> Encoding<N> {
         requires some { 0 < length levels.now }
         requires writes { O.failed outlet.old + 1 < 2 ^ 64 }
         ensures count { IfOk result (λ n. (0 < n) × (n ≤ length levels.now)) }
-        ensures ok { IfOk result (λ n. (s : Parameters) (old : Beginning) (xs : List ℤ) →
-            IsEncodingOf s old (O.taken outlet.old) self.old xs →
-            IsEncodingOf s old (O.taken outlet.new) self.new
-            (xs ++ take n (values_at s levels.now))) }
+        ensures ok { IfOk result (λ n. WritesFirst (O.taken outlet.old) (O.taken outlet.new) self.old self.new n levels.now) }
         ensures calm { OnOk result (O.failed outlet.new ≡ O.failed outlet.old) }
-        ensures err { OnErr result ((s : Parameters) (old : Beginning) (xs : List ℤ) →
-            IsEncodingOf s old (O.taken outlet.old) self.old xs →
-            FailsIn s old (O.taken outlet.new) self.new xs (values_at s levels.now)) }
+        ensures err { OnErr result (FailsAmong (O.taken outlet.old) (O.taken outlet.new) self.old self.new levels.now) }
         ensures raised { OnErr result (O.failed outlet.new ≡ O.failed outlet.old + 1) }
     {
         let start = self.row_start();
@@ -243,7 +228,7 @@ impl<const N: usize> Encoding<N> {
             }
             Err(count) => {
                 self.go_back(&start);
-                self.take_past(&levels[..taken], count);
+                self.take_until_past(&levels[..taken], count);
                 Err(WriteFault)
             }
         }
@@ -313,7 +298,7 @@ impl<const N: usize> Encoding<N> {
     /// Takes samples segment after segment, up to the one with which the code passes `count` more whole bytes.
     #[cold]
     #[inline(never)]
-    fn take_past(&mut self, levels: &[u32], count: usize)
+    fn take_until_past(&mut self, levels: &[u32], count: usize)
         requires { CanTakeFrom self.old levels.now }
         ensures { (s : Parameters) (xs : List ℤ) → HoldsCode s self.old xs xs →
             length (early_output s xs) + count < length (early_output s (xs ++ values_at s levels.now)) →
@@ -344,9 +329,7 @@ impl<const N: usize> Encoding<N> {
             IsEncodingOf s old (O.taken outlet.old) self.old xs →
             IsEncodingOf s old (O.taken outlet.new) self.new (xs ++ values_at s levels.now)) }
         ensures calm { OnOk result (O.failed outlet.new ≡ O.failed outlet.old) }
-        ensures err { OnErr result ((s : Parameters) (old : Beginning) (xs : List ℤ) →
-            IsEncodingOf s old (O.taken outlet.old) self.old xs →
-            FailsIn s old (O.taken outlet.new) self.new xs (values_at s levels.now)) }
+        ensures err { OnErr result (FailsAmong (O.taken outlet.old) (O.taken outlet.new) self.old self.new levels.now) }
         ensures raised { OnErr result (O.failed outlet.new ≡ O.failed outlet.old + 1) }
     {
         let mut at = 0;

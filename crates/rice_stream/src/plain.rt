@@ -95,7 +95,7 @@ pub(crate) fn spell_row_ahead<I: Intake, const WIDTH: usize>(
         return 0;
     }
     let most = blocks_wanted(setting, asked, written, fit);
-    decoder.spell_plain_blocks::<I, WIDTH>(most, reader, bytes)
+    decoder.spell_plain_blocks_ahead::<I, WIDTH>(most, reader, bytes)
 }
 
 /// Writes the bytes of the `blocks` blocks that wait, and goes past them. Returns how many samples were written. If the outlet fails, an

@@ -76,13 +76,13 @@ fn joined_words_of_8_digits(words: &[u32], at: usize) -> u64
     requires { at + 8 ≤ length words.now }
     ensures { word 64 result ≡ flat_map (word 8) (slice_range words.now at (at + 8)) }
 {
-    let eight = lowest_bytes(u32x8::from_slice(&words[at..]));
+    let eight = lowest_byte_of_each(u32x8::from_slice(&words[at..]));
     u64x1::from_le_bytes(eight).to_array()[0].swap_bytes()
 }
 
 /// Returns the lowest byte of each of eight numbers.
 #[inline(always)]
-fn lowest_bytes(words: u32x8) -> u8x8
+fn lowest_byte_of_each(words: u32x8) -> u8x8
     requires { length words ≡ 8 }
     ensures { result ≡ map (λ d. d % 2 ^ 8) words }
 {

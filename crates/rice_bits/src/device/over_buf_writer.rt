@@ -61,7 +61,8 @@ impl<W: Write + Drop> FromBufWriter<W> {
         }
     }
 
-    /// Takes bytes that the buffer may have no room for.
+    /// Takes bytes that the buffer may have no room for: so many of them that it is full, where it has some, since writing takes less
+    /// where each write begins and ends with a page of the file.
     #[inline(never)]
     fn put_slowly(&mut self, bytes: &[u8]) -> Result<usize, WriteFault>
         requires some { 0 < length bytes.now }
@@ -76,6 +77,10 @@ impl<W: Write + Drop> FromBufWriter<W> {
         ensures failures { CountsFailure (buffered_failures self.old) (buffered_failures self.new)
             result }
     {
+        let room = self.writer.capacity() - self.writer.buffer().len();
+        if 0 < room && room < bytes.len() {
+            return self.write_once(&bytes[..room]);
+        }
         self.write_once(bytes)
     }
 }

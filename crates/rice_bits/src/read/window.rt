@@ -139,7 +139,7 @@ impl Window {
 
     /// Returns the next bits at the front of a word, followed by zeros: all that wait, or at least 57 of them.
     #[inline]
-    fn next_bits(&self) -> u64
+    fn first_bits_ahead(&self) -> u64
         requires { IsWindow self.now }
         ensures { word 64 result
             ≡ take (bits_near self.now) (window_bits self.now)
@@ -193,7 +193,7 @@ impl Window {
             ≡ replicate (min 57 (length (window_bits self.now))) false) }
     {
         // After one zero more, the zeros before the 1 are as many as the bits up to and including it.
-        let behind_zero = self.next_bits() >> 1;
+        let behind_zero = self.first_bits_ahead() >> 1;
         if behind_zero == 0 {
             return None;
         }
@@ -232,7 +232,7 @@ impl Window {
         ensures below { result < 2 ^ width }
         ensures bits { word width result ≡ take width (window_bits self.now) }
     {
-        front_digits(self.next_bits(), width) as u32
+        front_digits(self.first_bits_ahead(), width) as u32
     }
 
     /// As `sequences_ahead`, where these bytes end within the first 57 bits.
@@ -246,7 +246,7 @@ impl Window {
         ensures { IfSome result (λ s.
             BeginWithSequences (drop skip (window_bits self.now)) count s.numbers s.len) }
     {
-        first_sequences(self.next_bits() << skip, bytes, count)
+        first_sequences(self.first_bits_ahead() << skip, bytes, count)
     }
 
     /// Returns the first `count` fundamental sequences behind the first `skip` bits, if they end within so many bytes.
@@ -326,7 +326,7 @@ impl Window {
         ensures passes { Passes self.old self.new
             (flat_map fundamental_sequence (take result zeros.new)) }
     {
-        let parted = write_sequences_of_word(self.next_bits(), zeros);
+        let parted = write_sequences_of_word(self.first_bits_ahead(), zeros);
         self.at += parted.used;
         parted.taken
     }
@@ -345,7 +345,7 @@ impl Window {
         ensures none { result ≡ false → self.new ≡ self.old }
     {
         let mut ends = [0; 64];
-        let found = find_ends(self.next_bits(), numbers.len(), &mut ends);
+        let found = find_ends(self.first_bits_ahead(), numbers.len(), &mut ends);
         if found < numbers.len() {
             return false;
         }

@@ -1,9 +1,9 @@
 -- What a coder holds of the segment that it fills: its residuals, and how each call changes it.
-use Rattle.std.specs.Prelude.{◌≡◌, ℕ, ◌+◌, ◌*◌, ◌/◌, ◌<◌, ◌≤◌, ◌⊎◌, Bool, true, false, ◌&&◌, ◌==◌, if◌then◌else◌, List, [], ◌∷◌, ◌++◌, length, replicate, Option, Some, None, IfSome, sum_by, ℤ, pos}
+use Rattle.std.specs.Prelude.{◌≡◌, ℕ, ◌+◌, ◌-◌, ◌*◌, ◌/◌, ◌<◌, ◌≤◌, ◌⊎◌, Bool, true, false, ◌&&◌, ◌==◌, if◌then◌else◌}
+use Rattle.std.specs.Prelude.{List, [], ◌∷◌, ◌++◌, length, replicate, Option, Some, None, IfSome, sum_by, ℤ, pos}
 use Rattle.rice_samples.specs.Parameters.{Parameters, IsLegal, IsSample, value_count}
 use Rattle.rice_samples.specs.Places.{place, begins_segment, blocks_left}
 use Rattle.rice_samples.specs.predict.Residuals.{pattern, rank, last_of}
-use Rattle.rice_code.specs.Bounds.{block_bound}
 use Rattle.rice_code.specs.code.Blocks.{BlockData}
 use Rattle.rice_code.specs.code.Code.{data_sets}
 use Rattle.rice_code.specs.code.CodedDataSets.{CodedDataSet, bits_of_set}
@@ -43,9 +43,13 @@ is_empty (d ∷ ds) = false
 abbrev pub HoldsAnySegment : ℕ → Parameters → Type 0
 HoldsAnySegment size s = (b : ℕ) → s.block * blocks_left s b ≤ size
 
--- A coder's sink has room for the code of a segment: it holds less than a byte, or so much is left.
+-- how many bits a coder's sink may hold where it has room for the code of a segment behind them: 64 blocks take an identifier and words of as many bits as there may be
+abbrev pub most_before : Parameters → ℕ
+most_before s = sink_bits - 64 * (5 + 32 * s.block)
+
+-- A coder's sink has room for the code of a segment: it holds less than a byte, or not so much.
 abbrev pub HasRoomForSegment : Parameters → List Bool → Type 0
-HasRoomForSegment s sink = (length sink ≤ 7) ⊎ (length sink + 64 * block_bound s ≤ sink_bits)
+HasRoomForSegment s sink = (length sink ≤ 7) ⊎ (length sink ≤ most_before s)
 
 -- a coder that holds nothing
 abbrev pub empty_state : Parameters → CoderState

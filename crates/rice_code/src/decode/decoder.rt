@@ -356,7 +356,7 @@ impl Decoder {
                 );
             }
             // Most samples are near to those before them. A call for others in the same function would take registers from these.
-            let blocks = self.read_near_row_to_bytes::<I, SIZE, WIDTH>(
+            let blocks = self.read_near_blocks_to_bytes::<I, SIZE, WIDTH>(
                 most, reader, meter, bytes, ends,
             );
             if blocks > 0 {
@@ -366,14 +366,14 @@ impl Decoder {
         }
         let size = known_or::<SIZE>(self.setting.block() as usize);
         if is_uncompressed_ahead::<I, WIDTH>(&self.setting, size, reader) {
-            return self.read_uncompressed_row_to_bytes::<I, SIZE>(most, reader, meter, bytes, ends);
+            return self.read_uncompressed_blocks_to_bytes::<I, SIZE>(most, reader, meter, bytes, ends);
         }
         0
     }
 
     /// As `next_bytes`, outside a run, of blocks by a split whose samples are near to those before them.
     #[inline(never)]
-    fn read_near_row_to_bytes<I: Intake, const SIZE: usize, const WIDTH: usize>(
+    fn read_near_blocks_to_bytes<I: Intake, const SIZE: usize, const WIDTH: usize>(
         &mut self,
         most: usize,
         reader: &mut BitReader<I>,
@@ -509,7 +509,7 @@ impl Decoder {
 
     /// As `next_bytes`, outside a run, of blocks without compression, of samples of one byte.
     #[inline(never)]
-    fn read_uncompressed_row_to_bytes<I: Intake, const SIZE: usize>(
+    fn read_uncompressed_blocks_to_bytes<I: Intake, const SIZE: usize>(
         &mut self,
         most: usize,
         reader: &mut BitReader<I>,
@@ -591,7 +591,7 @@ impl Decoder {
     /// samples are not predicted and use all bits of `WIDTH` bytes. Writes the bytes of these blocks. It takes nothing:
     /// [`pass_plain_blocks`](Self::pass_plain_blocks) does.
     #[inline(always)]
-    pub fn spell_plain_blocks<I: Intake, const WIDTH: usize>(
+    pub fn spell_plain_blocks_ahead<I: Intake, const WIDTH: usize>(
         &self,
         most: usize,
         reader: &BitReader<I>,

@@ -118,7 +118,7 @@ impl BitBuffer {
         let sum = a as u64 + b as u64 + c as u64 + d as u64;
         if sum <= 52 {
             self.add(
-                four_short_sequences(a, b, c, d),
+                four_short_sequences_joined(a, b, c, d),
                 sum as u32 + 4,
                 sink,
                 meter,
@@ -172,7 +172,7 @@ impl BitBuffer {
 
 /// Returns the number whose digits are the fundamental sequences of four small numbers.
 #[inline(always)]
-fn four_short_sequences(a: u32, b: u32, c: u32, d: u32) -> u64
+fn four_short_sequences_joined(a: u32, b: u32, c: u32, d: u32) -> u64
     requires { a + b + c + d ≤ 52 }
     ensures fits { result < 2 ^ (a + b + c + d + 4) }
     ensures bits { word (a + b + c + d + 4) result

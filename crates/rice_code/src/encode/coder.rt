@@ -59,9 +59,7 @@ impl SizedCoder<4096> {
 }
 
 impl<const N: usize> SizedCoder<N> {
-    ghost use Rattle.rice_code.specs.Bounds.{block_bound};
-    ghost use Rattle.rice_code.specs.encode.BitBuffer.{sink_bits};
-    ghost use Rattle.rice_code.specs.encode.OpenSegment.{HoldsAnySegment, HasRoomForSegment, state_between};
+    ghost use Rattle.rice_code.specs.encode.OpenSegment.{HoldsAnySegment, HasRoomForSegment, most_before, state_between};
     ghost use Rattle.rice_code.specs.code.Code.{complete_samples};
     ghost use Rattle.rice_code.specs.code.Blocks.{fill_count_of};
     ghost use Rattle.rice_code.specs.encode.Coder.{HasTaken, AddsCode, PushesSamples, CompletesNone, CompletesAll};
@@ -92,7 +90,8 @@ impl<const N: usize> SizedCoder<N> {
         }
     }
 
-    /// Goes back to the end of whole segments, as `resume` begins there.
+    /// Goes back to the end of whole segments, as `resume` begins there: the next segment begins at the place `start` of its interval,
+    /// and the last sample before it is `previous`.
     pub fn go_back(&mut self, start: u32, previous: i64)
         requires { (xs : List ℤ) × HasTaken (state_between self.old.setting start previous) xs }
         ensures { self.new ≡ state_between self.old.setting start previous }
@@ -103,8 +102,7 @@ impl<const N: usize> SizedCoder<N> {
     /// Returns how many bits a sink may hold where `push_some` is to find room for the code of a segment.
     #[inline]
     pub fn most_before(&self) -> u64
-        ensures room { result + 64 * block_bound self.now.setting ≤ sink_bits }
-        ensures some { 64 ≤ result }
+        ensures { result ≡ most_before self.now.setting }
     {
         self.segment.most_before()
     }
@@ -220,7 +218,7 @@ impl<const N: usize> SizedCoder<N> {
     {
         self.segment.fill(meter);
         let bits = self.segment.code_in_a_call(sink, meter);
-        self.segment.restart();
+        self.segment.begin_first();
         bits
     }
 }

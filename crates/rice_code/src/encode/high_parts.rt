@@ -182,7 +182,7 @@ fn put_first_sixteen_high(
     let b = high_four(block, 4, k, meter);
     let c = high_four(block, 8, k, meter);
     let d = high_four(block, 12, k, meter);
-    put_sixteen_sequences_of_known_len(a, b, c, d, from, total, fields, sink, meter);
+    put_sixteen_sequences_with_total(a, b, c, d, from, total, fields, sink, meter);
 }
 
 /// Adds those of 16 residuals, of which the first is number `at`, from the one with number `from` among them on.
@@ -262,7 +262,7 @@ fn put_eight_sequences(
 
 /// Adds the fundamental sequences of 16 numbers, from number `from` on: `total` bits.
 #[inline(always)]
-fn put_sixteen_sequences_of_known_len(
+fn put_sixteen_sequences_with_total(
     a: (u32, u32, u32, u32),
     b: (u32, u32, u32, u32),
     c: (u32, u32, u32, u32),

@@ -6,11 +6,9 @@ ghost use Rattle.rice_samples.specs.Limits.{longest_interval, longest_segment};
 ghost use Rattle.rice_samples.specs.Parameters.{IsLegal, IsSample, value_at, value_count, values_at};
 ghost use Rattle.rice_samples.specs.Places.{blocks_left};
 ghost use Rattle.rice_samples.specs.predict.Residuals.{pattern, rank};
-ghost use Rattle.rice_code.specs.Bounds.{block_bound};
 ghost use Rattle.rice_code.specs.CoderSteps.{coding_steps};
 ghost use Rattle.rice_code.specs.code.Blocks.{fill_count};
-ghost use Rattle.rice_code.specs.encode.BitBuffer.{sink_bits};
-ghost use Rattle.rice_code.specs.encode.OpenSegment.{IsOpen, IsWhole, HoldsAnySegment, HasRoomForSegment, empty_state, state_between, state_after, state_after_all, state_with_later, later_residuals, state_with_fill, state_after_segment, HoldsSoundBlocks, CodesHeld, is_first};
+ghost use Rattle.rice_code.specs.encode.OpenSegment.{IsOpen, IsWhole, HoldsAnySegment, HasRoomForSegment, empty_state, state_between, state_after, state_after_all, state_with_later, later_residuals, state_with_fill, state_after_segment, HoldsSoundBlocks, CodesHeld, is_first, most_before};
 
 use crate::encode::SegmentSink;
 use crate::encode::blocks::code_blocks;
@@ -124,8 +122,7 @@ impl<const N: usize> OpenSegment<N> {
     /// Returns how many bits a sink may hold, so that there is room for the code of the segment behind them.
     #[inline]
     pub fn most_before(&self) -> u64
-        ensures room { result + 64 * block_bound self.now.setting ≤ sink_bits }
-        ensures some { 64 ≤ result }
+        ensures { result ≡ most_before self.now.setting }
     {
         // Of the sink's 16,432 bytes, 64 blocks take an identifier and words of as many bits as there may be.
         let size = self.setting.block();
@@ -290,7 +287,7 @@ impl<const N: usize> OpenSegment<N> {
     }
 
     /// Goes back to the first segment, without residuals.
-    pub fn restart(&mut self)
+    pub fn begin_first(&mut self)
         ensures { self.new ≡ empty_state self.old.setting }
     {
         self.residuals.clear();

@@ -1,36 +1,22 @@
 -- A row of segments, whose bytes are written in one call: the code goes on from segment to segment, and where the outlet fails one of them is not whole.
-use Rattle.std.proofs.Common.{◌≡◌, ℕ, zero, suc, ◌+◌, ◌-◌, ◌*◌, ◌/◌, ◌^◌, ◌<◌, ◌≤◌, Bool, List, [], ◌∷◌, ◌++◌, length, take, drop, Option, ℤ}
+use Rattle.std.proofs.Common.{◌≡◌, ℕ, zero, suc, ◌+◌, ◌-◌, ◌*◌, ◌/◌, ◌<◌, ◌≤◌, Bool, List, [], ◌∷◌, ◌++◌, length, take, drop, Option, ℤ}
 use Rattle.std.proofs.Common.{refl, ap, arith, sym, ◌∙◌, subst, inl, inr, append_assoc, append-nil, length-append, length-drop, take-append-drop}
 use Rattle.std.proofs.Math.Seq.{take-add, take-length, take-append-add, take-append_seam}
 use Rattle.std.proofs.lemmas.Bool.{cases_lt}
-use Rattle.std.proofs.lemmas.List.{drop-map, length-take-le, take-append-le, take-take}
+use Rattle.std.proofs.lemmas.List.{length-take-le, take-append-le, take-take}
 use Rattle.rice_bits.specs.device.OutletRoom.{Room, Appends}
 use Rattle.rice_bits.specs.Bits.{bits_in_bytes, whole_bytes, word}
 use Rattle.rice_bits.proofs.lemmas.bits.BytesAndBits.{bits_of-whole_bytes, length-bits_of}
-use Rattle.rice_samples.specs.Parameters.{Parameters, value_at, values_at}
-use Rattle.rice_samples.specs.Places.{cut}
+use Rattle.rice_samples.specs.Parameters.{Parameters}
 use Rattle.rice_code.specs.code.Code.{early_output, code}
 use Rattle.rice_code.specs.encode.Coder.{HasTaken, complete_code}
 use Rattle.rice_code.specs.encode.OpenSegment.{CoderState, state_between}
-use Rattle.rice_code.proofs.lemmas.encode.PushedCode.{holds_nothing}
 use Rattle.rice_stream.specs.DevicesInCalls.{StopsBetween}
 use Rattle.rice_stream.specs.EncodingState.{Beginning, CountsSamples, IsEncodingOf, HoldsCode, TakesSamples, GoesOnInside, IsRowStart, StopsAt, FailsIn, whole_part}
 use Rattle.rice_stream.specs.declared.encoding.Encoding.{Encoding}
 use Rattle.rice_stream.specs.declared.seam.Seam.{Seam}
-use Rattle.rice_stream.proofs.lemmas.EncodingLemmas.{Follows-trans, counts_small, parts_of}
-use Rattle.rice_stream.proofs.lemmas.Seams.{IsSeamOf}
+use Rattle.rice_stream.proofs.lemmas.EncodingLemmas.{Follows-trans, counts_small, parts_of, samples_on}
 use Rattle.rice_stream.proofs.lemmas.BytesOfGrowingCode.{length-part, more_bytes, more_rest}
-
--- the levels from a place on, and the samples
-pub levels_from : (at : ℕ) (levels : List ℕ) → take (length levels - at) (drop at levels) ≡ drop at levels
-levels_from at levels = ap (λ n. take n (drop at levels)) (sym (length-drop at levels)) ∙ take-length (drop at levels)
-
-pub samples_from : (s : Parameters) (at : ℕ) (levels : List ℕ) → values_at s (take (length levels - at) (drop at levels)) ≡ drop at (values_at s levels)
-samples_from s at levels = ap (values_at s) (levels_from at levels) ∙ sym (drop-map (value_at s) at levels)
-
--- some samples, and some of those behind them
-pub samples_on : (xs samples : List ℤ) (at n : ℕ) → (xs ++ take at samples) ++ take n (drop at samples) ≡ xs ++ take (at + n) samples
-samples_on xs samples at n = append_assoc xs (take at samples) (take n (drop at samples)) ∙ ap (λ l. xs ++ l) (sym (take-add at n samples))
 
 -- how many bytes are whole
 pub length-whole : (bits : List Bool) → length (whole_bytes bits) ≡ length bits / 8
@@ -139,23 +125,6 @@ fails_in_row {s = s} {old = old} {now = now} {new = new} {f = f} {g = g} {xs = x
       };
     }
 
--- where a row begins, of an encoding between two segments
-pub row_start_of : {N : ℕ} {s : Parameters} {old : Beginning} {now : Option Room} {e : Encoding N} {start : Seam} {xs : List ℤ} → IsEncodingOf s old now e xs
-    → cut s (length xs) ≡ length xs → IsSeamOf N e start → length e.sink < 8 → IsRowStart s start xs
-row_start_of {s = s} {e = e} {start = start} {xs = xs} h all holds few =
-    let nothing : e.coder ≡ state_between e.coder.setting e.coder.start e.coder.previous = holds_nothing e.coder xs h.counts.stands (ap (λ t. cut t (length xs)) h.counts.setting ∙ all) in
-    let same : e.coder ≡ state_between s start.start start.previous = nothing ∙ (λ i. state_between (h.counts.setting i) (sym holds.start i) (sym holds.previous i)) in
-    record {
-      taken = subst (λ c. HasTaken c xs) same h.counts.stands;
-      samples = holds.samples ∙ h.counts.samples;
-      bits = holds.bits ∙ h.counts.bits;
-      least = omega (arith, holds.steps, h.counts.least);
-      most = omega (arith, holds.steps, h.counts.most);
-      waiting = ap (λ n. word n start.waiting) holds.waiting_bits ∙ holds.waiting ∙ h.sink;
-      few = omega (arith, holds.waiting_bits, few);
-      fits = subst (λ n. start.waiting < 2 ^ n) (sym holds.waiting_bits) holds.fits;
-    }
-
 -- the steps so far are few
 pub row_steps : (s : Parameters) (start : Seam) (xs : List ℤ) → IsRowStart s start xs → start.steps ≤ 73 * length xs + 4700
 row_steps s start xs r =
@@ -180,57 +149,67 @@ back_at_start {s = s} {start = start} {xs = xs} {e = e} r coder sink meter sampl
       code_is = sym (ap (λ l. whole_part a ++ l) (sink ∙ r.waiting) ∙ take-append-drop (bits_in_bytes (length a)) a);
     }
 
+-- an encoding takes the n samples behind the first `at` of some
+pub record TakesNext {N : ℕ} (s : Parameters) (f : Encoding N) (written xs samples : List ℤ) (at n : ℕ) : Type 0 where
+  pub more : List ℤ
+  pub takes : TakesSamples s f written (xs ++ take at samples) more
+  pub is : more ≡ take n (drop at samples)
+
+-- so it has taken the first at + n
+next_is : {N : ℕ} {s : Parameters} {f : Encoding N} {ws xs samples : List ℤ} {at n : ℕ} (t : TakesNext s f ws xs samples at n) → (xs ++ take at samples) ++ t.more ≡ xs ++ take (at + n) samples
+next_is {xs = xs} {samples = samples} {at = at} {n = n} t = ap (λ l. (xs ++ take at samples) ++ l) t.is ∙ samples_on xs samples at n
+
 -- one more segment of a row is taken
-pub row_goes_on : {N : ℕ} {s : Parameters} {f : Encoding N} {ws more : List ℤ} (xs samples : List ℤ) (at n : ℕ) → TakesSamples s f ws (xs ++ take at samples) more → more ≡ take n (drop at samples)
-    → HoldsCode s f ws (xs ++ take (at + n) samples)
-row_goes_on {s = s} {f = f} {ws = ws} xs samples at n t is =
-    subst (HoldsCode s f ws) (ap (λ l. (xs ++ take at samples) ++ l) is ∙ samples_on xs samples at n) (record { counts = t.counts; code_is = t.code_is })
+pub row_goes_on : {N : ℕ} {s : Parameters} {f : Encoding N} {ws xs samples : List ℤ} {at n : ℕ} → TakesNext s f ws xs samples at n → HoldsCode s f ws (xs ++ take (at + n) samples)
+row_goes_on {s = s} {f = f} {ws = ws} t = subst (HoldsCode s f ws) (next_is t) (record { counts = t.takes.counts; code_is = t.takes.code_is })
 
-pub row_inside : {N : ℕ} {s : Parameters} {f : Encoding N} {ws more : List ℤ} (xs samples : List ℤ) (at n : ℕ) → TakesSamples s f ws (xs ++ take at samples) more → more ≡ take n (drop at samples)
-    → GoesOnInside s xs (take at samples) → GoesOnInside s xs (take (at + n) samples)
-row_inside {s = s} {more = more} xs samples at n t is inside =
-    subst (GoesOnInside s xs) (ap (λ l. take at samples ++ l) is ∙ sym (take-add at n samples)) (goes_on_inside xs (take at samples) more inside t)
+-- and the row's code goes on inside it
+pub row_inside : {N : ℕ} {s : Parameters} {f : Encoding N} {ws xs samples : List ℤ} {at n : ℕ} → TakesNext s f ws xs samples at n → GoesOnInside s xs (take at samples)
+    → GoesOnInside s xs (take (at + n) samples)
+row_inside {s = s} {xs = xs} {samples = samples} {at = at} {n = n} t inside =
+    subst (GoesOnInside s xs) (ap (λ l. take at samples ++ l) t.is ∙ sym (take-add at n samples)) (goes_on_inside xs (take at samples) t.more inside t.takes)
 
--- what is whole with one more segment
-module _ {N : ℕ} {s : Parameters} {f : Encoding N} {more : List ℤ} (xs samples : List ℤ) (at n left goal : ℕ)
-    (t : TakesSamples s f (xs ++ take at samples) (xs ++ take at samples) more) (is : more ≡ take n (drop at samples)) where
-  whole_so_far : length (early_output s (xs ++ take (at + n) samples)) ≡ length (early_output s (xs ++ take at samples)) + length f.sink / 8
-  whole_so_far =
-      let zs = xs ++ take at samples in
-      let e = more_bytes (complete_code s zs) (complete_code s (zs ++ more)) f.sink (sym t.code_is) in
-      let same = ap (λ l. length (early_output s l)) (ap (λ l. zs ++ l) is ∙ samples_on xs samples at n) in
-      omega (arith, same, ap length e, length-append (early_output s zs) (whole_bytes f.sink), length-whole f.sink)
+-- where all whole bytes were written before it, so many are whole with it
+whole_so_far : {N : ℕ} {s : Parameters} {f : Encoding N} {xs samples : List ℤ} {at n : ℕ} → TakesNext s f (xs ++ take at samples) xs samples at n
+    → length (early_output s (xs ++ take (at + n) samples)) ≡ length (early_output s (xs ++ take at samples)) + length f.sink / 8
+whole_so_far {s = s} {f = f} {xs = xs} {samples = samples} {at = at} t =
+    let zs = xs ++ take at samples in
+    let e = more_bytes (complete_code s zs) (complete_code s (zs ++ t.more)) f.sink (sym t.takes.code_is) in
+    let same = ap (λ l. length (early_output s l)) (next_is t) in
+    omega (arith, same, ap length e, length-append (early_output s zs) (whole_bytes f.sink), length-whole f.sink)
 
-  -- these bytes pass the place that is looked for
-  pub stops_here : 0 < n → at + n ≤ length samples → length (early_output s (xs ++ take at samples)) + left ≡ goal → left < length f.sink / 8 → StopsAt s f xs samples goal
-  stops_here some within here passes =
-      let zs = xs ++ take at samples in
-      let m = n - 1 in
-      let inner : length more ≡ n = ap length is ∙ length-take-le n (drop at samples) (omega (arith, length-drop at samples, within)) in
-      let place : zs ++ take m more ≡ xs ++ take (at + n - 1) samples =
-      ap (λ l. zs ++ take m l) is ∙ ap (λ l. zs ++ l) (take-take m n (drop at samples) (omega arith)) ∙ samples_on xs samples at m
-      ∙ ap (λ i. xs ++ take i samples) (let i : at + m ≡ at + n - 1 = omega (arith, some) in i) in
-      let before : early_output s (xs ++ take (at + n - 1) samples) ≡ early_output s zs =
-      ap (early_output s) (sym place) ∙ ap (λ l. whole_bytes (code s l)) (t.before_last m (omega (arith, inner, some))) in
-      record {
-        taken = at + n;
-        some = omega (arith, some);
-        within = within;
-        counts = subst (CountsSamples s f) (ap (λ l. zs ++ l) is ∙ samples_on xs samples at n) t.counts;
-        least = omega (arith, ap length before, here);
-        most = omega (arith, whole_so_far, here, passes);
-      }
+-- these bytes pass the place that is looked for
+pub stops_here : {N : ℕ} {s : Parameters} {f : Encoding N} {xs samples : List ℤ} {at n goal : ℕ} (left : ℕ) → TakesNext s f (xs ++ take at samples) xs samples at n → 0 < n → at + n ≤ length samples
+    → length (early_output s (xs ++ take at samples)) + left ≡ goal → left < length f.sink / 8 → StopsAt s f xs samples goal
+stops_here {s = s} {f = f} {xs = xs} {samples = samples} {at = at} {n = n} left t some within here passes =
+    let zs = xs ++ take at samples in
+    let m = n - 1 in
+    let inner : length t.more ≡ n = ap length t.is ∙ length-take-le n (drop at samples) (omega (arith, length-drop at samples, within)) in
+    let place : zs ++ take m t.more ≡ xs ++ take (at + n - 1) samples =
+    ap (λ l. zs ++ take m l) t.is ∙ ap (λ l. zs ++ l) (take-take m n (drop at samples) (omega arith)) ∙ samples_on xs samples at m
+    ∙ ap (λ i. xs ++ take i samples) (let i : at + m ≡ at + n - 1 = omega (arith, some) in i) in
+    let before : early_output s (xs ++ take (at + n - 1) samples) ≡ early_output s zs =
+    ap (early_output s) (sym place) ∙ ap (λ l. whole_bytes (code s l)) (t.takes.before_last m (omega (arith, inner, some))) in
+    record {
+      taken = at + n;
+      some = omega (arith, some);
+      within = within;
+      counts = subst (CountsSamples s f) (next_is t) t.takes.counts;
+      least = omega (arith, ap length before, here);
+      most = omega (arith, whole_so_far t, here, passes);
+    }
 
-  -- or they do not, and are dropped
-  pub passes_on : (g : Encoding N) (bytes : ℕ) → g.sink ≡ drop (bits_in_bytes (length f.sink)) f.sink → CountsSamples s g ((xs ++ take at samples) ++ more)
-      → length (early_output s (xs ++ take at samples)) + left ≡ goal → bytes ≡ length f.sink / 8 → bytes ≤ left →
-      HoldsCode s g (xs ++ take (at + n) samples) (xs ++ take (at + n) samples) × (length (early_output s (xs ++ take (at + n) samples)) + (left - bytes) ≡ goal)
-  passes_on g bytes dropped counts here all enough =
-      let zs = xs ++ take at samples in
-      let b = complete_code s (zs ++ more) in
-      let rest = more_rest (complete_code s zs) b f.sink (sym t.code_is) in
-      let holds : HoldsCode s g (zs ++ more) (zs ++ more) = record {
-        counts = counts;
-        code_is = sym (ap (λ l. whole_part b ++ l) (dropped ∙ rest) ∙ take-append-drop (bits_in_bytes (length b)) b);
-      } in
-      (subst (λ (l : List ℤ). HoldsCode s g l l) (ap (λ l. zs ++ l) is ∙ samples_on xs samples at n) holds, omega (arith, whole_so_far, here, all, enough))
+-- or they do not, and are dropped
+pub passes_on : {N : ℕ} {s : Parameters} {f g : Encoding N} {xs samples : List ℤ} {at n goal bytes : ℕ} (left : ℕ) (t : TakesNext s f (xs ++ take at samples) xs samples at n)
+    → g.sink ≡ drop (bits_in_bytes (length f.sink)) f.sink → CountsSamples s g ((xs ++ take at samples) ++ t.more)
+    → length (early_output s (xs ++ take at samples)) + left ≡ goal → bytes ≡ length f.sink / 8 → bytes ≤ left →
+    HoldsCode s g (xs ++ take (at + n) samples) (xs ++ take (at + n) samples) × (length (early_output s (xs ++ take (at + n) samples)) + (left - bytes) ≡ goal)
+passes_on {s = s} {f = f} {g = g} {xs = xs} {samples = samples} {at = at} left t dropped counts here all enough =
+    let zs = xs ++ take at samples in
+    let b = complete_code s (zs ++ t.more) in
+    let rest = more_rest (complete_code s zs) b f.sink (sym t.takes.code_is) in
+    let holds : HoldsCode s g (zs ++ t.more) (zs ++ t.more) = record {
+      counts = counts;
+      code_is = sym (ap (λ l. whole_part b ++ l) (dropped ∙ rest) ∙ take-append-drop (bits_in_bytes (length b)) b);
+    } in
+    (subst (λ (l : List ℤ). HoldsCode s g l l) (next_is t) holds, omega (arith, whole_so_far t, here, all, enough))

@@ -19,7 +19,7 @@ use Rattle.rice_code.specs.encode.Coder.{HasTaken}
 use Rattle.rice_code.specs.encode.OpenSegment.{state_between}
 use Rattle.rice_code.proofs.lemmas.encode.PushedCode.{holds_nothing, between_all}
 use Rattle.rice_stream.specs.Encodes.{ReportsTaken, ReportsAll}
-use Rattle.rice_stream.specs.EncodingState.{Beginning, CountsSamples, IsEncodingOf, TakesAll, Pushes, WritesRest}
+use Rattle.rice_stream.specs.EncodingState.{Beginning, CountsSamples, IsEncodingOf, IsRowStart, TakesAll, Pushes, WritesRest}
 use Rattle.rice_stream.specs.Feeding.{IsSeam, behind, bytes_in_all, samples_to_take, TakesPiece, EncodesMore, AreAll, EncodesRest}
 use Rattle.rice_stream.specs.declared.encoding.Encoding.{Encoding}
 use Rattle.rice_stream.specs.declared.outcome.Fault.{Fault}
@@ -113,24 +113,30 @@ pub record IsSeamOf (N : ℕ) (e : Encoding N) (seam : Seam) : Type 0 where
   pub waiting : word (length e.sink) seam.waiting ≡ e.sink
   pub fits : seam.waiting < 2 ^ length e.sink
 
--- where the samples make whole segments, the encoding's place is a seam
-pub seam_of : {N : ℕ} {s : Parameters} {old : Beginning} {now : Option Room} {e : Encoding N} {seam : Seam} {xs : List ℤ} → IsEncodingOf s old now e xs
-    → cut s (length xs) ≡ length xs → width s * length xs ≤ 281474976710656 →
-    IsSeamOf N e seam → length e.sink < 8 → IsSeam s seam xs
-seam_of {s} {e} {seam} {xs} h all limit holds few =
+-- where a row begins, of an encoding between two segments
+pub row_start_of : {N : ℕ} {s : Parameters} {old : Beginning} {now : Option Room} {e : Encoding N} {start : Seam} {xs : List ℤ} → IsEncodingOf s old now e xs
+    → cut s (length xs) ≡ length xs → IsSeamOf N e start → length e.sink < 8 → IsRowStart s start xs
+row_start_of {s = s} {e = e} {start = start} {xs = xs} h all holds few =
     let nothing : e.coder ≡ state_between e.coder.setting e.coder.start e.coder.previous = holds_nothing e.coder xs h.counts.stands (ap (λ t. cut t (length xs)) h.counts.setting ∙ all) in
-    let same : e.coder ≡ state_between s seam.start seam.previous = nothing ∙ (λ i. state_between (h.counts.setting i) (sym holds.start i) (sym holds.previous i)) in
+    let same : e.coder ≡ state_between s start.start start.previous = nothing ∙ (λ i. state_between (h.counts.setting i) (sym holds.start i) (sym holds.previous i)) in
     record {
       taken = subst (λ c. HasTaken c xs) same h.counts.stands;
       samples = holds.samples ∙ h.counts.samples;
       bits = holds.bits ∙ h.counts.bits;
       least = omega (arith, holds.steps, h.counts.least);
       most = omega (arith, holds.steps, h.counts.most);
-      waiting = ap (λ n. word n seam.waiting) holds.waiting_bits ∙ holds.waiting ∙ h.sink;
+      waiting = ap (λ n. word n start.waiting) holds.waiting_bits ∙ holds.waiting ∙ h.sink;
       few = omega (arith, holds.waiting_bits, few);
-      fits = subst (λ n. seam.waiting < 2 ^ n) (sym holds.waiting_bits) holds.fits;
-      limit = limit;
+      fits = subst (λ n. start.waiting < 2 ^ n) (sym holds.waiting_bits) holds.fits;
     }
+
+-- where the samples make whole segments, the encoding's place is a seam
+pub seam_of : {N : ℕ} {s : Parameters} {old : Beginning} {now : Option Room} {e : Encoding N} {seam : Seam} {xs : List ℤ} → IsEncodingOf s old now e xs
+    → cut s (length xs) ≡ length xs → width s * length xs ≤ 281474976710656 →
+    IsSeamOf N e seam → length e.sink < 8 → IsSeam s seam xs
+seam_of h all limit holds few =
+    let r = row_start_of h all holds few in
+    record { taken = r.taken; samples = r.samples; bits = r.bits; least = r.least; most = r.most; waiting = r.waiting; few = r.few; fits = r.fits; limit = limit }
 
 -- ---- what a piece gives
 

@@ -155,6 +155,7 @@ bounds-fit w g xs bs e = subst (λ (ys : List ℕ). Each1 (Fits w) ys) (sym e) (
     each [] = tt
     each (x ∷ xs) = (record { fits = mod_below (reach (2 ^ bits w) g x + reach (2 ^ bits w) g x) (2 ^ bits w) (pow_pos (bits w)) }, each xs)
 
+-- levels that are legal, and near to one another, are those of the parts
 pub near_levels_are : {s : Parameters} (m : ℕ) {before width : ℕ} (greatest : ℕ) {highs lows ranks levels : List ℕ} → greatest + 1 ≡ value_count s
     → length ranks ≡ length highs → levels ≡ near_numbers m before ranks
     → ranks ≡ joined_parts width highs lows → All (λ x. x ≤ greatest) levels → ranks_below (greatest + 1) before levels ≡ ranks

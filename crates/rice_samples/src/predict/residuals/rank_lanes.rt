@@ -26,7 +26,7 @@ pub(crate) fn write_ranks_by_eights(
     let greatest = (setting.number_of_values() - 1) as u16;
     let mut before = u16x8::splat(p as u16);
     for i in 0..levels.len() / 8 {
-        let eight = eight_in_narrow_lanes(&levels[8 * i..8 * i + 8]);
+        let eight = eight_narrowed(&levels[8 * i..8 * i + 8]);
         eight_ranks(greatest, numbers_before_each(before, eight), eight)
             .cast::<u32>()
             .copy_to_slice(&mut residuals[8 * i..]);
@@ -36,7 +36,7 @@ pub(crate) fn write_ranks_by_eights(
 
 /// Returns eight numbers below 2^16 in narrow lanes.
 #[inline(always)]
-fn eight_in_narrow_lanes(numbers: &[u32]) -> u16x8
+fn eight_narrowed(numbers: &[u32]) -> u16x8
     requires narrow { All (λ x. x < 2 ^ 16) numbers.now }
     requires eight { length numbers.now ≡ 8 }
     ensures { result ≡ numbers.now }

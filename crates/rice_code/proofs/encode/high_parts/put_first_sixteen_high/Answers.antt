@@ -5,8 +5,8 @@ use Rattle.rice_code.specs.encode.GatheredSequences.{four_sequences, sequences_f
 use Rattle.rice_code.proofs.lemmas.encode.HighParts.{length-high, length-row, sixteen_from}
 use Rattle.rice_code.proofs.encode.high_parts.put_first_sixteen_high.Goals as goal
 
-pub put_sixteen_sequences_of_known_len-requires-clause-total : goal.put_sixteen_sequences_of_known_len-requires-clause-total
-put_sixteen_sequences_of_known_len-requires-clause-total c =
+pub put_sixteen_sequences_with_total-requires-clause-total : goal.put_sixteen_sequences_with_total-requires-clause-total
+put_sixteen_sequences_with_total-requires-clause-total c =
     let xs = c.args.block.now in
     let from = c.args.from in
     let start : 0 + from ≡ from = omega arith in
@@ -24,8 +24,8 @@ put_sixteen_sequences_of_known_len-requires-clause-total c =
     let row = length-row xs from 16 (omega (arith, c.requires.from)) (omega (arith, c.requires.sixteen)) in
     omega (arith, len, row, c.requires.total)
 
-pub put_sixteen_sequences_of_known_len-requires-clause-room : goal.put_sixteen_sequences_of_known_len-requires-clause-room
-put_sixteen_sequences_of_known_len-requires-clause-room c =
+pub put_sixteen_sequences_with_total-requires-clause-room : goal.put_sixteen_sequences_with_total-requires-clause-room
+put_sixteen_sequences_with_total-requires-clause-room c =
     let xs = c.args.block.now in
     let from = c.args.from in
     let start : 0 + from ≡ from = omega arith in
@@ -61,7 +61,7 @@ returns c =
     let len = ap length same ∙ length-high c.args.k (slice_range xs from 16) in
     let row = length-row xs from 16 (omega (arith, c.requires.from)) (omega (arith, c.requires.sixteen)) in
     record {
-      bits = c.put_sixteen_sequences_of_known_len.ensures.bits ∙ ap (λ v. c.args.sink.now ++ c.args.fields.now ++ v) same;
-      len = omega (arith, len, row, c.put_sixteen_sequences_of_known_len.ensures.len);
-      steps = omega (arith, len, row, c.put_sixteen_sequences_of_known_len.ensures.steps);
+      bits = c.put_sixteen_sequences_with_total.ensures.bits ∙ ap (λ v. c.args.sink.now ++ c.args.fields.now ++ v) same;
+      len = omega (arith, len, row, c.put_sixteen_sequences_with_total.ensures.len);
+      steps = omega (arith, len, row, c.put_sixteen_sequences_with_total.ensures.steps);
     }

@@ -1,21 +1,12 @@
-use Rattle.std.proofs.Common.{arith, rules, ◌≡◌, ◌+◌, ◌-◌, ◌<◌, ◌++◌, length, take, drop, refl, ap, sym, ◌∙◌, subst, append_assoc, append-nil, length-append, length-drop, List, ℕ, ℤ}
-use Rattle.std.specs.Prelude.{All}
-use Rattle.std.proofs.Math.Seq.{take-add, take-length}
-use Rattle.std.proofs.lemmas.List.{drop-map, length-take-le}
-use Rattle.std.proofs.lemmas.List.Elements.{All-drop}
+use Rattle.std.proofs.Common.{arith, rules, ◌≡◌, ◌+◌, ◌-◌, ◌++◌, length, take, drop, refl, ap, sym, ◌∙◌, subst, append-nil, length-drop, List, ℤ}
+use Rattle.std.proofs.Math.Seq.{take-length}
 use Rattle.std.proofs.lemmas.Result.{err_from_is_err_and}
-use Rattle.rice_samples.specs.Parameters.{Parameters, value_at, value_count, values_at}
+use Rattle.rice_samples.specs.Limits.{most_input}
+use Rattle.rice_samples.specs.Parameters.{value_count, values_at}
 use Rattle.rice_samples.proofs.lemmas.setting.ValuesAtLevels.{length-values}
 use Rattle.rice_stream.specs.EncodingState.{IsEncodingOf, FailsIn}
-use Rattle.rice_stream.proofs.lemmas.EncodingLemmas.{fails_later}
+use Rattle.rice_stream.proofs.lemmas.EncodingLemmas.{fails_later, few_from, legal_from, levels_from, samples_from, samples_on}
 use Rattle.rice_stream.proofs.encoding.Encoding.push_all_levels.Goals as goal
-
--- the levels from a place on, and the samples
-from : (at : ℕ) (levels : List ℕ) → take (length levels - at) (drop at levels) ≡ drop at levels
-from at levels = ap (λ n. take n (drop at levels)) (sym (length-drop at levels)) ∙ take-length (drop at levels)
-
-samples_from : (s : Parameters) (at : ℕ) (levels : List ℕ) → values_at s (take (length levels - at) (drop at levels)) ≡ drop at (values_at s levels)
-samples_from s at levels = ap (values_at s) (from at levels) ∙ sym (drop-map (value_at s) at levels)
 
 pub loop-at-init : goal.loop-at-init
 loop-at-init g c = record {
@@ -28,21 +19,19 @@ pub push_some_and_write-requires : goal.push_some_and_write-requires
 push_some_and_write-requires g c =
     let k = c.requires.ready in
     let levels = c.args.levels.now in
-    let samples = values_at k.setting levels in
     let at = c.loop-at.at in
-    let i = c.loop-at.invariant in
-    let len = length-values k.setting levels in (
+    let i = c.loop-at.invariant in (
       search rules,
       (
         record {
           setting = k.setting;
           start = k.start;
-          before = k.before ++ take at samples;
+          before = k.before ++ take at (values_at k.setting levels);
           holds = i.holds k.setting k.start k.before k.holds;
-          legal = subst (All (λ l. l < value_count k.setting)) (sym (from at levels)) (All-drop (λ l. l < value_count k.setting) at levels k.legal);
-          few = omega (arith, k.few, length-append k.before (take at samples), length-take-le at samples (omega (arith, i.within, len)), ap length (from at levels), length-drop at levels, i.within);
+          legal = legal_from (value_count k.setting) at levels k.legal;
+          few = few_from k.setting k.before at levels most_input k.few i.within;
         },
-        (omega (arith, ap length (from at levels), length-drop at levels, c.loop-at-test.true), omega (arith, c.requires.writes, i.failures)),
+        (omega (arith, ap length (levels_from at levels), length-drop at levels, c.loop-at-test.true), omega (arith, c.requires.writes, i.failures)),
       ),
     )
 
@@ -64,11 +53,10 @@ loop-at-preserved g c =
     let n = c.in_ok-at.field-0 in
     let new = g.O.Outlet.taken c.push_some_and_write.new.outlet in
     record {
-      within = omega (arith, i.within, c.in_ok-at.ensures.count.1, ap length (from at levels), length-drop at levels);
+      within = omega (arith, i.within, c.in_ok-at.ensures.count.1, ap length (levels_from at levels), length-drop at levels);
       holds = λ s old xs h. (let samples = values_at s levels in
-          let same : (xs ++ take at samples) ++ take n (values_at s (take (length levels - at) (drop at levels))) ≡ xs ++ take (at + n) samples = ap
-          (λ l. (xs ++ take at samples) ++ take n l) (samples_from s at levels) ∙ append_assoc xs (take at samples) (take n (drop at samples))
-          ∙ ap (λ l. xs ++ l) (sym (take-add at n samples)) in
+          let same : (xs ++ take at samples) ++ take n (values_at s (take (length levels - at) (drop at levels))) ≡ xs ++ take (at + n) samples =
+          ap (λ l. (xs ++ take at samples) ++ take n l) (samples_from s at levels) ∙ samples_on xs samples at n in
           subst (λ (l : List ℤ). IsEncodingOf s old new c.push_some_and_write.new.self l) same (c.in_ok-at.ensures.ok s old (xs ++ take at samples) (i.holds s old xs h)));
       failures = c.in_ok-at.ensures.calm ∙ i.failures;
     }

@@ -42,8 +42,8 @@ go_back-requires g c =
       ),
     )
 
-pub take_past-requires : goal.take_past-requires
-take_past-requires g c =
+pub take_until_past-requires : goal.take_until_past-requires
+take_until_past-requires g c =
     let k = c.requires.ready in
     let n = c.take_row-taken.result in
     let levels = c.args.levels.now in
@@ -100,6 +100,6 @@ returns-in-Err-clause-err g c s old xs h =
       err.0,
       ap length c.whole.ensures,
     ) in
-    let stop = subst (λ (l : List ℤ). StopsAt s c.take_past.new.self xs l (length (early_output s xs) + count)) same (c.take_past.ensures s xs back enough) in
+    let stop = subst (λ (l : List ℤ). StopsAt s c.take_until_past.new.self xs l (length (early_output s xs) + count)) same (c.take_until_past.ensures s xs back enough) in
     let took = subst (λ l. Appends now new (take count l)) c.whole.ensures err.1 in
     fails_in_row n count h (omega (arith, c.take_row-taken.ensures.count, length-values s levels)) t inside took stop

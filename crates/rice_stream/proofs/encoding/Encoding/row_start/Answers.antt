@@ -1,6 +1,6 @@
 use Rattle.std.proofs.Common.{rules, w64, FitsSigned, ◌∙◌, refl}
 use Rattle.std.proofs.lemmas.Int.{to_z-of_z}
-use Rattle.rice_stream.proofs.lemmas.RowsOfSegments.{row_start_of}
+use Rattle.rice_stream.proofs.lemmas.Seams.{row_start_of}
 use Rattle.rice_stream.proofs.encoding.Encoding.row_start.Goals as goal
 
 pub returns-clause-start : goal.returns-clause-start

@@ -1,12 +1,10 @@
-use Rattle.std.proofs.Common.{arith, rules, ◌≡◌, ◌<◌, ◌≤◌, ◌++◌, zero, suc, refl, length, take, ap, sym, ◌∙◌, subst, inr, append-nil, length-append, length-drop, List, ℕ, ℤ}
-use Rattle.std.specs.Prelude.{All}
-use Rattle.std.proofs.lemmas.List.{length-take-le}
-use Rattle.std.proofs.lemmas.List.Elements.{All-drop}
-use Rattle.rice_samples.specs.Parameters.{value_count, values_at}
-use Rattle.rice_samples.proofs.lemmas.setting.ValuesAtLevels.{length-values}
-use Rattle.rice_code.specs.Bounds.{block_bound}
+use Rattle.std.proofs.Common.{arith, rules, ◌≡◌, ◌<◌, ◌≤◌, ◌++◌, zero, suc, refl, length, take, ap, sym, ◌∙◌, subst, inr, append-nil, length-drop, List, ℕ, ℤ}
+use Rattle.rice_samples.specs.Limits.{most_input}
+use Rattle.rice_samples.specs.Parameters.{Parameters, value_count, values_at}
+use Rattle.rice_code.specs.encode.OpenSegment.{most_before}
 use Rattle.rice_stream.specs.EncodingState.{HoldsCode}
-use Rattle.rice_stream.proofs.lemmas.RowsOfSegments.{levels_from, samples_from, code_short, goes_on_at_first, row_goes_on, row_inside}
+use Rattle.rice_stream.proofs.lemmas.EncodingLemmas.{few_from, legal_from, levels_from, samples_from}
+use Rattle.rice_stream.proofs.lemmas.RowsOfSegments.{TakesNext, code_short, goes_on_at_first, row_goes_on, row_inside}
 use Rattle.rice_stream.proofs.encoding.Encoding.take_row.Goals as goal
 
 pub loop-at-init : goal.loop-at-init
@@ -21,7 +19,10 @@ pub returns-then-len-most-clause-some : goal.returns-then-len-most-clause-some
 returns-then-len-most-clause-some g c some =
     let i = c.loop-at.invariant in
     let short : c.loop-at.at ≡ 0 → length c.loop-at.self.sink ≤ 7 = i.begins in
-    some_taken c.loop-at.at (length c.loop-at.self.sink) c.most_before-most.result short (omega (arith, c.most_before-most.ensures.some)) (omega (arith, c.if-len-most.true, c.len.ensures.value))
+    let legal = c.requires.holds.counts.stands.holds.legal in
+    let block : c.args.self.now.coder.setting.block ≤ 64 = grind (arith, legal.block) in
+    let enough : 64 ≤ c.most_before-most.result = omega (arith, c.most_before-most.ensures, block) in
+    some_taken c.loop-at.at (length c.loop-at.self.sink) c.most_before-most.result short enough (omega (arith, c.if-len-most.true, c.len.ensures.value))
   where
     some_taken : (n size most : ℕ) → (n ≡ 0 → size ≤ 7) → 64 ≤ most → most < size → 0 < n
     some_taken zero size most short some over = absurd (omega (arith, short refl, some, over))
@@ -35,8 +36,7 @@ push_to_coder-at-requires g c =
     let at = c.loop-at.at in
     let i = c.loop-at.invariant in
     let holds = i.holds k.setting k.before k.holds in
-    let len = length-values k.setting levels in
-    let same = ap block_bound (holds.counts.setting ∙ sym k.holds.counts.setting) in (
+    let same = ap most_before (holds.counts.setting ∙ sym k.holds.counts.setting) in (
       search rules,
       (
         record {
@@ -44,18 +44,10 @@ push_to_coder-at-requires g c =
           written = k.before;
           before = k.before ++ take at samples;
           holds = holds;
-          legal = subst (All (λ l. l < value_count k.setting)) (sym (levels_from at levels)) (All-drop (λ l. l < value_count k.setting) at levels k.legal);
-          few = omega (
-            arith,
-            k.few,
-            length-append k.before (take at samples),
-            length-take-le at samples (omega (arith, i.within, len)),
-            ap length (levels_from at levels),
-            length-drop at levels,
-            i.within,
-          );
+          legal = legal_from (value_count k.setting) at levels k.legal;
+          few = few_from k.setting k.before at levels most_input k.few i.within;
         },
-        inr (omega (arith, c.most_before-most.ensures.room, c.if-len-most.false, c.len.ensures.value, same)),
+        inr (omega (arith, c.most_before-most.ensures, c.if-len-most.false, c.len.ensures.value, same)),
       ),
     )
 
@@ -75,10 +67,15 @@ loop-at-preserved g c =
     let n = c.push_to_coder-at.result in
     let left = ap length (levels_from at levels) in
     let some = c.push_to_coder-at.ensures.some (omega (arith, left, length-drop at levels, c.loop-at-test.true)) in
+    let next : (s : Parameters) (xs : List ℤ) → HoldsCode s c.args.self.now xs xs → TakesNext s c.push_to_coder-at.new.self xs xs (values_at s levels) at n =
+    λ s xs h. record {
+      more = _;
+      takes = c.push_to_coder-at.ensures.took s xs (xs ++ take at (values_at s levels)) (i.holds s xs h);
+      is = ap (take n) (samples_from s at levels);
+    } in
     record {
       within = omega (arith, i.within, c.push_to_coder-at.ensures.count, left, length-drop at levels);
       begins = λ e. absurd (omega (arith, e, some));
-      holds = λ s xs h. row_goes_on xs (values_at s levels) at n (c.push_to_coder-at.ensures.took s xs (xs ++ take at (values_at s levels)) (i.holds s xs h)) (ap (take n) (samples_from s at levels));
-      inside = λ s xs h. row_inside xs (values_at s levels) at n (c.push_to_coder-at.ensures.took s xs (xs ++ take at (values_at s levels)) (i.holds s xs h))
-          (ap (take n) (samples_from s at levels)) (i.inside s xs h);
+      holds = λ s xs h. row_goes_on (next s xs h);
+      inside = λ s xs h. row_inside (next s xs h) (i.inside s xs h);
     }

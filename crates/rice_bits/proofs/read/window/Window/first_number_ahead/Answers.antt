@@ -9,13 +9,13 @@ use Rattle.rice_bits.proofs.read.window.Window.first_number_ahead.Goals as goal
 pub overflow_cast-result : goal.overflow_cast-result
 overflow_cast-result c =
     let few : c.args.width ≤ 64 = omega (arith, c.requires.width) in
-    let below = front_below 64 c.args.width c.next_bits.result few (omega (arith, c.next_bits.type_inv)) in
+    let below = front_below 64 c.args.width c.first_bits_ahead.result few (omega (arith, c.first_bits_ahead.type_inv)) in
     omega (arith, below, c.front_digits.ensures, c.requires.width, pow-le-pow_right {n = 2} (omega arith) {i = c.args.width} {j = 32} c.requires.width)
 
 pub returns-clause-below : goal.returns-clause-below
 returns-clause-below c =
     let few : c.args.width ≤ 64 = omega (arith, c.requires.width) in
-    let below = front_below 64 c.args.width c.next_bits.result few (omega (arith, c.next_bits.type_inv)) in
+    let below = front_below 64 c.args.width c.first_bits_ahead.result few (omega (arith, c.first_bits_ahead.type_inv)) in
     omega (arith, below, c.front_digits.ensures)
 
 pub returns-clause-bits : goal.returns-clause-bits
@@ -24,4 +24,4 @@ returns-clause-bits c =
     let enough : 57 ≤ near = omega (arith, c.requires.there) in
     let most : near ≤ 64 = omega arith in
     ap (word c.args.width) c.front_digits.ensures
-    ∙ first-ahead (window_bits c.args.self.now) c.args.width near (64 - near) c.next_bits.result (omega (arith, enough, c.requires.width)) (omega (arith, most)) c.next_bits.ensures
+    ∙ first-ahead (window_bits c.args.self.now) c.args.width near (64 - near) c.first_bits_ahead.result (omega (arith, enough, c.requires.width)) (omega (arith, most)) c.first_bits_ahead.ensures

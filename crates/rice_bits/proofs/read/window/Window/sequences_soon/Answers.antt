@@ -3,5 +3,5 @@ use Rattle.rice_bits.proofs.read.window.Window.sequences_soon.Goals as goal
 
 pub returns : goal.returns
 returns c =
-    sequences-soon c.args.self.now c.args.skip c.args.bytes c.args.count c.next_bits.result c.first_sequences.result
-    (record { long = c.requires.there; near = c.requires.within; word = c.next_bits.ensures }) c.first_sequences.ensures.begin c.first_sequences.ensures.within
+    sequences-soon c.args.self.now c.args.skip c.args.bytes c.args.count c.first_bits_ahead.result c.first_sequences.result
+    (record { long = c.requires.there; near = c.requires.within; word = c.first_bits_ahead.ensures }) c.first_sequences.ensures.begin c.first_sequences.ensures.within

@@ -14,7 +14,7 @@ returns-clause-passes c e =
     let w = c.args.self.now in
     let width = c.args.width in
     let n = length c.args.numbers.now in
-    let front = c.next_bits.result in
+    let front = c.first_bits_ahead.result in
     let told = c.find_ends-found.new.ends in
     let used = get_or told n 0 in
     let next = w.at + used + n * width in
@@ -28,11 +28,11 @@ returns-clause-passes c e =
     let many : length c.write_joined.new.numbers ≡ n = c.write_joined.auto.numbers in
     let parted = ends-parted c.find_ends-found.ensures (omega (arith, c.if-found-numbers.false)) (omega (arith, len)) same refl in
     let split = parted-bits front some some used n parted in
-    let short = sequences-within highs _ _ _ (sym split ∙ c.next_bits.ensures) in
+    let short = sequences-within highs _ _ _ (sym split ∙ c.first_bits_ahead.ensures) in
     let long : length fs ≡ used = length-parted front some some used n parted in
     let there = near-there w fs c.requires.window short in
     let mid = record w { at = w.at + used } in
-    let first = window-front (w.at + used) front fs _ c.requires.window c.next_bits.ensures split short (omega (arith, long)) in
+    let first = window-front (w.at + used) front fs _ c.requires.window c.first_bits_ahead.ensures split short (omega (arith, long)) in
     let window = window-moved w (w.at + used) c.requires.window (omega arith) (omega (arith, there, long)) in
     let second = window-passes mid next (n * width) ws window refl (omega (arith, c.if-next-self.false)) written.bits in
     record {

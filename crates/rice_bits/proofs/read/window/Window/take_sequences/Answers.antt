@@ -9,12 +9,12 @@ pub returns-clause-window : goal.returns-clause-window
 returns-clause-window c =
     let parted = c.write_sequences_of_word-parted.ensures in
     let there = near-there c.args.self.now (flat_map fundamental_sequence (take c.write_sequences_of_word-parted.result.taken c.write_sequences_of_word-parted.new.zeros)) c.requires.window
-    (sequences-within _ _ _ _ (sym (parted-bits _ _ _ _ _ parted) ∙ c.next_bits.ensures)) in
+    (sequences-within _ _ _ _ (sym (parted-bits _ _ _ _ _ parted) ∙ c.first_bits_ahead.ensures)) in
     window-moved c.args.self.now _ c.requires.window (omega arith) (omega (arith, there, length-parted _ _ _ _ _ parted))
 
 pub returns-clause-passes : goal.returns-clause-passes
 returns-clause-passes c =
     let parted = c.write_sequences_of_word-parted.ensures in
     let split = parted-bits _ _ _ _ _ parted in
-    let short = sequences-within _ _ _ _ (sym split ∙ c.next_bits.ensures) in
-    window-front _ c.next_bits.result _ _ c.requires.window c.next_bits.ensures split short (omega (arith, length-parted _ _ _ _ _ parted))
+    let short = sequences-within _ _ _ _ (sym split ∙ c.first_bits_ahead.ensures) in
+    window-front _ c.first_bits_ahead.result _ _ c.requires.window c.first_bits_ahead.ensures split short (omega (arith, length-parted _ _ _ _ _ parted))

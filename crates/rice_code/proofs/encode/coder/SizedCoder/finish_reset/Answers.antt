@@ -17,7 +17,7 @@ code_in_a_call-bits-requires g c = (
 pub invariant_of-self : goal.invariant_of-self
 invariant_of-self g c =
     let legal = c.self.invariant.taken.holds.legal in
-    subst IsCoder (sym (c.restart.ensures ∙ ap (λ (v : CoderState). empty_state v.setting) c.fill.ensures.value)) (record { samples = []; taken = none_taken c.self.inside.segment.setting legal })
+    subst IsCoder (sym (c.begin_first.ensures ∙ ap (λ (v : CoderState). empty_state v.setting) c.fill.ensures.value)) (record { samples = []; taken = none_taken c.self.inside.segment.setting legal })
 
 pub returns-clause-adds : goal.returns-clause-adds
 returns-clause-adds g c xs h = finish_adds c.self.view_is c.fill.ensures.value c.code_in_a_call-bits.ensures c.fill.ensures.steps h
@@ -25,4 +25,4 @@ returns-clause-adds g c xs h = finish_adds c.self.view_is c.fill.ensures.value c
 pub returns-clause-taken : goal.returns-clause-taken
 returns-clause-taken g c =
     let legal = c.self.invariant.taken.holds.legal in
-    subst (λ (v : CoderState). HasTaken v []) (sym (c.restart.ensures ∙ ap (λ (v : CoderState). empty_state v.setting) c.fill.ensures.value)) (none_taken c.self.inside.segment.setting legal)
+    subst (λ (v : CoderState). HasTaken v []) (sym (c.begin_first.ensures ∙ ap (λ (v : CoderState). empty_state v.setting) c.fill.ensures.value)) (none_taken c.self.inside.segment.setting legal)

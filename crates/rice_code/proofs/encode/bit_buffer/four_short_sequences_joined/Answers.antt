@@ -1,7 +1,7 @@
 use Rattle.std.proofs.Common.{arith, ◌+◌}
 use Rattle.rice_bits.proofs.lemmas.bits.WordsAndNumbers.{word-fs}
 use Rattle.rice_code.proofs.lemmas.encode.JoinedWords.{joined_fits, high_small, one_fits, four_words}
-use Rattle.rice_code.proofs.encode.bit_buffer.four_short_sequences.Goals as goal
+use Rattle.rice_code.proofs.encode.bit_buffer.four_short_sequences_joined.Goals as goal
 
 pub returns-clause-fits : goal.returns-clause-fits
 returns-clause-fits c =

@@ -2,7 +2,7 @@ use Rattle.std.proofs.Common.{List, ℕ, ℤ, subst, sym, None, pos}
 use Rattle.rice_samples.proofs.lemmas.setting.LevelsOfSamples.{zero_is_sample}
 use Rattle.rice_code.specs.encode.OpenSegment.{IsOpen}
 use Rattle.rice_code.proofs.lemmas.encode.OpenSegments.{first_is_open}
-use Rattle.rice_code.proofs.encode.open_segment.OpenSegment.restart.Goals as goal
+use Rattle.rice_code.proofs.encode.open_segment.OpenSegment.begin_first.Goals as goal
 
 pub invariant_of-self : goal.invariant_of-self
 invariant_of-self g c =

@@ -2,7 +2,7 @@ use Rattle.std.proofs.Common.{arith, ◌≡◌, ◌++◌, ◌∙◌, ap, length}
 use Rattle.rice_code.specs.encode.GatheredSequences.{four_sequences, sequences_from}
 use Rattle.rice_code.proofs.lemmas.encode.HighParts.{length-first_part, length-four, length-three_parts, four_behind}
 use Rattle.rice_code.proofs.lemmas.encode.GatheredSequences.{all_digits_filled}
-use Rattle.rice_code.proofs.encode.high_parts.put_sixteen_sequences_of_known_len.Goals as goal
+use Rattle.rice_code.proofs.encode.high_parts.put_sixteen_sequences_with_total.Goals as goal
 
 pub put_twelve_sequences-requires : goal.put_twelve_sequences-requires
 put_twelve_sequences-requires c =

@@ -1,14 +1,13 @@
-use Rattle.std.proofs.Common.{arith, rules, ◌≡◌, ◌+◌, ◌/◌, ◌<◌, ◌≤◌, ◌++◌, length, take, ap, sym, ◌∙◌, subst, inl, append-nil, length-append, length-drop, List, ℤ}
-use Rattle.std.specs.Prelude.{All}
+use Rattle.std.proofs.Common.{arith, rules, ◌≡◌, ◌+◌, ◌/◌, ◌≤◌, ◌++◌, length, take, ap, sym, ◌∙◌, subst, inl, append-nil, length-drop, List, ℤ}
 use Rattle.std.proofs.Math.Seq.{take-length}
-use Rattle.std.proofs.lemmas.List.{length-take-le}
-use Rattle.std.proofs.lemmas.List.Elements.{All-drop}
+use Rattle.rice_samples.specs.Limits.{most_input}
 use Rattle.rice_samples.specs.Parameters.{value_count, values_at}
 use Rattle.rice_samples.proofs.lemmas.setting.ValuesAtLevels.{length-values}
 use Rattle.rice_code.specs.code.Code.{early_output}
 use Rattle.rice_stream.specs.EncodingState.{HoldsCode}
-use Rattle.rice_stream.proofs.lemmas.RowsOfSegments.{levels_from, samples_from, code_short, stops_here, passes_on}
-use Rattle.rice_stream.proofs.encoding.Encoding.take_past.Goals as goal
+use Rattle.rice_stream.proofs.lemmas.EncodingLemmas.{few_from, legal_from, levels_from, samples_from}
+use Rattle.rice_stream.proofs.lemmas.RowsOfSegments.{TakesNext, code_short, stops_here, passes_on}
+use Rattle.rice_stream.proofs.encoding.Encoding.take_until_past.Goals as goal
 
 pub loop-at-init : goal.loop-at-init
 loop-at-init g c = record {
@@ -26,8 +25,7 @@ push_to_coder_in_a_call-at-requires g c =
     let samples = values_at k.setting levels in
     let at = c.loop-at.at in
     let i = c.loop-at.invariant in
-    let holds = (i.holds k.setting k.before k.holds).0 in
-    let len = length-values k.setting levels in (
+    let holds = (i.holds k.setting k.before k.holds).0 in (
       search rules,
       (
         record {
@@ -35,16 +33,8 @@ push_to_coder_in_a_call-at-requires g c =
           written = k.before ++ take at samples;
           before = k.before ++ take at samples;
           holds = holds;
-          legal = subst (All (λ l. l < value_count k.setting)) (sym (levels_from at levels)) (All-drop (λ l. l < value_count k.setting) at levels k.legal);
-          few = omega (
-            arith,
-            k.few,
-            length-append k.before (take at samples),
-            length-take-le at samples (omega (arith, i.within, len)),
-            ap length (levels_from at levels),
-            length-drop at levels,
-            i.within,
-          );
+          legal = legal_from (value_count k.setting) at levels k.legal;
+          few = few_from k.setting k.before at levels most_input k.few i.within;
         },
         inl (code_short holds),
       ),
@@ -61,9 +51,10 @@ returns-then-left-bytes g c s xs h enough =
     let left = ap length (levels_from at levels) in
     let some = c.push_to_coder_in_a_call-at.ensures.some (omega (arith, left, length-drop at levels, c.loop-at-test.true)) in
     let within : at + n ≤ length samples = omega (arith, i.within, c.push_to_coder_in_a_call-at.ensures.count, left, length-drop at levels, length-values s levels) in
-    stops_here xs samples at n c.loop-at.left (length (early_output s xs) + c.args.count) (c.push_to_coder_in_a_call-at.ensures.took s (xs ++ take at samples) (xs ++ take at samples) p.0)
-    (ap (take n) (samples_from s at levels)) some within p.1
-    (omega (arith, c.if-left-bytes.true, c.len-bytes.ensures.value))
+    let zs = xs ++ take at samples in
+    let next : TakesNext s c.push_to_coder_in_a_call-at.new.self zs xs samples at n =
+    record { more = _; takes = c.push_to_coder_in_a_call-at.ensures.took s zs zs p.0; is = ap (take n) (samples_from s at levels) } in
+    stops_here c.loop-at.left next some within p.1 (omega (arith, c.if-left-bytes.true, c.len-bytes.ensures.value))
 
 pub loop-at-smaller : goal.loop-at-smaller
 loop-at-smaller g c =
@@ -83,11 +74,12 @@ loop-at-preserved g c =
     record {
       within = omega (arith, i.within, c.push_to_coder_in_a_call-at.ensures.count, left, length-drop at levels);
       holds = λ s xs h. (let p = i.holds s xs h in
-          let zs = xs ++ take at (values_at s levels) in
-          let t = c.push_to_coder_in_a_call-at.ensures.took s zs zs p.0 in
-          let k = t.counts in
-          passes_on xs (values_at s levels) at n c.loop-at.left (length (early_output s xs) + c.args.count) t (ap (take n) (samples_from s at levels))
-          _ (c.len-bytes.result / 8) c.drop_whole.ensures.bits
+          let samples = values_at s levels in
+          let zs = xs ++ take at samples in
+          let next : TakesNext s c.push_to_coder_in_a_call-at.new.self zs xs samples at n =
+          record { more = _; takes = c.push_to_coder_in_a_call-at.ensures.took s zs zs p.0; is = ap (take n) (samples_from s at levels) } in
+          let k = next.takes.counts in
+          passes_on c.loop-at.left next c.drop_whole.ensures.bits
           (record { setting = k.setting; stands = k.stands; samples = k.samples; bits = k.bits; least = k.least; most = k.most })
           p.1 (ap (λ m. m / 8) c.len-bytes.ensures.value) (omega (arith, c.if-left-bytes.false)));
     }

@@ -2,7 +2,7 @@ use Rattle.std.proofs.Common.{◌≡◌, ◌≤◌, ◌+◌, ◌-◌, ◌++◌, 
 use Rattle.rice_samples.specs.Parameters.{Parameters, values_at}
 use Rattle.rice_code.specs.code.Code.{early_output}
 use Rattle.rice_stream.specs.EncodingState.{HoldsCode}
-use Rattle.rice_stream.proofs.encoding.Encoding.take_past.Given as goal
+use Rattle.rice_stream.proofs.encoding.Encoding.take_until_past.Given as goal
 
 abbrev pub invariant-loop-at : goal.invariant-loop-at
 invariant-loop-at g l = record {
