@@ -8,3 +8,4 @@ pub mod OpenSegment
 pub mod SentParts
 pub mod PreparedSettings
 pub mod ShortLowParts
+pub mod SequencesByProducts

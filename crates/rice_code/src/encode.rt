@@ -16,6 +16,7 @@ mod open_segment;
 mod options;
 mod pairs;
 mod prepared_setting;
+mod sequences_by_products;
 mod short_low_parts;
 
 /// A sink with room for the code of a segment, of at most 64 blocks of 2,053 bits, and eight bytes beside it for the bits

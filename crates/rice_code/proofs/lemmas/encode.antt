@@ -12,5 +12,6 @@ pub mod ChoiceLemmas
 pub mod SegmentBlocksInTurn
 pub mod SeveralSamplesHeld
 pub mod ShortLowParts
+pub mod SequencesByProducts
 pub mod HighParts
 pub mod PushedSamples

@@ -1,6 +1,7 @@
 //! Writing the high parts of residuals as fundamental sequences, of 8 or 16 at once where they fit one put.
-ghost use Rattle.std.specs.Prelude.{◌≡◌, ◌+◌, ◌-◌, ◌/◌, ◌%◌, ◌^◌, ◌<◌, ◌≤◌, ◌++◌, Bool, List, length, drop, slice_index, slice_range, sum_by};
+ghost use Rattle.std.specs.Prelude.{◌≡◌, ◌+◌, ◌-◌, ◌/◌, ◌%◌, ◌^◌, ◌<◌, ◌≤◌, ◌++◌, Bool, List, length, drop, flat_map, map, slice_index, slice_range, sum_by};
 ghost use Rattle.rice_bits.specs.Limits.{step_limit};
+ghost use Rattle.rice_bits.specs.Bits.{fundamental_sequence};
 ghost use Rattle.rice_code.specs.encode.BitBuffer.{HasRoomFor, HasRoomForBits, AddsBits};
 ghost use Rattle.rice_code.specs.encode.GatheredSequences.{Gathers, four_sequences, sequences_from};
 ghost use Rattle.rice_code.specs.encode.SentParts.{HasRoomForOnes, AddsOnes};
@@ -11,8 +12,12 @@ use crate::encode::gathered_sequences::{
     Ones, are_short, begin_ones_with_four, begin_sequences_with_four, digits_with_four_sequences,
     number_and_len_of_ones, ones_with_four_sequences,
 };
+use crate::encode::sequences_by_products::{
+    are_at_most_six, number_of_sequences_from, numbers_in_bytes,
+};
 use rice_bits::Meter;
 use rice_samples::Block;
+use std::simd::prelude::*;
 
 /// Adds the fundamental sequences of the residuals from number `from` on, which is one of the first two, without their `k`
 /// lowest digits: `total` bits. Looks at all residuals.
@@ -178,11 +183,8 @@ fn put_first_sixteen_high(
     ensures { AddsOnes k 16 (16 - from) (slice_range block.now from 16)
         sink.old fields.old sink.new fields.new meter.old meter.new }
 {
-    let a = high_four(block, 0, k, meter);
-    let b = high_four(block, 4, k, meter);
-    let c = high_four(block, 8, k, meter);
-    let d = high_four(block, 12, k, meter);
-    put_sixteen_sequences_with_total(a, b, c, d, from, total, fields, sink, meter);
+    let numbers = sixteen_high(block, 0, k, meter);
+    put_sixteen_numbers_with_total(numbers, from, total, fields, sink, meter);
 }
 
 /// Adds those of 16 residuals, of which the first is number `at`, from the one with number `from` among them on.
@@ -226,6 +228,83 @@ fn high_four(block: &Block<'_>, at: usize, k: u32, meter: &mut Meter) -> (u32, u
 {
     let (a, b, c, d) = block.four_at(at, meter);
     (a >> k, b >> k, c >> k, d >> k)
+}
+
+/// Returns 16 residuals from number `at` on, without their `k` lowest digits.
+#[inline(always)]
+fn sixteen_high(block: &Block<'_>, at: usize, k: u32, meter: &mut Meter) -> u32x16
+    requires split { k ≤ 29 }
+    requires inside { at + 15 < length block.now }
+    requires meter { meter.old + 16 < step_limit }
+    ensures len { length result ≡ 16 }
+    ensures value { result ≡ map (λ d. d / 2 ^ k) (slice_range block.now at (at + 16)) }
+    ensures steps { meter.new ≡ meter.old + 16 }
+{
+    let _len = block.len();
+    let a = block.four_at(at, meter);
+    let b = block.four_at(at + 4, meter);
+    let c = block.four_at(at + 8, meter);
+    let d = block.four_at(at + 12, meter);
+    let residuals = u32x16::from_array([
+        a.0, a.1, a.2, a.3, b.0, b.1, b.2, b.3, c.0, c.1, c.2, c.3, d.0, d.1, d.2, d.3,
+    ]);
+    residuals >> u32x16::splat(k)
+}
+
+/// Adds the fundamental sequences of 16 numbers, from number `from` on: `total` bits.
+#[inline(always)]
+fn put_sixteen_numbers_with_total(
+    numbers: u32x16,
+    from: usize,
+    total: u64,
+    fields: &mut BitBuffer,
+    sink: &mut SegmentSink,
+    meter: &mut Meter,
+)
+    requires len { length numbers ≡ 16 }
+    requires from { from ≤ 1 }
+    requires total { total ≡ length (flat_map fundamental_sequence (drop from numbers)) }
+    requires room { HasRoomForBits (flat_map fundamental_sequence (drop from numbers))
+        (length sink.old + length fields.old) (meter.old + length fields.old) }
+    ensures { AddsBits (flat_map fundamental_sequence (drop from numbers))
+        sink.old fields.old sink.new fields.new meter.old meter.new }
+{
+    let small = numbers_in_bytes(numbers);
+    if total <= 56 && are_at_most_six(small) {
+        let value = number_of_sequences_from(small, from, total as u32);
+        fields.add(value, total as u32, sink, meter);
+        return;
+    }
+    let held = std::mem::replace(fields, BitBuffer::new());
+    let mut steps = Meter::new();
+    *fields = put_any_sixteen_with_total(&numbers.to_array(), from, total, held, sink, &mut steps);
+    meter.tick(steps.steps());
+}
+
+/// Adds those of 16 numbers one by one, and returns the buffer. It takes no reference to it, so that the bits stay in registers
+/// elsewhere.
+#[inline(never)]
+fn put_any_sixteen_with_total(
+    numbers: &[u32; 16],
+    from: usize,
+    total: u64,
+    mut fields: BitBuffer,
+    sink: &mut SegmentSink,
+    meter: &mut Meter,
+) -> BitBuffer
+    requires from { from ≤ 1 }
+    requires total { total ≡ length (flat_map fundamental_sequence (drop from numbers.now)) }
+    requires room { HasRoomForBits (flat_map fundamental_sequence (drop from numbers.now))
+        (length sink.old + length fields) (meter.old + length fields) }
+    ensures { AddsBits (flat_map fundamental_sequence (drop from numbers.now))
+        sink.old fields sink.new result meter.old meter.new }
+{
+    let a = (numbers[0], numbers[1], numbers[2], numbers[3]);
+    let b = (numbers[4], numbers[5], numbers[6], numbers[7]);
+    let c = (numbers[8], numbers[9], numbers[10], numbers[11]);
+    let d = (numbers[12], numbers[13], numbers[14], numbers[15]);
+    put_sixteen_sequences_with_total(a, b, c, d, from, total, &mut fields, sink, meter);
+    fields
 }
 
 /// Adds the fundamental sequences of eight numbers, from number `from` on: `total` bits.

@@ -1,8 +1,9 @@
 -- The fundamental sequences of several residuals in a row.
 use Rattle.std.proofs.Common.{◌≡◌, ℕ, zero, suc, ◌+◌, ◌-◌, ◌/◌, ◌^◌, ◌<◌, ◌≤◌, Bool, List, [], ◌∷◌, ◌++◌}
-use Rattle.std.proofs.Common.{length, drop, take, get_or, refl, ap, arith, sym, ◌∙◌, length-append, append_assoc, append-nil, sum_by, ◌==◌}
+use Rattle.std.proofs.Common.{length, drop, take, get_or, map, refl, ap, arith, sym, ◌∙◌, length-append, append_assoc, append-nil, sum_by, ◌==◌}
 use Rattle.std.specs.Prelude.{flat_map, slice_range, if◌then◌else◌}
-use Rattle.std.proofs.lemmas.List.{drop-drop, length-drop, length-take-le}
+use Rattle.std.proofs.lemmas.List.{drop-drop, drop-map, drop-take, length-drop, length-take-le, take_all}
+use Rattle.std.proofs.lemmas.List.Folds.{flat_map-map}
 use Rattle.std.proofs.lemmas.List.Sums.{sum_by-cons}
 use Rattle.rice_bits.specs.Bits.{fundamental_sequence}
 use Rattle.rice_bits.proofs.lemmas.bits.WordsAndNumbers.{length-fundamental_sequence}
@@ -112,6 +113,45 @@ sixteen_from f xs i (suc zero) le h =
         ≡ [] ++ b ++ c ++ d ++ (e ++ f ++ g ++ h) ++ (k ++ l ++ m ++ n) ++ (o ++ p ++ q ++ r)
     nest b c d e f g h k l m n o p q r = simp (append_assoc, append-nil)
 sixteen_from f xs i (suc (suc from)) le h = absurd (omega arith)
+
+-- sixteen residuals, and what is made of each
+pub sixteen_in_row : (f : ℕ → ℕ) (xs : List ℕ) (i : ℕ) → i + 15 < length xs →
+    map f (slice_range xs i (i + 16)) ≡
+    f (get_or xs i 0) ∷ f (get_or xs (i + 1) 0) ∷ f (get_or xs (i + 2) 0) ∷ f (get_or xs (i + 3) 0)
+    ∷ f (get_or xs (i + 4) 0) ∷ f (get_or xs (i + 4 + 1) 0) ∷ f (get_or xs (i + 4 + 2) 0) ∷ f (get_or xs (i + 4 + 3) 0)
+    ∷ f (get_or xs (i + 8) 0) ∷ f (get_or xs (i + 8 + 1) 0) ∷ f (get_or xs (i + 8 + 2) 0) ∷ f (get_or xs (i + 8 + 3) 0)
+    ∷ f (get_or xs (i + 12) 0) ∷ f (get_or xs (i + 12 + 1) 0) ∷ f (get_or xs (i + 12 + 2) 0) ∷ f (get_or xs (i + 12 + 3) 0) ∷ []
+sixteen_in_row f xs i h =
+    let count : i + 16 - i ≡ 16 = omega arith in
+    (λ j. map f (take (count j) (drop i xs))) ∙ ap (λ v. map f (take 16 v)) (sixteen_more xs i (i + 16) h refl)
+
+-- the sequences of sixteen numbers as those of four fours
+pub sequences_of_sixteen : (xs : List ℕ) (from : ℕ) → from ≤ 1 → length xs ≡ 16 →
+    flat_map fundamental_sequence (drop from xs) ≡
+    sequences_from from (get_or xs 0 0) (get_or xs 1 0) (get_or xs 2 0) (get_or xs 3 0) ++ four_sequences (get_or xs 4 0) (get_or xs 5 0) (get_or xs 6 0) (get_or xs 7 0)
+    ++ four_sequences (get_or xs 8 0) (get_or xs 9 0) (get_or xs 10 0) (get_or xs 11 0) ++ four_sequences (get_or xs 12 0) (get_or xs 13 0) (get_or xs 14 0) (get_or xs 15 0)
+sequences_of_sixteen xs from le len =
+    let start : from ≡ 0 + from = omega arith in
+    let whole : take (16 - from) (drop from xs) ≡ drop from xs = take_all (16 - from) (drop from xs) (omega (arith, length-drop from xs, len)) in
+    ap (flat_map fundamental_sequence) (sym whole) ∙ (ap (λ i. flat_map fundamental_sequence (slice_range xs i 16)) start ∙ sixteen_from fundamental_sequence xs 0 from le (omega (arith, len)))
+
+-- the sequences of sixteen numbers that are made of residuals, from the first or the second on
+pub sequences_of_row : (f : ℕ → ℕ) (xs ms : List ℕ) (i from : ℕ) → from ≤ 16 → ms ≡ map f (slice_range xs i (i + 16)) →
+    flat_map fundamental_sequence (drop from ms) ≡ flat_map (λ d. fundamental_sequence (f d)) (slice_range xs (i + from) (i + 16))
+sequences_of_row f xs ms i from le e =
+    let all : i + 16 - i ≡ from + (16 - from) = omega arith in
+    let count : 16 - from ≡ i + 16 - (i + from) = omega arith in
+    let rest : drop from (slice_range xs i (i + 16)) ≡ slice_range xs (i + from) (i + 16) =
+    ap (λ n. drop from (take n (drop i xs))) all ∙ (drop-take from (16 - from) (drop i xs) ∙ (λ j. take (count j) (drop-drop from i xs j))) in
+    ap (λ v. flat_map fundamental_sequence (drop from v)) e
+    ∙ (ap (flat_map fundamental_sequence) (drop-map f from (slice_range xs i (i + 16)) ∙ ap (map f) rest)
+    ∙ flat_map-map fundamental_sequence f (slice_range xs (i + from) (i + 16)))
+
+pub sequences_of_first_row : (f : ℕ → ℕ) (xs ms : List ℕ) (from : ℕ) → from ≤ 1 → ms ≡ map f (slice_range xs 0 16) →
+    flat_map fundamental_sequence (drop from ms) ≡ flat_map (λ d. fundamental_sequence (f d)) (slice_range xs from 16)
+sequences_of_first_row f xs ms from le e =
+    let start : 0 + from ≡ from = omega arith in
+    sequences_of_row f xs ms 0 from (omega arith) e ∙ ap (λ i. flat_map (λ d. fundamental_sequence (f d)) (slice_range xs i 16)) start
 
 pub length-row : (xs : List ℕ) (i n : ℕ) → i ≤ n → n ≤ length xs → length (slice_range xs i n) ≡ n - i
 length-row xs i n le h = length-take-le (n - i) (drop i xs) (omega (arith, length-drop i xs))

@@ -1,67 +1,35 @@
-use Rattle.std.proofs.Common.{arith, ◌≡◌, ℕ, ◌+◌, ◌/◌, ◌^◌, ◌++◌, ◌∙◌, ap, sym, length}
-use Rattle.std.specs.Prelude.{flat_map, slice_range}
-use Rattle.rice_bits.specs.Bits.{fundamental_sequence}
-use Rattle.rice_code.specs.encode.GatheredSequences.{four_sequences, sequences_from}
-use Rattle.rice_code.proofs.lemmas.encode.HighParts.{length-high, length-row, sixteen_from}
+use Rattle.std.proofs.Common.{arith, ℕ, ◌/◌, ◌^◌, ◌++◌, ◌∙◌, ap, length}
+use Rattle.std.specs.Prelude.{slice_range}
+use Rattle.rice_code.proofs.lemmas.encode.HighParts.{length-high, length-row, sequences_of_first_row}
 use Rattle.rice_code.proofs.encode.high_parts.put_first_sixteen_high.Goals as goal
 
-pub put_sixteen_sequences_with_total-requires-clause-total : goal.put_sixteen_sequences_with_total-requires-clause-total
-put_sixteen_sequences_with_total-requires-clause-total c =
+pub put_sixteen_numbers_with_total-requires-clause-total : goal.put_sixteen_numbers_with_total-requires-clause-total
+put_sixteen_numbers_with_total-requires-clause-total c =
     let xs = c.args.block.now in
     let from = c.args.from in
-    let start : 0 + from ≡ from = omega arith in
-    let f = λ (d : ℕ). fundamental_sequence (d / 2 ^ c.args.k) in
-    let same : sequences_from from c.high_four-a.result.0 c.high_four-a.result.1 c.high_four-a.result.2 c.high_four-a.result.3 ++ four_sequences
-    c.high_four-b.result.0 c.high_four-b.result.1 c.high_four-b.result.2 c.high_four-b.result.3 ++ four_sequences c.high_four-c.result.0
-    c.high_four-c.result.1 c.high_four-c.result.2 c.high_four-c.result.3 ++ four_sequences c.high_four-d.result.0 c.high_four-d.result.1
-    c.high_four-d.result.2 c.high_four-d.result.3 ≡ flat_map f (slice_range xs from 16) =
-    (λ j. sequences_from from (c.high_four-a.ensures.first j) (c.high_four-a.ensures.second j) (c.high_four-a.ensures.third j)
-    (c.high_four-a.ensures.last j) ++ four_sequences (c.high_four-b.ensures.first j) (c.high_four-b.ensures.second j) (c.high_four-b.ensures.third j)
-    (c.high_four-b.ensures.last j) ++ four_sequences (c.high_four-c.ensures.first j) (c.high_four-c.ensures.second j) (c.high_four-c.ensures.third j)
-    (c.high_four-c.ensures.last j) ++ four_sequences (c.high_four-d.ensures.first j) (c.high_four-d.ensures.second j) (c.high_four-d.ensures.third j)
-    (c.high_four-d.ensures.last j)) ∙ (sym (sixteen_from f xs 0 from c.requires.from (omega (arith, c.requires.sixteen))) ∙ ap (λ i. flat_map f (slice_range xs i 16)) start) in
+    let same = sequences_of_first_row (λ (d : ℕ). d / 2 ^ c.args.k) xs c.sixteen_high-numbers.result from c.requires.from c.sixteen_high-numbers.ensures.value in
     let len = ap length same ∙ length-high c.args.k (slice_range xs from 16) in
     let row = length-row xs from 16 (omega (arith, c.requires.from)) (omega (arith, c.requires.sixteen)) in
     omega (arith, len, row, c.requires.total)
 
-pub put_sixteen_sequences_with_total-requires-clause-room : goal.put_sixteen_sequences_with_total-requires-clause-room
-put_sixteen_sequences_with_total-requires-clause-room c =
+pub put_sixteen_numbers_with_total-requires-clause-room : goal.put_sixteen_numbers_with_total-requires-clause-room
+put_sixteen_numbers_with_total-requires-clause-room c =
     let xs = c.args.block.now in
     let from = c.args.from in
-    let start : 0 + from ≡ from = omega arith in
-    let f = λ (d : ℕ). fundamental_sequence (d / 2 ^ c.args.k) in
-    let same : sequences_from from c.high_four-a.result.0 c.high_four-a.result.1 c.high_four-a.result.2 c.high_four-a.result.3 ++ four_sequences
-    c.high_four-b.result.0 c.high_four-b.result.1 c.high_four-b.result.2 c.high_four-b.result.3 ++ four_sequences c.high_four-c.result.0
-    c.high_four-c.result.1 c.high_four-c.result.2 c.high_four-c.result.3 ++ four_sequences c.high_four-d.result.0 c.high_four-d.result.1
-    c.high_four-d.result.2 c.high_four-d.result.3 ≡ flat_map f (slice_range xs from 16) =
-    (λ j. sequences_from from (c.high_four-a.ensures.first j) (c.high_four-a.ensures.second j) (c.high_four-a.ensures.third j)
-    (c.high_four-a.ensures.last j) ++ four_sequences (c.high_four-b.ensures.first j) (c.high_four-b.ensures.second j) (c.high_four-b.ensures.third j)
-    (c.high_four-b.ensures.last j) ++ four_sequences (c.high_four-c.ensures.first j) (c.high_four-c.ensures.second j) (c.high_four-c.ensures.third j)
-    (c.high_four-c.ensures.last j) ++ four_sequences (c.high_four-d.ensures.first j) (c.high_four-d.ensures.second j) (c.high_four-d.ensures.third j)
-    (c.high_four-d.ensures.last j)) ∙ (sym (sixteen_from f xs 0 from c.requires.from (omega (arith, c.requires.sixteen))) ∙ ap (λ i. flat_map f (slice_range xs i 16)) start) in
+    let same = sequences_of_first_row (λ (d : ℕ). d / 2 ^ c.args.k) xs c.sixteen_high-numbers.result from c.requires.from c.sixteen_high-numbers.ensures.value in
     let len = ap length same ∙ length-high c.args.k (slice_range xs from 16) in
     let row = length-row xs from 16 (omega (arith, c.requires.from)) (omega (arith, c.requires.sixteen)) in
-    record { room = omega (arith, len, row, c.requires.room.room); steps = omega (arith, len, row, c.requires.room.steps) }
+    record { room = omega (arith, len, row, c.requires.room.room); steps = omega (arith, len, row, c.requires.room.steps, c.sixteen_high-numbers.ensures.steps) }
 
 pub returns : goal.returns
 returns c =
     let xs = c.args.block.now in
     let from = c.args.from in
-    let start : 0 + from ≡ from = omega arith in
-    let f = λ (d : ℕ). fundamental_sequence (d / 2 ^ c.args.k) in
-    let same : sequences_from from c.high_four-a.result.0 c.high_four-a.result.1 c.high_four-a.result.2 c.high_four-a.result.3 ++ four_sequences
-    c.high_four-b.result.0 c.high_four-b.result.1 c.high_four-b.result.2 c.high_four-b.result.3 ++ four_sequences c.high_four-c.result.0
-    c.high_four-c.result.1 c.high_four-c.result.2 c.high_four-c.result.3 ++ four_sequences c.high_four-d.result.0 c.high_four-d.result.1
-    c.high_four-d.result.2 c.high_four-d.result.3 ≡ flat_map f (slice_range xs from 16) =
-    (λ j. sequences_from from (c.high_four-a.ensures.first j) (c.high_four-a.ensures.second j) (c.high_four-a.ensures.third j)
-    (c.high_four-a.ensures.last j) ++ four_sequences (c.high_four-b.ensures.first j) (c.high_four-b.ensures.second j) (c.high_four-b.ensures.third j)
-    (c.high_four-b.ensures.last j) ++ four_sequences (c.high_four-c.ensures.first j) (c.high_four-c.ensures.second j) (c.high_four-c.ensures.third j)
-    (c.high_four-c.ensures.last j) ++ four_sequences (c.high_four-d.ensures.first j) (c.high_four-d.ensures.second j) (c.high_four-d.ensures.third j)
-    (c.high_four-d.ensures.last j)) ∙ (sym (sixteen_from f xs 0 from c.requires.from (omega (arith, c.requires.sixteen))) ∙ ap (λ i. flat_map f (slice_range xs i 16)) start) in
+    let same = sequences_of_first_row (λ (d : ℕ). d / 2 ^ c.args.k) xs c.sixteen_high-numbers.result from c.requires.from c.sixteen_high-numbers.ensures.value in
     let len = ap length same ∙ length-high c.args.k (slice_range xs from 16) in
     let row = length-row xs from 16 (omega (arith, c.requires.from)) (omega (arith, c.requires.sixteen)) in
     record {
-      bits = c.put_sixteen_sequences_with_total.ensures.bits ∙ ap (λ v. c.args.sink.now ++ c.args.fields.now ++ v) same;
-      len = omega (arith, len, row, c.put_sixteen_sequences_with_total.ensures.len);
-      steps = omega (arith, len, row, c.put_sixteen_sequences_with_total.ensures.steps);
+      bits = c.put_sixteen_numbers_with_total.ensures.bits ∙ ap (λ v. c.args.sink.now ++ c.args.fields.now ++ v) same;
+      len = omega (arith, len, row, c.put_sixteen_numbers_with_total.ensures.len);
+      steps = omega (arith, len, row, c.put_sixteen_numbers_with_total.ensures.steps, c.sixteen_high-numbers.ensures.steps);
     }

@@ -1,0 +1,333 @@
+-- Fundamental sequences that are joined by products, in lanes.
+use Rattle.std.proofs.Common.{◌≡◌, ℕ, zero, suc, ◌+◌, ◌-◌, ◌*◌, ◌/◌, ◌%◌, ◌^◌, ◌<◌, ◌≤◌, ◌==◌, Bool, true, cond, List, [], ◌∷◌, ◌++◌}
+use Rattle.std.proofs.Common.{length, drop, get_or, map, min, replicate, refl, ap, arith, sym, subst, ◌∙◌, length-append, mod-eq_of_lt, nat_lt, Fits, w8, w32}
+use Rattle.std.specs.Prelude.{All, flat_map, bit_or}
+use Rattle.std.specs.Simd.Lanes.{zip2, Each1, fold_l, pick_l, sel_l, top}
+use Rattle.std.proofs.Math.Nat.{mul-le-mul_left, mul-le-mul_right, pow-le-pow_right}
+use Rattle.std.proofs.lemmas.Nat.{mod-mul-add, one_shl, pow-add}
+use Rattle.std.proofs.lemmas.List.{length-map}
+use Rattle.std.proofs.lemmas.Simd.{Each1-get_or, Each1-from_get_or, SwzOk, SwzOk-from_below, swz_l, tops_compared, zip2_splat}
+use Rattle.std.proofs.lemmas.Bool.Decides.{nat_tests}
+use lib.Dec.{leb}
+use mir.Val.{hbits}
+use Rattle.rice_samples.proofs.lemmas.blocks.EightsInLanes.{lanes_below_digits}
+use Rattle.rice_bits.specs.Bits.{word, number_of, fundamental_sequence}
+use Rattle.rice_bits.proofs.lemmas.bits.WordsAndNumbers.{word-cat, word-fs, word-number_of, number_of-word, number_of-lt, join_below, length-fundamental_sequence}
+use Rattle.rice_samples.proofs.lemmas.predict.NearEights.{select_min}
+use Rattle.rice_code.specs.declared.encode.sequences_by_products.TheConstants.{WEIGHTS}
+use Rattle.rice_code.specs.encode.GatheredSequences.{HasDigits}
+use Rattle.rice_code.specs.encode.SequencesByProducts.{joined_values, joined_weights}
+use Rattle.rice_code.proofs.lemmas.encode.JoinedWords.{one_fits}
+
+-- each second number of a row, from the first on
+abbrev firsts : List ℕ → List ℕ
+firsts (x ∷ y ∷ xs) = x ∷ firsts xs
+firsts _ = []
+
+-- and from the second on
+abbrev seconds : List ℕ → List ℕ
+seconds (x ∷ y ∷ xs) = y ∷ seconds xs
+seconds _ = []
+
+-- the lanes that a vector of 16, of 8 and of 4 is parted in
+pub parted_sixteen : (xs : List ℕ) → length xs ≡ 16 →
+    (pick_l 0 (xs ++ xs) (0 ∷ 2 ∷ 4 ∷ 6 ∷ 8 ∷ 10 ∷ 12 ∷ 14 ∷ []) ≡ firsts xs) × (pick_l 0 (xs ++ xs) (1 ∷ 3 ∷ 5 ∷ 7 ∷ 9 ∷ 11 ∷ 13 ∷ 15 ∷ []) ≡ seconds xs)
+parted_sixteen (a ∷ b ∷ c ∷ d ∷ e ∷ f ∷ g ∷ h ∷ i ∷ j ∷ k ∷ l ∷ m ∷ n ∷ o ∷ p ∷ []) len = (refl, refl)
+parted_sixteen _ len = absurd (omega arith)
+
+pub parted_eight : (xs : List ℕ) → length xs ≡ 8 →
+    (pick_l 0 (xs ++ xs) (0 ∷ 2 ∷ 4 ∷ 6 ∷ []) ≡ firsts xs) × (pick_l 0 (xs ++ xs) (1 ∷ 3 ∷ 5 ∷ 7 ∷ []) ≡ seconds xs)
+parted_eight (a ∷ b ∷ c ∷ d ∷ e ∷ f ∷ g ∷ h ∷ []) len = (refl, refl)
+parted_eight _ len = absurd (omega arith)
+
+pub parted_four : (xs : List ℕ) → length xs ≡ 4 → (pick_l 0 (xs ++ xs) (0 ∷ 2 ∷ []) ≡ firsts xs) × (pick_l 0 (xs ++ xs) (1 ∷ 3 ∷ []) ≡ seconds xs)
+parted_four (a ∷ b ∷ c ∷ d ∷ []) len = (refl, refl)
+parted_four _ len = absurd (omega arith)
+
+-- a product of two numbers that are bounded
+product_bounded : (v z a b : ℕ) → v ≤ a → z ≤ b → v * z ≤ a * b
+product_bounded v z a b h k = let one = mul-le-mul_right z h in let two = mul-le-mul_left a k in omega (arith, one, two)
+
+-- two numbers joined, in a lane that has room for them
+joined_lane : (m v z u a b : ℕ) → v ≤ a → z ≤ b → u ≤ a → a * b + a < m → (v * z % m + u) % m ≡ v * z + u
+joined_lane m v z u a b h k l room =
+    let few = product_bounded v z a b h k in
+    ap (λ n. (n + u) % m) (mod-eq_of_lt (omega (arith, few, room))) ∙ mod-eq_of_lt (omega (arith, few, room, l))
+
+-- all numbers of two vectors joined, in lanes that have room for them
+pub values_joined : (m a b : ℕ) (vs ws : List ℕ) → a * b + a < m → Each1 (λ v. v ≤ a) vs → Each1 (λ w. w ≤ b) ws
+    → zip2 (λ p q. (p + q) % m) (zip2 (λ p q. p * q % m) (firsts vs) (seconds ws)) (seconds vs) ≡ joined_values vs ws
+values_joined m a b [] ws room h k = refl
+values_joined m a b (v ∷ []) ws room h k = refl
+values_joined m a b (v ∷ u ∷ vs) [] room h k = refl
+values_joined m a b (v ∷ u ∷ vs) (w ∷ []) room h k = refl
+values_joined m a b (v ∷ u ∷ vs) (w ∷ z ∷ ws) room h k =
+    let one = joined_lane m v z u a b h.0 k.1.0 h.1.0 room in
+    let rest = values_joined m a b vs ws room h.1.1 k.1.1 in
+    λ i. one i ∷ rest i
+
+pub weights_joined : (m b : ℕ) (ws : List ℕ) → b * b < m → Each1 (λ w. w ≤ b) ws → zip2 (λ p q. p * q % m) (firsts ws) (seconds ws) ≡ joined_weights ws
+weights_joined m b [] room k = refl
+weights_joined m b (w ∷ []) room k = refl
+weights_joined m b (w ∷ z ∷ ws) room k =
+    let few = product_bounded w z b b k.0 k.1.0 in
+    let one : w * z % m ≡ w * z = mod-eq_of_lt (omega (arith, few, room)) in
+    let rest = weights_joined m b ws room k.1.1 in
+    λ i. one i ∷ rest i
+
+-- pairs of sequences, each of which is the number 1
+pub pairs_joined : (m b n : ℕ) (ws : List ℕ) → length ws ≡ 2 * n → b + 1 < m → Each1 (λ w. w ≤ b) ws
+    → zip2 (λ p q. (p + q) % m) (seconds ws) (replicate n 1) ≡ joined_values (replicate (2 * n) 1) ws
+pairs_joined m b zero ws len room k = none ws
+  where
+    none : (ws : List ℕ) → zip2 (λ p q. (p + q) % m) (seconds ws) [] ≡ joined_values [] ws
+    none [] = refl
+    none (w ∷ []) = refl
+    none (w ∷ z ∷ ws) = refl
+pairs_joined m b (suc n) [] len room k = absurd (omega arith)
+pairs_joined m b (suc n) (w ∷ []) len room k = absurd (omega arith)
+pairs_joined m b (suc n) (w ∷ z ∷ ws) len room k =
+    let twice : 2 * suc n ≡ suc (suc (2 * n)) = omega arith in
+    let one : (z + 1) % m ≡ 1 * z + 1 = mod-eq_of_lt (omega (arith, room, k.1.0)) ∙ omega arith in
+    let rest = pairs_joined m b n ws (omega arith) room k.1.1 in
+    (λ i. one i ∷ rest i) ∙ ap (λ j. joined_values (replicate j 1) (w ∷ z ∷ ws)) (sym twice)
+
+-- how great what is joined is at most
+pub values_bounded : (a b : ℕ) (vs ws : List ℕ) → Each1 (λ v. v ≤ a) vs → Each1 (λ w. w ≤ b) ws → Each1 (λ v. v ≤ a * b + a) (joined_values vs ws)
+values_bounded a b [] ws h k = tt
+values_bounded a b (v ∷ []) ws h k = tt
+values_bounded a b (v ∷ u ∷ vs) [] h k = tt
+values_bounded a b (v ∷ u ∷ vs) (w ∷ []) h k = tt
+values_bounded a b (v ∷ u ∷ vs) (w ∷ z ∷ ws) h k =
+    let few = product_bounded v z a b h.0 k.1.0 in
+    (omega (arith, few, h.1.0), values_bounded a b vs ws h.1.1 k.1.1)
+
+pub weights_bounded : (b : ℕ) (ws : List ℕ) → Each1 (λ w. w ≤ b) ws → Each1 (λ w. w ≤ b * b) (joined_weights ws)
+weights_bounded b [] k = tt
+weights_bounded b (w ∷ []) k = tt
+weights_bounded b (w ∷ z ∷ ws) k = (product_bounded w z b b k.0 k.1.0, weights_bounded b ws k.1.1)
+
+-- the weight of a whole row of parts, and the number that has their digits
+abbrev whole_weight : List ℕ → ℕ
+whole_weight [] = 1
+whole_weight (w ∷ ws) = w * whole_weight ws
+
+abbrev whole_value : List ℕ → List ℕ → ℕ
+whole_value (v ∷ vs) (w ∷ ws) = v * whole_weight ws + whole_value vs ws
+whole_value _ _ = 0
+
+-- joining neighbours changes neither
+weight_kept : (n : ℕ) (ws : List ℕ) → length ws ≡ 2 * n → whole_weight (joined_weights ws) ≡ whole_weight ws
+weight_kept n [] len = refl
+weight_kept n (w ∷ []) len = absurd (omega arith)
+weight_kept zero (w ∷ z ∷ ws) len = absurd (omega arith)
+weight_kept (suc n) (w ∷ z ∷ ws) len = ap (λ r. w * z * r) (weight_kept n ws (omega arith)) ∙ omega arith
+
+pub value_kept : (n : ℕ) (vs ws : List ℕ) → length vs ≡ 2 * n → length ws ≡ 2 * n → whole_value (joined_values vs ws) (joined_weights ws) ≡ whole_value vs ws
+value_kept n [] [] h k = refl
+value_kept n [] (w ∷ []) h k = absurd (omega arith)
+value_kept n [] (w ∷ z ∷ ws) h k = absurd (omega arith)
+value_kept n (v ∷ []) ws h k = absurd (omega arith)
+value_kept n (v ∷ u ∷ vs) [] h k = absurd (omega arith)
+value_kept n (v ∷ u ∷ vs) (w ∷ []) h k = absurd (omega arith)
+value_kept zero (v ∷ u ∷ vs) (w ∷ z ∷ ws) h k = absurd (omega arith)
+value_kept (suc n) (v ∷ u ∷ vs) (w ∷ z ∷ ws) h k =
+    (λ i. (v * z + u) * weight_kept n ws (omega arith) i + value_kept n vs ws (omega arith) (omega arith) i) ∙ regroup v z u (whole_weight ws) (whole_value vs ws)
+  where
+    regroup : (v z u p r : ℕ) → (v * z + u) * p + r ≡ v * (z * p) + (u * p + r)
+    regroup v z u p r = omega arith
+
+pub length-joined_values : (n : ℕ) (vs ws : List ℕ) → length vs ≡ 2 * n → length ws ≡ 2 * n → length (joined_values vs ws) ≡ n
+length-joined_values n [] [] h k = omega arith
+length-joined_values n [] (w ∷ []) h k = absurd (omega arith)
+length-joined_values n [] (w ∷ z ∷ ws) h k = absurd (omega arith)
+length-joined_values n (v ∷ []) ws h k = absurd (omega arith)
+length-joined_values n (v ∷ u ∷ vs) [] h k = absurd (omega arith)
+length-joined_values n (v ∷ u ∷ vs) (w ∷ []) h k = absurd (omega arith)
+length-joined_values zero (v ∷ u ∷ vs) (w ∷ z ∷ ws) h k = absurd (omega arith)
+length-joined_values (suc n) (v ∷ u ∷ vs) (w ∷ z ∷ ws) h k = ap suc (length-joined_values n vs ws (omega arith) (omega arith))
+
+pub length-joined_weights : (n : ℕ) (ws : List ℕ) → length ws ≡ 2 * n → length (joined_weights ws) ≡ n
+length-joined_weights n [] h = omega arith
+length-joined_weights n (w ∷ []) h = absurd (omega arith)
+length-joined_weights zero (w ∷ z ∷ ws) h = absurd (omega arith)
+length-joined_weights (suc n) (w ∷ z ∷ ws) h = ap suc (length-joined_weights n ws (omega arith))
+
+-- a sequence before other bits
+number_behind : (m : ℕ) (bits : List Bool) → number_of (fundamental_sequence m ++ bits) ≡ 2 ^ length bits + number_of bits
+number_behind m bits =
+    let n = length bits in
+    let all = 1 * 2 ^ n + number_of bits in
+    let spelled : word (m + 1 + n) all ≡ fundamental_sequence m ++ bits = word-cat (m + 1) n 1 (number_of bits) (number_of-lt bits) ∙ (λ i. word-fs m i ++ word-number_of bits i) in
+    sym (ap number_of spelled) ∙ (number_of-word (m + 1 + n) all (join_below (m + 1) n 1 (number_of bits) (one_fits m) (number_of-lt bits)) ∙ omega arith)
+
+-- digits that spell a number
+digits_spelled : (bits : List Bool) {v total : ℕ} → length bits ≡ total → v ≡ number_of bits → HasDigits bits v total
+digits_spelled bits {v} {total} len e = record {
+  len = len;
+  fits = subst (λ n. v < 2 ^ n) len (subst (λ x. x < 2 ^ length bits) (sym e) (number_of-lt bits));
+  digits = (λ i. word (sym len i) (e i)) ∙ word-number_of bits;
+}
+
+-- the weight of a sequence
+abbrev pub weight : ℕ → ℕ
+weight m = 2 ^ (m + 1)
+
+sequences_weigh : (ms : List ℕ) → 2 ^ length (flat_map fundamental_sequence ms) ≡ whole_weight (map weight ms)
+sequences_weigh [] = refl
+sequences_weigh (m ∷ ms) =
+    let rest = flat_map fundamental_sequence ms in
+    let len : length (fundamental_sequence m ++ rest) ≡ m + 1 + length rest = length-append (fundamental_sequence m) rest ∙ ap (λ n. n + length rest) (length-fundamental_sequence m) in
+    ap (λ n. 2 ^ n) len ∙ (pow-add 2 (m + 1) (length rest) ∙ ap (λ p. 2 ^ (m + 1) * p) (sequences_weigh ms))
+
+-- a row of sequences is the whole of its parts
+sequences_are_whole : (ms : List ℕ) → number_of (flat_map fundamental_sequence ms) ≡ whole_value (replicate (length ms) 1) (map weight ms)
+unfolding number_of
+sequences_are_whole [] = refl
+sequences_are_whole (m ∷ ms) =
+    number_behind m (flat_map fundamental_sequence ms) ∙ ((λ i. sequences_weigh ms i + sequences_are_whole ms i) ∙ omega arith)
+
+-- the last two parts
+last_two : (vs ws : List ℕ) → length vs ≡ 2 → length ws ≡ 2 → whole_value vs ws ≡ get_or vs 0 0 * get_or ws 1 0 + get_or vs 1 0
+last_two (v ∷ u ∷ []) (w ∷ z ∷ []) h k = omega arith
+last_two [] ws h k = absurd (omega arith)
+last_two (v ∷ []) ws h k = absurd (omega arith)
+last_two (v ∷ u ∷ t ∷ vs) ws h k = absurd (omega arith)
+last_two (v ∷ u ∷ []) [] h k = absurd (omega arith)
+last_two (v ∷ u ∷ []) (w ∷ []) h k = absurd (omega arith)
+last_two (v ∷ u ∷ []) (w ∷ z ∷ y ∷ ws) h k = absurd (omega arith)
+
+-- sixteen sequences, joined three times in lanes and then once more
+pub sixteen_joined : (ms : List ℕ) {ws v2 w2 v4 w4 v8 w8 : List ℕ} → length ms ≡ 16 → ws ≡ map weight ms
+    → v2 ≡ joined_values (replicate 16 1) ws → w2 ≡ joined_weights ws → v4 ≡ joined_values v2 w2 → w4 ≡ joined_weights w2 → v8 ≡ joined_values v4 w4 → w8 ≡ joined_weights w4
+    → get_or v8 0 0 * get_or w8 1 0 + get_or v8 1 0 ≡ number_of (flat_map fundamental_sequence ms)
+sixteen_joined ms {ws} {v2} {w2} {v4} {w4} {v8} {w8} len e a2 b2 a4 b4 a8 b8 =
+    let ones : List ℕ = replicate 16 1 in
+    let n0 : length ws ≡ 2 * 8 = ap length e ∙ (length-map ms weight ∙ len) in
+    let l0 : length ones ≡ 2 * 8 = refl in
+    let l2 : length v2 ≡ 2 * 4 = ap length a2 ∙ length-joined_values 8 ones ws l0 n0 in
+    let n2 : length w2 ≡ 2 * 4 = ap length b2 ∙ length-joined_weights 8 ws n0 in
+    let l4 : length v4 ≡ 2 * 2 = ap length a4 ∙ length-joined_values 4 v2 w2 l2 n2 in
+    let n4 : length w4 ≡ 2 * 2 = ap length b4 ∙ length-joined_weights 4 w2 n2 in
+    let l8 : length v8 ≡ 2 = ap length a8 ∙ length-joined_values 2 v4 w4 l4 n4 in
+    let n8 : length w8 ≡ 2 = ap length b8 ∙ length-joined_weights 2 w4 n4 in
+    sym (last_two v8 w8 l8 n8)
+    ∙ ((λ i. whole_value (a8 i) (b8 i)) ∙ (value_kept 2 v4 w4 l4 n4
+    ∙ ((λ i. whole_value (a4 i) (b4 i)) ∙ (value_kept 4 v2 w2 l2 n2
+    ∙ ((λ i. whole_value (a2 i) (b2 i)) ∙ (value_kept 8 ones ws l0 n0
+    ∙ ((λ i. whole_value (replicate (sym len i) 1) (e i)) ∙ sym (sequences_are_whole ms))))))))
+
+-- the table of weights
+pub weights_swizzled : (ms : List ℕ) → length ms ≡ 16 → Each1 (λ m. m ≤ 6) ms → swz_l w8 16 WEIGHTS 0 ms ≡ map weight ms
+weights_swizzled ms len small = each 0 ms (omega arith) small
+  where
+    lane : (m : ℕ) → m ≤ 6 → cond (leb 128 m) 0 (get_or WEIGHTS m 0) ≡ weight m
+    lane zero h = refl
+    lane (suc zero) h = refl
+    lane (suc (suc zero)) h = refl
+    lane (suc (suc (suc zero))) h = refl
+    lane (suc (suc (suc (suc zero)))) h = refl
+    lane (suc (suc (suc (suc (suc zero))))) h = refl
+    lane (suc (suc (suc (suc (suc (suc zero)))))) h = refl
+    lane (suc (suc (suc (suc (suc (suc (suc m))))))) h = absurd (omega arith)
+
+    picked : (i j : ℕ) → i < 16 → j ≤ 6 → cond (leb 128 j) 0 (get_or WEIGHTS (16 * (i / 16) + j) 0) ≡ weight j
+    picked i j h k =
+        let here : 16 * (i / 16) + j ≡ j = omega (arith, h) in
+        ap (λ n. cond (leb 128 j) 0 (get_or WEIGHTS n 0)) here ∙ lane j k
+
+    each : (i : ℕ) (ms : List ℕ) → i + length ms ≤ 16 → Each1 (λ m. m ≤ 6) ms → swz_l w8 16 WEIGHTS i ms ≡ map weight ms
+    each i [] h k = refl
+    each i (m ∷ ms) h k =
+        let rest = each (suc i) ms (omega arith) k.1 in
+        let one = picked i m (omega arith) k.0 in
+        λ j. one j ∷ rest j
+
+pub places_are_ok : (ms : List ℕ) → length ms ≡ 16 → Each1 (λ m. m ≤ 6) ms → SwzOk w8 16 16 0 ms
+places_are_ok ms len small = SwzOk-from_below w8 16 1 16 0 ms (omega arith) (omega arith) (wider ms small)
+  where
+    wider : (ms : List ℕ) → Each1 (λ m. m ≤ 6) ms → Each1 (λ m. m < 16) ms
+    wider [] h = tt
+    wider (m ∷ ms) h = (omega (arith, h.0), wider ms h.1)
+
+pub weights_few : (ms : List ℕ) → Each1 (λ m. m ≤ 6) ms → Each1 (λ w. w ≤ 2 ^ 7) (map weight ms)
+weights_few [] h = tt
+weights_few (m ∷ ms) h = (pow-le-pow_right {n = 2} (omega arith) {i = m + 1} {j = 7} (omega (arith, h.0)), weights_few ms h.1)
+
+-- a fact of all lanes as a fact of each, and back
+pub each_of : (P : ℕ → Type 0) (xs : List ℕ) → All P xs → Each1 P xs
+each_of P xs h = Each1-from_get_or P xs 0 (λ i lt. h i 0 lt)
+
+pub all_of : (P : ℕ → Type 0) (xs : List ℕ) → Each1 P xs → All P xs
+all_of P xs h = λ i d lt. Each1-get_or P xs i d lt h
+
+-- the least of each number and 15
+pub least_of_each : (xs : List ℕ) (n : ℕ) → length xs ≡ n
+    → sel_l (map (top (hbits w32)) (zip2 (λ a b. cond (nat_lt a b) (2 ^ 32 - 1) 0) xs (replicate n 15))) xs (replicate n 15) ≡ map (λ m. min m 15) xs
+least_of_each xs n len =
+    let ys = replicate n 15 in
+    ap (λ ms. sel_l ms xs ys) (tops_compared w32 nat_lt xs ys) ∙ (select_min xs ys ∙ zip2_splat min xs n 15 len)
+
+pub least_fit : (xs : List ℕ) → Each1 (Fits w8) (map (λ m. min m 15) xs)
+least_fit [] = tt
+least_fit (x ∷ xs) = (record { fits = omega arith }, least_fit xs)
+
+-- where the least of a number and 15 is at most 6, it is the number
+pub small_kept : (xs : List ℕ) → Each1 (λ m. m ≤ 6) (map (λ m. min m 15) xs) → map (λ m. min m 15) xs ≡ xs
+small_kept [] h = refl
+small_kept (x ∷ xs) h =
+    let one : min x 15 ≡ x = omega (arith, h.0) in
+    let rest = small_kept xs h.1 in
+    λ i. one i ∷ rest i
+
+-- the test whether all numbers are at most 6
+pub none_above_six : (ms over : List ℕ) → over ≡ zip2 (λ d b. d - b) ms (replicate 16 6) → length ms ≡ 16 → (fold_l bit_or 0 over == 0) ≡ true → Each1 (λ m. m ≤ 6) ms
+none_above_six ms over are len test =
+    let none : fold_l bit_or 0 over ≡ 0 = grind (arith, nat_tests) in
+    each 16 ms len (subst (Each1 (λ x. x ≤ 0)) are (subst (λ (m : ℕ). Each1 (λ x. x ≤ m) over) none (lanes_below_digits over)))
+  where
+    each : (n : ℕ) (ms : List ℕ) → length ms ≡ n → Each1 (λ x. x ≤ 0) (zip2 (λ d b. d - b) ms (replicate n 6)) → Each1 (λ m. m ≤ 6) ms
+    each n [] e h = tt
+    each zero (m ∷ ms) e h = absurd (omega arith)
+    each (suc n) (m ∷ ms) e h = (omega (arith, h.0), each n ms (omega arith) h.1)
+
+-- what the last product makes fits 64 bits
+pub row_fits : (bits : List Bool) (v : ℕ) → length bits ≤ 63 → v ≡ number_of bits → v < 2 ^ 63
+row_fits bits v few e =
+    let le : 2 ^ length bits ≤ 2 ^ 63 = pow-le-pow_right {n = 2} (omega arith) {i = length bits} {j = 63} few in
+    omega (arith, e, le, number_of-lt bits)
+
+-- how great the weights are, and what is joined
+pub first_bounded : (ms : List ℕ) {ws : List ℕ} → All (λ m. m ≤ 6) ms → ws ≡ map weight ms → All (λ w. w ≤ 2 ^ 7) ws
+first_bounded ms {ws} h e = all_of (λ w. w ≤ 2 ^ 7) ws (subst (Each1 (λ w. w ≤ 2 ^ 7)) (sym e) (weights_few ms (each_of (λ m. m ≤ 6) ms h)))
+
+pub joined_weights_bounded : (b : ℕ) (ws : List ℕ) {more : List ℕ} → All (λ w. w ≤ b) ws → more ≡ joined_weights ws → All (λ w. w ≤ b * b) more
+joined_weights_bounded b ws {more} h e = all_of (λ w. w ≤ b * b) more (subst (Each1 (λ w. w ≤ b * b)) (sym e) (weights_bounded b ws (each_of (λ w. w ≤ b) ws h)))
+
+pub joined_values_bounded : (a b c : ℕ) (vs ws : List ℕ) {more : List ℕ} → a * b + a ≤ c → All (λ v. v ≤ a) vs → All (λ w. w ≤ b) ws → more ≡ joined_values vs ws → All (λ v. v ≤ c) more
+joined_values_bounded a b c vs ws {more} le h k e =
+    let few = all_of (λ v. v ≤ a * b + a) more (subst (Each1 (λ v. v ≤ a * b + a)) (sym e) (values_bounded a b vs ws (each_of (λ v. v ≤ a) vs h) (each_of (λ w. w ≤ b) ws k))) in
+    λ i d lt. let one = few i d lt in omega (arith, one, le)
+
+pub ones_bounded : (n : ℕ) → All (λ v. v ≤ 1) (replicate n 1)
+ones_bounded n = all_of (λ v. v ≤ 1) (replicate n 1) (each n)
+  where
+    each : (n : ℕ) → Each1 (λ v. v ≤ 1) (replicate n 1)
+    each zero = tt
+    each (suc n) = (omega arith, each n)
+
+-- the digits of a row of sequences from the first on, and from the second on
+pub all_of_row : (ms : List ℕ) {v from total : ℕ} → from ≡ 0 → total ≡ length (flat_map fundamental_sequence (drop from ms)) → v ≡ number_of (flat_map fundamental_sequence ms)
+    → HasDigits (flat_map fundamental_sequence (drop from ms)) v total
+all_of_row ms {v} {from} {total} none len e =
+    digits_spelled (flat_map fundamental_sequence (drop from ms)) (sym len) (e ∙ ap (λ n. number_of (flat_map fundamental_sequence (drop n ms))) (sym none))
+
+pub all_but_first_of_row : (ms : List ℕ) {v from total : ℕ} → from ≡ 1 → length ms ≡ 16 → total ≡ length (flat_map fundamental_sequence (drop from ms)) → total ≤ 56
+    → v ≡ number_of (flat_map fundamental_sequence ms) → HasDigits (flat_map fundamental_sequence (drop from ms)) (v % (1 * 2 ^ total % 2 ^ 64)) total
+all_but_first_of_row [] one sixteen len few e = absurd (omega arith)
+all_but_first_of_row (m ∷ ms) {v} {from} {total} one sixteen len few e =
+    let bits = flat_map fundamental_sequence (drop from (m ∷ ms)) in
+    let behind : bits ≡ flat_map fundamental_sequence ms = ap (λ n. flat_map fundamental_sequence (drop n (m ∷ ms))) one in
+    let same : v ≡ 1 * 2 ^ length bits + number_of bits = e ∙ (number_behind m (flat_map fundamental_sequence ms) ∙ ((λ i. 2 ^ length (sym behind i) + number_of (sym behind i)) ∙ omega arith)) in
+    let mask : 1 * 2 ^ total % 2 ^ 64 ≡ 2 ^ length bits = one_shl total 64 (omega (arith, few)) ∙ ap (λ n. 2 ^ n) len in
+    digits_spelled bits (sym len) ((λ i. same i % mask i) ∙ mod-mul-add 1 (2 ^ length bits) (number_of bits) (number_of-lt bits))
