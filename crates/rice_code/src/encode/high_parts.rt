@@ -13,7 +13,7 @@ use crate::encode::gathered_sequences::{
     number_and_len_of_ones, ones_with_four_sequences,
 };
 use crate::encode::sequences_by_products::{
-    are_at_most_six, number_of_sequences_from, numbers_in_bytes,
+    are_at_most_six, len_of_sequences_from, number_of_sequences_from, numbers_in_bytes,
 };
 use rice_bits::Meter;
 use rice_samples::Block;
@@ -206,12 +206,8 @@ fn put_sixteen_high_at(
     ensures { AddsOnes k 16 (16 - from) (slice_range block.now (at + from) (at + 16))
         sink.old fields.old sink.new fields.new meter.old meter.new }
 {
-    let _len = block.len();
-    let a = high_four(block, at, k, meter);
-    let b = high_four(block, at + 4, k, meter);
-    let c = high_four(block, at + 8, k, meter);
-    let d = high_four(block, at + 12, k, meter);
-    put_sixteen_sequences(a, b, c, d, from, fields, sink, meter);
+    let numbers = sixteen_high(block, at, k, meter);
+    put_sixteen_numbers(numbers, from, fields, sink, meter);
 }
 
 /// Returns residuals number `at` to `at + 3` without their `k` lowest digits.
@@ -281,8 +277,62 @@ fn put_sixteen_numbers_with_total(
     meter.tick(steps.steps());
 }
 
-/// Adds those of 16 numbers one by one, and returns the buffer. It takes no reference to it, so that the bits stay in registers
+/// Adds the fundamental sequences of 16 numbers, from number `from` on.
+#[inline(always)]
+fn put_sixteen_numbers(
+    numbers: u32x16,
+    from: usize,
+    fields: &mut BitBuffer,
+    sink: &mut SegmentSink,
+    meter: &mut Meter,
+)
+    requires len { length numbers ≡ 16 }
+    requires from { from ≤ 1 }
+    requires room { HasRoomForBits (flat_map fundamental_sequence (drop from numbers))
+        (length sink.old + length fields.old) (meter.old + length fields.old) }
+    ensures { AddsBits (flat_map fundamental_sequence (drop from numbers))
+        sink.old fields.old sink.new fields.new meter.old meter.new }
+{
+    let small = numbers_in_bytes(numbers);
+    if are_at_most_six(small) {
+        let total = len_of_sequences_from(small, from);
+        if total <= 56 {
+            let value = number_of_sequences_from(small, from, total);
+            fields.add(value, total, sink, meter);
+            return;
+        }
+    }
+    let held = std::mem::replace(fields, BitBuffer::new());
+    let mut steps = Meter::new();
+    *fields = put_any_sixteen(&numbers.to_array(), from, held, sink, &mut steps);
+    meter.tick(steps.steps());
+}
+
+/// Adds those of 16 numbers of any size, and returns the buffer. It takes no reference to it, so that the bits stay in registers
 /// elsewhere.
+#[inline(never)]
+fn put_any_sixteen(
+    numbers: &[u32; 16],
+    from: usize,
+    mut fields: BitBuffer,
+    sink: &mut SegmentSink,
+    meter: &mut Meter,
+) -> BitBuffer
+    requires from { from ≤ 1 }
+    requires room { HasRoomForBits (flat_map fundamental_sequence (drop from numbers.now))
+        (length sink.old + length fields) (meter.old + length fields) }
+    ensures { AddsBits (flat_map fundamental_sequence (drop from numbers.now))
+        sink.old fields sink.new result meter.old meter.new }
+{
+    let a = (numbers[0], numbers[1], numbers[2], numbers[3]);
+    let b = (numbers[4], numbers[5], numbers[6], numbers[7]);
+    let c = (numbers[8], numbers[9], numbers[10], numbers[11]);
+    let d = (numbers[12], numbers[13], numbers[14], numbers[15]);
+    put_sixteen_sequences(a, b, c, d, from, &mut fields, sink, meter);
+    fields
+}
+
+/// Adds those of 16 numbers of any size: `total` bits. Returns the buffer, as `put_any_sixteen` does.
 #[inline(never)]
 fn put_any_sixteen_with_total(
     numbers: &[u32; 16],

@@ -1,5 +1,5 @@
 //! The fundamental sequences of 16 numbers in one number, by products in lanes instead of one bit after another.
-ghost use Rattle.std.specs.Prelude.{◌≡◌, ◌+◌, ◌*◌, ◌^◌, ◌<◌, ◌≤◌, All, drop, flat_map, length, map, min, replicate, true};
+ghost use Rattle.std.specs.Prelude.{◌≡◌, ◌+◌, ◌*◌, ◌^◌, ◌<◌, ◌≤◌, ◌↔◌, All, IsTrue, drop, flat_map, length, map, min, replicate};
 ghost use Rattle.rice_bits.specs.Bits.{number_of, fundamental_sequence};
 ghost use Rattle.rice_code.specs.encode.GatheredSequences.{HasDigits};
 ghost use Rattle.rice_code.specs.encode.SequencesByProducts.{joined_values, joined_weights};
@@ -22,9 +22,25 @@ pub fn numbers_in_bytes(numbers: u32x16) -> u8x16
 #[inline(always)]
 pub fn are_at_most_six(numbers: u8x16) -> bool
     requires { length numbers ≡ 16 }
-    ensures { result ≡ true → All (λ m. m ≤ 6) numbers }
+    ensures { IsTrue result ↔ All (λ m. m ≤ 6) numbers }
 {
     numbers.saturating_sub(u8x16::splat(6)).reduce_or() == 0
+}
+
+/// Returns the number of bits of the fundamental sequences of 16 numbers of at most 6 from number `from` on, which is one of the
+/// first two.
+#[inline(always)]
+pub fn len_of_sequences_from(numbers: u8x16, from: usize) -> u32
+    requires len { length numbers ≡ 16 }
+    requires small { All (λ m. m ≤ 6) numbers }
+    requires from { from ≤ 1 }
+    ensures { result ≡ length (flat_map fundamental_sequence (drop from numbers)) }
+{
+    let all = numbers.reduce_sum() as u32 + 16;
+    if from == 0 {
+        return all;
+    }
+    all - (numbers.to_array()[0] as u32 + 1)
 }
 
 /// Returns the number whose digits are the fundamental sequences of 16 numbers of at most 6 from number `from` on, which is one

@@ -1,7 +1,8 @@
 -- Fundamental sequences that are joined by products, in lanes.
-use Rattle.std.proofs.Common.{◌≡◌, ℕ, zero, suc, ◌+◌, ◌-◌, ◌*◌, ◌/◌, ◌%◌, ◌^◌, ◌<◌, ◌≤◌, ◌==◌, Bool, true, cond, List, [], ◌∷◌, ◌++◌}
-use Rattle.std.proofs.Common.{length, drop, get_or, map, min, replicate, refl, ap, arith, sym, subst, ◌∙◌, length-append, mod-eq_of_lt, nat_lt, Fits, w8, w32}
+use Rattle.std.proofs.Common.{◌≡◌, ℕ, zero, suc, ◌+◌, ◌-◌, ◌*◌, ◌/◌, ◌%◌, ◌^◌, ◌<◌, ◌≤◌, ◌==◌, Bool, true, ◌&&◌, cond, List, [], ◌∷◌, ◌++◌}
+use Rattle.std.proofs.Common.{length, drop, get_or, map, min, replicate, refl, ap, arith, sym, subst, ◌∙◌, length-append, mod-eq_of_lt, eq-eqb, nat_lt, Fits, w8, w32}
 use Rattle.std.specs.Prelude.{All, flat_map, bit_or}
+use Rattle.std.specs.List.{list_all}
 use Rattle.std.specs.Simd.Lanes.{zip2, Each1, fold_l, pick_l, sel_l, top}
 use Rattle.std.proofs.Math.Nat.{mul-le-mul_left, mul-le-mul_right, pow-le-pow_right}
 use Rattle.std.proofs.lemmas.Nat.{mod-mul-add, one_shl, pow-add}
@@ -10,7 +11,7 @@ use Rattle.std.proofs.lemmas.Simd.{Each1-get_or, Each1-from_get_or, SwzOk, SwzOk
 use Rattle.std.proofs.lemmas.Bool.Decides.{nat_tests}
 use lib.Dec.{leb}
 use mir.Val.{hbits}
-use Rattle.rice_samples.proofs.lemmas.blocks.EightsInLanes.{lanes_below_digits}
+use Rattle.rice_samples.proofs.lemmas.blocks.EightsInLanes.{lanes_below_digits, no_digits}
 use Rattle.rice_bits.specs.Bits.{word, number_of, fundamental_sequence}
 use Rattle.rice_bits.proofs.lemmas.bits.WordsAndNumbers.{word-cat, word-fs, word-number_of, number_of-word, number_of-lt, join_below, length-fundamental_sequence}
 use Rattle.rice_samples.proofs.lemmas.predict.NearEights.{select_min}
@@ -272,14 +273,6 @@ pub least_fit : (xs : List ℕ) → Each1 (Fits w8) (map (λ m. min m 15) xs)
 least_fit [] = tt
 least_fit (x ∷ xs) = (record { fits = omega arith }, least_fit xs)
 
--- where the least of a number and 15 is at most 6, it is the number
-pub small_kept : (xs : List ℕ) → Each1 (λ m. m ≤ 6) (map (λ m. min m 15) xs) → map (λ m. min m 15) xs ≡ xs
-small_kept [] h = refl
-small_kept (x ∷ xs) h =
-    let one : min x 15 ≡ x = omega (arith, h.0) in
-    let rest = small_kept xs h.1 in
-    λ i. one i ∷ rest i
-
 -- the test whether all numbers are at most 6
 pub none_above_six : (ms over : List ℕ) → over ≡ zip2 (λ d b. d - b) ms (replicate 16 6) → length ms ≡ 16 → (fold_l bit_or 0 over == 0) ≡ true → Each1 (λ m. m ≤ 6) ms
 none_above_six ms over are len test =
@@ -290,6 +283,16 @@ none_above_six ms over are len test =
     each n [] e h = tt
     each zero (m ∷ ms) e h = absurd (omega arith)
     each (suc n) (m ∷ ms) e h = (omega (arith, h.0), each n ms (omega arith) h.1)
+
+pub none_found_above_six : (ms over : List ℕ) → over ≡ zip2 (λ d b. d - b) ms (replicate 16 6) → Each1 (λ m. m ≤ 6) ms → (fold_l bit_or 0 over == 0) ≡ true
+none_found_above_six ms over are h = eq-eqb _ _ (no_digits over (ap (list_all (λ d. d == 0)) are ∙ each 16 ms h))
+  where
+    each : (n : ℕ) (ms : List ℕ) → Each1 (λ m. m ≤ 6) ms → list_all (λ d. d == 0) (zip2 (λ d b. d - b) ms (replicate n 6)) ≡ true
+    each n [] h = refl
+    each zero (m ∷ ms) h = refl
+    each (suc n) (m ∷ ms) h =
+        let none : m - 6 ≡ 0 = omega (arith, h.0) in
+        ap (λ d. (d == 0) && list_all (λ d. d == 0) (zip2 (λ d b. d - b) ms (replicate n 6))) none ∙ each n ms h.1
 
 -- what the last product makes fits 64 bits
 pub row_fits : (bits : List Bool) (v : ℕ) → length bits ≤ 63 → v ≡ number_of bits → v < 2 ^ 63
@@ -331,3 +334,25 @@ all_but_first_of_row (m ∷ ms) {v} {from} {total} one sixteen len few e =
     let same : v ≡ 1 * 2 ^ length bits + number_of bits = e ∙ (number_behind m (flat_map fundamental_sequence ms) ∙ ((λ i. 2 ^ length (sym behind i) + number_of (sym behind i)) ∙ omega arith)) in
     let mask : 1 * 2 ^ total % 2 ^ 64 ≡ 2 ^ length bits = one_shl total 64 (omega (arith, few)) ∙ ap (λ n. 2 ^ n) len in
     digits_spelled bits (sym len) ((λ i. same i % mask i) ∙ mod-mul-add 1 (2 ^ length bits) (number_of bits) (number_of-lt bits))
+
+-- the sum of 16 numbers of at most 6, in a lane of a byte, and the bits of their sequences
+summed : (a : ℕ) (ms : List ℕ) → Each1 (λ m. m ≤ 6) ms → a + 6 * length ms < 256 → fold_l (λ x y. (x + y) % 256) a ms + length ms ≡ a + length (flat_map fundamental_sequence ms)
+summed a [] h few = omega arith
+summed a (m ∷ ms) h few =
+    let rest = flat_map fundamental_sequence ms in
+    let len : length (fundamental_sequence m ++ rest) ≡ m + 1 + length rest = length-append (fundamental_sequence m) rest ∙ ap (λ n. n + length rest) (length-fundamental_sequence m) in
+    let here : (a + m) % 256 ≡ a + m = mod-eq_of_lt (omega (arith, h.0, few)) in
+    let more = summed (a + m) ms h.1 (omega (arith, h.0, few)) in
+    ap (λ x. fold_l (λ x y. (x + y) % 256) x ms + suc (length ms)) here ∙ omega (arith, more, len)
+
+pub len_of_row : (ms : List ℕ) → length ms ≡ 16 → Each1 (λ m. m ≤ 6) ms → fold_l (λ x y. (x + y) % 256) 0 ms + 16 ≡ length (flat_map fundamental_sequence ms)
+len_of_row ms len h = let all = summed 0 ms h (omega (arith, len)) in omega (arith, all, len)
+
+-- without the first
+pub len_but_first : (ms : List ℕ) (from : ℕ) → from ≡ 1 → length ms ≡ 16 → length (flat_map fundamental_sequence (drop from ms)) + (get_or ms 0 0 + 1) ≡ length (flat_map fundamental_sequence ms)
+len_but_first [] from one len = absurd (omega arith)
+len_but_first (m ∷ ms) from one len =
+    let rest = flat_map fundamental_sequence ms in
+    let all : length (fundamental_sequence m ++ rest) ≡ m + 1 + length rest = length-append (fundamental_sequence m) rest ∙ ap (λ n. n + length rest) (length-fundamental_sequence m) in
+    let behind = ap (λ n. length (flat_map fundamental_sequence (drop n (m ∷ ms)))) one in
+    omega (arith, all, behind)

@@ -1,46 +1,30 @@
-use Rattle.std.proofs.Common.{arith, ◌≡◌, ℕ, ◌+◌, ◌/◌, ◌^◌, ◌++◌, ◌∙◌, ap, sym, length}
-use Rattle.std.specs.Prelude.{flat_map, slice_range}
-use Rattle.rice_bits.specs.Bits.{fundamental_sequence}
-use Rattle.rice_code.specs.encode.GatheredSequences.{four_sequences, sequences_from}
-use Rattle.rice_code.proofs.lemmas.encode.HighParts.{length-high, length-row, sixteen_from}
+use Rattle.std.proofs.Common.{arith, ℕ, ◌+◌, ◌/◌, ◌^◌, ◌++◌, ◌∙◌, ap, length}
+use Rattle.std.specs.Prelude.{slice_range}
+use Rattle.rice_code.proofs.lemmas.encode.HighParts.{length-high, length-row, sequences_of_row}
 use Rattle.rice_code.proofs.encode.high_parts.put_sixteen_high_at.Goals as goal
 
-pub put_sixteen_sequences-requires-clause-room : goal.put_sixteen_sequences-requires-clause-room
-put_sixteen_sequences-requires-clause-room c =
+pub put_sixteen_numbers-requires-clause-room : goal.put_sixteen_numbers-requires-clause-room
+put_sixteen_numbers-requires-clause-room c =
     let xs = c.args.block.now in
+    let i = c.args.at in
     let from = c.args.from in
-    let f = λ (d : ℕ). fundamental_sequence (d / 2 ^ c.args.k) in
-    let same : sequences_from from c.high_four-a.result.0 c.high_four-a.result.1 c.high_four-a.result.2 c.high_four-a.result.3 ++ four_sequences
-    c.high_four-b.result.0 c.high_four-b.result.1 c.high_four-b.result.2 c.high_four-b.result.3 ++ four_sequences c.high_four-c.result.0
-    c.high_four-c.result.1 c.high_four-c.result.2 c.high_four-c.result.3 ++ four_sequences c.high_four-d.result.0 c.high_four-d.result.1
-    c.high_four-d.result.2 c.high_four-d.result.3 ≡ flat_map f (slice_range xs (c.args.at + from) (c.args.at + 16)) =
-    (λ j. sequences_from from (c.high_four-a.ensures.first j) (c.high_four-a.ensures.second j) (c.high_four-a.ensures.third j)
-    (c.high_four-a.ensures.last j) ++ four_sequences (c.high_four-b.ensures.first j) (c.high_four-b.ensures.second j) (c.high_four-b.ensures.third j)
-    (c.high_four-b.ensures.last j) ++ four_sequences (c.high_four-c.ensures.first j) (c.high_four-c.ensures.second j) (c.high_four-c.ensures.third j)
-    (c.high_four-c.ensures.last j) ++ four_sequences (c.high_four-d.ensures.first j) (c.high_four-d.ensures.second j) (c.high_four-d.ensures.third j)
-    (c.high_four-d.ensures.last j)) ∙ sym (sixteen_from f xs c.args.at from c.requires.from c.requires.inside) in
-    let len = ap length same ∙ length-high c.args.k (slice_range xs (c.args.at + from) (c.args.at + 16)) in
-    let row = length-row xs (c.args.at + from) (c.args.at + 16) (omega (arith, c.requires.from)) (omega (arith, c.requires.inside)) in
-    record { room = omega (arith, len, row, c.requires.room.room); steps = omega (arith, len, row, c.requires.room.steps) }
+    let high = c.sixteen_high-numbers in
+    let same = sequences_of_row (λ (d : ℕ). d / 2 ^ c.args.k) xs high.result i from (omega (arith, c.requires.from)) high.ensures.value in
+    let len = ap length same ∙ length-high c.args.k (slice_range xs (i + from) (i + 16)) in
+    let row = length-row xs (i + from) (i + 16) (omega (arith, c.requires.from)) (omega (arith, c.requires.inside)) in
+    record { room = omega (arith, len, row, c.requires.room.room); steps = omega (arith, len, row, c.requires.room.steps, high.ensures.steps) }
 
 pub returns : goal.returns
 returns c =
     let xs = c.args.block.now in
+    let i = c.args.at in
     let from = c.args.from in
-    let f = λ (d : ℕ). fundamental_sequence (d / 2 ^ c.args.k) in
-    let same : sequences_from from c.high_four-a.result.0 c.high_four-a.result.1 c.high_four-a.result.2 c.high_four-a.result.3 ++ four_sequences
-    c.high_four-b.result.0 c.high_four-b.result.1 c.high_four-b.result.2 c.high_four-b.result.3 ++ four_sequences c.high_four-c.result.0
-    c.high_four-c.result.1 c.high_four-c.result.2 c.high_four-c.result.3 ++ four_sequences c.high_four-d.result.0 c.high_four-d.result.1
-    c.high_four-d.result.2 c.high_four-d.result.3 ≡ flat_map f (slice_range xs (c.args.at + from) (c.args.at + 16)) =
-    (λ j. sequences_from from (c.high_four-a.ensures.first j) (c.high_four-a.ensures.second j) (c.high_four-a.ensures.third j)
-    (c.high_four-a.ensures.last j) ++ four_sequences (c.high_four-b.ensures.first j) (c.high_four-b.ensures.second j) (c.high_four-b.ensures.third j)
-    (c.high_four-b.ensures.last j) ++ four_sequences (c.high_four-c.ensures.first j) (c.high_four-c.ensures.second j) (c.high_four-c.ensures.third j)
-    (c.high_four-c.ensures.last j) ++ four_sequences (c.high_four-d.ensures.first j) (c.high_four-d.ensures.second j) (c.high_four-d.ensures.third j)
-    (c.high_four-d.ensures.last j)) ∙ sym (sixteen_from f xs c.args.at from c.requires.from c.requires.inside) in
-    let len = ap length same ∙ length-high c.args.k (slice_range xs (c.args.at + from) (c.args.at + 16)) in
-    let row = length-row xs (c.args.at + from) (c.args.at + 16) (omega (arith, c.requires.from)) (omega (arith, c.requires.inside)) in
+    let high = c.sixteen_high-numbers in
+    let same = sequences_of_row (λ (d : ℕ). d / 2 ^ c.args.k) xs high.result i from (omega (arith, c.requires.from)) high.ensures.value in
+    let len = ap length same ∙ length-high c.args.k (slice_range xs (i + from) (i + 16)) in
+    let row = length-row xs (i + from) (i + 16) (omega (arith, c.requires.from)) (omega (arith, c.requires.inside)) in
     record {
-      bits = c.put_sixteen_sequences.ensures.bits ∙ ap (λ v. c.args.sink.now ++ c.args.fields.now ++ v) same;
-      len = omega (arith, len, row, c.put_sixteen_sequences.ensures.len);
-      steps = omega (arith, len, row, c.put_sixteen_sequences.ensures.steps);
+      bits = c.put_sixteen_numbers.ensures.bits ∙ ap (λ v. c.args.sink.now ++ c.args.fields.now ++ v) same;
+      len = omega (arith, len, row, c.put_sixteen_numbers.ensures.len);
+      steps = omega (arith, len, row, c.put_sixteen_numbers.ensures.steps, high.ensures.steps);
     }
