@@ -147,6 +147,7 @@ sequences_of_row f xs ms i from le e =
     ∙ (ap (flat_map fundamental_sequence) (drop-map f from (slice_range xs i (i + 16)) ∙ ap (map f) rest)
     ∙ flat_map-map fundamental_sequence f (slice_range xs (i + from) (i + 16)))
 
+-- the same of the first sixteen
 pub sequences_of_first_row : (f : ℕ → ℕ) (xs ms : List ℕ) (from : ℕ) → from ≤ 1 → ms ≡ map f (slice_range xs 0 16) →
     flat_map fundamental_sequence (drop from ms) ≡ flat_map (λ d. fundamental_sequence (f d)) (slice_range xs from 16)
 sequences_of_first_row f xs ms from le e =

@@ -30,17 +30,19 @@ abbrev seconds : List ℕ → List ℕ
 seconds (x ∷ y ∷ xs) = y ∷ seconds xs
 seconds _ = []
 
--- the lanes that a vector of 16, of 8 and of 4 is parted in
+-- the lanes that a vector of 16 is parted in
 pub parted_sixteen : (xs : List ℕ) → length xs ≡ 16 →
     (pick_l 0 (xs ++ xs) (0 ∷ 2 ∷ 4 ∷ 6 ∷ 8 ∷ 10 ∷ 12 ∷ 14 ∷ []) ≡ firsts xs) × (pick_l 0 (xs ++ xs) (1 ∷ 3 ∷ 5 ∷ 7 ∷ 9 ∷ 11 ∷ 13 ∷ 15 ∷ []) ≡ seconds xs)
 parted_sixteen (a ∷ b ∷ c ∷ d ∷ e ∷ f ∷ g ∷ h ∷ i ∷ j ∷ k ∷ l ∷ m ∷ n ∷ o ∷ p ∷ []) len = (refl, refl)
 parted_sixteen _ len = absurd (omega arith)
 
+-- those of a vector of 8
 pub parted_eight : (xs : List ℕ) → length xs ≡ 8 →
     (pick_l 0 (xs ++ xs) (0 ∷ 2 ∷ 4 ∷ 6 ∷ []) ≡ firsts xs) × (pick_l 0 (xs ++ xs) (1 ∷ 3 ∷ 5 ∷ 7 ∷ []) ≡ seconds xs)
 parted_eight (a ∷ b ∷ c ∷ d ∷ e ∷ f ∷ g ∷ h ∷ []) len = (refl, refl)
 parted_eight _ len = absurd (omega arith)
 
+-- those of a vector of 4
 pub parted_four : (xs : List ℕ) → length xs ≡ 4 → (pick_l 0 (xs ++ xs) (0 ∷ 2 ∷ []) ≡ firsts xs) × (pick_l 0 (xs ++ xs) (1 ∷ 3 ∷ []) ≡ seconds xs)
 parted_four (a ∷ b ∷ c ∷ d ∷ []) len = (refl, refl)
 parted_four _ len = absurd (omega arith)
@@ -50,8 +52,8 @@ product_bounded : (v z a b : ℕ) → v ≤ a → z ≤ b → v * z ≤ a * b
 product_bounded v z a b h k = let one = mul-le-mul_right z h in let two = mul-le-mul_left a k in omega (arith, one, two)
 
 -- two numbers joined, in a lane that has room for them
-joined_lane : (m v z u a b : ℕ) → v ≤ a → z ≤ b → u ≤ a → a * b + a < m → (v * z % m + u) % m ≡ v * z + u
-joined_lane m v z u a b h k l room =
+joined_lane : {m : ℕ} (v z u a b : ℕ) → v ≤ a → z ≤ b → u ≤ a → a * b + a < m → (v * z % m + u) % m ≡ v * z + u
+joined_lane {m} v z u a b h k l room =
     let few = product_bounded v z a b h k in
     ap (λ n. (n + u) % m) (mod-eq_of_lt (omega (arith, few, room))) ∙ mod-eq_of_lt (omega (arith, few, room, l))
 
@@ -63,10 +65,11 @@ values_joined m a b (v ∷ []) ws room h k = refl
 values_joined m a b (v ∷ u ∷ vs) [] room h k = refl
 values_joined m a b (v ∷ u ∷ vs) (w ∷ []) room h k = refl
 values_joined m a b (v ∷ u ∷ vs) (w ∷ z ∷ ws) room h k =
-    let one = joined_lane m v z u a b h.0 k.1.0 h.1.0 room in
+    let one = joined_lane v z u a b h.0 k.1.0 h.1.0 room in
     let rest = values_joined m a b vs ws room h.1.1 k.1.1 in
     λ i. one i ∷ rest i
 
+-- and all weights
 pub weights_joined : (m b : ℕ) (ws : List ℕ) → b * b < m → Each1 (λ w. w ≤ b) ws → zip2 (λ p q. p * q % m) (firsts ws) (seconds ws) ≡ joined_weights ws
 weights_joined m b [] room k = refl
 weights_joined m b (w ∷ []) room k = refl
@@ -93,7 +96,7 @@ pairs_joined m b (suc n) (w ∷ z ∷ ws) len room k =
     let rest = pairs_joined m b n ws (omega arith) room k.1.1 in
     (λ i. one i ∷ rest i) ∙ ap (λ j. joined_values (replicate j 1) (w ∷ z ∷ ws)) (sym twice)
 
--- how great what is joined is at most
+-- how great joined numbers are at most
 pub values_bounded : (a b : ℕ) (vs ws : List ℕ) → Each1 (λ v. v ≤ a) vs → Each1 (λ w. w ≤ b) ws → Each1 (λ v. v ≤ a * b + a) (joined_values vs ws)
 values_bounded a b [] ws h k = tt
 values_bounded a b (v ∷ []) ws h k = tt
@@ -103,6 +106,7 @@ values_bounded a b (v ∷ u ∷ vs) (w ∷ z ∷ ws) h k =
     let few = product_bounded v z a b h.0 k.1.0 in
     (omega (arith, few, h.1.0), values_bounded a b vs ws h.1.1 k.1.1)
 
+-- and joined weights
 pub weights_bounded : (b : ℕ) (ws : List ℕ) → Each1 (λ w. w ≤ b) ws → Each1 (λ w. w ≤ b * b) (joined_weights ws)
 weights_bounded b [] k = tt
 weights_bounded b (w ∷ []) k = tt
@@ -117,13 +121,14 @@ abbrev whole_value : List ℕ → List ℕ → ℕ
 whole_value (v ∷ vs) (w ∷ ws) = v * whole_weight ws + whole_value vs ws
 whole_value _ _ = 0
 
--- joining neighbours changes neither
+-- the weight is the same when neighbours are joined
 weight_kept : (n : ℕ) (ws : List ℕ) → length ws ≡ 2 * n → whole_weight (joined_weights ws) ≡ whole_weight ws
 weight_kept n [] len = refl
 weight_kept n (w ∷ []) len = absurd (omega arith)
 weight_kept zero (w ∷ z ∷ ws) len = absurd (omega arith)
 weight_kept (suc n) (w ∷ z ∷ ws) len = ap (λ r. w * z * r) (weight_kept n ws (omega arith)) ∙ omega arith
 
+-- and so is the number
 pub value_kept : (n : ℕ) (vs ws : List ℕ) → length vs ≡ 2 * n → length ws ≡ 2 * n → whole_value (joined_values vs ws) (joined_weights ws) ≡ whole_value vs ws
 value_kept n [] [] h k = refl
 value_kept n [] (w ∷ []) h k = absurd (omega arith)
@@ -138,6 +143,7 @@ value_kept (suc n) (v ∷ u ∷ vs) (w ∷ z ∷ ws) h k =
     regroup : (v z u p r : ℕ) → (v * z + u) * p + r ≡ v * (z * p) + (u * p + r)
     regroup v z u p r = omega arith
 
+-- half as many numbers are left
 pub length-joined_values : (n : ℕ) (vs ws : List ℕ) → length vs ≡ 2 * n → length ws ≡ 2 * n → length (joined_values vs ws) ≡ n
 length-joined_values n [] [] h k = omega arith
 length-joined_values n [] (w ∷ []) h k = absurd (omega arith)
@@ -148,6 +154,7 @@ length-joined_values n (v ∷ u ∷ vs) (w ∷ []) h k = absurd (omega arith)
 length-joined_values zero (v ∷ u ∷ vs) (w ∷ z ∷ ws) h k = absurd (omega arith)
 length-joined_values (suc n) (v ∷ u ∷ vs) (w ∷ z ∷ ws) h k = ap suc (length-joined_values n vs ws (omega arith) (omega arith))
 
+-- and half as many weights
 pub length-joined_weights : (n : ℕ) (ws : List ℕ) → length ws ≡ 2 * n → length (joined_weights ws) ≡ n
 length-joined_weights n [] h = omega arith
 length-joined_weights n (w ∷ []) h = absurd (omega arith)
@@ -174,6 +181,7 @@ digits_spelled bits {v} {total} len e = record {
 abbrev pub weight : ℕ → ℕ
 weight m = 2 ^ (m + 1)
 
+-- the weight of a row of sequences is that of its parts
 sequences_weigh : (ms : List ℕ) → 2 ^ length (flat_map fundamental_sequence ms) ≡ whole_weight (map weight ms)
 sequences_weigh [] = refl
 sequences_weigh (m ∷ ms) =
@@ -218,7 +226,7 @@ sixteen_joined ms {ws} {v2} {w2} {v4} {w4} {v8} {w8} len e a2 b2 a4 b4 a8 b8 =
     ∙ ((λ i. whole_value (a2 i) (b2 i)) ∙ (value_kept 8 ones ws l0 n0
     ∙ ((λ i. whole_value (replicate (sym len i) 1) (e i)) ∙ sym (sequences_are_whole ms))))))))
 
--- the table of weights
+-- what the table gives
 pub weights_swizzled : (ms : List ℕ) → length ms ≡ 16 → Each1 (λ m. m ≤ 6) ms → swz_l w8 16 WEIGHTS 0 ms ≡ map weight ms
 weights_swizzled ms len small = each 0 ms (omega arith) small
   where
@@ -244,6 +252,7 @@ weights_swizzled ms len small = each 0 ms (omega arith) small
         let one = picked i m (omega arith) k.0 in
         λ j. one j ∷ rest j
 
+-- the places in the table
 pub places_are_ok : (ms : List ℕ) → length ms ≡ 16 → Each1 (λ m. m ≤ 6) ms → SwzOk w8 16 16 0 ms
 places_are_ok ms len small = SwzOk-from_below w8 16 1 16 0 ms (omega arith) (omega arith) (wider ms small)
   where
@@ -251,14 +260,16 @@ places_are_ok ms len small = SwzOk-from_below w8 16 1 16 0 ms (omega arith) (ome
     wider [] h = tt
     wider (m ∷ ms) h = (omega (arith, h.0), wider ms h.1)
 
+-- the weights of numbers of at most 6
 pub weights_few : (ms : List ℕ) → Each1 (λ m. m ≤ 6) ms → Each1 (λ w. w ≤ 2 ^ 7) (map weight ms)
 weights_few [] h = tt
 weights_few (m ∷ ms) h = (pow-le-pow_right {n = 2} (omega arith) {i = m + 1} {j = 7} (omega (arith, h.0)), weights_few ms h.1)
 
--- a fact of all lanes as a fact of each, and back
+-- a fact of all lanes as a fact of each
 pub each_of : (P : ℕ → Type 0) (xs : List ℕ) → All P xs → Each1 P xs
 each_of P xs h = Each1-from_get_or P xs 0 (λ i lt. h i 0 lt)
 
+-- and back
 pub all_of : (P : ℕ → Type 0) (xs : List ℕ) → Each1 P xs → All P xs
 all_of P xs h = λ i d lt. Each1-get_or P xs i d lt h
 
@@ -269,11 +280,12 @@ least_of_each xs n len =
     let ys = replicate n 15 in
     ap (λ ms. sel_l ms xs ys) (tops_compared w32 nat_lt xs ys) ∙ (select_min xs ys ∙ zip2_splat min xs n 15 len)
 
+-- which fits a byte
 pub least_fit : (xs : List ℕ) → Each1 (Fits w8) (map (λ m. min m 15) xs)
 least_fit [] = tt
 least_fit (x ∷ xs) = (record { fits = omega arith }, least_fit xs)
 
--- the test whether all numbers are at most 6
+-- where nothing exceeds 6, all numbers are at most 6
 pub none_above_six : (ms over : List ℕ) → over ≡ zip2 (λ d b. d - b) ms (replicate 16 6) → length ms ≡ 16 → (fold_l bit_or 0 over == 0) ≡ true → Each1 (λ m. m ≤ 6) ms
 none_above_six ms over are len test =
     let none : fold_l bit_or 0 over ≡ 0 = grind (arith, nat_tests) in
@@ -284,6 +296,7 @@ none_above_six ms over are len test =
     each zero (m ∷ ms) e h = absurd (omega arith)
     each (suc n) (m ∷ ms) e h = (omega (arith, h.0), each n ms (omega arith) h.1)
 
+-- and where they are, nothing does
 pub none_found_above_six : (ms over : List ℕ) → over ≡ zip2 (λ d b. d - b) ms (replicate 16 6) → Each1 (λ m. m ≤ 6) ms → (fold_l bit_or 0 over == 0) ≡ true
 none_found_above_six ms over are h = eq-eqb _ _ (no_digits over (ap (list_all (λ d. d == 0)) are ∙ each 16 ms h))
   where
@@ -300,18 +313,21 @@ row_fits bits v few e =
     let le : 2 ^ length bits ≤ 2 ^ 63 = pow-le-pow_right {n = 2} (omega arith) {i = length bits} {j = 63} few in
     omega (arith, e, le, number_of-lt bits)
 
--- how great the weights are, and what is joined
+-- how great the weights are that the table gives
 pub first_bounded : (ms : List ℕ) {ws : List ℕ} → All (λ m. m ≤ 6) ms → ws ≡ map weight ms → All (λ w. w ≤ 2 ^ 7) ws
 first_bounded ms {ws} h e = all_of (λ w. w ≤ 2 ^ 7) ws (subst (Each1 (λ w. w ≤ 2 ^ 7)) (sym e) (weights_few ms (each_of (λ m. m ≤ 6) ms h)))
 
+-- how great joined weights are, as facts of all
 pub joined_weights_bounded : (b : ℕ) (ws : List ℕ) {more : List ℕ} → All (λ w. w ≤ b) ws → more ≡ joined_weights ws → All (λ w. w ≤ b * b) more
 joined_weights_bounded b ws {more} h e = all_of (λ w. w ≤ b * b) more (subst (Each1 (λ w. w ≤ b * b)) (sym e) (weights_bounded b ws (each_of (λ w. w ≤ b) ws h)))
 
+-- and joined numbers
 pub joined_values_bounded : (a b c : ℕ) (vs ws : List ℕ) {more : List ℕ} → a * b + a ≤ c → All (λ v. v ≤ a) vs → All (λ w. w ≤ b) ws → more ≡ joined_values vs ws → All (λ v. v ≤ c) more
 joined_values_bounded a b c vs ws {more} le h k e =
     let few = all_of (λ v. v ≤ a * b + a) more (subst (Each1 (λ v. v ≤ a * b + a)) (sym e) (values_bounded a b vs ws (each_of (λ v. v ≤ a) vs h) (each_of (λ w. w ≤ b) ws k))) in
     λ i d lt. let one = few i d lt in omega (arith, one, le)
 
+-- the numbers of the sequences themselves
 pub ones_bounded : (n : ℕ) → All (λ v. v ≤ 1) (replicate n 1)
 ones_bounded n = all_of (λ v. v ≤ 1) (replicate n 1) (each n)
   where
@@ -319,12 +335,13 @@ ones_bounded n = all_of (λ v. v ≤ 1) (replicate n 1) (each n)
     each zero = tt
     each (suc n) = (omega arith, each n)
 
--- the digits of a row of sequences from the first on, and from the second on
+-- the digits of a row of sequences from the first on
 pub all_of_row : (ms : List ℕ) {v from total : ℕ} → from ≡ 0 → total ≡ length (flat_map fundamental_sequence (drop from ms)) → v ≡ number_of (flat_map fundamental_sequence ms)
     → HasDigits (flat_map fundamental_sequence (drop from ms)) v total
 all_of_row ms {v} {from} {total} none len e =
     digits_spelled (flat_map fundamental_sequence (drop from ms)) (sym len) (e ∙ ap (λ n. number_of (flat_map fundamental_sequence (drop n ms))) (sym none))
 
+-- and from the second on
 pub all_but_first_of_row : (ms : List ℕ) {v from total : ℕ} → from ≡ 1 → length ms ≡ 16 → total ≡ length (flat_map fundamental_sequence (drop from ms)) → total ≤ 56
     → v ≡ number_of (flat_map fundamental_sequence ms) → HasDigits (flat_map fundamental_sequence (drop from ms)) (v % (1 * 2 ^ total % 2 ^ 64)) total
 all_but_first_of_row [] one sixteen len few e = absurd (omega arith)
@@ -335,7 +352,7 @@ all_but_first_of_row (m ∷ ms) {v} {from} {total} one sixteen len few e =
     let mask : 1 * 2 ^ total % 2 ^ 64 ≡ 2 ^ length bits = one_shl total 64 (omega (arith, few)) ∙ ap (λ n. 2 ^ n) len in
     digits_spelled bits (sym len) ((λ i. same i % mask i) ∙ mod-mul-add 1 (2 ^ length bits) (number_of bits) (number_of-lt bits))
 
--- the sum of 16 numbers of at most 6, in a lane of a byte, and the bits of their sequences
+-- numbers of at most 6 are summed in a byte, and tell how long their sequences are
 summed : (a : ℕ) (ms : List ℕ) → Each1 (λ m. m ≤ 6) ms → a + 6 * length ms < 256 → fold_l (λ x y. (x + y) % 256) a ms + length ms ≡ a + length (flat_map fundamental_sequence ms)
 summed a [] h few = omega arith
 summed a (m ∷ ms) h few =
@@ -345,10 +362,11 @@ summed a (m ∷ ms) h few =
     let more = summed (a + m) ms h.1 (omega (arith, h.0, few)) in
     ap (λ x. fold_l (λ x y. (x + y) % 256) x ms + suc (length ms)) here ∙ omega (arith, more, len)
 
+-- how many bits sixteen sequences have
 pub len_of_row : (ms : List ℕ) → length ms ≡ 16 → Each1 (λ m. m ≤ 6) ms → fold_l (λ x y. (x + y) % 256) 0 ms + 16 ≡ length (flat_map fundamental_sequence ms)
 len_of_row ms len h = let all = summed 0 ms h (omega (arith, len)) in omega (arith, all, len)
 
--- without the first
+-- and those without the first
 pub len_but_first : (ms : List ℕ) (from : ℕ) → from ≡ 1 → length ms ≡ 16 → length (flat_map fundamental_sequence (drop from ms)) + (get_or ms 0 0 + 1) ≡ length (flat_map fundamental_sequence ms)
 len_but_first [] from one len = absurd (omega arith)
 len_but_first (m ∷ ms) from one len =
