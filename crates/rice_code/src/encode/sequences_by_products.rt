@@ -1,5 +1,5 @@
 //! The fundamental sequences of 16 numbers in one number, by products in lanes instead of one bit after another.
-ghost use Rattle.std.specs.Prelude.{◌≡◌, ◌+◌, ◌*◌, ◌^◌, ◌<◌, ◌≤◌, ◌↔◌, All, IsTrue, drop, flat_map, length, map, min, replicate};
+ghost use Rattle.std.specs.Prelude.{◌≡◌, ◌+◌, ◌*◌, ◌^◌, ◌≤◌, ◌↔◌, All, IsTrue, drop, flat_map, length, map, min, replicate};
 ghost use Rattle.rice_bits.specs.Bits.{number_of, fundamental_sequence};
 ghost use Rattle.rice_code.specs.encode.GatheredSequences.{HasDigits};
 ghost use Rattle.rice_code.specs.encode.SequencesByProducts.{joined_values, joined_weights};
