@@ -265,8 +265,14 @@ fn put_sixteen_numbers_with_total(
     ensures { AddsBits (flat_map fundamental_sequence (drop from numbers))
         sink.old fields.old sink.new fields.new meter.old meter.new }
 {
+    // Long ones are left for another way than great numbers, which keeps the two tests apart: joined to one, the test of all
+    // lanes would take ten instructions more.
+    if total > 56 {
+        put_sixteen_elsewhere(numbers, from, fields, sink, meter);
+        return;
+    }
     let small = numbers_in_bytes(numbers);
-    if total <= 56 && are_at_most_six(small) {
+    if are_at_most_six(small) {
         let value = number_of_sequences_from(small, from, total as u32);
         fields.add(value, total as u32, sink, meter);
         return;
@@ -302,6 +308,25 @@ fn put_sixteen_numbers(
             return;
         }
     }
+    put_sixteen_elsewhere(numbers, from, fields, sink, meter);
+}
+
+/// Adds those of 16 numbers of any size by a call, to which the bits are handed.
+#[inline(always)]
+fn put_sixteen_elsewhere(
+    numbers: u32x16,
+    from: usize,
+    fields: &mut BitBuffer,
+    sink: &mut SegmentSink,
+    meter: &mut Meter,
+)
+    requires len { length numbers ≡ 16 }
+    requires from { from ≤ 1 }
+    requires room { HasRoomForBits (flat_map fundamental_sequence (drop from numbers))
+        (length sink.old + length fields.old) (meter.old + length fields.old) }
+    ensures { AddsBits (flat_map fundamental_sequence (drop from numbers))
+        sink.old fields.old sink.new fields.new meter.old meter.new }
+{
     let held = std::mem::replace(fields, BitBuffer::new());
     let mut steps = Meter::new();
     *fields = put_any_sixteen(&numbers.to_array(), from, held, sink, &mut steps);
