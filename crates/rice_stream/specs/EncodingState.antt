@@ -98,6 +98,18 @@ TakesFirst e e_new n levels = (s : Parameters) (xs ys : List ℤ) → HoldsCode 
 abbrev pub GoesOnInside : Parameters → List ℤ → List ℤ → Type 0
 GoesOnInside s xs ys = (m : ℕ) → m ≤ length ys → (bits : List Bool) × (complete_code s (xs ++ ys) ≡ complete_code s (xs ++ take m ys) ++ bits)
 
+-- what an encoding counts, where its coder stands, and these bits that wait
+abbrev pub seam_at : {N : ℕ} → Encoding N → ℕ → ℕ → Seam
+seam_at e waiting waiting_bits = record {
+  samples = e.samples;
+  bits = e.bits;
+  steps = e.meter;
+  previous = e.coder.previous;
+  start = e.coder.start;
+  waiting = waiting;
+  waiting_bits = waiting_bits;
+}
+
 -- The samples make whole segments, and a row of segments begins behind them: it counts them, and has the bits of the byte that is not whole.
 pub record IsRowStart (s : Parameters) (start : Seam) (xs : List ℤ) : Type 0 where
   pub taken : HasTaken (state_between s start.start start.previous) xs

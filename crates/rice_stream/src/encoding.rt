@@ -6,7 +6,7 @@ ghost use Rattle.rice_samples.specs.Limits.{most_input, longest_segment};
 ghost use Rattle.rice_samples.specs.Parameters.{Parameters, values_at, width};
 ghost use Rattle.rice_stream.specs.DevicesInCalls.{Fails};
 ghost use Rattle.rice_stream.specs.Encodes.{EncodesBetween, EncodesWithin, ReportsTaken, ReportsAll, fault_at};
-ghost use Rattle.rice_stream.specs.EncodingState.{Beginning, afresh, whole_part, CanTake, CanTakeMore, CanTakeFrom, HoldsCode, TakesFirst, GoesOnInside, IsRowStart, StopsAt, CountsSamples, IsEncodingOf, WritesFirst, FailsAmong, WritesRest, CanPush, PushesBytes, PushFails};
+ghost use Rattle.rice_stream.specs.EncodingState.{Beginning, afresh, whole_part, CanTake, CanTakeMore, CanTakeFrom, HoldsCode, TakesFirst, GoesOnInside, IsRowStart, StopsAt, seam_at, CountsSamples, IsEncodingOf, WritesFirst, FailsAmong, WritesRest, CanPush, PushesBytes, PushFails};
 ghost use Rattle.rice_samples.specs.Places.{cut};
 ghost use Rattle.rice_stream.specs.Feeding.{IsSeam, IsSomeSeam, StandsAt, behind};
 ghost use Rattle.rice_code.specs.code.Code.{code, early_output};
@@ -101,6 +101,14 @@ impl<const N: usize> Encoding<N> {
     {
         let waiting_bits = self.sink.len() as u32;
         let waiting = take_waiting_number(&mut self.sink);
+        self.seam_with(waiting, waiting_bits)
+    }
+
+    /// Returns what the encoding counts, where its coder stands, and these bits that wait.
+    #[inline(always)]
+    fn seam_with(&self, waiting: u32, waiting_bits: u32) -> Seam
+        ensures { result ≡ seam_at self.now waiting waiting_bits }
+    {
         Seam {
             samples: self.samples,
             bits: self.bits,
@@ -267,15 +275,7 @@ impl<const N: usize> Encoding<N> {
         let waiting_bits = self.sink.len() as u32;
         let waiting = take_waiting_number(&mut self.sink);
         replace_bits(&mut self.sink, waiting, waiting_bits);
-        Seam {
-            samples: self.samples,
-            bits: self.bits,
-            steps: self.meter.steps(),
-            previous: self.coder.previous(),
-            start: self.coder.start(),
-            waiting,
-            waiting_bits,
-        }
+        self.seam_with(waiting, waiting_bits)
     }
 
     /// Goes back to where a row began.
