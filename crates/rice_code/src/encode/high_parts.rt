@@ -265,10 +265,9 @@ fn put_sixteen_numbers_with_total(
     ensures { AddsBits (flat_map fundamental_sequence (drop from numbers))
         sink.old fields.old sink.new fields.new meter.old meter.new }
 {
-    // Long ones are left for another way than great numbers, which keeps the two tests apart: joined to one, the test of all
-    // lanes would take ten instructions more.
+    // Asked first, and not together with the lanes: of both at once the compiler makes no single test of these.
     if total > 56 {
-        put_sixteen_elsewhere(numbers, from, fields, sink, meter);
+        put_any_sixteen(numbers, from, fields, sink, meter);
         return;
     }
     let small = numbers_in_bytes(numbers);
@@ -277,10 +276,7 @@ fn put_sixteen_numbers_with_total(
         fields.add(value, total as u32, sink, meter);
         return;
     }
-    let held = std::mem::replace(fields, BitBuffer::new());
-    let mut steps = Meter::new();
-    *fields = put_any_sixteen_with_total(&numbers.to_array(), from, total, held, sink, &mut steps);
-    meter.tick(steps.steps());
+    put_any_sixteen(numbers, from, fields, sink, meter);
 }
 
 /// Adds the fundamental sequences of 16 numbers, from number `from` on.
@@ -308,12 +304,13 @@ fn put_sixteen_numbers(
             return;
         }
     }
-    put_sixteen_elsewhere(numbers, from, fields, sink, meter);
+    put_any_sixteen(numbers, from, fields, sink, meter);
 }
 
-/// Adds those of 16 numbers of any size by a call, to which the bits are handed.
+/// Adds the fundamental sequences of 16 numbers of any size, from number `from` on, in a call that takes no reference to the
+/// buffer, so that its bits stay in registers elsewhere.
 #[inline(always)]
-fn put_sixteen_elsewhere(
+fn put_any_sixteen(
     numbers: u32x16,
     from: usize,
     fields: &mut BitBuffer,
@@ -329,14 +326,13 @@ fn put_sixteen_elsewhere(
 {
     let held = std::mem::replace(fields, BitBuffer::new());
     let mut steps = Meter::new();
-    *fields = put_any_sixteen(&numbers.to_array(), from, held, sink, &mut steps);
+    *fields = put_sixteen_in_turn(&numbers.to_array(), from, held, sink, &mut steps);
     meter.tick(steps.steps());
 }
 
-/// Adds those of 16 numbers of any size, and returns the buffer. It takes no reference to it, so that the bits stay in registers
-/// elsewhere.
+/// Adds them one after another, and returns the buffer.
 #[inline(never)]
-fn put_any_sixteen(
+fn put_sixteen_in_turn(
     numbers: &[u32; 16],
     from: usize,
     mut fields: BitBuffer,
@@ -354,31 +350,6 @@ fn put_any_sixteen(
     let c = (numbers[8], numbers[9], numbers[10], numbers[11]);
     let d = (numbers[12], numbers[13], numbers[14], numbers[15]);
     put_sixteen_sequences(a, b, c, d, from, &mut fields, sink, meter);
-    fields
-}
-
-/// Adds those of 16 numbers of any size: `total` bits. Returns the buffer, as `put_any_sixteen` does.
-#[inline(never)]
-fn put_any_sixteen_with_total(
-    numbers: &[u32; 16],
-    from: usize,
-    total: u64,
-    mut fields: BitBuffer,
-    sink: &mut SegmentSink,
-    meter: &mut Meter,
-) -> BitBuffer
-    requires from { from ≤ 1 }
-    requires total { total ≡ length (flat_map fundamental_sequence (drop from numbers.now)) }
-    requires room { HasRoomForBits (flat_map fundamental_sequence (drop from numbers.now))
-        (length sink.old + length fields) (meter.old + length fields) }
-    ensures { AddsBits (flat_map fundamental_sequence (drop from numbers.now))
-        sink.old fields sink.new result meter.old meter.new }
-{
-    let a = (numbers[0], numbers[1], numbers[2], numbers[3]);
-    let b = (numbers[4], numbers[5], numbers[6], numbers[7]);
-    let c = (numbers[8], numbers[9], numbers[10], numbers[11]);
-    let d = (numbers[12], numbers[13], numbers[14], numbers[15]);
-    put_sixteen_sequences_with_total(a, b, c, d, from, total, &mut fields, sink, meter);
     fields
 }
 
@@ -411,44 +382,6 @@ fn put_eight_sequences(
     let mut steps = Meter::new();
     let held = put_four_from(a, from, held, sink, &mut steps);
     *fields = put_four_from(b, 0, held, sink, &mut steps);
-    meter.tick(steps.steps());
-}
-
-/// Adds the fundamental sequences of 16 numbers, from number `from` on: `total` bits.
-#[inline(always)]
-fn put_sixteen_sequences_with_total(
-    a: (u32, u32, u32, u32),
-    b: (u32, u32, u32, u32),
-    c: (u32, u32, u32, u32),
-    d: (u32, u32, u32, u32),
-    from: usize,
-    total: u64,
-    fields: &mut BitBuffer,
-    sink: &mut SegmentSink,
-    meter: &mut Meter,
-)
-    requires from { from ≤ 1 }
-    requires total { total ≡ length (sequences_from from a.0 a.1 a.2 a.3 ++
-        four_sequences b.0 b.1 b.2 b.3 ++ four_sequences c.0 c.1 c.2 c.3 ++
-        four_sequences d.0 d.1 d.2 d.3) }
-    requires room { HasRoomForBits (sequences_from from a.0 a.1 a.2 a.3 ++
-        four_sequences b.0 b.1 b.2 b.3 ++ four_sequences c.0 c.1 c.2 c.3 ++
-        four_sequences d.0 d.1 d.2 d.3)
-        (length sink.old + length fields.old) (meter.old + length fields.old) }
-    ensures { AddsBits (sequences_from from a.0 a.1 a.2 a.3 ++ four_sequences b.0 b.1 b.2 b.3 ++
-        four_sequences c.0 c.1 c.2 c.3 ++ four_sequences d.0 d.1 d.2 d.3)
-        sink.old fields.old sink.new fields.new meter.old meter.new }
-{
-    if total <= 56 {
-        let half = digits_with_four_sequences(begin_sequences_with_four(a, from, total), b);
-        let row = digits_with_four_sequences(digits_with_four_sequences(half, c), d);
-        fields.add(row.value, total as u32, sink, meter);
-        return;
-    }
-    let held = std::mem::replace(fields, BitBuffer::new());
-    let mut steps = Meter::new();
-    let held = put_four_from(a, from, held, sink, &mut steps);
-    *fields = put_twelve_sequences(b, c, d, held, sink, &mut steps);
     meter.tick(steps.steps());
 }
 
