@@ -366,7 +366,9 @@ impl Decoder {
         }
         let size = known_or::<SIZE>(self.setting.block() as usize);
         if is_uncompressed_ahead::<I, WIDTH>(&self.setting, size, reader) {
-            return self.read_uncompressed_blocks_to_bytes::<I, SIZE>(most, reader, meter, bytes, ends);
+            return self.read_uncompressed_blocks_to_bytes::<I, SIZE>(
+                most, reader, meter, bytes, ends,
+            );
         }
         0
     }
