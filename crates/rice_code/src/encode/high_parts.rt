@@ -1,4 +1,5 @@
-//! Writing the high parts of residuals as fundamental sequences, of 8 or 16 at once where they fit one put.
+//! Writing the high parts of residuals as fundamental sequences, of 8 or 16 at once where they fit one put: those of 16 by products
+//! where all are at most 6, and else by bits that are set.
 ghost use Rattle.std.specs.Prelude.{◌≡◌, ◌+◌, ◌-◌, ◌/◌, ◌%◌, ◌^◌, ◌<◌, ◌≤◌, ◌++◌, Bool, List, length, drop, flat_map, map, slice_index, slice_range, sum_by};
 ghost use Rattle.rice_bits.specs.Limits.{step_limit};
 ghost use Rattle.rice_bits.specs.Bits.{fundamental_sequence};
@@ -330,7 +331,7 @@ fn put_any_sixteen(
     meter.tick(steps.steps());
 }
 
-/// Adds them one after another, and returns the buffer.
+/// Adds them by bits that are set, all at once where they are short and else by fours, and returns the buffer.
 #[inline(never)]
 fn put_sixteen_in_turn(
     numbers: &[u32; 16],

@@ -6,10 +6,10 @@ ghost use Rattle.rice_code.specs.encode.SequencesByProducts.{joined_values, join
 
 use std::simd::prelude::*;
 
-/// For each number up to 6, the weight of its fundamental sequence: 2 to the number of its bits.
+/// For each number up to 6, the weight of its fundamental sequence: 2 to the number of its bits. That of 7 would not fit a byte.
 static WEIGHTS: [u8; 16] = [2, 4, 8, 16, 32, 64, 128, 0, 0, 0, 0, 0, 0, 0, 0, 0];
 
-/// Returns the numbers, or 15 for those above, in lanes of a byte.
+/// Returns the numbers in lanes of a byte, 15 in place of those above, which may not fit a byte.
 #[inline(always)]
 pub fn numbers_in_bytes(numbers: u32x16) -> u8x16
     requires { length numbers ≡ 16 }
@@ -61,7 +61,8 @@ pub fn number_of_sequences_from(numbers: u8x16, from: usize, total: u32) -> u64
     all % (1 << total)
 }
 
-/// Returns the number whose digits are the fundamental sequences of 16 numbers of at most 6, one after the other.
+/// Returns the number whose digits are the fundamental sequences of 16 numbers of at most 6, one after the other: at most 56 bits,
+/// and before them the up to 7 of a number that is not sent.
 #[inline(always)]
 fn number_of_sequences(numbers: u8x16) -> u64
     requires len { length numbers ≡ 16 }

@@ -1,4 +1,4 @@
--- Fundamental sequences that are joined by products, in lanes.
+-- Fundamental sequences that are joined by products, in lanes. What joins 16 rests on `sixteen_joined`: by `value_kept` each of three steps keeps the number of the whole.
 use Rattle.std.proofs.Common.{◌≡◌, ℕ, zero, suc, ◌+◌, ◌-◌, ◌*◌, ◌/◌, ◌%◌, ◌^◌, ◌<◌, ◌≤◌, ◌==◌, Bool, true, ◌&&◌, cond, List, [], ◌∷◌, ◌++◌}
 use Rattle.std.proofs.Common.{length, drop, get_or, map, min, replicate, refl, ap, arith, sym, subst, ◌∙◌, length-append, mod-eq_of_lt, eq-eqb, nat_lt, Fits, w8, w32}
 use Rattle.std.specs.Prelude.{All, flat_map, bit_or}

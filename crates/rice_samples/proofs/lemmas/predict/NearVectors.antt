@@ -108,7 +108,7 @@ no_excess_in_vector (suc n) (d ∷ ds) (b ∷ bs) e t =
     let first : d - b ≡ 0 = ap (λ xs. get_or xs 0 0) t in
     (omega (arith, first), no_excess_in_vector n ds bs (omega arith) (ap (drop 1) t))
 
--- where no rank is above its bound, all numbers are the ones with these ranks
+-- Where no rank is above its bound, all numbers are the ones with these ranks: n lanes that wrap at m, g the greatest number, p the one before the first, ds the ranks.
 pub vector_is_near : {n m g p : ℕ} (ds : List ℕ) {bs xs before over : List ℕ} → p ≤ g → g < m → length ds ≡ n → xs ≡ near_numbers m p ds → before ≡ take n (p ∷ xs) → bs ≡ map (bound m g) before
     → over ≡ zip2 (λ d b. d - b) ds bs → over ≡ replicate n 0 → All (λ x. x ≤ g) xs × (ranks_below (g + 1) p xs ≡ ds)
 vector_is_near {n} {m} {g} {p} ds {bs} {xs} {before} h k len numbers shifted bounds are test =

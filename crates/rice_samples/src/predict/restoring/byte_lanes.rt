@@ -39,7 +39,7 @@ pub fn near_levels_of_parts(
     let ranks = join_parts(highs, lows, width);
     let levels = near_numbers(before, ranks);
     let far = excess_over_near(greatest, before, ranks, levels);
-    // What is above in any lane is seen by one test.
+    // With a greater high part a residual would have more than 8 bits. What is above in any lane is seen by one test.
     if !both_are_zeros(excess_over(highs, 255 >> width), far) {
         return None;
     }
