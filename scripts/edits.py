@@ -440,8 +440,11 @@ def is_proved(crate):
     if os.path.isfile(kept) and read(kept) == crate.stamp():
         return True
     os.makedirs(f"{crate.folder}/out", exist_ok=True)
-    with open(f"{crate.folder}/out/check.log", "w", encoding="utf-8") as crate.out:
+    with open(f"{crate.folder}/out/check.log", "w", encoding="utf-8") as log:
+        # (a crate above may build this one later, when the file is closed)
+        shown, crate.out = crate.out, log
         well = crate.needs_lower() and not crate.prove(["check", *crate.words(["--jobs", "2"], keeps=False)])
+        crate.out = shown
     if well:
         remember(crate)
     return well
