@@ -167,9 +167,11 @@ impl<const N: usize> Encoding<N> {
         requires some { 0 < length levels.now }
         requires writes { O.failed outlet.old + 1 < 2 ^ 64 }
         ensures count { IfOk result (λ n. (0 < n) × (n ≤ length levels.now)) }
-        ensures ok { IfOk result (λ n. WritesFirst (O.taken outlet.old) (O.taken outlet.new) self.old self.new n levels.now) }
+        ensures ok { IfOk result (λ n. WritesFirst (O.taken outlet.old) (O.taken outlet.new)
+            self.old self.new n levels.now) }
         ensures calm { OnOk result (O.failed outlet.new ≡ O.failed outlet.old) }
-        ensures err { OnErr result (FailsAmong (O.taken outlet.old) (O.taken outlet.new) self.old self.new levels.now) }
+        ensures err { OnErr result (FailsAmong (O.taken outlet.old) (O.taken outlet.new)
+            self.old self.new levels.now) }
         ensures raised { OnErr result (O.failed outlet.new ≡ O.failed outlet.old + 1) }
     {
         if self.is_between_short_segments() {
@@ -200,9 +202,11 @@ impl<const N: usize> Encoding<N> {
         requires some { 0 < length levels.now }
         requires writes { O.failed outlet.old + 1 < 2 ^ 64 }
         ensures count { IfOk result (λ n. (0 < n) × (n ≤ length levels.now)) }
-        ensures ok { IfOk result (λ n. WritesFirst (O.taken outlet.old) (O.taken outlet.new) self.old self.new n levels.now) }
+        ensures ok { IfOk result (λ n. WritesFirst (O.taken outlet.old) (O.taken outlet.new)
+            self.old self.new n levels.now) }
         ensures calm { OnOk result (O.failed outlet.new ≡ O.failed outlet.old) }
-        ensures err { OnErr result (FailsAmong (O.taken outlet.old) (O.taken outlet.new) self.old self.new levels.now) }
+        ensures err { OnErr result (FailsAmong (O.taken outlet.old) (O.taken outlet.new)
+            self.old self.new levels.now) }
         ensures raised { OnErr result (O.failed outlet.new ≡ O.failed outlet.old + 1) }
     {
         let taken = self.push_to_coder_in_a_call(levels);
@@ -222,9 +226,11 @@ impl<const N: usize> Encoding<N> {
         requires some { 0 < length levels.now }
         requires writes { O.failed outlet.old + 1 < 2 ^ 64 }
         ensures count { IfOk result (λ n. (0 < n) × (n ≤ length levels.now)) }
-        ensures ok { IfOk result (λ n. WritesFirst (O.taken outlet.old) (O.taken outlet.new) self.old self.new n levels.now) }
+        ensures ok { IfOk result (λ n. WritesFirst (O.taken outlet.old) (O.taken outlet.new)
+            self.old self.new n levels.now) }
         ensures calm { OnOk result (O.failed outlet.new ≡ O.failed outlet.old) }
-        ensures err { OnErr result (FailsAmong (O.taken outlet.old) (O.taken outlet.new) self.old self.new levels.now) }
+        ensures err { OnErr result (FailsAmong (O.taken outlet.old) (O.taken outlet.new)
+            self.old self.new levels.now) }
         ensures raised { OnErr result (O.failed outlet.new ≡ O.failed outlet.old + 1) }
     {
         let start = self.row_start();
@@ -329,7 +335,8 @@ impl<const N: usize> Encoding<N> {
             IsEncodingOf s old (O.taken outlet.old) self.old xs →
             IsEncodingOf s old (O.taken outlet.new) self.new (xs ++ values_at s levels.now)) }
         ensures calm { OnOk result (O.failed outlet.new ≡ O.failed outlet.old) }
-        ensures err { OnErr result (FailsAmong (O.taken outlet.old) (O.taken outlet.new) self.old self.new levels.now) }
+        ensures err { OnErr result (FailsAmong (O.taken outlet.old) (O.taken outlet.new)
+            self.old self.new levels.now) }
         ensures raised { OnErr result (O.failed outlet.new ≡ O.failed outlet.old + 1) }
     {
         let mut at = 0;
