@@ -36,6 +36,7 @@ decode_suffices s count input old new r status d room full =
     let wants = decode_wants s count d.call (report_of r) (subst (λ (f : Option Fault). Decodes s (Some count) d.call (report_of r) f) write d.decodes) in
     omega (arith, wants, d.writes.full write, room)
 
+-- so with room for as much as the samples can take neither call says that there is no room
 pub room_suffices : RoomSuffices
 room_suffices s legal input old new r status = (encode_suffices s input old new r status legal, λ count. decode_suffices s count input old new r status)
 
@@ -61,6 +62,7 @@ encoded_all {s} {code_old} {code} {encoded} e d =
       gave = subst (λ (l : Option (List ℕ)). Consumes (Some e.call.written) l d.call.given) (sym d.takes.left_is) (sym front ∙ d.takes.gave);
     }
 
+-- With the number of samples, and room for them, decoding what was encoded writes their bytes again, and all is done.
 pub returns_bytes : ReturnsBytes
 returns_bytes s legal samples code_old code old new encoded decoded status e d room =
     let a = encoded_all e d in
@@ -77,6 +79,7 @@ returns_bytes s legal samples code_old code old new encoded decoded status e d r
         absurd (let wants = decode_wants s encoded.samples d.call (report_of decoded)
         (subst (λ (f : Option Fault). Decodes s (Some encoded.samples) d.call (report_of decoded) f) h d.decodes) in omega (arith, wants, d.writes.full h, room, size))
 
+-- Without the number it writes them and the bytes of fewer than a segment of samples more, and all is done, or there is no room.
 pub returns_bytes_and_fill : ReturnsBytesAndFill
 returns_bytes_and_fill s legal samples code_old code old new encoded decoded status e d =
     let a = encoded_all e d in

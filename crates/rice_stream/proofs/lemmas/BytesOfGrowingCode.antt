@@ -7,6 +7,7 @@ use Rattle.rice_bits.specs.Bits.{whole_bytes, bits_in_bytes}
 use Rattle.rice_code.proofs.lemmas.code.WholeBytes.{whole-append}
 use Rattle.rice_stream.specs.EncodingState.{whole_part}
 
+-- the part of whole bytes has eight bits for each byte that is full
 pub length-part : (a : List Bool) → length (whole_part a) ≡ 8 * (length a / 8)
 length-part a = length-take-le (bits_in_bytes (length a)) a (omega arith)
 

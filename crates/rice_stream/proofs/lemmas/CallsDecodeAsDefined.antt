@@ -136,6 +136,7 @@ pub record DecodesAs (s : Parameters) (xs : List ℤ) (ending : Ending) (used : 
   pub bits : r.bits ≡ used
   pub fault_is : FaultOf s xs ending fault
 
+-- where an intake is at its end, nothing is left of it
 pub is_at_end : (l : Option (List ℕ)) (left : List ℕ) → l ≡ Some left → IsAtEnd l → left ≡ []
 is_at_end l left e end = subst (λ (v : Option (List ℕ)). IsAtEnd v) e end
 

@@ -25,6 +25,7 @@ take_nothing : {X : Type 0} (n : ℕ) → take {A = X} n [] ≡ []
 take_nothing zero = refl
 take_nothing (suc n) = refl
 
+-- no samples, cut to those that are wanted, are none
 pub cut_nothing : (s : Parameters) (wanted : Option ℕ) (b : ℕ) → cut_to s wanted b [] ≡ []
 cut_nothing s None b = refl
 cut_nothing s (Some n) b = take_nothing (n - s.block * b)

@@ -303,12 +303,14 @@ reached_ends {s = s} {asked = Some n} {p = p} {r = r} {rep = rep} {left = left} 
     } tells.left_is tells.fault_is (λ _. few.1)
     ((length runs.front + 0, all, record { written = refl; samples = tells.samples_are ∙ so.count; bits = tells.bits_are ∙ sym used }), inl refl)
 
+-- bits that pass the test for zeros are all zeros
 pub blank_all : (bits : List Bool) → is_blank bits ≡ true → All (λ bit. bit ≡ false) bits
 blank_all [] e k d lt = absurd (omega arith)
 blank_all (true ∷ bits) e k d lt = absurd (let f : false ≡ true = e in cc)
 blank_all (false ∷ bits) e zero d lt = refl
 blank_all (false ∷ bits) e (suc k) d lt = blank_all bits e k d (omega arith)
 
+-- and among bits that do not pass it there is a one
 pub some_one : (bits : List Bool) → is_blank bits ≡ false → Contains bits true
 some_one [] e = absurd (let f : true ≡ false = e in cc)
 some_one (true ∷ bits) e = (0, omega arith, refl)

@@ -40,6 +40,7 @@ use Rattle.rice_stream.proofs.lemmas.BytesOfGrowingCode.{length-part, more_bytes
 pub Follows-nil : (now : Option Room) → Follows (afresh now) now []
 Follows-nil now = record { more = []; split = refl; took = Appends-nil now }
 
+-- bytes that the outlet takes behind those that are written are written with them
 pub Follows-trans : (old : Beginning) (now new : Option Room) (bytes more : List ℕ) → Follows old now bytes → Appends now new more → Follows old new (bytes ++ more)
 Follows-trans old now new bytes more f a = record {
   more = f.more ++ more;
@@ -47,6 +48,7 @@ Follows-trans old now new bytes more f a = record {
   took = Appends-trans old.state now new f.more more f.took a;
 }
 
+-- where nothing was written before, the outlet took all that is written
 pub Follows-all : (old new : Option Room) (bytes : List ℕ) → Follows (afresh old) new bytes → Appends old new bytes
 Follows-all old new bytes f = subst (λ (l : List ℕ). Appends old new l) (sym f.split) f.took
 
@@ -54,6 +56,7 @@ Follows-all old new bytes f = subst (λ (l : List ℕ). Appends old new l) (sym 
 pub levels_from : (at : ℕ) (levels : List ℕ) → take (length levels - at) (drop at levels) ≡ drop at levels
 levels_from at levels = ap (λ n. take n (drop at levels)) (sym (length-drop at levels)) ∙ take-length (drop at levels)
 
+-- the samples at the levels from a place on are the samples from this place on
 pub samples_from : (s : Parameters) (at : ℕ) (levels : List ℕ) → values_at s (take (length levels - at) (drop at levels)) ≡ drop at (values_at s levels)
 samples_from s at levels = ap (values_at s) (levels_from at levels) ∙ sym (drop-map (value_at s) at levels)
 
@@ -65,6 +68,7 @@ samples_on xs samples at n = append_assoc xs (take at samples) (take n (drop at 
 pub legal_from : (count at : ℕ) (levels : List ℕ) → All (λ l. l < count) levels → All (λ l. l < count) (take (length levels - at) (drop at levels))
 legal_from count at levels legal = subst (All (λ l. l < count)) (sym (levels_from at levels)) (All-drop (λ l. l < count) at levels legal)
 
+-- where some of the samples have been taken, these, those before and those that are left keep to the limit that all of them keep to
 pub few_from : (s : Parameters) (before : List ℤ) (at : ℕ) (levels : List ℕ) (most : ℕ) → length before + length levels ≤ most → at ≤ length levels
     → length (before ++ take at (values_at s levels)) + length (take (length levels - at) (drop at levels)) ≤ most
 few_from s before at levels most few within =
@@ -118,6 +122,7 @@ holds_code {s} {old} {now} {e} {xs} h = record { counts = h.counts; code_is = sy
 pub can_take_more : {N : ℕ} {taken : Option Room} {e : Encoding N} {levels : List ℕ} → CanTake taken e levels → CanTakeMore e levels
 can_take_more c = record { setting = c.setting; written = c.before; before = c.before; holds = holds_code c.holds; legal = c.legal; few = c.few }
 
+-- less than a byte waits in the sink of one that can take samples
 pub can_take_short : {N : ℕ} {taken : Option Room} {e : Encoding N} {levels : List ℕ} → CanTake taken e levels → length e.sink ≤ 7
 can_take_short {taken = taken} {e = e} c = sink_short c.setting c.start taken e c.before c.holds
 

@@ -156,6 +156,7 @@ nil_of_length : (bits : List Bool) → length bits ≡ 0 → bits ≡ []
 nil_of_length [] e = refl
 nil_of_length (x ∷ xs) e = absurd (omega arith)
 
+-- a piece without bytes has the same bits, which are none, when some are skipped
 pub nothing_skipped : (k : ℕ) (piece : List ℕ) → length piece ≡ 0 → bits_of piece ≡ drop k (bits_of piece)
 nothing_skipped k piece e = nil_of_length (bits_of piece) (omega (arith, length-bits_of piece))
     ∙ sym (nil_of_length (drop k (bits_of piece)) (omega (arith, length-drop k (bits_of piece), length-bits_of piece)))

@@ -359,6 +359,7 @@ seek_all {s} {code} {o} {before} {first} pulls last behind ending place begins p
       count = omega (arith, p.count, place.count, length-append before p.samples);
     }
 
+-- Pieces pulled from the place of an interval to the end of the code give what all of it decodes to behind the samples before this place.
 pub pulls_from_an_interval_are_decoding : SeekingIsDecoding
 pulls_from_an_interval_are_decoding s code o before first pulls last behind ending place begins pulled last_pulled ends =
     let p = seek_all pulls last behind ending place begins pulled last_pulled ends in
@@ -388,6 +389,7 @@ seek_enough {s} {code} {o} {before} {first} pulls n place begins pulled enough f
       limit = p.limit;
     }
 
+-- and where pieces pulled from there give n samples, and less than a block more, the first n are those that the code decodes to by the count of all
 pub enough_behind_is_decoding : EnoughBehindIsDecoding
 enough_behind_is_decoding s code o before first pulls n place begins pulled enough few =
     let p = seek_enough pulls n place begins pulled enough few in

@@ -170,6 +170,7 @@ not_too_long {s} encoding decoding legal xs k {front} encoded consumed passes =
     let short = output_short s legal xs k (omega (arith, spelled, encoded.within)) in
     omega (arith, given, passes.full, whole, short)
 
+-- A call that is given what another encoded, and the number of its samples, writes the bytes that were encoded, unless a device fails.
 pub returns_bytes : ReturnsBytes
 returns_bytes s legal enc dec encoded decoded fault encodes consumed decodes = by_fault fault decodes.ends
   where
@@ -222,6 +223,7 @@ returns_bytes s legal enc dec encoded decoded fault encodes consumed decodes = b
     by_fault (Some (SampleOutOfRange index)) h = absurd h
     by_fault (Some (SampleCut index)) h = absurd h
 
+-- and one that is not given the number writes these bytes and the spellings of fewer than 64 blocks of samples more
 pub returns_bytes_and_fill : ReturnsBytesAndFill
 returns_bytes_and_fill s legal enc dec encoded decoded fault encodes consumed decodes = by_fault fault decodes.ends
   where

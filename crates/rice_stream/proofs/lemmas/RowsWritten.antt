@@ -390,6 +390,7 @@ pub record LanesRow (s : Parameters) (size all : ℕ) (bytes : List ℕ) : Type 
   pub there : row_bytes s all ≤ length bytes
   pub long : length (take (size * all) bytes) ≡ size * all
 
+-- blocks in lanes whose samples take at most 480 bytes are a row that stands whole among 512 bytes
 pub lanes_row : (s : Parameters) (w block all : ℕ) (bytes : List ℕ) → HasLanes s s.block w → block ≡ s.block → w * s.block * all ≤ 480 → length bytes ≡ 512 → LanesRow s (w * block) all bytes
 lanes_row s w block all bytes has same few long =
     let wide : w * block ≡ width s * s.block = λ j. width_is s s.block w has j * same j in
@@ -434,6 +435,7 @@ pub record PartAppended (all taken w size : ℕ) (bytes : List ℕ) (out out_new
   pub short : taken < length (take (w * size * all) bytes)
   pub appended : Appends out out_new (take taken (take (w * size * all) bytes))
 
+-- An outlet that took only a part of the bytes of a row failed behind the whole blocks in this part, as the report says.
 pub fails_behind : {I : Type 0} {s : Parameters} {all taken w size block written begin begun : ℕ} {old new : Reader I} {steps steps_new : ℕ} {p q : DecoderState} {bytes ends : List ℕ}
     {out out_new : Option Room} {rep : Report} {f : Option Fault} {left : Option (List ℕ)} {failed : ℕ} → HasLanes s s.block w → BytesOfBlocks s all w size block bytes
     → GivesBlocks all old new steps steps_new p q bytes ends → BeganAt begin begun old steps

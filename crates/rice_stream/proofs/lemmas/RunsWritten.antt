@@ -42,6 +42,7 @@ take-repeated (suc m) (suc n) xs h =
     take-front [] ys k = (let e : 0 + k ≡ k = omega arith in ap (λ n. take n ys) e)
     take-front (x ∷ xs) ys k = (let e : length (x ∷ xs) + k ≡ suc (length xs + k) = omega arith in ap (λ n. take n (x ∷ (xs ++ ys))) e ∙ ap (λ l. x ∷ l) (take-front xs ys k))
 
+-- a pattern repeated m times, and then n times, is repeated m + n times
 pub repeated-append : (m n : ℕ) (xs : List ℕ) → repeated m xs ++ repeated n xs ≡ repeated (m + n) xs
 repeated-append zero n xs = (let e : n ≡ 0 + n = omega arith in ap (λ m. repeated m xs) e)
 repeated-append (suc m) n xs = append_assoc xs (repeated m xs) (repeated n xs) ∙ ap (λ l. xs ++ l) (repeated-append m n xs)
@@ -52,6 +53,7 @@ pub spellings-repeat : (s : Parameters) (n : ℕ) (x : ℤ) → spellings s (rep
 spellings-repeat s zero x = refl
 spellings-repeat s (suc n) x = ap (λ l. spelling s x ++ l) (spellings-repeat s n x)
 
+-- a pattern of one byte, repeated, is this byte again and again
 pub repeated-byte : (n b : ℕ) → repeated n (b ∷ []) ≡ replicate n b
 repeated-byte zero b = refl
 repeated-byte (suc n) b = ap (λ l. b ∷ l) (repeated-byte n b)

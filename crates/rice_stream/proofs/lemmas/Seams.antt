@@ -30,6 +30,7 @@ use Rattle.rice_stream.proofs.lemmas.EncodingLemmas.{counts_small}
 use Rattle.rice_stream.proofs.lemmas.SamplesOfFirstBytes.{stops_before, none_left, few_more}
 use Rattle.rice_samples.proofs.lemmas.bytes.SpellingLengths.{some_width, length-spellings}
 
+-- no bits are the word of 0 of their length
 pub no_bits : (bits : List Bool) → length bits ≡ 0 → word (length bits) 0 ≡ bits
 no_bits [] e = word-nil 0
 no_bits (x ∷ bits) e = absurd (omega arith)
@@ -49,6 +50,7 @@ one_long bits full bytes f e some few =
       length-replicate (bits_to_byte (length bits)) false,
     )
 
+-- some bits, fewer than eight, have at least one byte when they are padded
 pub one_byte : (bits full : List Bool) (bytes : List ℕ) → full ≡ padded_bits bits → bytes ≡ whole_bytes full → 0 < length bits → length bits < 8 → 0 < length bytes
 one_byte bits full bytes f e some few = omega (arith, one_long bits full bytes f e some few)
 

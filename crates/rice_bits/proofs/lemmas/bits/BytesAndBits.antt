@@ -9,24 +9,29 @@ use Rattle.std.proofs.lemmas.List.Elements.{All-get_or}
 use Rattle.rice_bits.specs.Bits.{bits_in_bytes, bits_to_byte, padded_bits, word, bits_of, whole_bytes}
 use Rattle.rice_bits.proofs.lemmas.bits.WordsAndNumbers.{length-word, word-zero, number_of-word, word-number_of}
 
+-- no bytes have no bits
 pub bits_of-nil : bits_of [] ≡ []
 unfolding bits_of
 bits_of-nil = refl
 
+-- the bits of bytes are the eight digits of the first, and then the bits of the others
 pub bits_of-first : (b : ℕ) (bytes : List ℕ) → bits_of (b ∷ bytes) ≡ word 8 b ++ bits_of bytes
 unfolding bits_of
 bits_of-first b bytes = refl
 
+-- the bits of bytes and others behind them are those of the first, and then those of the others
 pub bits_of-append : (xs ys : List ℕ) → bits_of (xs ++ ys) ≡ bits_of xs ++ bits_of ys
 unfolding bits_of
 bits_of-append [] ys = refl
 bits_of-append (x ∷ xs) ys = rw (bits_of-append xs ys) (sym (append_assoc (word 8 x) _ _))
 
+-- each byte has eight bits
 pub length-bits_of : (xs : List ℕ) → length (bits_of xs) ≡ 8 * length xs
 unfolding bits_of
 length-bits_of [] = refl
 length-bits_of (x ∷ xs) = omega (arith, length-append (word 8 x) (bits_of xs), length-word 8 x, length-bits_of xs)
 
+-- the bits of bytes that are 0 are zeros, eight for each
 pub bits_of-zeros : (n : ℕ) → bits_of (replicate n 0) ≡ replicate (8 * n) false
 unfolding bits_of
 bits_of-zeros zero = refl
@@ -39,6 +44,7 @@ whole_word : (b : ℕ) (rest : List Bool) → b < 256 → whole_bytes (word 8 b 
 unfolding whole_bytes word
 whole_word b rest h = ap (λ n. n ∷ whole_bytes rest) (unfold word in number_of-word 8 b h)
 
+-- there is no whole byte where there are fewer than eight bits
 pub whole_short : (rest : List Bool) → length rest < 8 → whole_bytes rest ≡ []
 unfolding whole_bytes
 whole_short [] h = refl

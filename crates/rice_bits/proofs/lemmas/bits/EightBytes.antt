@@ -34,6 +34,7 @@ bits_of-high_first (suc k) n =
     rw (byte_digits k n, bits_of-high_first k n, word-mod (8 * k) (8 * k) n (omega arith)) refl in
     front ∙ (sym (word-split 8 (8 * k) n) ∙ ap (λ w. word w n) e)
 
+-- the eight bytes of a number, highest first, have its lowest 64 digits
 pub bits_of-eight : (n : ℕ) → bits_of (to_be_bytes w64 n) ≡ word 64 n
 bits_of-eight n = bits_of-high_first 8 n
 
@@ -46,6 +47,7 @@ all_bytes : (j k n : ℕ) → All (λ b. b < 256) (bytes_low_first j k n)
 all_bytes j zero n = All-nil (λ b. b < 256)
 all_bytes j (suc k) n = All-cons (λ b. b < 256) (byte_at j n) (bytes_low_first (suc j) k n) (byte_below j n) (all_bytes (suc j) k n)
 
+-- each of the eight bytes of a number, lowest first, is below 256
 pub eight-fit : (n : ℕ) → All (λ b. b < 256) (to_le_bytes w64 n)
 eight-fit n = all_bytes 0 8 n
 
@@ -57,5 +59,6 @@ eight-swapped n r e = ap reverse (be_bytes_8 (to_le_bytes w64 n) r refl (each_by
 pub split-bytes : (q : ℕ) (bytes : List ℕ) → bits_of (take q bytes) ++ bits_of (drop q bytes) ≡ bits_of bytes
 split-bytes q bytes = sym (bits_of-append (take q bytes) (drop q bytes)) ∙ ap bits_of (take-append-drop q bytes)
 
+-- the first bytes have eight bits each, where there are so many
 pub length-front : (q : ℕ) (bytes : List ℕ) → q ≤ length bytes → length (bits_of (take q bytes)) ≡ 8 * q
 length-front q bytes h = length-bits_of (take q bytes) ∙ ap (λ n. 8 * n) (length-take-le q bytes h)

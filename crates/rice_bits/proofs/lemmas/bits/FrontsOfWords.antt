@@ -38,6 +38,7 @@ word-moved size n m h =
     ∙ (ap (λ k. word k (m * 2 ^ n)) (sym e) ∙ (ap (word (size - n + n)) (sym plain)
     ∙ (word-cat (size - n) n m 0 (pow_pos n) ∙ ap (λ v. word (size - n) m ++ v) (word-zero n))))
 
+-- the first digits of a word are those of the number without its other digits
 pub take-front : (size n m : ℕ) → n ≤ size → take n (word size m) ≡ word n (m / 2 ^ (size - n))
 take-front size n m h =
     let front = word n (m / 2 ^ (size - n)) in

@@ -124,6 +124,7 @@ eight_spelled (x0 ∷ x1 ∷ x2 ∷ x3 ∷ x4 ∷ x5 ∷ []) bytes n r h e f g =
 eight_spelled (x0 ∷ x1 ∷ x2 ∷ x3 ∷ x4 ∷ x5 ∷ x6 ∷ []) bytes n r h e f g = absurd (omega (arith, h))
 eight_spelled (x0 ∷ x1 ∷ x2 ∷ x3 ∷ x4 ∷ x5 ∷ x6 ∷ x7 ∷ x ∷ xs) bytes n r h e f g = absurd (omega (arith, h))
 
+-- eight words of 8 digits: the number of their lowest bytes, with its bytes swapped, spells them
 pub eight_words : (ws : List ℕ) (at : ℕ) (bytes : List ℕ) (n r : ℕ) → at + 8 ≤ length ws → bytes ≡ map (λ d. d % 2 ^ 8) (take 8 (drop at ws))
     → n ≡ number_l 256 bytes % 18446744073709551616 → r ≡ swap_bytes w64 n
     → word 64 r ≡ flat_map (word 8) (take (at + 8 - at) (drop at ws))

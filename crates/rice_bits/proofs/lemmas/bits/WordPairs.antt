@@ -17,6 +17,7 @@ masked_low w [] n h = refl
 masked_low w (x ∷ ws) zero h = absurd (omega (arith, h))
 masked_low w (x ∷ ws) (suc n) h = λ i. and_mask x w i ∷ masked_low w ws n (omega (arith, h)) i
 
+-- and each of these fits so many digits
 pub low_fit : (w : ℕ) (ws : List ℕ) → All (λ v. v < 2 ^ w) (map (λ d. d % 2 ^ w) ws)
 low_fit w [] = All-nil (λ v. v < 2 ^ w)
 low_fit w (x ∷ ws) = All-cons (λ v. v < 2 ^ w) (x % 2 ^ w) (map (λ d. d % 2 ^ w) ws) (mod_below x (2 ^ w) (pow_pos w)) (low_fit w ws)

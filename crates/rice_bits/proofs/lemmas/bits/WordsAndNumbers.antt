@@ -8,11 +8,13 @@ use Rattle.std.proofs.Math.Nat.{mul_comm, pow-le-pow_right, suc-add, pow-suc, mo
 use Rattle.std.proofs.lemmas.List.{length-replicate}
 use Rattle.rice_bits.specs.Bits.{word, number_of, fundamental_sequence}
 
+-- a word has as many digits as its width
 pub length-word : (w v : ℕ) → length (word w v) ≡ w
 unfolding word
 length-word zero v = refl
 length-word (suc w) v = ap suc (length-word w v)
 
+-- a word of width 0 has no digits
 pub word-nil : (v : ℕ) → word 0 v ≡ []
 unfolding word
 word-nil v = refl
@@ -67,9 +69,11 @@ number_of-word-mod (suc w) v =
     let split : v % 2 ^ suc w ≡ (v / 2 ^ w % 2) * 2 ^ w + v % 2 ^ w = ap (λ n. v % 2 ^ n) (sym e) ∙ mod-pow-add v 1 w in
     rw (length-word w v, number_of-word-mod w v, split, bit-worth (v / 2 ^ w % 2) (2 ^ w) (mod-lt (v / 2 ^ w) (omega arith))) refl
 
+-- so it is the value itself, where that fits the width
 pub number_of-word : (w v : ℕ) → v < 2 ^ w → number_of (word w v) ≡ v
 number_of-word w v h = number_of-word-mod w v ∙ mod-eq_of_lt h
 
+-- a number fits as many digits as the bits that spell it
 pub number_of-lt : (bits : List Bool) → number_of bits < 2 ^ length bits
 unfolding number_of
 number_of-lt [] = omega arith
@@ -89,12 +93,14 @@ zero_more n x h =
     let e : 0 * 2 ^ n + x ≡ 0 + x = omega arith in
     rw (← e, div-mul-add 0 (2 ^ n) x h, word-low n n 0 x (omega arith)) refl
 
+-- the number that bits spell, written with as many digits, gives these bits again
 pub word-number_of : (bits : List Bool) → word (length bits) (number_of bits) ≡ bits
 unfolding number_of
 word-number_of [] = word-nil 0
 word-number_of (true ∷ bits) = one_more (length bits) (number_of bits) (number_of-lt bits) ∙ ap (λ z. true ∷ z) (word-number_of bits)
 word-number_of (false ∷ bits) = zero_more (length bits) (number_of bits) (number_of-lt bits) ∙ ap (λ z. false ∷ z) (word-number_of bits)
 
+-- the fundamental sequence of m has m + 1 bits
 pub length-fundamental_sequence : (m : ℕ) → length (fundamental_sequence m) ≡ m + 1
 length-fundamental_sequence m = length-append (replicate m false) (true ∷ []) ∙ ap (λ n. n + 1) (length-replicate m false)
 

@@ -7,10 +7,12 @@ use borrow.Rule.Slice.PartMut.{put_mid}
 use Rattle.std.specs.Io.KnownBytes as bytes
 use Rattle.rice_bits.specs.device.OutletRoom.{Room, known, Fills, Appends, Keeps}
 
+-- an outlet that stays as it is has taken no bytes
 pub Appends-nil : (a : Option Room) → Appends a a []
 Appends-nil None = tt
 Appends-nil (Some x) = record { borrow = refl; bytes = sym (append-nil x.bytes); rest = refl }
 
+-- what is taken in one step, and then what is taken in the next, is taken in both together
 pub Appends-trans : (a b c : Option Room) (bs cs : List ℕ) → Appends a b bs → Appends b c cs → Appends a c (bs ++ cs)
 Appends-trans None b c bs cs p q = tt
 Appends-trans (Some x) None c bs cs p q = absurd p
@@ -21,6 +23,7 @@ Appends-trans (Some x) (Some y) (Some z) bs cs p q = record {
   rest = q.rest ∙ ap (λ l. drop (length cs) l) p.rest ∙ drop-drop (length cs) (length bs) x.rest ∙ ap (λ n. drop n x.rest) (sym (length-append bs cs));
 }
 
+-- what was taken is taken still where the outlet then takes nothing
 pub Appends-kept : (a b c : Option Room) (bs : List ℕ) → Appends a b bs → Keeps b c → Appends a c bs
 Appends-kept None b c bs p q = tt
 Appends-kept (Some x) None c bs p q = absurd p
@@ -33,6 +36,7 @@ known_appends None b bs p = tt
 known_appends (Some x) None bs p = absurd p
 known_appends (Some x) (Some y) bs p = record { borrow = refl; bytes = p; rest = sym (drop-nil (length bs)) }
 
+-- where the bytes of such a writer stay the same, the outlet over it has taken nothing
 pub known_keeps : (a b : Option (List ℕ)) → bytes.Keeps a b → Keeps (known a) (known b)
 known_keeps None b p = tt
 known_keeps (Some x) None p = absurd p

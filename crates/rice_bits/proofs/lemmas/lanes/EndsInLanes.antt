@@ -30,6 +30,7 @@ use Rattle.rice_bits.specs.declared.lanes.tables_of_ends.TheConstants.{ROWS}
 
 -- the tables
 
+-- the row of the tables for a byte at a place below seven has the ends of its ones, and zeros up to eight numbers
 pub row_of : (place byte : ℕ) → place < 7 → byte < 256 → get_or (get_or ROWS place []) byte [] ≡ row_of_place place byte
 unfolding word
 row_of place byte h k =
@@ -41,6 +42,7 @@ row_of place byte h k =
 abbrev from_slide : ℕ → List ℕ
 from_slide n = take 16 (drop (48 - n) SLIDE)
 
+-- sixteen numbers of the slide, from 48 less a count on, are for each lane the place so many lanes before it, or 128 where there is none
 pub slide_places : (count : ℕ) → count ≤ 48 → take 16 (drop (48 - count) SLIDE) ≡ places_behind count
 slide_places count h =
     let all : map from_slide (range_with_len 0 49) ≡ map places_behind (range_with_len 0 49) = refl in
@@ -49,6 +51,7 @@ slide_places count h =
 
 -- a row in lanes
 
+-- a row has eight numbers
 pub length-row : (place byte : ℕ) → length (row_of_place place byte) ≡ 8
 length-row place byte =
     let es = ends_after (8 * place) (word 8 byte) in
@@ -75,6 +78,7 @@ row-filled place byte =
 abbrev sixteen_of : List ℕ → List ℕ
 sixteen_of xs = pick_l 0 xs (range_with_len 0 16)
 
+-- a row and eight zeros, picked in order into sixteen lanes, are the ends of a byte's ones in lanes
 pub row-lanes : (place byte : ℕ) (row : List ℕ) → row ≡ row_of_place place byte → sixteen_of (row ++ replicate 8 0) ≡ in_lanes (ends_after (8 * place) (word 8 byte))
 row-lanes place byte row e =
     let whole : length (row ++ replicate 8 0) ≡ 16 = omega (arith, ap length e, length-row place byte, length-append row (replicate 8 0)) in
@@ -92,6 +96,7 @@ behind_all (suc n) js h = (tt, behind_all n js h)
 length-behind : (count : ℕ) → length (places_behind count) ≡ 16
 length-behind count = length-take-le 16 (replicate count 128 ++ range_with_len 0 16) (omega (arith, length-append (replicate count 128) (range_with_len 0 16)))
 
+-- each of the places behind a count is 128 or one of sixteen lanes, as a swizzle asks
 pub places_are_ok : (count : ℕ) → SwzOk w8 16 16 0 (places_behind count)
 places_are_ok count =
     SwzOk-from_Each1 w8 16 1 16 0 (places_behind count) (omega arith) (omega (arith, length-behind count))
@@ -113,6 +118,7 @@ take-map f zero xs = refl
 take-map f (suc n) [] = refl
 take-map f (suc n) (x ∷ xs) = ap (λ z. f x ∷ z) (take-map f n xs)
 
+-- a swizzle by these places moves sixteen lanes behind so many zeros
 pub lanes-moved : (xs : List ℕ) (count : ℕ) → length xs ≡ 16 → swz_l w8 16 xs 0 (places_behind count) ≡ take 16 (replicate count 0 ++ xs)
 lanes-moved xs count n =
     let places = range_with_len 0 16 in
@@ -143,6 +149,7 @@ take-behind k n [] ys h = take-take k n ys h
 take-behind zero n (x ∷ xs) ys h = refl
 take-behind (suc k) n (x ∷ xs) ys h = ap (λ z. x ∷ z) (take-behind k n xs ys (omega (arith, h)))
 
+-- numbers in lanes, with others that are moved behind them, are both in lanes
 pub joined-lanes : (xs ys : List ℕ) → zip2 bit_or (in_lanes xs) (take 16 (replicate (length xs) 0 ++ in_lanes ys)) ≡ in_lanes (xs ++ ys)
 joined-lanes xs ys =
     lanes-joined 16 16 xs (in_lanes ys) (omega arith)
@@ -174,6 +181,7 @@ ones-counted (suc w) n h =
     ∙ (ap (λ k. ones high + k) (ones-counted w low below ∙ ap (λ b. length (ends_after 0 b)) (word-mod w w n (omega arith)))
     ∙ more_ones high (word w n) (shr_below n 1 w (subst (λ k. n < 2 ^ k) m h))))
 
+-- the first digits of a number have as many ones as there are ends among them
 pub ones-of : (front n : ℕ) → n ≤ 64 → front < 2 ^ 64 → ones (front / 2 ^ (64 - n)) ≡ length (ends_after 0 (take n (word 64 front)))
 ones-of front n h fits =
     ones-counted n (front / 2 ^ (64 - n)) (front_below 64 n front h fits) ∙ ap (λ b. length (ends_after 0 b)) (sym (take-front 64 n front h))
@@ -225,6 +233,7 @@ front-other front n h fits =
         let sum : m * d ≡ p * d + (q * d + d) = ap (λ k. k * d) m_is ∙ (add-mul p (q + 1) d ∙ ap (λ k. p * d + k) (add-mul q 1 d ∙ omega arith)) in
         omega (arith, sum, below, whole, split)
 
+-- the ones of the first n digits of a number's complement, and the ends among the number's own first n, are n together
 pub zeros-of : (front n : ℕ) → n ≤ 64 → front < 2 ^ 64 → ones ((2 ^ 64 - 1 - front) / 2 ^ (64 - n)) + length (ends_after 0 (take n (word 64 front))) ≡ n
 zeros-of front n h fits =
     let other = ap ones (front-other front n h fits) in
@@ -238,10 +247,12 @@ byte_at (suc q) (a ∷ bytes) h =
     let e : 8 * suc q ≡ suc (suc (suc (suc (suc (suc (suc (suc (8 * q)))))))) = omega arith in
     ap (λ n. take 8 (drop n (bits_of (a ∷ bytes)))) e ∙ byte_at q bytes (omega (arith, h))
 
+-- the byte at a place among the eight bytes of a number has the eight digits there
 pub byte-of : (front place : ℕ) (bytes : List ℕ) → place < 8 → bytes ≡ to_be_bytes w64 front → word 8 (get_or bytes place 0) ≡ take 8 (drop (8 * place) (word 64 front))
 byte-of front place bytes h e =
     sym (byte_at place bytes (omega (arith, h, ap length e))) ∙ ap (λ b. take 8 (drop (8 * place) b)) (ap bits_of e ∙ bits_of-eight front)
 
+-- one byte more: the ends of its ones, moved behind those before it and joined with them, are the ends of all in lanes
 pub byte-joined : (front : ℕ) {place : ℕ} (byte : ℕ) {before more shifted : List ℕ} (count : ℕ) → place < 7
     → before ≡ in_lanes (ends_after 0 (take (8 * place) (word 64 front))) → word 8 byte ≡ take 8 (drop (8 * place) (word 64 front))
     → more ≡ in_lanes (ends_after (8 * place) (word 8 byte)) → count ≡ length (ends_after 0 (take (8 * place) (word 64 front)))

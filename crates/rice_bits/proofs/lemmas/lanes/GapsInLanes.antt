@@ -11,9 +11,11 @@ use Rattle.rice_bits.proofs.lemmas.bits.WordsAndNumbers.{length-word}
 use Rattle.rice_bits.proofs.lemmas.read.EndsAndGapsLemmas.{gaps-at, gaps-spell, length-gaps, take-gaps}
 use Rattle.rice_bits.specs.lanes.Ends.{in_lanes}
 
+-- a 0 and the first fifteen of sixteen lanes are all lanes behind a 0, as far as sixteen reach
 pub behind-zero : (xs : List ℕ) → length xs ≡ 16 → 0 ∷ pick_l 0 xs (range_with_len 0 15) ≡ take 16 (0 ∷ xs)
 behind-zero xs n = ap (λ z. 0 ∷ z) (pick_l-range_with_len 0 xs 0 15 (omega (arith, n)))
 
+-- each end less the one before it, with 0 before the first, and less one is the gap between them
 pub gaps-of-lanes : (ends behind : List ℕ) → length ends ≡ 16 → behind ≡ take 16 (0 ∷ ends) → zip2 (λ x y. x - y) (zip2 (λ x y. x - y) ends behind) (replicate 16 1) ≡ gaps (0 ∷ ends)
 gaps-of-lanes ends behind n e =
     let whole : take 16 ends ≡ ends = take_all 16 ends (omega (arith, n)) in
@@ -26,6 +28,7 @@ gaps-of-lanes ends behind n e =
 lanes-first : (t : ℕ) (es : List ℕ) → t ≤ 16 → t ≤ length es → take t (in_lanes es) ≡ take t es
 lanes-first t es h few = take-take t 16 (es ++ replicate 16 0) h ∙ take-append-le t es (replicate 16 0) few
 
+-- the fundamental sequences of the first gaps are the bits up to the last of these ends, which is within the first bytes
 pub lanes-spell : (front bytes count : ℕ) (ends : List ℕ) → bytes ≤ 7 → ends ≡ in_lanes (ends_after 0 (take (8 * bytes) (word 64 front)))
     → 1 ≤ count → count ≤ 16 → count ≤ length (ends_after 0 (take (8 * bytes) (word 64 front)))
     → (get_or ends (count - 1) 0 ≤ 8 * bytes) × (flat_map fundamental_sequence (take count (gaps (0 ∷ ends))) ≡ take (get_or ends (count - 1) 0) (word 64 front))

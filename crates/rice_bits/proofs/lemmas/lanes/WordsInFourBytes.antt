@@ -21,6 +21,7 @@ use Rattle.rice_bits.proofs.lemmas.read.WindowLemmas.{take-bits_of, word-behind,
 
 -- the tables
 
+-- the table of places has the places of the bytes of four words, for each width up to 24 behind up to seven bits
 pub wide_places_are : (w r : ℕ) → w ≤ 24 → r < 8 → get_or (get_or PLACES w []) r [] ≡ quad_places w r
 wide_places_are w r h k =
     let all : map (λ w. map (quad_places w) (range_with_len 0 8)) (range_with_len 0 25) ≡ PLACES = refl in
@@ -37,6 +38,7 @@ factors-same w r =
     let d : (r + 3 * (w % 8)) % 8 ≡ (r + 3 * w) % 8 = omega arith in
     λ i. 2 ^ (a i) ∷ 2 ^ (b i) ∷ 2 ^ (c i) ∷ 2 ^ (d i) ∷ []
 
+-- the table of factors has, at the width modulo 8, the factors that move the words to the front of their bytes
 pub wide_factors_are : (w r : ℕ) → r < 8 → get_or (get_or FACTORS (w % 8) []) r [] ≡ quad_factors w r
 wide_factors_are w r k =
     let all : map (λ w. map (quad_factors w) (range_with_len 0 8)) (range_with_len 0 8) ≡ FACTORS = refl in
@@ -50,6 +52,7 @@ wide_factors_are w r k =
 four_bytes : (a b c d : ℕ) → number_l 256 (d ∷ c ∷ b ∷ a ∷ []) ≡ (a * 2 ^ 8 + b) * 2 ^ 16 + (c * 2 ^ 8 + d)
 four_bytes a b c d = omega arith
 
+-- the bytes at these places, as lanes of 32 bits, are the numbers of four bytes, each from the one in which a word begins
 pub quads_are : (bytes picked : List ℕ) (w r : ℕ) → ((i : ℕ) → get_or bytes i 0 < 256) → picked ≡ map (λ p. slice_index bytes p) (quad_places w r)
     → digits_l 4294967296 4 (number_l 256 picked) ≡ map (λ j. quad_number bytes ((r + j * w) / 8)) four
 quads_are bytes picked w r fit e =
@@ -114,6 +117,7 @@ lane_of bytes {w} r j at n fit few place inside =
     ∙ (ap (take w) (drop-take s (32 - s) (drop (8 * q) bits) ∙ ap (take (32 - s)) (drop-drop s (8 * q) bits)) ∙ (take-take w (32 - s) (drop (8 * q + s) bits) (omega (arith, few))
     ∙ ap (λ k. take w (drop k bits)) last)))
 
+-- these lanes, moved up by their factors and then down to the width, spell the four words behind the first r bits of sixteen bytes
 pub wide_lanes : (bytes : List ℕ) (w r : ℕ) → length bytes ≡ 16 → ((i : ℕ) → get_or bytes i 0 < 256) → w ≤ 24 → r < 8
     → flat_map (word w) (map (wide_lane bytes w r) four) ≡ take (4 * w) (drop r (bits_of bytes))
 wide_lanes bytes w r n fit few before =
@@ -123,6 +127,7 @@ wide_lanes bytes w r n fit few before =
     let a3 = lane_of bytes r 3 (r + w + w + w) n fit few (omega arith) (omega (arith, few, before)) in
     (λ i. a0 i ++ (a1 i ++ (a2 i ++ (a3 i ++ [])))) ∙ pieces-joined w (bits_of bytes) r 4
 
+-- and each of these lanes fits the width
 pub wide_lanes_fit : (bytes : List ℕ) (w r : ℕ) → w ≤ 24 → All (λ v. v < 2 ^ w) (map (wide_lane bytes w r) four)
 wide_lanes_fit bytes w r few = all four
   where
@@ -188,5 +193,6 @@ pub eight-words : (w at : ℕ) (bits : List Bool) (first second : List ℕ) → 
     → flat_map (word w) (first ++ second) ≡ take (8 * w) (drop at bits)
 eight-words w at bits first second e f = words-joined w bits at 4 4 first second (record { place = refl; front = e; behind = f })
 
+-- two vectors of four lanes, picked in order, are eight lanes
 pub eight-lanes : (first second : List ℕ) → length first ≡ 4 → length second ≡ 4 → pick_l 0 (first ++ second) (range_with_len 0 8) ≡ first ++ second
 eight-lanes first second e f = pick_l_whole 0 (first ++ second) 8 (omega (arith, e, f, length-append first second))

@@ -22,6 +22,7 @@ use Rattle.rice_bits.specs.declared.lanes.words.TheConstants.{PLACES, FACTORS}
 
 -- the tables
 
+-- the table of places has the places of the bytes of eight words, for each width up to nine behind up to seven bits
 pub places_are : (w r : ℕ) → w ≤ 9 → r < 8 → get_or (get_or PLACES w []) r [] ≡ places w r
 places_are w r h k =
     let all : map (λ w. map (places w) (range_with_len 0 8)) (range_with_len 0 10) ≡ PLACES = refl in
@@ -29,6 +30,7 @@ places_are w r h k =
     ∙ (ap (λ t. get_or t r []) (get_or-map-range_with_len (λ w. map (places w) (range_with_len 0 8)) 0 10 w w [] (omega (arith, h)) (omega arith))
     ∙ get_or-map-range_with_len (places w) 0 8 r r [] k (omega arith))
 
+-- the table of factors has those that move the words to the front of their bytes
 pub factors_are : (w r : ℕ) → w ≤ 9 → r < 8 → get_or (get_or FACTORS w []) r [] ≡ factors w r
 factors_are w r h k =
     let all : map (λ w. map (factors w) (range_with_len 0 8)) (range_with_len 0 10) ≡ FACTORS = refl in
@@ -38,11 +40,13 @@ factors_are w r h k =
 
 -- two bytes
 
+-- lanes of 8 bits are below 256, and so is the 0 past their end
 pub lanes_below : (bytes : List ℕ) → Each1 (Fits w8) bytes → (i : ℕ) → get_or bytes i 0 < 256
 lanes_below [] h i = omega arith
 lanes_below (b ∷ bytes) h zero = h.0.fits
 lanes_below (b ∷ bytes) h (suc i) = lanes_below bytes h.1 i
 
+-- and so are the bytes at any places
 pub bytes_below : (bytes : List ℕ) (ps : List ℕ) → ((i : ℕ) → get_or bytes i 0 < 256) → Each1 (λ b. b < 256) (map (λ p. slice_index bytes p) ps)
 bytes_below bytes [] h = tt
 bytes_below bytes (p ∷ ps) h = (h p, bytes_below bytes ps h)
@@ -50,6 +54,7 @@ bytes_below bytes (p ∷ ps) h = (h p, bytes_below bytes ps h)
 two_bytes : (a b : ℕ) → number_l 256 (b ∷ a ∷ []) ≡ a * 2 ^ 8 + b
 two_bytes a b = omega arith
 
+-- the bytes at the places of words, as lanes of 16 bits, are the numbers of two bytes, each from the one in which a word begins
 pub pairs_are : (bytes picked : List ℕ) (w r : ℕ) → ((i : ℕ) → get_or bytes i 0 < 256) → picked ≡ map (λ p. slice_index bytes p) (places w r)
     → digits_l 65536 8 (number_l 256 picked) ≡ map (λ j. pair_number bytes ((r + j * w) / 8)) eight
 pairs_are bytes picked w r fit e =
@@ -85,9 +90,11 @@ two_at (suc q) (a ∷ bytes) h =
     let n : suc q + 1 ≡ suc (q + 1) = omega arith in
     ap (λ n. take 16 (drop n (bits_of (a ∷ bytes)))) e ∙ (two_at q bytes (omega (arith, h)) ∙ ap (λ k. word 8 (get_or (a ∷ bytes) (suc q) 0) ++ word 8 (get_or (a ∷ bytes) k 0)) (sym n))
 
+-- the number of a byte and the one behind it has the sixteen bits of both
 pub pair_word : (q : ℕ) (bytes : List ℕ) → q + 1 < length bytes → ((i : ℕ) → get_or bytes i 0 < 256) → word 16 (pair_number bytes q) ≡ take 16 (drop (8 * q) (bits_of bytes))
 pair_word q bytes h fit = word-cat 8 8 (get_or bytes q 0) (get_or bytes (q + 1) 0) (fit (q + 1)) ∙ sym (two_at q bytes h)
 
+-- the bits behind those of the first bytes are the bits of the other bytes
 pub drop-bits_of : (q : ℕ) (bytes : List ℕ) → drop (8 * q) (bits_of bytes) ≡ bits_of (drop q bytes)
 unfolding word bits_of
 drop-bits_of zero bytes = refl
@@ -102,6 +109,7 @@ abbrev pub pieces : ℕ → List Bool → ℕ → ℕ → List Bool
 pieces w bits at zero = []
 pieces w bits at (suc n) = take w (drop at bits) ++ pieces w bits (at + w) n
 
+-- n pieces of w bits, each from the end of the one before, are all bits of that stretch
 pub pieces-joined : (w : ℕ) (bits : List Bool) (at n : ℕ) → pieces w bits at n ≡ take (n * w) (drop at bits)
 pieces-joined w bits at zero = (let none : 0 * w ≡ 0 = omega arith in rw none refl)
 pieces-joined w bits at (suc n) =
@@ -153,6 +161,7 @@ lanes-fit bytes w r few = all eight
 abbrev pub lane_in_steps : List ℕ → ℕ → ℕ → ℕ → ℕ
 lane_in_steps bytes w r j = pair_number bytes ((r + j * w) / 8) * 2 ^ ((r + j * w) % 8) % 65536 / 2 ^ 1 / 2 ^ (15 - w)
 
+-- a lane that is moved down in two steps is the lane that is moved down in one
 pub steps-joined : (bytes : List ℕ) (w r : ℕ) → w ≤ 9 → (js : List ℕ) → map (lane_in_steps bytes w r) js ≡ map (lane bytes w r) js
 steps-joined bytes w r h [] = refl
 steps-joined bytes w r h (j ∷ js) =
@@ -162,10 +171,12 @@ steps-joined bytes w r h (j ∷ js) =
     let rest = steps-joined bytes w r h js in
     λ i. one i ∷ rest i
 
+-- the lanes that are moved down in two steps spell the eight words behind the first r bits of sixteen bytes
 pub lanes-words : (bytes : List ℕ) (w r : ℕ) → length bytes ≡ 16 → ((i : ℕ) → get_or bytes i 0 < 256) → w ≤ 9 → r < 8
     → flat_map (word w) (map (lane_in_steps bytes w r) eight) ≡ take (8 * w) (drop r (bits_of bytes))
 lanes-words bytes w r n fit few before = ap (flat_map (word w)) (steps-joined bytes w r few eight) ∙ lanes-whole bytes w r n fit few before
 
+-- and each of these lanes fits the width
 pub lanes-small : (bytes : List ℕ) (w r : ℕ) → w ≤ 9 → All (λ v. v < 2 ^ w) (map (lane_in_steps bytes w r) eight)
 lanes-small bytes w r few = subst (All (λ v. v < 2 ^ w)) (sym (steps-joined bytes w r few eight)) (lanes-fit bytes w r few)
 
@@ -221,6 +232,7 @@ words-loaded bytes at w h few =
 
 -- sixteen words
 
+-- each number of a list as it is: the same list
 pub map_same : (xs : List ℕ) → map (λ d. d) xs ≡ xs
 map_same [] = refl
 map_same (x ∷ xs) = ap (λ ys. x ∷ ys) (map_same xs)
@@ -229,6 +241,7 @@ words-append : (w : ℕ) (xs ys : List ℕ) → flat_map (word w) (xs ++ ys) ≡
 words-append w [] ys = refl
 words-append w (x ∷ xs) ys = ap (λ z. word w x ++ z) (words-append w xs ys) ∙ sym (append_assoc (word w x) (flat_map (word w) xs) (flat_map (word w) ys))
 
+-- sixteen words, eight from each of two vectors
 pub sixteen-words : (w at : ℕ) (bits : List Bool) (first second : List ℕ) → flat_map (word w) first ≡ take (8 * w) (drop at bits) → flat_map (word w) second ≡ take (8 * w) (drop (at + 8 * w) bits)
     → flat_map (word w) (first ++ second) ≡ take (16 * w) (drop at bits)
 sixteen-words w at bits first second e f =
@@ -236,9 +249,11 @@ sixteen-words w at bits first second e f =
     words-append w first second ∙ ((λ j. e j ++ (f ∙ ap (take (8 * w)) (sym (drop-drop (8 * w) at bits))) j)
     ∙ (sym (take-add (8 * w) (8 * w) (drop at bits)) ∙ ap (λ k. take k (drop at bits)) n))
 
+-- the lanes of two vectors of eight, picked in order and each left as it is, are those of the first and then those of the second
 pub narrow-is : (xs ys : List ℕ) → length xs ≡ 8 → length ys ≡ 8 → map (λ d. d) (pick_l 0 (xs ++ ys) (range_with_len 0 16)) ≡ xs ++ ys
 narrow-is xs ys e f = map_same (pick_l 0 (xs ++ ys) (range_with_len 0 16)) ∙ pick_l_whole 0 (xs ++ ys) 16 (omega (arith, e, f, length-append xs ys))
 
+-- and each fits 8 bits where those of both vectors do
 pub narrow-fits : (xs ys : List ℕ) → length xs ≡ 8 → length ys ≡ 8 → All (λ v. v < 256) xs → All (λ v. v < 256) ys → Each1 (Fits w8) (pick_l 0 (xs ++ ys) (range_with_len 0 16))
 narrow-fits xs ys e f h k =
     subst (Each1 (Fits w8)) (sym (pick_l_whole 0 (xs ++ ys) 16 (omega (arith, e, f, length-append xs ys)))) (both xs h)
@@ -251,8 +266,10 @@ narrow-fits xs ys e f h k =
     both [] h = fit ys k
     both (x ∷ xs) h = (record { fits = h 0 0 (omega arith) }, both xs (λ i d lt. h (suc i) d (omega (arith, lt))))
 
+-- numbers of at most eight digits are below 256
 pub below-256 : (w : ℕ) (xs : List ℕ) → w ≤ 8 → All (λ v. v < 2 ^ w) xs → All (λ v. v < 256) xs
 below-256 w xs h all = λ i d lt. let small = all i d lt in let few = pow-le-pow_right {n = 2} (omega arith) {i = w} {j = 8} h in omega (arith, small, few)
 
+-- numbers fit a width where those of the first part of a list and those of the second do
 pub fit-both : (w : ℕ) (xs ys : List ℕ) → All (λ v. v < 2 ^ w) xs → All (λ v. v < 2 ^ w) ys → All (λ v. v < 2 ^ w) (xs ++ ys)
 fit-both w xs ys h k = All-append (λ v. v < 2 ^ w) xs ys h k

@@ -14,6 +14,7 @@ consumes-none None new h = h
 consumes-none (Some xs) None h = h
 consumes-none (Some xs) (Some ys) h = sym h
 
+-- so nothing is drawn where what is known of the bytes is the same before and after
 pub consumes-nil : (a : Option (List ℕ)) → Consumes a a []
 consumes-nil None = tt
 consumes-nil (Some xs) = refl
@@ -39,6 +40,7 @@ needed-append {b} turns p q some = elim (cases_lt 0 b) [
   | inr none ↦ (let first = p (omega (arith, turns.bytes, some, none)) in omega (arith, first, turns.bytes, turns.bits, none))
 ]
 
+-- bits that are taken by one draw, and others by the next, are taken by both together
 pub draws-append : {a b c : Option (List ℕ)} {old mid new xs ys : List Bool} → Draws a b old mid xs → Draws b c mid new ys → Draws a c old new (xs ++ ys)
 draws-append {a} {b} {c} {old} {mid} {new} {xs} {ys} p q =
     let lengths : length old + 8 * length p.given ≡ length xs + length mid =
@@ -57,6 +59,7 @@ draws-append {a} {b} {c} {old} {mid} {new} {xs} {ys} p q =
           ) (sym (append_assoc xs ys new));
     }
 
+-- one number from the front of a list that has one is its first
 pub take-one : (xs : List ℕ) (n : ℕ) → n ≡ 1 → n ≤ length xs → take n xs ≡ get_or xs 0 0 ∷ []
 take-one [] n e h = absurd (omega arith)
 take-one (x ∷ xs) n e h = rw e refl

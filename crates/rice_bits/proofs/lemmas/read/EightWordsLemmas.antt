@@ -21,6 +21,7 @@ each-of : (P : ℕ → Type 0) (xs : List ℕ) → All P xs → Each1 P xs
 each-of P [] h = tt
 each-of P (x ∷ xs) h = (h 0 0 (omega arith), each-of P xs (λ k d lt. h (suc k) d (omega (arith, lt))))
 
+-- sixteen places below sixteen are as a swizzle asks
 pub places_are_ok : (ps : List ℕ) → length ps ≡ 16 → All (λ p. p < 16) ps → SwzOk w8 16 16 0 ps
 places_are_ok ps len h = SwzOk-from_below w8 16 1 16 0 ps (omega arith) (omega (arith, len)) (each-of (λ p. p < 16) ps h)
 
@@ -74,6 +75,7 @@ bytes_below : (y : ℕ) (ps : List ℕ) → Each1 (λ b. b < 256) (map (λ p. ge
 bytes_below y [] = tt
 bytes_below y (p ∷ ps) = (digits_below 16 y p, bytes_below y ps)
 
+-- the bytes of a number at the places of words, as lanes of 16 bits, are its sixteen digits that each word lies in
 pub pairs_are : (x w : ℕ) (bytes picked : List ℕ) → x < 2 ^ 64 → w ≤ 7 → bytes ≡ bytes_of_digits x → picked ≡ map (λ p. slice_index bytes p) (word_places w)
     → digits_l 65536 8 (number_l 256 picked) ≡ map (λ j. x / 2 ^ (48 - 8 * (j * w / 8)) % 65536) eight
 pairs_are x w bytes picked fits few same e =
@@ -135,6 +137,7 @@ lane_of x w j at few lt place inside =
     let n : 8 * (j * w / 8) + j * w % 8 ≡ at = omega (arith, place) in
     lane-word x w (j * w / 8) (j * w % 8) few (omega arith) inside ∙ ap (λ k. take w (drop k (word 64 x))) n
 
+-- the lanes, moved to the front of their two bytes and then down to the width, spell the first eight words of a number's 64 digits
 pub lanes-words : (x w : ℕ) → w ≤ 7 → flat_map (word w) (map (lane x w) eight) ≡ take (8 * w) (word 64 x)
 lanes-words x w few =
     let a0 = lane_of x w 0 0 few (omega arith) (omega arith) (omega (arith, few)) in
@@ -147,6 +150,7 @@ lanes-words x w few =
     let a7 = lane_of x w 7 (0 + w + w + w + w + w + w + w) few (omega arith) (omega arith) (omega (arith, few)) in
     (λ i. a0 i ++ (a1 i ++ (a2 i ++ (a3 i ++ (a4 i ++ (a5 i ++ (a6 i ++ (a7 i ++ [])))))))) ∙ pieces-joined w (word 64 x) 0 8
 
+-- and each of these lanes fits the width
 pub lanes-fit : (x w : ℕ) → w ≤ 7 → All (λ v. v < 2 ^ w) (map (lane x w) eight)
 lanes-fit x w few = all eight
   where

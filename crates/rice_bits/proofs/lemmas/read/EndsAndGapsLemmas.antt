@@ -28,6 +28,7 @@ row_of byte d h =
     let all : map end_row (range_with_len 0 256) ≡ ENDS = refl in
     ap (λ xs. get_or xs byte d) (sym all) ∙ get_or-map-range_with_len end_row 0 256 byte byte d h (omega arith)
 
+-- a byte has as many ones as there are ends of them
 pub ones_are_ends : (byte : ℕ) → byte < 256 → ones byte ≡ length (ends_after 0 (word 8 byte))
 unfolding word ones
 ones_are_ends byte h =
@@ -35,11 +36,13 @@ ones_are_ends byte h =
     sym (get_or-map-range_with_len ones 0 256 byte byte 0 h (omega arith))
     ∙ (ap (λ xs. get_or xs byte 0) all ∙ get_or-map-range_with_len (λ b. length (ends_after 0 (word 8 b))) 0 256 byte byte 0 h (omega arith))
 
+-- how many ends there are does not depend on the bits before all
 pub ends-count : (p q : ℕ) (bits : List Bool) → length (ends_after p bits) ≡ length (ends_after q bits)
 ends-count p q [] = refl
 ends-count p q (true ∷ bits) = omega (arith, ends-count (p + 1) (q + 1) bits)
 ends-count p q (false ∷ bits) = ends-count (p + 1) (q + 1) bits
 
+-- there are at most as many ends as bits
 pub few-ends : (p : ℕ) (bits : List Bool) → length (ends_after p bits) ≤ length bits
 few-ends p [] = omega arith
 few-ends p (true ∷ bits) = omega (arith, few-ends (p + 1) bits)
@@ -59,6 +62,7 @@ moved-ends (false ∷ bits) p q h =
 abbrev pub added : ℕ → ℕ → ℕ
 added x y = (x + y) % 256
 
+-- a row has eight numbers
 pub length-row : (byte : ℕ) → length (end_row byte) ≡ 8
 length-row byte =
     let bits = word 8 byte in
@@ -91,6 +95,7 @@ lanes-behind told lanes found k eight few room =
     ∙ (ap (take (found + k + 1)) (take_more_put_chunk (found + 1) told lanes (found + 9) (omega (arith, eight)) room)
     ∙ (ap (λ m. take m (front ++ lanes)) n ∙ take-append-add front lanes k))
 
+-- the ends among two parts are those of the first, and then those of the second, which stands behind the first
 pub ends-append : (p : ℕ) (xs ys : List Bool) → ends_after p (xs ++ ys) ≡ ends_after p xs ++ ends_after (p + length xs) ys
 ends-append p [] ys = (let n : p ≡ p + 0 = omega arith in ap (λ k. ends_after k ys) n)
 ends-append p (true ∷ xs) ys =
@@ -106,6 +111,7 @@ unfolding bits_of
 bits-more bytes i lt =
     ap bits_of (take_more bytes i 0 lt) ∙ (bits_of-append (take i bytes) (get_or bytes i 0 ∷ []) ∙ ap (λ z. bits_of (take i bytes) ++ z) (append-nil (word 8 (get_or bytes i 0))))
 
+-- the ends among the first bytes and one more are those among the first, and then those of its own ones behind them
 pub ends-more : (before : ℕ) (bytes : List ℕ) (i : ℕ) → i < length bytes
     → ends_after before (bits_of (take (i + 1) bytes)) ≡ ends_after before (bits_of (take i bytes)) ++ ends_after (before + 8 * i) (word 8 (get_or bytes i 0))
 ends-more before bytes i lt =
@@ -121,6 +127,7 @@ one_above_or_zero x y h k = grind (arith, nat_tests)
 abbrev pub wrapped_sub : ℕ → ℕ → ℕ
 wrapped_sub a b = (a + (256 - b)) % 256
 
+-- in lanes of 8 bits, the greater of two numbers less the second is their difference, which stops at 0
 pub lanes_above_or_zero : (xs ys : List ℕ) → Each1 (Fits w8) xs → Each1 (Fits w8) ys → zip2 wrapped_sub (sel_l (zip2 nat_lt xs ys) ys xs) ys ≡ zip2 (λ x y. x - y) xs ys
 lanes_above_or_zero [] ys h k = refl
 lanes_above_or_zero (x ∷ xs) [] h k = refl
@@ -139,6 +146,7 @@ drop-gaps (suc i) [] h = absurd (omega arith)
 drop-gaps (suc i) (a ∷ []) h = absurd (omega arith)
 drop-gaps (suc i) (a ∷ b ∷ told) h = drop-gaps i (b ∷ told) (omega (arith, h))
 
+-- there is a gap fewer than there are numbers
 pub length-gaps : (told : List ℕ) → 0 < length told → length (gaps told) + 1 ≡ length told
 length-gaps [] h = absurd (omega arith)
 length-gaps (a ∷ []) h = refl
@@ -153,6 +161,7 @@ gaps-at n told at h =
     ap (λ z. zip2 (λ x y. x - y) (zip2 (λ x y. x - y) (take n z) (take n (drop at told))) (replicate n 1)) behind
     ∙ (gaps-lanes n (drop at told) room ∙ ap (take n) (sym (drop-gaps at told (omega (arith, h)))))
 
+-- a gap is the next number less the one at its place, and less one
 pub get_or-gaps : (told : List ℕ) (i : ℕ) → i + 1 < length told → get_or (gaps told) i 0 ≡ get_or told (i + 1) 0 - get_or told i 0 - 1
 get_or-gaps [] i h = absurd (omega arith)
 get_or-gaps (a ∷ []) i h = absurd (omega arith)
@@ -179,6 +188,7 @@ chunk-last {n} now all {lanes} from {count} len few reach long e before =
     sym (take_all count written whole) ∙ (ap (λ k. take k written) (sym m)
     ∙ (chunk-more now all from at (omega (arith, reach)) (omega (arith, m, len)) long e before ∙ ap (λ k. take k all) m))
 
+-- one more gap, written behind the first ones
 pub gap-more : (now told : List ℕ) (i : ℕ) → i < length now → i + 1 < length told → take i now ≡ take i (gaps told)
     → take (i + 1) (set now i (get_or told (i + 1) 0 - get_or told i 0 - 1)) ≡ take (i + 1) (gaps told)
 gap-more now told i lt h before =
@@ -247,6 +257,7 @@ first-bytes front n bytes h e =
     let len : length bytes ≡ 8 = ap length e in
     sym (take-bits_of n bytes (omega (arith, h, len))) ∙ ap (take (8 * n)) (ap bits_of e ∙ bits_of-eight front)
 
+-- the first four bytes of a word are searched where the ends of their ones stand behind the 0
 pub searched-four : (front : ℕ) (bytes old told : List ℕ) (found : ℕ) → bytes ≡ to_be_bytes w64 front → take 1 old ≡ 0 ∷ [] → found ≡ 0 + length (ends_after 0 (bits_of (take 4 bytes)))
     → take (found + 1) told ≡ take 1 old ++ ends_after 0 (bits_of (take 4 bytes)) → IsSearched front told found
 searched-four front bytes old told found b first count e =
@@ -258,6 +269,7 @@ searched-four front bytes old told found b first count e =
       ends = e ∙ (λ j. first j ++ ends_after 0 (bits j));
     }
 
+-- and so are the first seven, where the ends in three bytes more are written behind those
 pub searched-seven : {front : ℕ} {bytes : List ℕ} (old middle : List ℕ) {told : List ℕ} {found all : ℕ} → bytes ≡ to_be_bytes w64 front → take 1 old ≡ 0 ∷ []
     → found ≡ 0 + length (ends_after 0 (bits_of (take 4 bytes)))
     → take (found + 1) middle ≡ take 1 old ++ ends_after 0 (bits_of (take 4 bytes))

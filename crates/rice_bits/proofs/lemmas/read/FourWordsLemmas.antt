@@ -61,6 +61,7 @@ words-lanes x y w h p q =
     (λ j. lanes (first j) (second j)) ∙ four-lanes (even x w) (odd x w) (even y w) (odd y w)
     (omega (arith, most, even-below x w h p)) (omega (arith, most, odd-below x w h)) (omega (arith, most, even-below y w h q)) (omega (arith, most, odd-below y w h))
 
+-- each of the four lanes fits the width
 pub four-fit : (x y w : ℕ) → w ≤ 28 → x < 2 ^ 64 → y < 2 ^ 64 → All (λ v. v < 2 ^ w) (lanes (halves x w) (halves y w))
 four-fit x y w h p q =
     subst (All (λ v. v < 2 ^ w)) (sym (words-lanes x y w h p q))
@@ -75,6 +76,7 @@ two-front x w h =
     let second : word w (odd x w) ++ [] ≡ take w (drop w bits) = append-nil (word w (odd x w)) ∙ word-behind 64 w w x (omega (arith, h)) in
     (λ j. first j ++ second j) ∙ (sym (take-add w w bits) ∙ ap (λ n. take n bits) two)
 
+-- the four lanes spell the first two words of one number of 64 digits, and the first two of another
 pub four-words : (x y w : ℕ) → w ≤ 28 → x < 2 ^ 64 → y < 2 ^ 64
     → flat_map (word w) (lanes (halves x w) (halves y w)) ≡ take (2 * w) (word 64 x) ++ take (2 * w) (word 64 y)
 four-words x y w h p q =

@@ -12,6 +12,7 @@ use Rattle.rice_bits.specs.read.JoinedParts.{AreWritten, joined_parts}
 use Rattle.rice_bits.proofs.lemmas.read.EndsAndGapsLemmas.{length-gaps}
 use Rattle.rice_bits.proofs.lemmas.read.WindowLemmas.{words-joined}
 
+-- as many numbers are joined as there are high parts, where there are as many low parts
 pub length-joined : (k : ℕ) (ms ls : List ℕ) → length ls ≡ length ms → length (joined_parts k ms ls) ≡ length ms
 length-joined k [] ls e = refl
 length-joined k (m ∷ ms) [] e = absurd (omega arith)
@@ -23,6 +24,7 @@ joined-append k [] xs (l ∷ ls) ys e = absurd (omega arith)
 joined-append k (m ∷ ms) xs [] ys e = absurd (omega arith)
 joined-append k (m ∷ ms) xs (l ∷ ls) ys e = ap (λ z. (m * 2 ^ k + l) ∷ z) (joined-append k ms xs ls ys (omega arith))
 
+-- the first joined numbers are joined of the first high parts and the first low parts
 pub take-joined : (k n : ℕ) (ms ls : List ℕ) → take n (joined_parts k ms ls) ≡ joined_parts k (take n ms) (take n ls)
 take-joined k zero ms ls = refl
 take-joined k (suc n) [] ls = refl
@@ -70,6 +72,7 @@ written-more {bytes} {at} {w} {ends} {done} {n} words h len fit bits e now room 
           ∙ ap (λ ms. joined_parts w ms (h.words ++ words)) (sym (take-add done n (gaps ends)))));
     }
 
+-- no numbers are written yet, whatever stands in the list
 pub written-none : (bytes : List ℕ) (at w : ℕ) (ends numbers : List ℕ) → AreWritten bytes at w ends 0 numbers
 written-none bytes at w ends numbers = record {
   words = [];
@@ -92,6 +95,7 @@ seven-of (a ∷ b ∷ c ∷ d ∷ p ∷ []) e = absurd (omega arith)
 seven-of (a ∷ b ∷ c ∷ d ∷ p ∷ q ∷ []) e = absurd (omega arith)
 seven-of (a ∷ b ∷ c ∷ d ∷ p ∷ q ∷ r ∷ xs) e = (refl, refl)
 
+-- four of the numbers, and then four from the fourth on, are seven behind those that stand before
 pub seven-written : (done : ℕ) (old xs first last : List ℕ) → length xs ≡ 8 → done + 7 ≤ length old
     → first ≡ take 4 xs → last ≡ take 4 (drop 3 xs)
     → take (done + 7) (put_chunk (done + 3) (put_chunk done old first) last) ≡ take done old ++ take 7 xs

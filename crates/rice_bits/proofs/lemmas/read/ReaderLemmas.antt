@@ -27,6 +27,7 @@ takes_passed intake {mid} before {bits} draws taken blank going same passes = re
   failures = same;
 }
 
+-- a reader that stays as it is, and has refused nothing, has taken no bits
 pub takes-none : {I : Type 0} (r : Reader I) → r.refusal ≡ None → Takes r r []
 takes-none r h = record {
   draws = draws-waiting r.left r.waiting r.waiting [] refl;
@@ -36,6 +37,7 @@ takes-none r h = record {
   failures = refl;
 }
 
+-- bits that are taken in one step, and others in the next, are taken in both together
 pub takes-append : {I : Type 0} (old mid new : Reader I) (xs ys : List Bool)
     → Takes old mid xs → Takes mid new ys → Takes old new (xs ++ ys)
 takes-append old mid new xs ys p q = record {
@@ -46,6 +48,7 @@ takes-append old mid new xs ys p q = record {
   failures = q.failures ∙ p.failures;
 }
 
+-- where the next step takes the last bits and refuses, so do both together
 pub stops-append : {I : Type 0} (old mid new : Reader I) (xs ys : List Bool) (f : BitFault)
     → Takes old mid xs → Stops mid new ys f → Stops old new (xs ++ ys) f
 stops-append old mid new xs ys f p q = record {
@@ -64,6 +67,7 @@ pub still_wait : {I : Type 0} (old new : Reader I) (xs : List Bool)
 still_wait old new xs p =
     omega (arith, ap length p.draws.split, length-append old.waiting (bits_of p.draws.given), length-append xs new.waiting)
 
+-- zeros in front of a fundamental sequence make a longer one
 pub zeros-fs : (a b : ℕ) → replicate a false ++ fundamental_sequence b ≡ fundamental_sequence (a + b)
 zeros-fs a b = sym (append_assoc (replicate a false) (replicate b false) (true ∷ [])) ∙ ap (λ z. z ++ true ∷ []) (replicate-append-replicate a b false)
 
@@ -72,10 +76,12 @@ pub one_waits : {I : Type 0} (old new : Reader I) (n : ℕ)
     → Takes old new (replicate n false) → is_blank old.waiting ≡ false → 0 < length new.waiting
 one_waits old new n taken some = one_behind_zeros old.waiting (bits_of taken.draws.given) new.waiting n some taken.draws.split
 
+-- where a test says that there is no refusal, there is none
 pub no_refusal : (refusal : Option BitFault) → is_some refusal ≡ false → refusal ≡ None
 no_refusal None e = refl
 no_refusal (Some f) e = absurd cc
 
+-- what holds of a fault holds of a refusal that is this fault
 pub refusal_is : (refusal : Option BitFault) (f : BitFault) (P : BitFault → Type 0) → refusal ≡ Some f → P f → IfSome refusal P
 refusal_is refusal f P e holds = rw e holds
 

@@ -33,9 +33,11 @@ between-join xs a s e p q =
     let j : take ((s - a) + (e - s)) (drop a xs) ≡ take (s - a) (drop a xs) ++ take (e - s) (drop (s - a) (drop a xs)) = take-add (s - a) (e - s) (drop a xs) in
     ap (λ k. take (s - a) (drop a xs) ++ take (e - s) k) (sym d) ∙ sym j ∙ ap (λ k. take k (drop a xs)) n
 
+-- what stands behind the first part of a list is the second
 pub drop-seam : {A : Type 0} (xs ys : List A) (n : ℕ) → length xs ≡ n → drop n (xs ++ ys) ≡ ys
 drop-seam xs ys n e = ap (λ k. drop k (xs ++ ys)) (sym e) ∙ drop-append_seam xs ys
 
+-- the bits of the first bytes are the first bits of all bytes
 pub take-bits_of : (n : ℕ) (xs : List ℕ) → n ≤ length xs → take (8 * n) (bits_of xs) ≡ bits_of (take n xs)
 take-bits_of n xs h =
     let front = bits_of (take n xs) in
@@ -50,12 +52,14 @@ drop-bits_of n xs h =
     let both : bits_of xs ≡ front ++ bits_of (drop n xs) = ap bits_of (sym (take-append-drop n xs)) ∙ bits_of-append (take n xs) (drop n xs) in
     ap (drop (8 * n)) both ∙ drop-seam front (bits_of (drop n xs)) (8 * n) len
 
+-- no bits wait where the window is at its end
 pub window_empty : (w : Window) → w.at ≡ w.end → window_bits w ≡ []
 unfolding window_bits
 window_empty w e =
     let n : w.end - w.at ≡ 0 = omega arith in
     rw n refl
 
+-- in a window from the start of its buffer to the end of the first bytes the bits of these bytes wait
 pub window_filled : (w : Window) (n : ℕ) → w.at ≡ 0 → w.end ≡ 8 * n → n ≤ length w.buffer → window_bits w ≡ bits_of (take n w.buffer)
 unfolding window_bits
 window_filled w n a e h =
@@ -71,6 +75,7 @@ zeros-behind old new n k h e =
       sym (drop-take n k new) ∙ (ap (drop n) e ∙ drop-seam (take n old) (replicate k 0) n len),
     )
 
+-- as many bits wait as there are from the window's place to its end
 pub length-window : (w : Window) → IsWindow w → length (window_bits w) ≡ w.end - w.at
 unfolding window_bits
 length-window w h =
@@ -89,12 +94,14 @@ window-moved w at h from to = record {
   behind = h.behind;
 }
 
+-- no bits were passed where the mark is at the window's place
 pub passed_none : (w : Window) → w.marked ≡ w.at → window_passed w ≡ []
 unfolding window_passed
 passed_none w e =
     let n : w.at - w.marked ≡ 0 = omega arith in
     rw n refl
 
+-- the same bits wait wherever the mark is
 pub marked-bits : (w : Window) (marked : ℕ) → window_bits (record w { marked = marked }) ≡ window_bits w
 unfolding window_bits
 marked-bits w marked = refl
@@ -240,6 +247,7 @@ near-ahead w r h e =
           e ∙ rw near (ap (λ z. z ++ replicate s false) (sym (take-take (64 - s) len ahead long)) ∙ ap (λ k. take (64 - s) (take len ahead) ++ replicate k false) gap)
     ]
 
+-- the digits of words are as many as the width, for each of them
 pub length-words : (width : ℕ) (xs : List ℕ) → length (flat_map (word width) xs) ≡ length xs * width
 length-words width [] = omega arith
 length-words width (x ∷ xs) = omega (arith, length-append (word width x) (flat_map (word width) xs), length-word width x, length-words width xs)
@@ -266,11 +274,13 @@ pub words-written : {k : ℕ} (width : ℕ) (bits : List Bool) (from : ℕ) {at 
 words-written {k} width bits from {at} m now words both len room =
     ap (flat_map (word width)) (take_more_put_chunk m now words (m + k) (omega (arith, len)) room) ∙ words-joined width bits from m k (take m now) words both
 
+-- what holds of each word before and of each new one holds of all when the new are written behind those
 pub all-written : (P : ℕ → Type 0) (k m : ℕ) (now words : List ℕ) → length words ≡ k → m + k ≤ length now
     → All P (take m now) → All P words → All P (take (m + k) (put_chunk m now words))
 all-written P k m now words len room before next =
     subst (All P) (sym (take_more_put_chunk m now words (m + k) (omega (arith, len)) room)) (All-append P (take m now) words before next)
 
+-- the first of some words are spelled by the first digits of all
 pub words-front : (width n : ℕ) (xs : List ℕ) → n ≤ length xs → flat_map (word width) (take n xs) ≡ take (n * width) (flat_map (word width) xs)
 words-front width n xs h =
     let front = flat_map (word width) (take n xs) in
@@ -300,6 +310,7 @@ all-last P m {count} now four places before behind =
     let front : All P (take (count - 4) now) = subst (All P) (take-take (count - 4) m now part) (All-take P (count - 4) (take m now) before) in
     subst (All P) (sym (fours-last count now four places.len places.four_are places.room)) (All-append P (take (count - 4) now) four front behind)
 
+-- and all words are those from a place on, where the words before and the last four are
 pub words-last : (width : ℕ) (bits : List Bool) (from : ℕ) {m count : ℕ} (now four : List ℕ) → FourLast m count now four → m ≤ count
     → flat_map (word width) (take m now) ≡ take (m * width) (drop from bits)
     → flat_map (word width) four ≡ take (4 * width) (drop (from + (count - 4) * width) bits)
@@ -380,11 +391,13 @@ blank-ahead bits s n r v few fits ahead e =
     ap (word n) e ∙ (first-ahead (drop s bits) n (64 - s % 8) (s % 8) r (omega (arith, few)) (omega arith) ahead ∙ ap (λ k. take k (drop s bits)) (sym size)) in
     ap is_blank (sym digits) ∙ blank-word n v (rw e (front_below 64 n r (omega (arith, few)) fits))
 
+-- an empty stretch of bits has no 1
 pub blank-start : (bits : List Bool) (a : ℕ) → is_blank (slice_range bits a a) ≡ true
 blank-start bits a =
     let none : a - a ≡ 0 = omega arith in
     rw none refl
 
+-- a stretch without a 1 and the next n bits, where these spell 0, are a stretch without a 1
 pub blank-more : (bits : List Bool) {a s n : ℕ} (r : ℕ) {v : ℕ} → a ≤ s → n ≤ 57 → r < 2 ^ 64 → word 64 r ≡ take (64 - s % 8) (drop s bits) ++ replicate (s % 8) false
     → v ≡ r / 2 ^ (64 - n) → is_blank (slice_range bits a s) ≡ true → v ≡ 0 → is_blank (slice_range bits a (s + n)) ≡ true
 blank-more bits {a} {s} {n} r {v} from few fits ahead e before none =
@@ -398,6 +411,7 @@ pub record FrontOfWord (bits : List Bool) (s n r v : ℕ) : Type 0 where
   pub word : word 64 r ≡ take (64 - s % 8) (drop s bits) ++ replicate (s % 8) false
   pub front : v ≡ r / 2 ^ (64 - n)
 
+-- and where the next n do not spell 0, there is a 1 before any end that is not inside them
 pub blank-not : (bits : List Bool) {a s n : ℕ} (r : ℕ) {v : ℕ} (end : ℕ) → a ≤ s → FrontOfWord bits s n r v → is_blank (slice_range bits a s) ≡ true → v ≢ 0 → s + n ≤ end
     → is_blank (slice_range bits a end) ≡ false
 blank-not bits {a} {s} {n} r {v} end from looked before some within =
@@ -420,6 +434,7 @@ run-within (suc m) k rest (x ∷ xs) e =
     let t : fundamental_sequence m ++ rest ≡ xs ++ replicate k false = cc in
     omega (arith, run-within m k rest xs t)
 
+-- so are several sequences
 pub sequences-within : (ms : List ℕ) (k : ℕ) (rest xs : List Bool) → flat_map fundamental_sequence ms ++ rest ≡ xs ++ replicate k false
     → length (flat_map fundamental_sequence ms) ≤ length xs
 sequences-within [] k rest xs e = omega arith

@@ -18,6 +18,7 @@ use Rattle.rice_code.specs.code.Choice.{shortest}
 use Rattle.rice_code.specs.code.Code.{data_sets, code_from}
 use Rattle.rice_code.specs.code.Runs.{zero_run}
 
+-- two blocks at the same place of their intervals: the next ones are at the same place, too,
 pub place_step : (s : Parameters) (b c : ℕ) → place s b ≡ place s c → place s (b + 1) ≡ place s (c + 1)
 place_step s b c e =
     let r = s.interval in
@@ -25,6 +26,7 @@ place_step s b c e =
     let g : suc c ≡ c + 1 = omega arith in
     ap (λ n. n % r) f ∙ (suc-mod b r ∙ (ap (λ n. suc n % r) e ∙ (sym (suc-mod c r) ∙ ap (λ n. n % r) g)))
 
+-- and so are those that are n blocks on
 pub place_on : (s : Parameters) (b c n : ℕ) → place s b ≡ place s c → place s (b + n) ≡ place s (c + n)
 place_on s b c zero e = let f : b + 0 ≡ b = omega arith in let g : c ≡ c + 0 = omega arith in ap (λ n. place s n) f ∙ (e ∙ ap (λ n. place s n) g)
 place_on s b c (suc n) e =
@@ -32,12 +34,15 @@ place_on s b c (suc n) e =
     let g : c + 1 + n ≡ c + suc n = omega arith in
     ap (λ n. place s n) f ∙ (place_on s (b + 1) (c + 1) n (place_step s b c e) ∙ ap (λ n. place s n) g)
 
+-- of two such blocks both have a reference sample, or neither has
 pub same_reference : (s : Parameters) (b c : ℕ) → place s b ≡ place s c → is_reference s b ≡ is_reference s c
 same_reference s b c e = ap (λ v. s.preprocess && v == 0) e
 
+-- both begin a segment, or neither does
 pub same_start : (s : Parameters) (b c : ℕ) → place s b ≡ place s c → begins_segment s b ≡ begins_segment s c
 same_start s b c e = ap (λ v. v == 64 * (v / 64)) e
 
+-- as many blocks are left of the segments of both
 pub same_left : (s : Parameters) (b c : ℕ) → place s b ≡ place s c → blocks_left s b ≡ blocks_left s c
 same_left s b c e = ap (λ v. 64 * (v / 64) + min 64 (s.interval - 64 * (v / 64)) - v) e
 
@@ -56,6 +61,7 @@ same_residuals s b c t p (x ∷ xs) h e =
     let rest = ap (λ n. residuals s n x xs) f ∙ (same_residuals s b c (t + 1) x xs h e ∙ ap (λ n. residuals s n x xs) g) in
     λ i. first i ∷ rest i
 
+-- the same samples make the same block at both,
 pub same_contents : (s : Parameters) (b c : ℕ) (p : ℤ) (xs : List ℤ) → 1 ≤ s.block → place s b ≡ place s c → block_data s b p xs ≡ block_data s c p xs
 same_contents s b c p xs h e =
     let f : s.block * b ≡ s.block * b + 0 = omega arith in
@@ -64,6 +70,7 @@ same_contents s b c p xs h e =
     let r = ap (λ v. cond v (Some (pattern s (slice_index_or xs 0 p))) None) (same_reference s b c e) in
     λ i. record { reference = r i; residuals = ds i }
 
+-- and the same blocks from both on
 pub same_blocks : (s : Parameters) (b c : ℕ) (p : ℤ) (n : ℕ) (xs : List ℤ) → 1 ≤ s.block → place s b ≡ place s c → blocks_from s b p n xs ≡ blocks_from s c p n xs
 same_blocks s b c p zero xs h e = refl
 same_blocks s b c p (suc n) xs h e =
@@ -77,6 +84,7 @@ same_run s b c r cs e =
     && (prefix_len is_zero_block (take left cs) == left || prefix_len is_zero_block (take left cs) == length cs)) (RemainderOfSegment r)
     (ZeroBlocks r (prefix_len is_zero_block (take left cs)))) (same_left s b c e)
 
+-- and the same blocks are sent by the same coded data sets from both on
 pub same_data_sets : (s : Parameters) (b c : ℕ) (behind : Bool) (cs : List BlockData) → place s b ≡ place s c → data_sets s b behind cs ≡ data_sets s c behind cs
 same_data_sets s b c behind [] e = refl
 same_data_sets s b c behind (d ∷ ds) e =
@@ -85,6 +93,7 @@ same_data_sets s b c behind (d ∷ ds) e =
     let rest = same_data_sets s (b + 1) (c + 1) (is_zero_block d) ds (place_step s b c e) in
     λ i. cond (is_zero_block d) (cond (behind && not (start i)) [] (run i ∷ [])) (shortest s d ∷ []) ++ rest i
 
+-- a coded data set stands for the same blocks at both
 pub same_blocks_in : (s : Parameters) (b c : ℕ) (d : CodedDataSet) → place s b ≡ place s c → blocks_in s b d ≡ blocks_in s c d
 same_blocks_in s b c (NoCompression v) e = refl
 same_blocks_in s b c (SecondExtension v) e = refl
@@ -114,6 +123,7 @@ same_laid s end stop b c m (d ∷ ds) same =
     let rest = same_laid s end stop (block_after s b d) (block_after s c d) (m + k) ds (record { begins = next; ends = same.ends; apart = omega arith }) in
     (λ i. sent_first s end b m d ++ rest i) ∙ (λ i. first i ++ layout s stop (block_after s c d) (m + length (first i)) ds)
 
+-- So code depends on the block where it begins by the place in its interval alone.
 pub code_stands_in_intervals : (s : Parameters) → IsLegal s → (b c position : ℕ) (p : ℤ) (xs : List ℤ) → place s b ≡ place s c → code_from s b position p xs ≡ code_from s c position p xs
 code_stands_in_intervals s legal b c position p xs e =
     let j : 1 ≤ s.block = grind (arith, legal.block) in

@@ -35,6 +35,7 @@ fill_behind j q m n h e =
     let g = ap (λ v. min 1 v) r in
     (omega arith, omega arith)
 
+-- of samples of whole blocks and others behind them only the others are filled, as if they stood alone, and they make as many blocks more
 pub filled_behind : (s : Parameters) (q : ℕ) (p : ℤ) (xs ys : List ℤ) → 1 ≤ s.block → length xs ≡ s.block * q →
     (filled_samples s p (xs ++ ys) ≡ xs ++ filled_samples s (last_of p xs) ys) × (block_count s (length (xs ++ ys)) ≡ q + block_count s (length ys))
 filled_behind s q p xs ys h e =
@@ -74,6 +75,7 @@ no_zeros_past_segment {s} b p n xs legal h k e begins =
     at : (x y len fill n : ℕ) {z : ℕ} → x ≡ y → y ≡ len + z → z ≡ fill → len ≡ n → fill ≡ 0 → x ≡ n
     at x y len fill n e f g h k = omega arith
 
+-- where a segment begins behind samples of whole blocks, the coded data sets of all are theirs, and then those of the samples behind them
 pub sets_go_on : (s : Parameters) → IsLegal s → (b q : ℕ) (p : ℤ) (xs ys : List ℤ) → length xs ≡ s.block * q → begins_segment s (b + q) ≡ true →
     sets_from s b p (xs ++ ys) ≡ sets_from s b p xs ++ sets_from s (b + q) (last_of p xs) ys
 sets_go_on s legal b q p xs ys len begins =
@@ -99,6 +101,7 @@ pub record WholeSegments (s : Parameters) (b blocks : ℕ) (p : ℤ) (xs : List 
   pub len : length xs ≡ s.block * blocks
   pub segment : begins_segment s (b + blocks) ≡ true
 
+-- so the code of samples behind them goes on from their last sample and their last bit
 pub code_goes_on : {s : Parameters} → IsLegal s → (b position blocks : ℕ) (p : ℤ) (xs ys : List ℤ) → WholeSegments s b blocks p xs →
     let first = code_from s b position p xs in
     code_from s b position p (xs ++ ys) ≡ first ++ code_from s (b + blocks) (position + length first) (last_of p xs) ys
@@ -121,6 +124,7 @@ code_goes_on {s} legal b position q p xs ys sound =
     ∙ ((λ i. inside i ++ layout s end (b + q) (position + length (inside i)) later)
     ∙ ap (λ m. layout s own b position sent ++ layout s m (b + q) (position + length (layout s own b position sent)) later) same)))
 
+-- The code of the whole segments among the first m samples begins the code of all.
 pub code_grows : (s : Parameters) → IsLegal s → (xs : List ℤ) → All (IsSample s) xs → (m : ℕ) → m ≤ length xs → (rest : List Bool) × (code s xs ≡ code s (take (cut s m) xs) ++ rest)
 code_grows s legal xs k m le =
     let start = cut_is_start s legal m in
@@ -134,6 +138,7 @@ code_grows s legal xs k m le =
     let e = code_goes_on legal 0 0 b (pos 0) front (drop c xs) (record { before = zero_is_sample s legal.bits_from; samples = samples; len = len; segment = begins }) in
     (code_from s (0 + b) (0 + length (code s front)) (last_of (pos 0) front) (drop c xs), ap (λ v. code s v) (sym (take-append-drop c xs)) ∙ e)
 
+-- the bits without padding of samples up to where a segment begins, and those of the samples behind them, are those of all
 pub bits_go_on : (s : Parameters) → IsLegal s → (b blocks : ℕ) (p : ℤ) (xs ys : List ℤ) → length xs ≡ s.block * blocks → begins_segment s (b + blocks) ≡ true →
     bits_from s b p (xs ++ ys) ≡ bits_from s b p xs + bits_from s (b + blocks) (last_of p xs) ys
 bits_go_on s legal b q p xs ys len begins =

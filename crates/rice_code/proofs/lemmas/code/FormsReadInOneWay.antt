@@ -34,6 +34,7 @@ same_all_below m (x ∷ xs) (y ∷ ys) h k e =
 pub same_parts : (m a b : ℕ) → a / m ≡ b / m → a % m ≡ b % m → a ≡ b
 same_parts m a b e f = sym (div-add-mod' a m) ∙ (ap (λ d. d * m + a % m) e ∙ (ap (λ r. b / m * m + r) f ∙ div-add-mod' b m))
 
+-- and so are the numbers of a list
 pub same_all_parts : (m : ℕ) (xs ys : List ℕ) → AllZip (λ a b. a / m ≡ b / m) xs ys → AllZip (λ a b. a % m ≡ b % m) xs ys → xs ≡ ys
 same_all_parts m [] [] e f = refl
 same_all_parts m [] (y ∷ ys) e f = absurd e
@@ -43,6 +44,7 @@ same_all_parts m (x ∷ xs) (y ∷ ys) e f =
     let rest = same_all_parts m xs ys e.1 f.1 in
     cc
 
+-- lists that are alike at each place are the same
 pub same_all : {X : Type 0} (xs ys : List X) → AllZip (λ a b. a ≡ b) xs ys → xs ≡ ys
 same_all [] [] e = refl
 same_all [] (y ∷ ys) e = absurd e
@@ -71,9 +73,11 @@ identifier s (Split k c) = k + 1
 identifier s (ZeroBlocks r z) = 0
 identifier s (RemainderOfSegment r) = 0
 
+-- an identifier has three bits at least
 pub long_id : (s : Parameters) → 3 ≤ id_len s
 long_id s = grind (arith, nat_tests)
 
+-- so there are eight identifiers at least
 pub wide_id : (s : Parameters) → 8 ≤ 2 ^ id_len s
 wide_id s = pow_mono (long_id s)
 
@@ -85,6 +89,7 @@ tail s (Split k c) = reference_bits s c.reference ++ (flat_map (λ d. fundamenta
 tail s (ZeroBlocks r z) = false ∷ (reference_bits s r ++ fundamental_sequence (run_number z))
 tail s (RemainderOfSegment r) = false ∷ (reference_bits s r ++ fundamental_sequence 4)
 
+-- a text is its identifier, and what follows it
 pub text_is : (s : Parameters) (d : CodedDataSet) → bits_of_set s d ≡ word (id_len s) (identifier s d) ++ tail s d
 unfolding tail identifier
 text_is s (NoCompression c) = refl
@@ -93,6 +98,7 @@ text_is s (Split k c) = refl
 text_is s (ZeroBlocks r z) = refl
 text_is s (RemainderOfSegment r) = refl
 
+-- the identifier of a form fits its bits
 pub identifier_fits : (s : Parameters) (b : ℕ) (d : CodedDataSet) → IsForm s b d → identifier s d < 2 ^ id_len s
 unfolding identifier
 identifier_fits s b (NoCompression c) h = let w = wide_id s in omega arith
@@ -116,6 +122,7 @@ length-coded (Some v) [] (e ∷ es) n = absurd cc
 length-coded (Some v) (d ∷ ds) [] n = absurd cc
 length-coded (Some v) (d ∷ ds) (e ∷ es) n = omega arith
 
+-- what holds of all residuals holds of those that are sent beside the reference
 pub All-coded : (P : ℕ → Type 0) (r : Option ℕ) (ds : List ℕ) → All P ds → All P (sent_from r ds)
 All-coded P None ds h = h
 All-coded P (Some v) [] h = h
@@ -152,6 +159,7 @@ plain_reads s b c e x y h k eq =
     (All-coded (λ d. d < 2 ^ s.bits) e.reference e.residuals k.2) p.0 in
     (same_contents c e a.0 (same_len s b c e h.0 k.0) h.1 k.1 same, p.1)
 
+-- a block of legal size is two halves of as many samples
 pub even_block : (s : Parameters) → IsLegal s → s.block ≡ s.block / 2 + s.block / 2
 even_block s h = grind (arith, h.block)
 

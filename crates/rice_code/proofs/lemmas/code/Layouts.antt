@@ -16,7 +16,7 @@ use Rattle.rice_code.specs.code.Forms.{blocks_in, blocks_in_all}
 use Rattle.rice_code.specs.code.Layout.{block_after, padding, bits_with_padding, layout, Lies}
 use Rattle.rice_code.proofs.lemmas.meaning.CoveredBlocks.{bool_cases, and-split}
 
--- without padding the texts are joined
+-- without padding an interval ends with no zeros of its own
 no_padding : (s : Parameters) (next bits : ℕ) → s.pad ≡ false → padding s next bits ≡ 0
 no_padding s next bits e = ap (λ v. cond (v && place s next == 0) (bits_to_byte bits) 0) e
 
@@ -24,6 +24,7 @@ no_padding s next bits e = ap (λ v. cond (v && place s next == 0) (bits_to_byte
 abbrev pub sent_first : Parameters → ℕ → ℕ → ℕ → CodedDataSet → List Bool
 sent_first s end b position d = bits_with_padding s (min end (block_after s b d)) position d
 
+-- where intervals are not padded, coded data sets are laid as their texts, one after the other
 pub laid_plain : (s : Parameters) (end b position : ℕ) (ds : List CodedDataSet) → s.pad ≡ false → layout s end b position ds ≡ flat_map (bits_of_set s) ds
 laid_plain s end b position [] e = refl
 laid_plain s end b position (d ∷ ds) e =
@@ -227,6 +228,7 @@ same_to_byte m n e = omega arith
 same_place_behind : (m n k : ℕ) → m % 8 ≡ n % 8 → (m + k) % 8 ≡ (n + k) % 8
 same_place_behind m n k e = omega arith
 
+-- so after positions at the same place in a byte coded data sets are laid as the same bits,
 pub laid_at : (s : Parameters) (end b m n : ℕ) (ds : List CodedDataSet) → m % 8 ≡ n % 8 → layout s end b m ds ≡ layout s end b n ds
 laid_at s end b m n [] e = refl
 laid_at s end b m n (d ∷ ds) e =
@@ -238,6 +240,7 @@ laid_at s end b m n (d ∷ ds) e =
     let rest = laid_at s end next (m + k) (n + k) ds (same_place_behind m n k e) in
     (λ i. sent_first s end b m d ++ rest i) ∙ (λ i. first i ++ layout s end next (n + length (first i)) ds)
 
+-- and they lie in the same bits
 pub lies_at : (s : Parameters) (b m n : ℕ) (ds : List CodedDataSet) (bits : List Bool) → m % 8 ≡ n % 8 → Lies s b m ds bits → Lies s b n ds bits
 lies_at s b m n [] bits e h = h
 lies_at s b m n (d ∷ ds) bits e h =

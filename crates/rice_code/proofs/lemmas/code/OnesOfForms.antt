@@ -38,6 +38,7 @@ sequence_has_one s front m =
     Contains-append_right (word (id_len s) 0) (false ∷ (front ++ fundamental_sequence m)) true
     (Contains-append_right (false ∷ []) (front ++ fundamental_sequence m) true (Contains-append_right front (fundamental_sequence m) true (Contains-push (replicate m false) true)))
 
+-- the text of each form has a one
 pub forms_have_a_one : (s : Parameters) (b : ℕ) (d : CodedDataSet) → IsLegal s → IsForm s b d → Contains (bits_of_set s d) true
 forms_have_a_one s b (NoCompression c) legal h = let w = wide_id s in
     small_word_has_one (id_len s) (2 ^ id_len s - 1) (omega arith) (omega arith) (reference_bits s c.reference ++ flat_map (word s.bits) (sent_residuals c))

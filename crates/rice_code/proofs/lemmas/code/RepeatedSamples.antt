@@ -13,10 +13,12 @@ use Rattle.rice_samples.proofs.lemmas.setting.PlaceLemmas.{reference_begins}
 use Rattle.rice_code.specs.code.Blocks.{block_data, blocks_from, zero_block}
 use Rattle.rice_code.proofs.lemmas.meaning.CoveredBlocks.{bool_cases, and-split, GoOn, EndsInZeros}
 
+-- the last of samples in two parts is the last of the second part, after that of the first
 pub last_append : (p : ℤ) (xs ys : List ℤ) → last_of p (xs ++ ys) ≡ last_of (last_of p xs) ys
 last_append p [] ys = refl
 last_append p (x ∷ xs) ys = last_append x xs ys
 
+-- the last sample stays the same where it is repeated
 pub last_replicate : (p : ℤ) (n : ℕ) → last_of p (replicate n p) ≡ p
 last_replicate p zero = refl
 last_replicate p (suc n) = last_replicate p n
@@ -48,6 +50,7 @@ blocks_append s b p (suc m) n xs ys e =
 abbrev pub Repeats : Parameters → ℤ → Type 0
 Repeats s p = (s.preprocess ≡ true) ⊎ (pattern s p ≡ 0)
 
+-- no number is before p in the order of distance from p
 pub same_rank : (count p : ℕ) → rank_below count p p ≡ 0
 same_rank count p = grind (arith, nat_tests)
 
@@ -63,10 +66,12 @@ residual_of_repeated s i p h =
     predicted true = refl
     predicted false = same_rank (value_count s) (level s p)
 
+-- where `Repeats` holds, the residuals of a sample again and again after itself are zeros
 pub repeated_all : (s : Parameters) (i n : ℕ) (p : ℤ) → Repeats s p → residuals s i p (replicate n p) ≡ replicate n 0
 repeated_all s i zero p h = refl
 repeated_all s i (suc n) p h = let first = residual_of_repeated s i p h in let rest = repeated_all s (i + 1) n p h in λ k. first k ∷ rest k
 
+-- so a block of it that has no reference is a block of zeros
 pub repeated_block : (s : Parameters) (b : ℕ) (p : ℤ) → is_reference s b ≡ false → Repeats s p → block_data s b p (replicate s.block p) ≡ zero_block s None
 repeated_block s b p e h =
     let r = ap (λ v. cond v (Some (pattern s (slice_index_or (replicate s.block p) 0 p))) None) e in
@@ -98,6 +103,7 @@ last_of_zeros s i p (x ∷ []) e h k = sym (ap (λ v. cond v (cond (is_reference
 last_of_zeros s i p (x ∷ y ∷ ys) e h k =
     last_of_zeros s (i + 1) x (y ∷ ys) e (omega arith) (and-split (residual s i p x == 0) (list_all (λ d. d == 0) (residuals s (i + 1) x (y ∷ ys))) k).1
 
+-- where the last block is one of zeros, `Repeats` holds of the last sample
 pub last_repeats : (s : Parameters) (b : ℕ) (p : ℤ) (n : ℕ) (xs : List ℤ) → 1 ≤ s.block → length xs ≡ s.block * n → EndsInZeros (blocks_from s b p n xs) → Repeats s (last_of p xs)
 last_repeats s b p n xs j len h =
     elim (bool_cases s.preprocess) [ inl e ↦ inl e | inr e ↦ inr (zero_pattern b p n xs e len h) ]

@@ -23,24 +23,29 @@ use Rattle.rice_code.proofs.lemmas.cost.BlockBounds.{blocks_are_bounded}
 abbrev Samples : Parameters → List ℤ → Type 0
 Samples s xs = AllByRecursion (IsSample s) xs
 
+-- what holds of all elements of a list holds of the first of them,
 pub all_take : {X : Type 0} (P : X → Type 0) (n : ℕ) (xs : List X) → AllByRecursion P xs → AllByRecursion P (take n xs)
 all_take P zero xs h = tt
 all_take P (suc n) [] h = tt
 all_take P (suc n) (x ∷ xs) h = (h.0, all_take P n xs h.1)
 
+-- and of those behind them
 pub all_drop : {X : Type 0} (P : X → Type 0) (n : ℕ) (xs : List X) → AllByRecursion P xs → AllByRecursion P (drop n xs)
 all_drop P zero xs h = h
 all_drop P (suc n) [] h = tt
 all_drop P (suc n) (x ∷ xs) h = all_drop P n xs h.1
 
+-- what holds of an element holds of it again and again
 pub all_replicate : {X : Type 0} (P : X → Type 0) (n : ℕ) (x : X) → P x → AllByRecursion P (replicate n x)
 all_replicate P zero x h = tt
 all_replicate P (suc n) x h = (h, all_replicate P n x h)
 
+-- what holds of all elements of two lists holds of those of both, joined
 pub all_append : {X : Type 0} (P : X → Type 0) (xs ys : List X) → AllByRecursion P xs → AllByRecursion P ys → AllByRecursion P (xs ++ ys)
 all_append P [] ys h k = k
 all_append P (x ∷ xs) ys h k = (h.0, all_append P xs ys h.1 k)
 
+-- the last of legal samples after a legal one is legal
 pub last_legal : (s : Parameters) (p : ℤ) (xs : List ℤ) → IsSample s p → Samples s xs → IsSample s (last_of p xs)
 last_legal s p [] h k = h
 last_legal s p (x ∷ xs) h k = last_legal s x xs k.0 k.1
@@ -61,6 +66,7 @@ contents_sound s b p (x ∷ xs) legal j h k n = record {
     zero_there true e = zero_at_reference s b p (x ∷ xs) j e
     zero_there false e = tt
 
+-- legal samples of whole blocks, after a legal one, make sound blocks
 pub blocks_sound : {s : Parameters} (b : ℕ) (p : ℤ) (n : ℕ) (xs : List ℤ) → IsLegal s → 1 ≤ s.block → IsSample s p → Samples s xs → length xs ≡ s.block * n
     → AreSoundBlocks s b (blocks_from s b p n xs)
 blocks_sound b p zero xs legal j h k n = tt
@@ -72,6 +78,7 @@ blocks_sound {s} b p (suc m) xs legal j h k n =
       blocks_sound (b + 1) (last_of p (take s.block xs)) m (drop s.block xs) legal j (last_legal s p (take s.block xs) h ks) (all_drop (IsSample s) s.block xs k) back,
     )
 
+-- as many blocks are made as are asked for
 pub count_blocks : (s : Parameters) (b : ℕ) (p : ℤ) (n : ℕ) (xs : List ℤ) → length (blocks_from s b p n xs) ≡ n
 count_blocks s b p zero xs = refl
 count_blocks s b p (suc n) xs = ap (λ m. suc m) (count_blocks s (b + 1) (last_of p (take s.block xs)) n (drop s.block xs))
@@ -89,14 +96,17 @@ filled_to_whole_blocks j n h =
     rest_below : (j n : ℕ) → 1 ≤ j → 0 < n % j → j - n % j < j
     rest_below j n h k = omega arith
 
+-- samples, with their last block filled, are as many as their blocks have
 pub filled_len : (s : Parameters) (p : ℤ) (xs : List ℤ) → 1 ≤ s.block → length (filled_samples s p xs) ≡ s.block * block_count s (length xs)
 filled_len s p xs j = length-append xs _ ∙ (ap (λ n. length xs + n) (length-replicate (next_multiple_of (length xs) s.block - length xs) (last_of p xs)) ∙ filled_to_whole_blocks s.block (length xs) j)
 
+-- so the blocks of legal samples, of which the last is filled, are sound from any block on
 pub blocks_sound_behind : (s : Parameters) (b : ℕ) (p : ℤ) (xs : List ℤ) → IsLegal s → 1 ≤ s.block → IsSample s p → Samples s xs → AreSoundBlocks s b (blocks_of s b p xs)
 blocks_sound_behind s b p xs legal j h k =
     blocks_sound b p (block_count s (length xs)) (filled_samples s p xs) legal j h
     (all_append (IsSample s) xs _ k (all_replicate (IsSample s) _ (last_of p xs) (last_legal s p xs h k))) (filled_len s p xs j)
 
+-- The bits of code from any block on, without padding, are at most the bound for so many samples.
 pub code_is_bounded : (s : Parameters) → IsLegal s → (b : ℕ) (p : ℤ) (xs : List ℤ) → IsSample s p → All (IsSample s) xs → bits_from s b p xs ≤ bit_bound s (length xs)
 code_is_bounded s legal b p xs h k =
     let j : 1 ≤ s.block = grind (arith, legal.block) in

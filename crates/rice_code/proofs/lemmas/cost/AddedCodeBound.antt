@@ -24,6 +24,7 @@ use Rattle.rice_code.proofs.lemmas.cost.PaddingBounds.{padding_behind_is_bounded
 use Rattle.rice_code.proofs.lemmas.meaning.CoveredBlocks.{bool_cases, skipped, data_sets_plain, data_sets_start, data_sets_inside, zero_run_is, run_cons}
 use Rattle.rice_code.proofs.lemmas.meaning.SentSetsAreTaken.{zero_run_is_sound}
 
+-- After whole segments other samples add at most so many bits, all padding included.
 pub added_code_is_bounded : AddedCodeIsBounded
 added_code_is_bounded s legal xs ys h k whole =
     let start = cut_is_start s legal (length xs) in
@@ -77,6 +78,7 @@ sets_fit s b behind (c ∷ cs) legal k =
           ]
     ]
 
+-- Each coded data set of the coder's is at most as long as a block without compression, or as a run of 63 blocks with a reference.
 pub sets_are_bounded : SetsAreBounded
 sets_are_bounded s legal xs k =
     let j : 1 ≤ s.block = omega (arith, legal.block) in

@@ -58,12 +58,14 @@ coded_count None ds n s h k = omega arith
 coded_count (Some v) [] n s h k = absurd (omega arith)
 coded_count (Some v) (d ∷ ds) n s h k = omega arith
 
+-- for each digit of the best split that split takes at least J bits,
 pub split_pays : (s : Parameters) (c : BlockData) (k : ℕ) → 1 ≤ s.block → IsSoundData s c → IsBestSplit s c k → s.block * k ≤ cost s (Split k c)
 split_pays s c k j h b =
     let e = coded_count c.reference c.residuals k s (omega (arith, h.len, j)) (best_within s c k h b) in
     let f = ap (λ n. n * k) h.len in
     omega (arith, e, f)
 
+-- and so does no compression,
 pub plain_pays : (s : Parameters) (c : BlockData) (k : ℕ) → IsSoundData s c → IsBestSplit s c k → s.block * k ≤ cost s (NoCompression c)
 plain_pays s c k h b =
     let e : s.block * k ≤ s.block * s.bits = mul-le-mul_left s.block (best_within s c k h b) in
@@ -112,6 +114,7 @@ coded_most None ds = omega arith
 coded_most (Some v) [] = omega arith
 coded_most (Some v) (d ∷ ds) = omega arith
 
+-- and so does second extension
 pub second_pays : (s : Parameters) (c : BlockData) (k half : ℕ) → s.block ≡ half + half → IsSoundData s c → IsBestSplit s c k → s.block * k ≤ cost s (SecondExtension c)
 second_pays s c zero half e h b = omega arith
 second_pays s c (suc k) half e h b =
@@ -151,6 +154,7 @@ shortest_pays s c k half e j h b =
     splits from zero le = tt
     splits from (suc n) le = (let l = b.least from (omega arith) in let p = split_pays s c k j h b in omega (arith, l, p), splits (from + 1) n (omega arith))
 
+-- So the option that is chosen takes at least J bits for each digit of the best split.
 pub split_is_paid : SplitIsPaid
 split_is_paid s legal b c k sound best =
     let j : 1 ≤ s.block = grind (arith, legal.block) in
@@ -214,6 +218,7 @@ behind_whole s legal q xs ys len begins =
           ∙ sum_by-append (most_looks s) (blocks_of s 0 (pos 0) xs) (blocks_of s q p ys),
     )
 
+-- The steps that samples add after whole segments, those for the samples aside, are at most so many for each block,
 pub steps_are_bounded : (s : Parameters) → IsLegal s → (blocks : ℕ) (xs ys : List ℤ) → All (IsSample s) xs → All (IsSample s) ys → length xs ≡ s.block * blocks → begins_segment s blocks ≡ true →
     most_steps s (xs ++ ys) ≤ most_steps s xs + block_count s (length ys) * (block_bound s + s.block * (k_max s + 5))
 steps_are_bounded s legal q xs ys h k len begins =
@@ -231,6 +236,7 @@ steps_are_bounded s legal q xs ys h k len begins =
         let m = ap (λ v. v * each) c in
         omega (arith, m)
 
+-- and at most two for each bit that they add, and six for each residual.
 pub steps_are_paid : (s : Parameters) → IsLegal s → (blocks : ℕ) (xs ys : List ℤ) → All (IsSample s) xs → All (IsSample s) ys → length xs ≡ s.block * blocks → begins_segment s blocks ≡ true →
     most_steps s (xs ++ ys) + 2 * code_bits s xs ≤ most_steps s xs + 2 * code_bits s (xs ++ ys) + 6 * s.block * block_count s (length ys)
 steps_are_paid s legal q xs ys h k len begins =
@@ -250,6 +256,7 @@ steps_are_paid s legal q xs ys h k len begins =
         let p : n * (6 * j) ≡ 6 * j * n = omega arith in
         omega (arith, m, p)
 
+-- With those for the samples, the filled ones too, all steps are within the bound by the number of samples, and within that by the bits.
 pub all_steps_are_bounded : (s : Parameters) → IsLegal s → (xs : List ℤ) → All (IsSample s) xs →
     (s.block * block_count s (length xs) + most_steps s xs ≤ step_bound s (length xs)) × (s.block * block_count s (length xs) + most_steps s xs ≤ amortised_step_bound s (code_bits s xs) (length xs))
 all_steps_are_bounded s legal xs k =

@@ -42,6 +42,7 @@ shortest_is_form s b c h =
     splits from zero le = tt
     splits from (suc n) le = ((h.block, h.at_reference, omega arith), splits (from + 1) n (omega arith))
 
+-- a sound block by the option that is chosen has at most as many bits as the bound of a block
 pub shortest_bound : (s : Parameters) (b : ℕ) (c : BlockData) → 1 ≤ s.block → IsSoundBlock s b c → length (bits_of_set s (shortest s c)) ≤ block_bound s
 shortest_bound s b c j h =
     let e = cost_is_length s b (shortest s c) j (shortest_is_form s b c h) in
@@ -56,6 +57,7 @@ run_cost bound (suc w) number h k p m o =
     let r : suc w * 6 ≤ suc w * bound = mul-le-mul_left (suc w) (omega (arith, h, k, p)) in
     omega (arith, r, h, m)
 
+-- a reference takes at most the bits of a sample
 pub reference_bound : (s : Parameters) (r : Option ℕ) → reference_len s r ≤ s.bits
 reference_bound s None = omega arith
 reference_bound s (Some v) = omega arith
@@ -64,6 +66,7 @@ reference_bound s (Some v) = omega arith
 number_bound : (w : ℕ) → (run_number (suc w) ≤ w + 5) × (w ≡ 0 → run_number (suc w) ≡ 0)
 number_bound w = (grind (arith, nat_tests), λ e. ap (λ v. run_number (suc v)) e)
 
+-- a run of zero blocks has at most as many bits as the bound of a block for each of them
 pub run_bound : (s : Parameters) (b w : ℕ) (r : Option ℕ) (cs : List BlockData) → IsLegal s → IsReference s b r → run_len s b cs ≡ suc w
     → length (bits_of_set s (zero_run s b r cs)) ≤ suc w * block_bound s
 run_bound s b w r cs legal h e =
@@ -84,6 +87,7 @@ run_bound s b w r cs legal h e =
           subst (λ (d : CodedDataSet). length (bits_of_set s d) ≤ suc w * block_bound s) (sym f.0) (omega arith)
     ]
 
+-- so a run of at least one block is within the bounds of its blocks
 pub run_is_never_longer : RunIsNeverLonger
 run_is_never_longer s legal b reference blocks h some =
     let e : run_len s b blocks ≡ suc (run_len s b blocks - 1) = omega arith in

@@ -15,10 +15,12 @@ pub length_pieces : {X : Type 0} (piece : X → List Bool) (f : X → ℕ) → (
 length_pieces piece f each [] = refl
 length_pieces piece f each (x ∷ xs) = length-append (piece x) (flat_map piece xs) ∙ ((λ i. each x i + length_pieces piece f each xs i) ∙ sym (sum_by-cons f x xs))
 
+-- words have as many bits each as the width
 pub length_words : (w : ℕ) (xs : List ℕ) → length (flat_map (word w) xs) ≡ length xs * w
 length_words w [] = omega arith
 length_words w (x ∷ xs) = let e = length-append (word w x) (flat_map (word w) xs) in let f = length-word w x in let g = length_words w xs in omega arith
 
+-- the fundamental sequences of high parts have a one for each, and as many zeros as the sum of the high parts
 pub length_sequences : (k : ℕ) (xs : List ℕ) → length (flat_map (λ d. fundamental_sequence (d / 2 ^ k)) xs) ≡ length xs + sum_by (λ d. d / 2 ^ k) xs
 length_sequences k [] = omega arith
 length_sequences k (x ∷ xs) =
@@ -27,6 +29,7 @@ length_sequences k (x ∷ xs) =
     let g = length_sequences k xs in
     let h = sum_by-cons (λ d. d / 2 ^ k) x xs in omega arith
 
+-- a reference has as many bits as it costs
 pub length_reference : (s : Parameters) (r : Option ℕ) → length (reference_bits s r) ≡ reference_len s r
 length_reference s None = refl
 length_reference s (Some v) = length-word s.bits v
@@ -49,9 +52,11 @@ low_entropy s flag r body =
 pub numbered_run_len : (s : Parameters) (r : Option ℕ) (z : ℕ) → length (bits_of_set s (ZeroBlocks r z)) ≡ cost s (ZeroBlocks r z)
 numbered_run_len s r z = low_entropy s false r (fundamental_sequence (run_number z)) ∙ (let p = length-fundamental_sequence (run_number z) in omega arith)
 
+-- and so is that of the remainder of a segment
 pub remainder_len : (s : Parameters) (r : Option ℕ) → length (bits_of_set s (RemainderOfSegment r)) ≡ cost s (RemainderOfSegment r)
 remainder_len s r = low_entropy s false r (fundamental_sequence 4)
 
+-- The text of each form is as long as it costs.
 pub cost_is_length : (s : Parameters) (b : ℕ) (d : CodedDataSet) → 1 ≤ s.block → IsForm s b d → length (bits_of_set s d) ≡ cost s d
 cost_is_length s b (NoCompression c) j h =
     let n = id_len s in

@@ -29,10 +29,12 @@ BeginAtMost [] xs = Unit {0}
 BeginAtMost (c ∷ cs) [] = ⊥
 BeginAtMost (c ∷ cs) (x ∷ xs) = IsAtMost c x × BeginAtMost cs xs
 
+-- numbers are at most themselves
 pub at_most_itself : (xs : List ℕ) → AreAtMost xs xs
 at_most_itself [] = tt
 at_most_itself (x ∷ xs) = (omega arith, at_most_itself xs)
 
+-- of blocks, and the same with more behind them, each is at most the one at its place
 pub begin_with : (cs more : List BlockData) → BeginAtMost cs (cs ++ more)
 begin_with [] more = tt
 begin_with (c ∷ cs) more = (record { reference = refl; residuals = at_most_itself c.residuals }, begin_with cs more)
@@ -75,9 +77,11 @@ pairs_at_most (x ∷ []) (y ∷ z ∷ ys) h = absurd h.1
 pairs_at_most (x ∷ w ∷ xs) (y ∷ []) h = absurd h.1
 pairs_at_most (x ∷ w ∷ xs) (y ∷ z ∷ ys) h = (pair_rises x w y z h.0 h.1.0, pairs_at_most xs ys h.1.1)
 
+-- a block that is at most another costs no more than the other by no compression,
 pub no_compression_at_most : (s : Parameters) (c x : BlockData) → IsAtMost c x → cost s (NoCompression c) ≤ cost s (NoCompression x)
 no_compression_at_most s c x h = omega (arith, ap (λ n. n * s.bits) (same_len c.residuals x.residuals h.residuals))
 
+-- by second extension,
 pub second_extension_at_most : (s : Parameters) (c x : BlockData) → IsAtMost c x → cost s (SecondExtension c) ≤ cost s (SecondExtension x)
 second_extension_at_most s c x h =
     let pairs = sums_at_most (λ g. g + 1) (λ x y le. omega arith) (pair_codes c.residuals) (pair_codes x.residuals) (pairs_at_most c.residuals x.residuals h.residuals) in
@@ -86,6 +90,7 @@ second_extension_at_most s c x h =
 high_part_rises : (k x y : ℕ) → x ≤ y → x / 2 ^ k ≤ y / 2 ^ k
 high_part_rises k x y h = le-div (x / 2 ^ k) y (2 ^ k) (pow_pos k) (omega (arith, div-mul-le_self x (2 ^ k), h))
 
+-- and by a split
 pub split_at_most : (s : Parameters) (k : ℕ) (c x : BlockData) → IsAtMost c x → cost s (Split k c) ≤ cost s (Split k x)
 split_at_most s k c x h =
     let sent = those_sent c x h in
@@ -117,6 +122,7 @@ fit_at_most n [] (y ∷ ys) h k = absurd h
 fit_at_most n (x ∷ xs) [] h k = absurd h
 fit_at_most n (x ∷ xs) (y ∷ ys) h k = (omega (arith, h.0, k.0), fit_at_most n xs ys h.1 k.1)
 
+-- a block that is at most a sound one is sound
 pub sound_at_most : (s : Parameters) (b : ℕ) (c x : BlockData) → IsAtMost c x → IsSoundBlock s b x → IsSoundBlock s b c
 sound_at_most s b c x h k = record {
   block = record { reference = subst (IsReference s b) (sym h.reference) k.block.reference; len = same_len c.residuals x.residuals h.residuals ∙ k.block.len };
@@ -126,11 +132,13 @@ sound_at_most s b c x h k = record {
 
 -- ---- no option is shorter than a run of one block
 
+-- with four residuals or more a block by no compression is no shorter than a run of one block,
 pub no_compression_exceeds : (s : Parameters) (c : BlockData) → 4 ≤ length c.residuals → 1 ≤ s.bits → id_len s + 2 + reference_len s c.reference ≤ cost s (NoCompression c)
 no_compression_exceeds s c h k =
     let words : 4 * s.bits ≤ length c.residuals * s.bits = mul-le-mul_right s.bits h in
     omega (arith, words, reference_bound s c.reference, k)
 
+-- nor is it by second extension,
 pub second_extension_exceeds : (s : Parameters) (c : BlockData) → 4 ≤ length c.residuals → id_len s + 2 + reference_len s c.reference ≤ cost s (SecondExtension c)
 second_extension_exceeds s c h = omega (arith, some c.residuals (omega (arith, h)))
   where
@@ -139,6 +147,7 @@ second_extension_exceeds s c h = omega (arith, some c.residuals (omega (arith, h
     some (a ∷ []) h = absurd (omega arith)
     some (a ∷ b ∷ ds) h = omega (arith, sum_by-cons (λ g. g + 1) (pair_code a b) (pair_codes ds))
 
+-- nor by a split
 pub split_exceeds : (s : Parameters) (k : ℕ) (c : BlockData) → 4 ≤ length c.residuals → id_len s + 2 + reference_len s c.reference ≤ cost s (Split k c)
 split_exceeds s k c h =
     let sequences : 3 * (k + 1) ≤ length (sent_residuals c) * (k + 1) = mul-le-mul_right (k + 1) (most_sent c.reference c.residuals h) in

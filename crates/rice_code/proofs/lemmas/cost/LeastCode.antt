@@ -180,6 +180,7 @@ ends_no_later {s} {fill} fills b {end} {p} {q} (c ∷ cs) (RemainderOfSegment r 
       rest = λ rest position under len le. ends_no_later fills next rest ds len le taken.4 under;
     })
 
+-- Where blocks have four samples or more, no sound coded data sets have fewer bits than the coder's for the first of the blocks that they stand for.
 pub no_sets_are_shorter : NoSetsAreShorter
 no_sets_are_shorter s legal size b cs more ds taken e =
     omega (

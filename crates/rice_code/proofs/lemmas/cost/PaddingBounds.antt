@@ -37,6 +37,7 @@ are_blocks s b (c ∷ cs) h = (h.0.block, are_blocks s (b + 1) cs h.1)
 pub interval_begins_segment : (s : Parameters) (b : ℕ) → place s b ≡ 0 → begins_segment s b ≡ true
 interval_begins_segment s b e = grind (arith, nat_tests)
 
+-- behind blocks that begin no segment no more intervals are complete than were begun before them
 pub inside_interval : (s : Parameters) (b n : ℕ) → 1 ≤ s.interval → GoOn s b n → (b + n) / s.interval ≤ div_ceil b s.interval
 inside_interval s b zero h k = let e : b + 0 ≡ b = omega arith in let f = ap (λ m. m / s.interval) e in omega arith
 inside_interval s b (suc n) h k =
@@ -121,6 +122,7 @@ padding_from s legal b position p xs h k =
         let q' = ap (λ n. div_ceil n r) q in
         omega arith
 
+-- The code of samples has at most so many bits more than its coded data sets: seven for each interval begun, where intervals are padded.
 pub padding_is_bounded : (s : Parameters) → IsLegal s → (xs : List ℤ) → All (IsSample s) xs → length (code s xs) ≤ code_bits s xs + padding_bound s (length xs)
 padding_is_bounded s legal xs k =
     let l = padding_from s legal 0 0 (pos 0) xs (zero_is_sample s legal.bits_from) k in

@@ -35,6 +35,7 @@ coded_few f None ds = omega arith
 coded_few f (Some v) [] = omega arith
 coded_few f (Some v) (d ∷ ds) = let p = sum_by-cons f d ds in omega (arith, p)
 
+-- so where the best split is above 0, it is shorter than second extension
 pub pairs_are_longer : (s : Parameters) (c : BlockData) (k n : ℕ) → IsBestSplit s c k → 0 < k → length c.residuals ≡ 2 * n → cost s (Split k c) < cost s (SecondExtension c)
 pairs_are_longer s c k n h some even =
     let first = h.first 0 some in

@@ -15,6 +15,7 @@ use Rattle.rice_code.specs.code.Choice.{shortest, other_options, IsBestSplit}
 use Rattle.rice_code.specs.code.Forms.{IsZeroAtReference}
 use Rattle.rice_code.proofs.lemmas.meaning.CoveredBlocks.{bool_cases}
 
+-- What a split saves against the one before never rises.
 pub saving_never_rises : (s : Parameters) (c : BlockData) (k : ℕ) → 2 * cost s (Split (k + 1) c) ≤ cost s (Split k c) + cost s (Split (k + 2) c)
 saving_never_rises s c k =
     let h = sum_halves (sent_residuals c) k in
@@ -50,9 +51,11 @@ no_later_is_shorter ds l k (suc m) h =
         let i = sum_halves ds k in
         omega (arith, f, g, i, h)
 
+-- where a number is less than another, the test says so,
 pub nat_lt-true : (m n : ℕ) → m < n → nat_lt m n ≡ true
 nat_lt-true m n h = grind (arith, nat_tests)
 
+-- and where it is not, the test says that it is not
 pub not_less : (m n : ℕ) → n ≤ m → nat_lt m n ≡ false
 not_less m n h = grind (arith, nat_tests)
 
@@ -178,6 +181,7 @@ shorter_than_before s c (suc k) h j lt =
     let ShorterThanBefore : ℕ → Type 0 = λ n. cost s (Split n c) < cost s (Split j c) in
     subst ShorterThanBefore e (first_more s c k (shorter_than_before s c k (λ i p. h i (omega arith))) (h k (omega arith)) j (omega arith))
 
+-- A search upwards that stops at the first split whose next is no shorter, or at the greatest, has found the best.
 pub first_stop_is_best : (s : Parameters) (c : BlockData) (k : ℕ) → k ≤ k_max s → ((j : ℕ) → j < k → cost s (Split (j + 1) c) < cost s (Split j c)) →
     (cost s (Split k c) ≤ cost s (Split (k + 1) c)) ⊎ (k ≡ k_max s) → IsBestSplit s c k
 first_stop_is_best s c k le h (inl stop) = best_where_it_stops s c k le (shorter_than_before s c k h) stop
@@ -237,5 +241,6 @@ best_is_least f a (x ∷ xs) =
     let first = ih.0 in
     (omega arith, (omega arith, ih.1))
 
+-- No option is shorter than the one that is chosen.
 pub choice_is_least : (s : Parameters) (c : BlockData) → All (λ d. cost s (shortest s c) ≤ cost s d) (NoCompression c ∷ other_options s c)
 choice_is_least s c = All-from_recursion (λ d. cost s (shortest s c) ≤ cost s d) (NoCompression c ∷ other_options s c) (best_is_least (cost s) (NoCompression c) (other_options s c))

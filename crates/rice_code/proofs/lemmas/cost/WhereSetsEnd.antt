@@ -21,6 +21,7 @@ pub record IsFill (s : Parameters) (fill : ℕ → ℕ → ℕ) : Type 0 where
 abbrev pub unfilled : ℕ → ℕ → ℕ
 unfilled next bits = bits
 
+-- which keeps the three laws of a fill,
 pub unfilled_is : (s : Parameters) → IsFill s unfilled
 unfilled_is s = record { more = λ next bits. omega arith; rises = λ next m n le. le; inside = λ b k bits some lt. refl }
 
@@ -28,6 +29,7 @@ unfilled_is s = record { more = λ next bits. omega arith; rises = λ next m n l
 abbrev pub padded : Parameters → ℕ → ℕ → ℕ
 padded s next bits = bits + padding s next bits
 
+-- which keeps them too, where an interval has at least one block
 pub padded_is : (s : Parameters) → 1 ≤ s.interval → IsFill s (padded s)
 padded_is s h = record {
   more = λ next bits. omega arith;
@@ -55,6 +57,7 @@ ends_later s fill end b m n [] is le = le
 ends_later s fill end b m n (d ∷ ds) is le = ends_later s fill end (block_after s b d) _ _ ds is
     (is.rises (min end (block_after s b d)) (m + length (bits_of_set s d)) (n + length (bits_of_set s d)) (omega (arith, le)))
 
+-- coded data sets as they are taken end no earlier than they begin
 pub never_back : (s : Parameters) (fill : ℕ → ℕ → ℕ) (b position : ℕ) (ds : List CodedDataSet) → IsFill s fill → position ≤ taken_end s fill b position ds
 never_back s fill b position [] is = omega arith
 never_back s fill b position (d ∷ ds) is =
@@ -64,16 +67,19 @@ never_back s fill b position (d ∷ ds) is =
 
 -- ---- without padding
 
+-- without padding coded data sets as they are sent end as many bits later as their texts have,
 pub sent_bits : (s : Parameters) (end b position : ℕ) (ds : List CodedDataSet) → code_end s unfilled end b position ds ≡ position + text_bits s ds
 sent_bits s end b position [] = omega arith
 sent_bits s end b position (d ∷ ds) = omega (arith, sent_bits s end (block_after s b d) (position + length (bits_of_set s d)) ds, sum_by-cons (λ (d : CodedDataSet). length (bits_of_set s d)) d ds)
 
+-- and so they do as they are taken
 pub taken_bits : (s : Parameters) (b position : ℕ) (ds : List CodedDataSet) → taken_end s unfilled b position ds ≡ position + text_bits s ds
 taken_bits s b position [] = omega arith
 taken_bits s b position (d ∷ ds) = omega (arith, taken_bits s (block_after s b d) (position + length (bits_of_set s d)) ds, sum_by-cons (λ (d : CodedDataSet). length (bits_of_set s d)) d ds)
 
 -- ---- with padding
 
+-- with padding coded data sets as they are sent end where their layout ends,
 pub sent_padded : (s : Parameters) (end b position : ℕ) (ds : List CodedDataSet) → code_end s (padded s) end b position ds ≡ position + length (layout s end b position ds)
 sent_padded s end b position [] = omega arith
 sent_padded s end b position (d ∷ ds) =
@@ -84,6 +90,7 @@ sent_padded s end b position (d ∷ ds) =
     let at : padded s (min end next) (position + length text) ≡ position + length first = omega (arith, length-append text (replicate count false), length-replicate count false) in
     omega (arith, ap (λ n. code_end s (padded s) end next n ds) at, sent_padded s end next (position + length first) ds, length-append first (layout s end next (position + length first) ds))
 
+-- and as they are taken they end where the bits in which they lie end
 pub taken_padded : (s : Parameters) (b position : ℕ) (ds : List CodedDataSet) (bits : List Bool) → Lies s b position ds bits → taken_end s (padded s) b position ds ≡ position + length bits
 taken_padded s b position [] bits lie = omega (arith, ap length lie)
 taken_padded s b position (d ∷ ds) bits lie =

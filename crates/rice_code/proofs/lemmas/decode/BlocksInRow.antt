@@ -45,6 +45,7 @@ takes_waiting {I} old middle new n k takes enough left skips =
       bits = omega (arith, all, len, takes.taken, taken, on);
     }
 
+-- waiting bits are taken, and then more of them
 pub waiting_more : {I : Type 0} {old middle new : Reader I} → TakesWaiting old middle → TakesWaiting middle new → TakesWaiting old new
 waiting_more one two = record { left = two.left ∙ one.left; failed = two.failed ∙ one.failed; bits = two.bits ∙ one.bits }
 
@@ -205,6 +206,7 @@ block_room w size i most total narrow lt room =
     let parts : w * (size + 15) ≡ c + 15 * w = omega arith in
     (omega (arith, m, x, y, room), omega (arith, m, x, y, room), omega (arith, m, x, y, room, lanes, parts, narrow))
 
+-- a sample of blocks that go in lanes has at most two bytes
 pub narrow_width : (s : Parameters) (size w : ℕ) → HasLanes s size w → w ≤ 2
 narrow_width s size w has = elim has.samples.widths [ inl e ↦ omega (arith, e) | inr e ↦ omega (arith, e) ]
 
@@ -212,5 +214,6 @@ narrow_width s size w has = elim has.samples.widths [ inl e ↦ omega (arith, e)
 pub kept_before : (a k : ℕ) (xs ys : List ℕ) → a ≤ length xs → take a (put_mid a k xs ys) ≡ take a xs
 kept_before a k xs ys h = take-put_mid_below a k xs ys a (omega arith) h
 
+-- and if it is as long as the rest, it is all that stands from that place on
 pub written_behind : (a k : ℕ) (xs ys : List ℕ) → a ≤ length xs → k ≡ length xs - a → length ys ≡ k → drop a (put_mid a k xs ys) ≡ ys
 written_behind a k xs ys h e len = ap (drop a) (written_from a k xs ys h e len) ∙ drop_at (take a xs) ys a (length-take-le a xs h)

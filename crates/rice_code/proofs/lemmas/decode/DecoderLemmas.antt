@@ -91,6 +91,7 @@ no_reference s b e = record { there = by_reference (is_reference s b) refl; fits
     by_reference true h = absurd (let f : true ≡ false = sym (reference_begins s b h) ∙ e in cc)
     by_reference false h = sym h
 
+-- the place of the next block is inside the interval too
 pub next_within : (s : Parameters) (b : ℕ) → b < s.interval → next_block_place s b < s.interval
 next_within s b h = grind (arith, nat_tests)
 
@@ -114,6 +115,7 @@ run_goes_on s b run legal h pos le = by_begin (begins_segment s (b + 1)) refl
         let same : next_block_place s b ≡ b + 1 = grind (arith, nat_tests) in
         (ap (λ n. begins_segment s n) same ∙ e, rw same (omega arith))
 
+-- Behind a block a decoder's state is sound again, if its last sample is legal, the segment has room for the run that is left, and no block stopped it.
 pub place_moves : {s : Parameters} {b next : ℕ} (run : ℕ) (last : ℤ) (stopped : Option (Result NextBlock CodeFault)) → IsLegal s → b < s.interval
     → next ≡ next_block_place s b → IsSample s last → (0 < run → run + 1 ≤ blocks_left s b) → stopped ≢ Some (Ok Block) → IsDecoderState s next last run stopped
 place_moves {s} {b} run last stopped legal h e sample more no_block = record {
@@ -135,6 +137,7 @@ pub record ZeroBlock (s : Parameters) (b : ℕ) (p : ℤ) (samples : List ℤ) :
   pub legal : All (IsSample s) samples
   pub block_is : block_data s b p samples ≡ zero_block s None
 
+-- a block of zeros is given from a run: the place moves on, and one block fewer is to come
 pub goes_on : (s : Parameters) (b : ℕ) {next run : ℕ} (p : ℤ) {last : ℤ} (stopped : Option (Result NextBlock CodeFault)) {samples : List ℤ} → 0 < run → next ≡ next_block_place s b
     → last ≡ last_of p samples
     → ZeroBlock s b p samples

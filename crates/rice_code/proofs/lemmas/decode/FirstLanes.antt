@@ -11,6 +11,7 @@ use Rattle.std.proofs.lemmas.List.{drop-append-le, drop-replicate, length-replic
 abbrev mask : ℕ → List ℕ
 mask count = replicate count 255 ++ replicate (16 - count) 0
 
+-- sixteen lanes out of sixteen bytes of ones and sixteen zeros, read from where `count` of the ones are left, are such a mask
 pub mask_is : (count : ℕ) → count ≤ 16 → chunk 0 16 (take (32 - (16 - count)) (drop (16 - count) (replicate 16 255 ++ replicate 16 0))) ≡ mask count
 mask_is count most =
     let left : 16 - (16 - count) ≡ count = omega (arith, most) in
@@ -39,6 +40,7 @@ first_lanes_kept (suc n) m (x ∷ xs) len fits =
     let same : bit_and x 255 ≡ x = and_mask x 8 ∙ mod-eq_of_lt fits.0.fits in
     λ j. same j ∷ rest j
 
+-- the same of sixteen lanes, with the mask as it is read
 pub first_of_lanes : (count : ℕ) (xs : List ℕ) → count ≤ 16 → length xs ≡ 16 → Each1 (Fits w8) xs
     → zip2 bit_and xs (chunk 0 16 (take (32 - (16 - count)) (drop (16 - count) (replicate 16 255 ++ replicate 16 0)))) ≡ take count xs ++ replicate (16 - count) 0
 first_of_lanes count xs most len fits = ap (zip2 bit_and xs) (mask_is count most) ∙ first_lanes_kept count (16 - count) xs (omega (arith, len, most)) fits

@@ -13,6 +13,7 @@ use Rattle.rice_bits.proofs.lemmas.bits.WordsAndNumbers.{word-low}
 use Rattle.rice_bits.proofs.lemmas.read.JoinedPartsLemmas.{length-joined}
 use Rattle.rice_bits.specs.read.JoinedParts.{joined_parts}
 
+-- the joined part at a place: the high part there, moved up by k digits, and the low part
 pub joined-at : (k : ℕ) (ms ls : List ℕ) (i : ℕ) → i < length ms → length ls ≡ length ms → get_or (joined_parts k ms ls) i 0 ≡ get_or ms i 0 * 2 ^ k + get_or ls i 0
 joined-at k [] ls i h e = absurd (omega arith)
 joined-at k (m ∷ ms) [] i h e = absurd (omega arith)
@@ -69,6 +70,7 @@ high_pieces k (m ∷ ms) (l ∷ ls) e f =
     let rest = high_pieces k ms ls (omega arith) (λ i d lt. f (suc i) d (omega arith)) in
     rw (here, rest) refl
 
+-- and the words of k bits of joined parts are those of the low parts
 pub low_pieces : (k : ℕ) (ms ls : List ℕ) → length ls ≡ length ms → flat_map (word k) (joined_parts k ms ls) ≡ flat_map (word k) ls
 low_pieces k [] [] e = refl
 low_pieces k [] (l ∷ ls) e = absurd (omega arith)
@@ -98,6 +100,7 @@ join_fits high low p q h e le lt =
     let more : (high + 1) * p ≤ q * p = mul-le-mul_right p (omega (arith, le, small)) in
     omega (arith, more, e, lt)
 
+-- a high part with room for k digits below it, and a low part of k digits, fit 32 bits together
 pub part_fits : (high low k : ℕ) → k ≤ 29 → high ≤ (2 ^ 32 - 1) / 2 ^ k → low < 2 ^ k → high * 2 ^ k + low < 2 ^ 32
 part_fits high low k h le lt =
     let n : 32 - k + k ≡ 32 = omega arith in

@@ -30,14 +30,17 @@ use borrow.Rule.Slice.PartMut.{put_mid}
 use Rattle.rice_code.proofs.lemmas.code.FormsReadInOneWay.{after_reference}
 use Rattle.rice_code.proofs.lemmas.encode.OptionTexts.{no_digits}
 
+-- residuals put behind the place of the reference sample are those that are sent
 pub coded-placed : (r : Option ℕ) (vs : List ℕ) → sent_from r (reference_place r ++ vs) ≡ vs
 coded-placed None vs = refl
 coded-placed (Some v) vs = refl
 
+-- the residual at the place of the reference sample, if there is one, is 0
 pub zero-placed : (r : Option ℕ) (vs : List ℕ) → OnSome r (slice_index (reference_place r ++ vs) 0 ≡ 0)
 zero-placed None vs = tt
 zero-placed (Some v) vs = refl
 
+-- what holds of 0 and of the residuals that are sent holds of all residuals of the block
 pub all-placed : (P : ℕ → Type 0) (r : Option ℕ) (vs : List ℕ) → P 0 → All P vs → All P (reference_place r ++ vs)
 all-placed P None vs z h = h
 all-placed P (Some v) vs z h = λ i. by_index i
@@ -59,6 +62,7 @@ length-coded_at s b c r count h k e = by_cases r c.reference c.residuals (k.ther
     by_cases (Some v) (Some w) [] e f = absurd (omega arith)
     by_cases (Some v) (Some w) (d ∷ ds) e f = omega arith
 
+-- where a block has a reference sample, it is sent in as many bits as a sample has
 pub length-reference : (s : Parameters) (b : ℕ) (r : Option ℕ) → IsReference s b r → is_reference s b ≡ true → length (reference_bits s r) ≡ s.bits
 length-reference s b None h k = absurd (let f : false ≡ true = h.there ∙ k in cc)
 length-reference s b (Some v) h k = length-word s.bits v
@@ -92,6 +96,7 @@ row_after_others P before row e = record {
   takes = row.takes;
 }
 
+-- a block by no compression was read: its reference, and then a row of words
 pub no_compression_read : {I : Type 0} {old mid new : Reader I} {first last : ℕ} {s : Parameters} {b : ℕ} {r : Option ℕ} {count : ℕ} {items : List ℕ}
     → IsReference s b r → count + length (reference_place r) ≡ s.block → 0 < value_count s → Takes old mid (reference_bits s r)
     → Row (word s.bits) (λ v. v < 2 ^ s.bits) mid new count (reference_place r) items → last + old.taken ≡ first + new.taken
@@ -109,6 +114,7 @@ no_compression_read {old} {mid} {new} {s} {r} h n z t row steps =
       steps = omega arith;
     }
 
+-- a block by no compression is cut off: too few bits are left for its words
 pub no_compression_cut : {I : Type 0} {old mid new : Reader I} {s : Parameters} {b : ℕ} {r : Option ℕ} (count : ℕ) {bits : List Bool} {f : BitFault}
     → IsReference s b r → count + length (reference_place r) ≡ s.block → Takes old mid (reference_bits s r)
     → length bits < count * s.bits → Stops mid new bits f → BlockCut old new s b NoCompression f
@@ -131,16 +137,19 @@ cut_at_reference s b option rest {bits} tail refs k short stops = record {
   none = λ c more form e. short_reference (rest c) more (refs c form) k short (e ∙ ap (λ z. z ++ more) (tail c));
 }
 
+-- a run is cut off inside its reference: so few bits begin with no run
 pub run_cut_at_reference : {s : Parameters} (b : ℕ) (bits : List Bool) → is_reference s b ≡ true → length bits < s.bits
     → (r : Option ℕ) (m : ℕ) (more : List Bool) → IsReference s b r → bits ≡ run_tail s r m ++ more → ⊥
 run_cut_at_reference {s} b bits k short r m more h e = short_reference (fundamental_sequence m) more h k short e
 
+-- a run is cut off behind its reference: zeros alone begin with no codeword of a run
 pub run_cut : {s : Parameters} (b : ℕ) (r : Option ℕ) (zeros : ℕ) → IsReference s b r
     → (q : Option ℕ) (m : ℕ) (more : List Bool) → IsReference s b q → reference_bits s r ++ replicate zeros false ≡ run_tail s q m ++ more → ⊥
 run_cut {s} b r zeros h q m more k e =
     let a = behind_reference (replicate zeros false) (fundamental_sequence m) more h k e in
     omega (arith, ap ones a.1, ones-zeros zeros, ones-append (fundamental_sequence m) more, ones-sequence m)
 
+-- a block by second extension was read, sound or not: its reference, and then a row of pairs
 pub second_extension_read : {I : Type 0} {old mid new : Reader I} {first second last : ℕ} {s : Parameters} {b : ℕ} {r : Option ℕ} {half : ℕ} {items : List ℕ} (sound : Bool)
     → IsReference s b r → half + half ≡ s.block → Takes old mid (reference_bits s r)
     → PairRow mid new half items second last → second + old.taken ≡ first + mid.taken
@@ -157,6 +166,7 @@ second_extension_read {old} {mid} {new} {r} {items} sound h n t row steps told r
   steps = omega (arith, row.steps);
 }
 
+-- a block by second extension is cut off: fewer ones are left than it has pairs
 pub second_extension_cut : {I : Type 0} {old mid new : Reader I} {s : Parameters} {b : ℕ} {r : Option ℕ} {half : ℕ} {bits : List Bool} {f : BitFault}
     → IsReference s b r → half + half ≡ s.block → Takes old mid (reference_bits s r)
     → ones bits < half → Stops mid new bits f → BlockCut old new s b SecondExtension f
@@ -178,6 +188,7 @@ pub record IsSplitOf (s : Parameters) (b k : ℕ) (r : Option ℕ) (count : ℕ)
   pub small : k ≤ k_max s
   pub parts : count + length (reference_place r) ≡ s.block
 
+-- a split was read, sound or not: its reference, and then the parts whose joined residuals are those of the block
 pub split_read : {I : Type 0} {old mid new : Reader I} {first last : ℕ} {s : Parameters} {b k : ℕ} {r : Option ℕ} {count most : ℕ} {small : Bool} {told items : List ℕ} (sound : Bool)
     → IsSplitOf s b k r count → Takes old mid (reference_bits s r)
     → (p : PartsRead mid new most k small count told) → last + old.taken ≡ first + new.taken
@@ -330,6 +341,7 @@ parts_cut_low {old} {mid} {new} k {count} {bits} {f} high short stops = record {
       short_words k count ds bits more n short low);
 }
 
+-- a split is cut off among its high and low parts
 pub split_cut : {I : Type 0} {old mid new : Reader I} {s : Parameters} {b k : ℕ} {r : Option ℕ} {count : ℕ} {f : BitFault}
     → IsReference s b r → count + length (reference_place r) ≡ s.block → Takes old mid (reference_bits s r)
     → PartsCut mid new k count f → BlockCut old new s b (Split k) f
@@ -377,6 +389,7 @@ sent_placed first r xs ys e h = sym (take-append-drop first ys) ∙ ap (λ z. z 
 pub residuals_behind_reference : (first : ℕ) (r : Option ℕ) (xs ys : List ℕ) → take first xs ≡ reference_place r → first ≤ length xs → put_mid first (length xs - first) xs ys ≡ reference_place r ++ ys
 residuals_behind_reference first r xs ys e h = put_rest first xs ys h ∙ ap (λ z. z ++ ys) e
 
+-- where there is a reference sample, its place holds a single 0
 pub zero-place : (r : Option ℕ) → is_some r ≡ true → 0 ∷ [] ≡ reference_place r
 zero-place None h = absurd cc
 zero-place (Some v) h = refl

@@ -54,6 +54,7 @@ plain_id_len s w h = elim h.widths [
   ]
 ]
 
+-- the width of plain blocks is that in which their samples are spelled
 pub plain_width : (s : Parameters) (w : ℕ) → IsPlain s w → w ≡ width s
 plain_width s w h = elim h.widths [
   | inl e ↦ (let b : s.bits ≡ 8 = omega (arith, h.whole, e) in let v : width s ≡ 1 = grind (arith, nat_tests) in e ∙ sym v)
@@ -108,10 +109,11 @@ text-at f k (suc i) (v ∷ ws) each h =
     ap (λ n. take k (drop n (f v ++ flat_map f ws))) more
     ∙ (ap (take k) (sym (drop-drop (k * i) k (f v ++ flat_map f ws)) ∙ ap (drop (k * i)) (drop_at (f v) (flat_map f ws) k (each v))) ∙ text-at f k i ws each (omega (arith, h)))
 
--- sixteen bytes more
+-- no words at all
 pub no_words : (waiting : List Bool) (s : Parameters) (w : ℕ) (bytes : List ℕ) → WordsAhead waiting s w (16 * 0) bytes
 no_words waiting s w bytes = record { words = []; counted = omega arith; fit = All-nil (λ v. v < 2 ^ (8 * w)); bits = refl; spelled = refl }
 
+-- the words of sixteen bytes more wait behind others, and their bytes are written behind those of the others
 pub words_more : {waiting : List Bool} {s : Parameters} {w : ℕ} (i : ℕ) {old patterns spelled : List ℕ} → WordsAhead waiting s w (16 * i) old
     → OrdersWords s.msb w patterns spelled → length patterns ≡ 16 → length spelled ≡ 16 → 16 * i + 16 ≤ length old
     → flat_map (word 8) patterns ≡ take 128 (drop (id_len s + 128 * i) waiting) → WordsAhead waiting s w (16 * (i + 1)) (put_chunk (16 * i) old spelled)
@@ -283,9 +285,11 @@ block_kept waiting s w old new same h = record {
   };
 }
 
+-- a row of no blocks waits in any bits
 pub no_row : (waiting : List Bool) (s : Parameters) (w : ℕ) (bytes : List ℕ) → PlainRow waiting s w 0 bytes
 no_row waiting s w bytes i lt = absurd (omega (arith, lt))
 
+-- a plain block waits behind a row of them, and its bytes stand behind those of the row: a row of one block more
 pub row_more : (waiting : List Bool) {s : Parameters} {w : ℕ} (i : ℕ) (old : List ℕ) {new more : List ℕ} → PlainRow waiting s w i old → new ≡ take (w * s.block * i) old ++ more
     → w * s.block * i ≤ length old
     → PlainBlock (drop (plain_bits s w * i) waiting) s w more → PlainRow waiting s w (i + 1) new
@@ -303,6 +307,7 @@ row_more waiting {s} {w} i old {new} {more} row is within last k lt =
           subst (λ n. PlainBlock (drop (plain_bits s w * n) waiting) s w (drop (c * n) new)) here (subst (PlainBlock (drop (plain_bits s w * i) waiting) s w) (sym there) last)
     ]
 
+-- where a row has room with fifteen bytes more, so has each block of it, from its place on
 pub row_room : (c i most total : ℕ) → i < most → c * most + 15 ≤ total → c * i + (c + 15) ≤ total
 row_room c i most total lt h =
     let m : suc i * c ≤ most * c = mul-le-mul_right c lt in
@@ -423,6 +428,7 @@ next_by_mod s b h = elim (cases_lt (b + 1) s.interval) [
       rw m (grind (arith, nat_tests))
 ]
 
+-- the bits of a row wait: those of all blocks before its last, and those of the last
 pub row_there : (waiting : List Bool) (s : Parameters) (w n : ℕ) (bytes : List ℕ) → PlainRow waiting s w (suc n) bytes → plain_bits s w * n + plain_bits s w ≤ length waiting
 row_there waiting s w n bytes row =
     let last = row n (omega arith) in
@@ -529,6 +535,7 @@ row_given (suc n) {r} {new} {first} {last} {p} {q} {l} {w} bytes legal plain wit
       subst (λ k. GivesRow (suc n) m new (first + len) last p1 q (drop (k * s.block) bytes)) (plain_width s w plain) tail,
     )
 
+-- the bits of all blocks of a row wait
 pub bits_there : (waiting : List Bool) (s : Parameters) (w count : ℕ) (bytes : List ℕ) → 1 ≤ count → PlainRow waiting s w count bytes → plain_bits s w * count ≤ length waiting
 bits_there waiting s w zero bytes some row = absurd (omega (arith, some))
 bits_there waiting s w (suc n) bytes some row =

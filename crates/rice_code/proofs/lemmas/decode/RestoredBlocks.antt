@@ -33,6 +33,7 @@ and-swap true false = refl
 and-swap false true = refl
 and-swap false false = refl
 
+-- so a residual inside a block follows from whether it is the first, and whether the block has a reference
 pub residual_within : (s : Parameters) (b j : ℕ) (r : Option ℕ) (p x : ℤ) → j < s.block → IsReference s b r → residual s (s.block * b + j) p x ≡ residual_at s r (j == 0) p x
 residual_within s b j r p x h k =
     let e : is_reference_sample s (s.block * b + j) ≡ ((j == 0) && is_some r) = reference_within s b j h ∙ (ap (λ z. z && (j == 0)) (sym k.there) ∙ and-swap (is_some r) (j == 0)) in
@@ -52,6 +53,7 @@ patterns_alone : (s : Parameters) (n : ℕ) (p : ℤ) (xs : List ℤ) → s.prep
 patterns_alone s n p [] e = refl
 patterns_alone s n p (x ∷ xs) e = let rest = patterns_alone s (n + 1) x xs e in λ i. cond (e i) (cond (is_reference_sample s n) 0 (rank s p x)) (pattern s x) ∷ rest i
 
+-- the contents of a block whose samples have these residuals, and whose first sample is the reference, if there is one
 pub contents_are : (s : Parameters) (b : ℕ) (p : ℤ) (r : Option ℕ) (ds : List ℕ) (samples : List ℤ) → IsReference s b r
     → residuals s (s.block * b) p samples ≡ ds → IfSome r (λ v. pattern s (slice_index_or samples 0 p) ≡ v)
     → block_data s b p samples ≡ record { reference = r; residuals = ds }
@@ -63,10 +65,12 @@ contents_are s b p (Some v) ds samples h e first =
     (λ t. cond t (Some (pattern s (slice_index_or samples 0 p))) None) (sym h.there) ∙ ap (λ w. Some w) first in
     λ i. record { reference = f i; residuals = e i }
 
+-- without preprocessing the residuals are the patterns of the samples
 pub contents_of_patterns : (s : Parameters) (b : ℕ) (p : ℤ) (ds : List ℕ) (xs : List ℤ) → IsReference s b None → s.preprocess ≡ false → map (pattern s) xs ≡ ds
     → block_data s b p xs ≡ record { reference = None; residuals = ds }
 contents_of_patterns s b p ds xs h e m = contents_are s b p None ds xs h (patterns_alone s (s.block * b) p xs e ∙ m) tt
 
+-- and with preprocessing, in a block without reference, they are the ranks of the samples
 pub contents_of_ranks : (s : Parameters) (b : ℕ) (p : ℤ) (ds : List ℕ) (xs : List ℤ) → IsReference s b None → s.preprocess ≡ true → length xs ≡ s.block
     → ranks s p xs ≡ ds → block_data s b p xs ≡ record { reference = None; residuals = ds }
 contents_of_ranks s b p ds xs h e len r =
@@ -99,6 +103,7 @@ contents_behind {s} {b} p x {v} (d ∷ ds) ys h behind r pat =
     let rest : residuals s (s.block * b + 1) x ys ≡ ds = ranks_within 1 x ys h e refl (omega (arith, behind.len, behind.more)) ∙ r in
     contents_are s b p (Some v) (d ∷ ds) (x ∷ ys) h (λ i. one i ∷ rest i) pat
 
+-- a list that is filled again with as many items as it has becomes these items
 pub refill_all : {A : Type 0} (xs ys : List A) → length ys ≡ length xs → refill (length xs) xs ys ≡ ys
 refill_all xs ys e =
     ap (λ v. take (length xs) (ys ++ v)) (drop_all (length ys) xs (omega (arith, e)))

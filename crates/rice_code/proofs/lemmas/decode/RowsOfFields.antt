@@ -22,6 +22,7 @@ use Rattle.rice_samples.proofs.lemmas.bytes.SamplesInTurn.{flat_map-push}
 use Rattle.rice_code.proofs.lemmas.meaning.CoveredBlocks.{and-split}
 use Rattle.rice_code.specs.decode.RowsOfFields.{PairsTaken, AreCounted, HasRoom, Row, CountRow, CountsRead, PairRow, ones}
 
+-- no pieces: the reader stays as it is, and no number is appended
 pub row-none : {I : Type 0} (f : ℕ → List Bool) (P : ℕ → Type 0) (r : Reader I) (before : List ℕ)
     → r.refusal ≡ None → Row f P r r 0 before before
 row-none f P r before h = record {
@@ -32,6 +33,7 @@ row-none f P r before h = record {
   takes = takes-none r h;
 }
 
+-- no fundamental sequences: the reader stays as it is, and no count is told
 pub counts-none : {I : Type 0} (r : Reader I) (most : ℕ) (told : List ℕ)
     → told ≡ [] → r.refusal ≡ None → CountsRead r r most true 0 told
 counts-none r most told e h = record {
@@ -60,6 +62,7 @@ counts-one {old} {mid} {new} counts {none} m v some e before t good bad =
 all_front : (P : ℕ → Type 0) (xs ys : List ℕ) → All P (xs ++ ys) → All P xs
 all_front P xs ys h = λ i d lt. subst P (get_or_append_left xs ys d i lt) (h i d (omega (arith, length-append xs ys, lt)))
 
+-- what holds of all numbers of two lists holds of all of the second
 pub all_back : (P : ℕ → Type 0) (xs ys : List ℕ) → All P (xs ++ ys) → All P ys
 all_back P xs ys h = λ i d lt. subst P (get_or-append-add xs ys i d) (h (length xs + i) d (omega (arith, length-append xs ys, lt)))
 
@@ -141,6 +144,7 @@ row-append {f} P {old} {mid} {new} n {before} r q = record {
   takes = rw (flat_map-append f r.values q.values) (takes-append old mid new _ _ r.takes q.takes);
 }
 
+-- a list as long as the first n of another has at most n items
 pub part_within : (n : ℕ) (xs part : List ℕ) → length part ≡ length (take n xs) → length part ≤ n
 part_within n xs part e = omega (arith, e, length-take n xs)
 
@@ -150,6 +154,7 @@ pub row-whole : {I : Type 0} {f : ℕ → List Bool} (P : ℕ → Type 0) {old n
 row-whole P {done} {xs} r e n =
     record { values = r.values; len = r.len ∙ e; each = r.each; appended = sym (take_all done xs (omega (arith, e, n))) ∙ r.appended; takes = r.takes }
 
+-- and fundamental sequences for all places
 pub counts-whole : {I : Type 0} {old new : Reader I} {most : ℕ} {small : Bool} {done count : ℕ} {xs : List ℕ}
     → CountsRead old new most small done (take done xs) → done ≡ count → length xs ≡ count → CountsRead old new most small count xs
 counts-whole {done} {xs} r e n =
@@ -182,6 +187,7 @@ pub row-waiting : {I : Type 0} (old new : Reader I) (width some : ℕ) (words : 
 row-waiting old new width some words within each t =
     record { values = take some words; len = length-take-le some words within; each = each; appended = refl; takes = t }
 
+-- a row of words, and a row behind it, are a row of both
 pub row-both : {I : Type 0} {old mid new : Reader I} (width : ℕ) {m n count : ℕ} {front rest after : List ℕ} → m + n ≡ count → after ≡ front ++ rest
     → Row (word width) (λ v. v < 2 ^ width) old mid m [] front → Row (word width) (λ v. v < 2 ^ width) mid new n [] rest
     → Row (word width) (λ v. v < 2 ^ width) old new count [] after
@@ -205,18 +211,22 @@ words-stop width P {old} {mid} {new} {done} some count {bits} {f} r s short h = 
   stops-append old mid new _ bits f r.takes s,
 )
 
+-- the ones of two texts add up
 pub ones-append : (xs ys : List Bool) → ones (xs ++ ys) ≡ ones xs + ones ys
 ones-append [] ys = omega arith
 ones-append (true ∷ xs) ys = omega (arith, ones-append xs ys)
 ones-append (false ∷ xs) ys = ones-append xs ys
 
+-- zeros have no ones
 pub ones-zeros : (n : ℕ) → ones (replicate n false) ≡ 0
 ones-zeros zero = refl
 ones-zeros (suc n) = ones-zeros n
 
+-- a fundamental sequence has a single one
 pub ones-sequence : (m : ℕ) → ones (fundamental_sequence m) ≡ 1
 ones-sequence m = ones-append (replicate m false) (true ∷ []) ∙ ap (λ n. n + 1) (ones-zeros m)
 
+-- and so many of them have as many ones
 pub ones-sequences : (ms : List ℕ) → ones (flat_map fundamental_sequence ms) ≡ length ms
 ones-sequences [] = refl
 ones-sequences (m ∷ ms) = omega (arith, ones-append (fundamental_sequence m) (flat_map fundamental_sequence ms), ones-sequence m, ones-sequences ms)
@@ -249,9 +259,11 @@ pair_codes-push (suc half) [] a b h = absurd (omega arith)
 pair_codes-push (suc half) (d ∷ []) a b h = absurd (omega arith)
 pair_codes-push (suc half) (d ∷ e ∷ ds) a b h = ap (λ z. pair_code d e ∷ z) (pair_codes-push half ds a b (omega arith))
 
+-- the sum of numbers with two more behind them
 pub sum-push2 : (xs : List ℕ) (a b : ℕ) → sum ((xs ++ a ∷ []) ++ b ∷ []) ≡ sum xs + (a + b)
 sum-push2 xs a b = omega (arith, sum_by-append (λ (x : ℕ). x) (xs ++ a ∷ []) (b ∷ []), sum_by-append (λ (x : ℕ). x) xs (a ∷ []))
 
+-- no pairs: the reader stays as it is, and no step is made
 pub pairs-none : {I : Type 0} (r : Reader I) (steps : ℕ)
     → r.refusal ≡ None → PairRow r r 0 [] steps steps
 pairs-none r steps h = record {
@@ -266,6 +278,7 @@ pub record IsPairOf (g a b : ℕ) : Type 0 where
   pub code : pair_code a b ≡ g
   pub most : a + b ≤ g
 
+-- one pair more behind others: a step for each bit of its codeword, and as many turns as its numbers add up to
 pub pairs-more : {I : Type 0} {old mid new : Reader I} {count : ℕ} {front after : List ℕ} {g : ℕ} (a b : ℕ) {first second : ℕ} (third : ℕ) {fourth : ℕ}
     → PairRow old mid count front first second → Takes mid new (fundamental_sequence g) → IsPairOf g a b
     → third + mid.taken ≡ second + new.taken → fourth ≡ third + (a + b) → after ≡ (front ++ a ∷ []) ++ b ∷ []
@@ -378,6 +391,7 @@ pub record PairsInLanes (some : ℕ) (read out : List ℕ) (total : ℕ) : Type 
   pub sum_is : total ≡ sum (take (length (take some read) + length (take some read)) out)
   pub fit : All (λ d. d < 64) (take (length (take some read) + length (take some read)) out)
 
+-- the first of the pairs whose codes were read are taken, and their steps are counted within the meter's room
 pub pairs-taken : {I : Type 0} {old new : Reader I} {some : ℕ} (read out : List ℕ) {total first : ℕ} (second : ℕ) {third : ℕ}
     → PairsInLanes some read out total
     → Takes old new (flat_map fundamental_sequence (take some read)) → second + old.taken ≡ first + new.taken → third ≡ second + total
@@ -389,6 +403,7 @@ pairs-taken {old} {new} {some} read out {total} {first} second {third} in_lanes 
     let here = pairs-room old new (length codes) (take (length codes + length codes) out) first third row room limit in
     subst (λ k. PairsTaken old new k (take (k + k) out) first third) len (record { row = row; few = in_lanes.fit; counted = here.0; room = here.1 })
 
+-- steps that are counted up to a place and from there on are counted over both
 pub counted-both : (a b c p q r : ℕ) → AreCounted a b p q → AreCounted b c q r → AreCounted a c p r
 counted-both a b c p q r h k = record {
   forward = omega (arith, h.forward, k.forward);

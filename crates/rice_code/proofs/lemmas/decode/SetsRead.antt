@@ -86,18 +86,21 @@ not_blank : (w id : ℕ) (bits : List Bool) → 0 < id → id < 2 ^ w → is_bla
 not_blank w id bits some lt blank =
     let none : false ≡ true = sym (ap (λ b. b && is_blank bits) (blank-word_positive w id some lt)) ∙ (sym (blank-append (word w id) bits) ∙ blank) in cc
 
+-- A coded data set whose identifier is all ones is cut off where its block by no compression is.
 pub no_compression_set_cut : {I : Type 0} {old mid new : Reader I} (first last : ℕ) {s : Parameters} {b id : ℕ} {f : BitFault}
     → id < 2 ^ id_len s → id ≡ 2 ^ id_len s - 1 → Takes old mid (word (id_len s) id) → BlockCut mid new s b NoCompression f → SetCut old new first last s b f
 no_compression_set_cut {old} {mid} {new} first last {s} {b} {id} {f} lt e t cut =
     let wide = wide_id s in
     cut_after_id id lt t cut.stops (cut_plain s b e cut.none) (λ blank. absurd (not_blank (id_len s) id cut.bits (omega arith) lt blank))
 
+-- One whose identifier is that of a split is cut off where its block by this split is.
 pub split_set_cut : {I : Type 0} {old mid new : Reader I} (first last : ℕ) {s : Parameters} {b : ℕ} (id k : ℕ) {f : BitFault}
     → id < 2 ^ id_len s - 1 → id ≡ k + 1 → Takes old mid (word (id_len s) id) → BlockCut mid new s b (Split k) f → SetCut old new first last s b f
 split_set_cut {old} {mid} {new} first last {s} {b} id k {f} lt e t cut =
     cut_after_id id (omega arith) t cut.stops (cut_split s b k (record { id_is = e; below = lt; none = cut.none }))
     (λ blank. absurd (not_blank (id_len s) id cut.bits (omega arith) (omega arith) blank))
 
+-- One whose identifier is 0 is cut off where the bit behind it and what follows are.
 pub low_set_cut : {I : Type 0} {old mid new : Reader I} (first : ℕ) {second last : ℕ} {s : Parameters} {b id : ℕ} {f : BitFault}
     → id < 2 ^ id_len s → id ≡ 0 → Takes old mid (word (id_len s) id) → second + old.taken ≡ first + mid.taken → LowEntropyCut mid new second last s b f → SetCut old new first last s b f
 low_set_cut {old} {mid} {new} first {last} {s} {b} {id} {f} lt e t steps cut =
@@ -128,6 +131,7 @@ no_compression_set {old} {mid} {new} r sound near e t steps read = record {
   steps = omega (arith, read.steps);
 }
 
+-- what a block by a split says
 pub split_set : {I : Type 0} {old mid new : Reader I} {first second last : ℕ} {s : Parameters} {b : ℕ} (id k : ℕ) (r : Option ℕ) (sound near : Bool) {items : List ℕ}
     → id ≡ k + 1 → Takes old mid (word (id_len s) id) → second + old.taken ≡ first + mid.taken
     → BlockRead mid new second last s b (Split k) (record { reference = r; sound = sound }) items → SetRead old new first last s b (Residuals r sound near) items
@@ -173,14 +177,17 @@ bit_word zero h = refl
 bit_word (suc zero) h = refl
 bit_word (suc (suc v)) h = absurd (omega arith)
 
+-- a word of one digit that is 0 is one bit, a 0,
 pub zero_bit : word 1 0 ≡ false ∷ []
 zero_bit = bit_word 0 (omega arith)
 
+-- and one of a digit that is not 0 is a 1
 pub one_bit : (v : ℕ) → v < 2 → 0 < v → word 1 v ≡ true ∷ []
 one_bit zero h k = absurd (omega arith)
 one_bit (suc zero) h k = bit_word 1 (omega arith)
 one_bit (suc (suc v)) h k = absurd (omega arith)
 
+-- no bit is left behind an identifier of 0: the coded data set is cut off there
 pub low_bit_cut : {I : Type 0} {old new : Reader I} (first last : ℕ) (s : Parameters) (b : ℕ) {bits : List Bool} {f : BitFault}
     → length bits < 1 → Stops old new bits f → last + old.taken ≡ first + new.taken → LowEntropyCut old new first last s b f
 low_bit_cut first last s b {bits} lt stops steps = record { bits = bits; stops = stops; none = none bits lt; steps = λ blank. steps }
@@ -192,6 +199,7 @@ low_bit_cut first last s b {bits} lt stops steps = record { bits = bits; stops =
     none bits lt (ZeroBlocks r z) more form low e = omega (arith, ap length e)
     none bits lt (RemainderOfSegment r) more form low e = omega (arith, ap length e)
 
+-- the bit is a 1, and the block by second extension behind it is cut off
 pub second_low_cut : {I : Type 0} {old mid new : Reader I} (first last : ℕ) {s : Parameters} {b v : ℕ} {f : BitFault}
     → v < 2 → 0 < v → Takes old mid (word 1 v) → BlockCut mid new s b SecondExtension f → LowEntropyCut old new first last s b f
 second_low_cut {old} {mid} {new} first last {s} {b} {v} {f} lt pos t cut = record {
@@ -209,6 +217,7 @@ second_low_cut {old} {mid} {new} first last {s} {b} {v} {f} lt pos t cut = recor
     none bits h (ZeroBlocks r z) more form low e = absurd cc
     none bits h (RemainderOfSegment r) more form low e = absurd cc
 
+-- the bit is a 0, and what is left behind it begins with no run
 pub run_low_cut : {I : Type 0} {old mid new : Reader I} {first : ℕ} (second : ℕ) {last : ℕ} (s : Parameters) (b : ℕ) {bits : List Bool} {f : BitFault}
     → Takes old mid (word 1 0) → second + old.taken ≡ first + mid.taken → Stops mid new bits f → last + mid.taken ≡ second + new.taken
     → ((r : Option ℕ) (m : ℕ) (more : List Bool) → IsReference s b r → bits ≡ run_tail s r m ++ more → ⊥) → LowEntropyCut old new first last s b f
@@ -227,6 +236,7 @@ run_low_cut {old} {mid} {new} second s b {bits} {f} t before stops behind cut = 
     none bits h (ZeroBlocks r z) more form low e = h r (run_number z) more form.0 cc
     none bits h (RemainderOfSegment r) more form low e = h r 4 more form cc
 
+-- the bit is a 1, and a block by second extension was read behind it
 pub second_low : {I : Type 0} {old mid new : Reader I} {first second last : ℕ} {s : Parameters} {b v : ℕ} (r : Option ℕ) (sound near : Bool) {items : List ℕ}
     → v < 2 → 0 < v → Takes old mid (word 1 v) → second + old.taken ≡ first + mid.taken
     → BlockRead mid new second last s b SecondExtension (record { reference = r; sound = sound }) items → LowEntropyRead old new first last s b (Residuals r sound near) items
@@ -247,6 +257,7 @@ second_low {old} {mid} {new} {v} r sound near lt pos t steps read = record {
   steps = omega (arith, read.steps);
 }
 
+-- the bit is a 0, and a run whose codeword has so many zeros was read behind it: with four of them a remainder of segment
 pub run_low : {I : Type 0} {old mid new : Reader I} {first : ℕ} (second : ℕ) {last : ℕ} {s : Parameters} {b : ℕ} {r : Option ℕ} (zeros : ℕ) {items : List ℕ}
     → Takes old mid (word 1 0) → second + old.taken ≡ first + mid.taken
     → IsReference s b r → Takes mid new (run_tail s r zeros) → last + mid.taken ≡ second + new.taken → LowEntropyRead old new first last s b (Zeros r zeros) items

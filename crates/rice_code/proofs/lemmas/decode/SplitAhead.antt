@@ -62,11 +62,13 @@ four-parts bits {b} {c} {d} k l m n p q r t =
     let second : take (l + (m + n)) (drop k bits) ≡ b ++ (c ++ d) = take-add l (m + n) (drop k bits) ∙ (λ j. sym q j ++ (ap (take (m + n)) (drop-drop l k bits) ∙ last) j) in
     ap (λ i. take i bits) all ∙ (take-add k (l + (m + n)) bits ∙ (λ j. sym p j ++ second j))
 
+-- the ranks of the first numbers are the first of all ranks
 pub take-ranks : (n count p : ℕ) (xs : List ℕ) → ranks_below count p (take n xs) ≡ take n (ranks_below count p xs)
 take-ranks zero count p xs = refl
 take-ranks (suc n) count p [] = refl
 take-ranks (suc n) count p (x ∷ xs) = ap (λ ds. rank_below count p x ∷ ds) (take-ranks n count x xs)
 
+-- and what the first parts join to is the first of all joined parts
 pub take-joined : (n k : ℕ) (ms ls : List ℕ) → take n (joined_parts k ms ls) ≡ joined_parts k (take n ms) (take n ls)
 take-joined zero k ms ls = refl
 take-joined (suc n) k [] ls = refl
@@ -154,6 +156,7 @@ pub record WidthKnown (s : Parameters) (width : ℕ) : Type 0 where
   pub short : width + 2 ≤ 4
   pub few : s.bits ≤ 16
 
+-- samples of one byte or two have identifiers of 3 or 4 bits, and at most 16 bits themselves
 pub width_known : (s : Parameters) (width : ℕ) → HasWidth s width → WidthKnown s width
 width_known s width has =
     let all : (id_len s ≡ width + 2) × (width + 2 ≤ 4) × (s.bits ≤ 16) = elim has.widths [
@@ -162,6 +165,7 @@ width_known s width has =
     ] in
     record { id_is = all.0; short = all.1; few = all.2 }
 
+-- a split of such samples by fewer digits than 3 and 3 for each byte is lawful, and by at most 8
 pub split_fits : (s : Parameters) (width k : ℕ) → HasWidth s width → k < 3 + 3 * width → (k ≤ k_max s) × (k ≤ 8)
 split_fits s width k has lt =
     let known = width_known s width has in
@@ -182,6 +186,7 @@ first-low k size words lanes e low =
     subst (All (λ l. l < 2 ^ k)) (sym e) (All-append (λ l. l < 2 ^ k) (take size words) (replicate (16 - size) 0) (All-take (λ l. l < 2 ^ k) size words low)
     (All-replicate (λ l. l < 2 ^ k) (16 - size) 0 (pow_pos k)))
 
+-- the same where a zero stands before the words
 pub lanes-low : (k size : ℕ) (words behind lanes : List ℕ) → behind ≡ 0 ∷ take 15 words → lanes ≡ take size behind ++ replicate (16 - size) 0 → All (λ l. l < 2 ^ k) words → All (λ l. l < 2 ^ k) lanes
 lanes-low k size words behind lanes e f low =
     let all : All (λ l. l < 2 ^ k) behind = subst (All (λ l. l < 2 ^ k)) (sym e) (All-cons (λ l. l < 2 ^ k) 0 (take 15 words) (pow_pos k) (All-take (λ l. l < 2 ^ k) 15 words low)) in
@@ -465,6 +470,7 @@ bytes_given {start} {marked} {middle} {new} {first} {steps} {last} {p} {q} {lane
       by_bits = subst (λ n. n + q.run * q.setting.block ≤ most_samples_of_bit * (new.taken - start.taken)) (sym (length-values s levels)) given.1;
     }
 
+-- nine to sixteen samples of two bytes, restored in two rows of eight, are spelled from their parts
 pub sixteen_words_near : {s : Parameters} {from k size : ℕ} {highs lows first second : List ℕ} (old : List ℕ) {spelled more : List ℕ} → HasWidth s 2 → 8 < size → size ≤ 16
     → AreLevelsOfParts s from k highs lows (first ++ second) → EightInTwoBytes s first spelled → EightInTwoBytes s second more → 32 ≤ length old
     → SpellsParts s from k size highs lows (slice_index_or second (size - 9) 0) (put_chunk 16 (put_chunk 0 old spelled) more)

@@ -220,10 +220,12 @@ joined-append k [] (l ∷ ls) more_highs more_lows e = absurd (omega (arith, e))
 joined-append k (h ∷ hs) [] more_highs more_lows e = absurd (omega (arith, e))
 joined-append k (h ∷ hs) (l ∷ ls) more_highs more_lows e = ap (λ ds. (h * 2 ^ k + l) ∷ ds) (joined-append k hs ls more_highs more_lows (omega (arith, e)))
 
+-- the last of two rows of numbers is the last of the second, or if it has none the last of the first
 pub last-append : (p : ℕ) (xs ys : List ℕ) → last_number p (xs ++ ys) ≡ last_number (last_number p xs) ys
 last-append p [] ys = refl
 last-append p (x ∷ xs) ys = last-append x xs ys
 
+-- levels of parts, and levels of more parts restored after the last of them, are the levels of all parts
 pub rows_near : {s : Parameters} {p q k : ℕ} {highs lows levels more_highs more_lows more : List ℕ} → length lows ≡ length highs → q ≡ last_number p levels
     → AreLevelsOfParts s p k highs lows levels → AreLevelsOfParts s q k more_highs more_lows more
     → AreLevelsOfParts s p k (highs ++ more_highs) (lows ++ more_lows) (levels ++ more)
@@ -246,6 +248,7 @@ pub record RowsSpelled (s : Parameters) (from k count : ℕ) (highs lows : List 
   pub legal : last < value_count s
   pub spelled : take (width s * count) bytes ≡ spellings s (values_at s levels)
 
+-- before the first row no sample is spelled, and the last level is the one after which the block begins
 pub none_spelled : (s : Parameters) (from k : ℕ) (highs lows bytes : List ℕ) → from < value_count s → RowsSpelled s from k 0 highs lows from bytes
 none_spelled s from k highs lows bytes begins =
     let none : width s * 0 ≡ 0 = omega arith in
@@ -332,18 +335,23 @@ all_spelled {s} {from} {size} {w} {highs} {bytes} old has some room there rows =
 pub rows_before : (size row : ℕ) → 16 * row < size → rows_len size row ≡ 16 * row
 rows_before size row lt = omega (arith, lt)
 
+-- behind its last row all samples of a block are in rows
 pub rows_end : (size row : ℕ) → (size + 15) / 16 ≤ row → rows_len size row ≡ size
 rows_end size row least = omega (arith, least)
 
+-- where a block is of whole rows, a row more is sixteen samples more,
 pub whole_row : (size row : ℕ) → 16 * row < size → size % 16 ≡ 0 → 16 * row + 16 ≡ rows_len size (row + 1)
 whole_row size row lt none = omega (arith, lt, none)
 
+-- and in any block it is as many as are left, up to sixteen
 pub part_of_row : (size row count : ℕ) → 16 * row < size → count ≡ min (size - 16 * row) 16 → 16 * row + count ≡ rows_len size (row + 1)
 part_of_row size row count lt is = omega (arith, lt, is)
 
+-- a row of a block of at most 64 samples is one of four, begins inside the block, and ends inside its lanes
 pub row_inside : (size row : ℕ) → size ≤ 64 → row < (size + 15) / 16 → (row < 4) × (16 * row < size) × (16 * row + 16 ≤ lanes_of size) × (lanes_of size ≤ 64)
 row_inside size row most lt = (omega (arith, lt, most), omega (arith, lt), omega (arith, lt), omega (arith, most))
 
+-- a block of at most 64 samples has room in its lanes, which are at most 64
 pub lanes_most : (size : ℕ) → size ≤ 64 → (size ≤ lanes_of size) × (lanes_of size ≤ 64)
 lanes_most size most = (omega arith, omega (arith, most))
 

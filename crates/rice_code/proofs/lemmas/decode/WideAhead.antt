@@ -27,6 +27,7 @@ use Rattle.rice_code.proofs.lemmas.decode.SplitInSixteens.{last-append, lows-row
 pub wide_id : (s : Parameters) → 16 < s.bits → id_len s ≡ 5
 wide_id s wide = grind (arith, nat_tests)
 
+-- and their splits by up to 24 digits are lawful
 pub wide_splits : (s : Parameters) (k : ℕ) → 16 < s.bits → k ≤ 24 → k ≤ k_max s
 wide_splits s k wide few = let all : 2 ^ id_len s ≡ 32 = ap (λ n. 2 ^ n) (wide_id s wide) in omega (arith, all, few)
 
@@ -156,6 +157,7 @@ eight_place skip e o k some few =
     let parts : (8 * e - o) * k ≡ (8 - o) * k + 8 * (e - 1) * k = ap (λ n. n * k) (sym all) ∙ add-mul (8 - o) (8 * (e - 1)) k in
     omega (arith, parts)
 
+-- and where all words of a block wait with 64 bits behind them, so do these
 pub eight_inside : (skip : ℕ) {e o : ℕ} (k n most : ℕ) → 1 ≤ e → o ≤ 1 → e < n / 8 → skip + n * k + 64 ≤ most → skip + (8 - o) * k + 8 * (e - 1) * k + 8 * k + 64 ≤ most
 eight_inside skip {e} {o} k n most some few inside there =
     let place = eight_place skip e o k some few in

@@ -20,6 +20,7 @@ map_same (x ∷ xs) = ap (λ l. x ∷ l) (map_same xs)
 abbrev shorter : Parameters → BlockData → ℕ → ℕ → Bool
 shorter s c j k = nat_lt (cost s (Split j c)) (cost s (Split k c))
 
+-- the smallest of the splits of least length is the best split
 pub best_split_is : (s : Parameters) (c : BlockData) (k : ℕ) → IsBestSplit s c k → best_split s c ≡ k
 best_split_is s c k h = sym (ap (λ ks. best_of (shorter s c) 0 ks) (map_same (range_with_len 1 (k_max s)))) ∙ mapped k h
   where
@@ -39,6 +40,7 @@ best_split_is s c k h = sym (ap (λ ks. best_of (shorter s c) 0 ks) (map_same (r
         })
         ∙ ap (λ v. cond v (suc k) 0) (yes (cost s (Split (suc k) c)) (cost s (Split 0 c)) less)
 
+-- No compression is chosen where neither second extension nor the best split is shorter.
 pub takes_no_compression : (s : Parameters) (c : BlockData) (k : ℕ) → IsBestSplit s c k → cost s (NoCompression c) ≤ cost s (SecondExtension c)
     → cost s (NoCompression c) ≤ cost s (Split k c) → NoCompression c ≡ shortest s c
 takes_no_compression s c k h p q =
@@ -47,6 +49,7 @@ takes_no_compression s c k h p q =
     sym (shortest_is s c k h ∙ (ap (λ v. let first = cond v (SecondExtension c) (NoCompression c) in cond (nat_lt (cost s (Split k c)) (cost s first)) (Split k c) first) e
     ∙ ap (λ v. cond v (Split k c) (NoCompression c)) f))
 
+-- Second extension is chosen where it is shorter than no compression, and the best split is not shorter still.
 pub takes_second_extension : (s : Parameters) (c : BlockData) (k : ℕ) → IsBestSplit s c k → cost s (SecondExtension c) < cost s (NoCompression c)
     → cost s (SecondExtension c) ≤ cost s (Split k c) → SecondExtension c ≡ shortest s c
 takes_second_extension s c k h p q =
@@ -55,6 +58,7 @@ takes_second_extension s c k h p q =
     sym (shortest_is s c k h ∙ (ap (λ v. let first = cond v (SecondExtension c) (NoCompression c) in cond (nat_lt (cost s (Split k c)) (cost s first)) (Split k c) first) e
     ∙ ap (λ v. cond v (Split k c) (SecondExtension c)) f))
 
+-- The best split is chosen where it is shorter than both.
 pub takes_split : (s : Parameters) (c : BlockData) (k : ℕ) → IsBestSplit s c k → cost s (Split k c) < cost s (NoCompression c)
     → cost s (Split k c) < cost s (SecondExtension c) → Split k c ≡ shortest s c
 takes_split s c k h p q =

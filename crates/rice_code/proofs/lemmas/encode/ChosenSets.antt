@@ -8,6 +8,7 @@ use Rattle.rice_code.specs.encode.BitBuffer.{PutsSet}
 pub where_set : (flag : ℕ) (a b : Option ℕ) → (flag ≡ 0 → ⊥) → a ≡ (if not (nat_eq flag 0) then a else b)
 where_set flag a b h = grind arith
 
+-- the second of both, where the flag is not set
 pub where_unset : (flag : ℕ) (a b : Option ℕ) → flag ≡ 0 → b ≡ (if not (nat_eq flag 0) then a else b)
 where_unset flag a b h = grind arith
 

@@ -16,6 +16,7 @@ number_more bits m =
     ∙ (λ i. word-number_of bits i ++ word-fs m i) in
     sym (ap number_of spelled) ∙ number_of-word (w + (m + 1)) (number_of bits * 2 ^ (m + 1) + 1) (join_below w (m + 1) (number_of bits) 1 (number_of-lt bits) (one_fits m))
 
+-- a word of 0 has gathered no sequence, and all of 2^40 is left
 pub gathers_none : Gathers 0 (2 ^ 40) []
 unfolding number_of
 gathers_none = record { count = refl; front = λ h. refl }
@@ -36,6 +37,7 @@ one_set v a b some =
         let twice : 2 ^ (1 + b) ≡ 2 ^ 1 * 2 ^ b = pow-add 2 1 b in
         omega (arith, le, twice, pow_pos b)
 
+-- one sequence more is gathered: the bit that ends it is set, and less is left
 pub gathers_more : (word left m : ℕ) (bits : List Bool) → m < left → Gathers word left bits →
     Gathers (bit_or word (1 * 2 ^ ((left - m - 1) % 64) % 2 ^ 64)) (left - m - 1) (bits ++ fundamental_sequence m)
 gathers_more word left m bits lt h =
@@ -67,6 +69,7 @@ gathered_number value left width bits e some few h =
     whole : (v p : ℕ) → 0 < p → v * p / p ≡ v
     whole v p h = let e : v * p ≡ v * p + 0 = omega arith in ap (λ n. n / p) e ∙ div-mul-add v p 0 h
 
+-- four texts put behind others one after another, or joined first
 pub four_behind : (bits a b c d : List Bool) → bits ++ a ++ b ++ c ++ d ≡ bits ++ (a ++ b ++ c ++ d)
 four_behind bits a b c d = simp append_assoc
 
@@ -77,6 +80,7 @@ fills_none left =
     let e : number_of [] ≡ 0 = refl in
     record { digits = omega (arith, ap (λ n. n * 2 ^ left) e) }
 
+-- a sequence more sets the digit that ends it, and leaves fewer zeros
 pub fills_more : (value left m : ℕ) (bits : List Bool) → m < left → left ≤ 56 → HasFront value left bits →
     HasFront (bit_or value (1 * 2 ^ (left - m - 1) % 2 ^ 64)) (left - m - 1) (bits ++ fundamental_sequence m)
 fills_more value left m bits lt few h =

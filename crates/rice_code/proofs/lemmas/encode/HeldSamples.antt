@@ -79,6 +79,7 @@ all_more : (s : Parameters) (xs : List ℤ) (x : ℤ) → AllByRecursion (IsSamp
 all_more s [] x h k = (k, tt)
 all_more s (y ∷ ys) x h k = (h.0, all_more s ys x h.1 k)
 
+-- if all samples of two lists are legal, so are those of each
 pub all_first : (s : Parameters) (xs ys : List ℤ) → AllByRecursion (IsSample s) (xs ++ ys) → AllByRecursion (IsSample s) xs × AllByRecursion (IsSample s) ys
 all_first s [] ys h = (tt, h)
 all_first s (x ∷ xs) ys h = let r = all_first s xs ys h.1 in ((h.0, r.0), r.1)
@@ -207,6 +208,7 @@ one_more coder b coded held x h k legal =
 push_last : {X : Type 0} (n : ℕ) (x : X) (xs : List X) → xs ++ replicate (suc n) x ≡ (xs ++ x ∷ []) ++ replicate n x
 push_last n x xs = sym (append_assoc xs (x ∷ []) (replicate n x))
 
+-- a coder that holds samples holds its previous one n times more, if its segment has room for them
 pub holds_fill : (coder : CoderState) (b : ℕ) (coded held : List ℤ) (n : ℕ) → HasCodedBefore coder b coded held → IsSample coder.setting coder.previous
     → (0 < n → is_empty coder.residuals ≡ false) → length held + n ≤ coder.setting.block * blocks_left coder.setting b →
     HasCodedBefore (state_with_fill coder n) b coded (held ++ replicate n coder.previous)

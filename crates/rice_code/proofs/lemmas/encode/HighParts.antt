@@ -10,12 +10,14 @@ use Rattle.rice_bits.proofs.lemmas.bits.WordsAndNumbers.{length-fundamental_sequ
 use Rattle.rice_code.specs.encode.GatheredSequences.{four_sequences, sequences_from}
 use Rattle.rice_code.proofs.lemmas.encode.OptionTexts.{four_more}
 
+-- the sequences of high parts are as long as these parts add up to, and a one for each
 pub length-high : (k : ℕ) (ds : List ℕ) → length (flat_map (λ d. fundamental_sequence (d / 2 ^ k)) ds) ≡ length ds + sum_by (λ d. d / 2 ^ k) ds
 length-high k [] = refl
 length-high k (d ∷ ds) =
     let one = length-append (fundamental_sequence (d / 2 ^ k)) (flat_map (λ d. fundamental_sequence (d / 2 ^ k)) ds) in
     omega (arith, one, length-fundamental_sequence (d / 2 ^ k), length-high k ds, sum_by-cons (λ d. d / 2 ^ k) d ds)
 
+-- the sequences of four numbers are as long as these add up to, and four ones
 pub length-four : (a b c d : ℕ) → length (four_sequences a b c d) ≡ a + b + c + d + 4
 length-four a b c d =
     let f = fundamental_sequence in
@@ -28,6 +30,7 @@ length-four a b c d =
 pub length-from_first : (from a b c d : ℕ) → from ≡ 0 → length (sequences_from from a b c d) ≡ a + b + c + d + 4
 length-from_first from a b c d e = ap (λ n. length (sequences_from n a b c d)) e ∙ length-four a b c d
 
+-- the same from the second on: three numbers, and three ones
 pub length-from_second : (from a b c d : ℕ) → from ≡ 1 → length (sequences_from from a b c d) ≡ b + c + d + 3
 length-from_second from a b c d e =
     let f = fundamental_sequence in
@@ -35,15 +38,19 @@ length-from_second from a b c d e =
     let two = length-append (f b ++ f c) (f d) in
     ap (λ n. length (sequences_from n a b c d)) e ∙ omega (arith, one, two, length-fundamental_sequence b, length-fundamental_sequence c, length-fundamental_sequence d)
 
+-- three texts in a row are as long as all three together
 pub length-three_parts : (a b c : List Bool) → length (a ++ b ++ c) ≡ length a + length b + length c
 length-three_parts a b c = length-append (a ++ b) c ∙ ap (λ n. n + length c) (length-append a b)
 
+-- three texts put behind others one after another, or joined first
 pub three_behind : (all a b c : List Bool) → all ++ a ++ b ++ c ≡ all ++ (a ++ b ++ c)
 three_behind all a b c = simp append_assoc
 
+-- four texts in a row are as long as the first and the three others in a row
 pub length-first_part : (a b c d : List Bool) → length (a ++ b ++ c ++ d) ≡ length a + length (b ++ c ++ d)
 length-first_part a b c d = ap length (three_behind a b c d) ∙ length-append a (b ++ c ++ d)
 
+-- a text and three more put behind others, or all four joined first
 pub four_behind : (all a b c d : List Bool) → all ++ a ++ (b ++ c ++ d) ≡ all ++ (a ++ b ++ c ++ d)
 four_behind all a b c d = simp append_assoc
 
@@ -55,6 +62,7 @@ eight_more xs i n h e =
     four_more xs i (i + 4) (omega arith) refl
     ∙ ap (λ v. get_or xs i 0 ∷ get_or xs (i + 1) 0 ∷ get_or xs (i + 2) 0 ∷ get_or xs (i + 3) 0 ∷ v) (four_more xs (i + 4) n (omega arith) (omega arith))
 
+-- the pieces of the first eight residuals, with or without the first, as those of two fours
 pub eight_from : (f : ℕ → List Bool) (xs : List ℕ) (from : ℕ) → from ≤ 1 → 7 < length xs →
     flat_map f (slice_range xs from 8) ≡
     (if from == 0 then f (get_or xs 0 0) else []) ++ f (get_or xs 1 0) ++ f (get_or xs 2 0) ++ f (get_or xs 3 0)
@@ -82,6 +90,7 @@ sixteen_more xs i n h e =
     ∙ ap (λ v. get_or xs i 0 ∷ get_or xs (i + 1) 0 ∷ get_or xs (i + 2) 0 ∷ get_or xs (i + 3) 0 ∷ get_or xs (i + 4) 0 ∷ get_or xs (i + 4 + 1) 0 ∷ get_or xs (i + 4 + 2) 0 ∷ get_or xs (i + 4 + 3) 0 ∷ v)
     (third ∙ ap (λ v. get_or xs (i + 8) 0 ∷ get_or xs (i + 8 + 1) 0 ∷ get_or xs (i + 8 + 2) 0 ∷ get_or xs (i + 8 + 3) 0 ∷ v) last)
 
+-- and those of sixteen residuals from number i on, with or without the first of them, as those of four fours
 pub sixteen_from : (f : ℕ → List Bool) (xs : List ℕ) (i from : ℕ) → from ≤ 1 → i + 15 < length xs →
     flat_map f (slice_range xs (i + from) (i + 16)) ≡
     (if from == 0 then f (get_or xs i 0) else []) ++ f (get_or xs (i + 1) 0) ++ f (get_or xs (i + 2) 0) ++ f (get_or xs (i + 3) 0)
@@ -154,5 +163,6 @@ sequences_of_first_row f xs ms from le e =
     let start : 0 + from ≡ from = omega arith in
     sequences_of_row f xs ms 0 from (omega arith) e ∙ ap (λ i. flat_map (λ d. fundamental_sequence (f d)) (slice_range xs i 16)) start
 
+-- a range of a list has as many items as lie between its ends
 pub length-row : (xs : List ℕ) (i n : ℕ) → i ≤ n → n ≤ length xs → length (slice_range xs i n) ≡ n - i
 length-row xs i n le h = length-take-le (n - i) (drop i xs) (omega (arith, length-drop i xs))

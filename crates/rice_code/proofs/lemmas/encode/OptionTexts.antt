@@ -39,6 +39,7 @@ pub no_digits : (xs : List ℕ) → flat_map (word 0) xs ≡ []
 no_digits [] = refl
 no_digits (x ∷ xs) = rw word-nil (no_digits xs)
 
+-- an identifier with a flag, a reference and a body, put into a sink one after the other, or joined first
 pub append_flagged : (sink head ref body : List Bool) (b : Bool) → sink ++ (head ++ b ∷ []) ++ ref ++ body ≡ sink ++ (head ++ b ∷ (ref ++ body))
 append_flagged sink head ref body b =
     append_assoc (sink ++ (head ++ b ∷ [])) ref body ∙ (append_assoc sink (head ++ b ∷ []) (ref ++ body) ∙ ap (λ z. sink ++ z) (append_assoc head (b ∷ []) (ref ++ body)))
@@ -50,6 +51,7 @@ pub record SentResiduals (sent rs : List ℕ) (from w k : ℕ) : Type 0 where
   pub parts : sum_by (λ d. d / 2 ^ k) sent ≡ sum_by (λ d. d / 2 ^ k) (drop from rs)
   pub bits : (f : ℕ → List Bool) → flat_map f (drop from rs) ≡ flat_map f sent
 
+-- what is sent of residuals is told in numbers, where it is all from number `from` on
 pub sent_are : (sent ds rs : List ℕ) (from w k : ℕ) → sent ≡ drop from ds → rs ≡ ds → SentResiduals sent rs from w k
 sent_are sent ds rs from w k coded same =
     let e : sent ≡ drop from rs = coded ∙ ap (drop from) (sym same) in
@@ -69,6 +71,7 @@ run_text s to_end r z = by_test (nat_le 5 z && to_end)
     by_test true = refl
     by_test false = refl
 
+-- the cost of a run: its identifier, the flag, its reference, and its zeros with a one
 pub run_cost : (s : Parameters) (to_end : Bool) (r : Option ℕ) (z : ℕ) → cost s (run_of_blocks to_end r z) ≡ id_len s + 1 + reference_len s r + zeros_of_run to_end z + 1
 run_cost s to_end r z = by_test (nat_le 5 z && to_end)
   where
@@ -76,6 +79,7 @@ run_cost s to_end r z = by_test (nat_le 5 z && to_end)
     by_test true = omega arith
     by_test false = refl
 
+-- and the text of a run is as long as its cost
 pub run_text_len : (s : Parameters) (to_end : Bool) (r : Option ℕ) (z : ℕ) → length (bits_of_set s (run_of_blocks to_end r z)) ≡ cost s (run_of_blocks to_end r z)
 run_text_len s to_end r z = by_test (nat_le 5 z && to_end)
   where
@@ -97,13 +101,16 @@ pairs_left (suc i) (a ∷ b ∷ xs) h =
     ap (λ n. pair_codes (drop n (a ∷ b ∷ xs))) k ∙ (ih
     ∙ (λ j. pair_code (get_or (a ∷ b ∷ xs) (sym k j) 0) (get_or (a ∷ b ∷ xs) (sym l j) 0) ∷ pair_codes (drop (sym e j) (a ∷ b ∷ xs))))
 
+-- and their bits: those of the codeword of pair i, and of all behind it
 pub pairs_left_sum : (i : ℕ) (xs : List ℕ) → 2 * i + 1 < length xs →
     sum_by (λ g. g + 1) (pair_codes (drop (2 * i) xs)) ≡ pair_code (get_or xs (2 * i) 0) (get_or xs (2 * i + 1) 0) + 1 + sum_by (λ g. g + 1) (pair_codes (drop (2 * (i + 1)) xs))
 pairs_left_sum i xs h = ap (sum_by (λ g. g + 1)) (pairs_left i xs h) ∙ sum_by-cons (λ g. g + 1) (pair_code (get_or xs (2 * i) 0) (get_or xs (2 * i + 1) 0)) (pair_codes (drop (2 * (i + 1)) xs))
 
+-- nothing is left behind the last pair of an even number of residuals
 pub no_pairs_left : (i : ℕ) (xs : List ℕ) → length xs % 2 ≡ 0 → length xs / 2 ≤ i → drop (2 * i) xs ≡ []
 no_pairs_left i xs even all = drop_all (2 * i) xs (omega (arith, even, all))
 
+-- the codewords of pairs are as long as their codes add up to, with a one for each
 pub length-pairs : (xs : List ℕ) → length (flat_map fundamental_sequence (pair_codes xs)) ≡ sum_by (λ g. g + 1) (pair_codes xs)
 length-pairs xs = length_pieces fundamental_sequence (λ g. g + 1) length-fundamental_sequence (pair_codes xs)
 
@@ -122,6 +129,7 @@ four_more xs i n h e =
     let d' = d ∙ ap (λ m. get_or xs (i + 3) 0 ∷ drop m xs) r in
     a ∙ ap (λ v. get_or xs i 0 ∷ v) (b' ∙ ap (λ v. get_or xs (i + 1) 0 ∷ v) (c' ∙ ap (λ v. get_or xs (i + 2) 0 ∷ v) d'))
 
+-- where the pieces of four residuals more are put, they and those of the rest still make up the whole
 pub four_added : (f : ℕ → List Bool) (xs : List ℕ) (i n : ℕ) (a : List Bool) {b all : List Bool} → i + 3 < length xs → n ≡ i + 4 →
     b ≡ a ++ (f (get_or xs i 0) ++ f (get_or xs (i + 1) 0) ++ f (get_or xs (i + 2) 0) ++ f (get_or xs (i + 3) 0)) → a ++ flat_map f (drop i xs) ≡ all → b ++ flat_map f (drop n xs) ≡ all
 four_added f xs i n a {b} h e added same =
@@ -132,5 +140,6 @@ four_added f xs i n a {b} h e added same =
     nest : (a b c d e rest : List Bool) → (a ++ (b ++ c ++ d ++ e)) ++ rest ≡ a ++ (b ++ (c ++ (d ++ (e ++ rest))))
     nest a b c d e rest = simp append_assoc
 
+-- the digits of the residuals that are left are those of the next four and of the rest
 pub four_fewer : (n i m w : ℕ) → i + 3 < n → m ≡ i + 4 → (n - i) * w ≡ (n - m) * w + 4 * w
 four_fewer n i m w h e = let f : n - i ≡ n - m + 4 = omega arith in ap (λ k. k * w) f ∙ (omega arith)

@@ -21,6 +21,7 @@ zeros_are_zero : (n : ℕ) → list_all (λ d. d == 0) (replicate n 0) ≡ true
 zeros_are_zero zero = refl
 zeros_are_zero (suc n) = zeros_are_zero n
 
+-- a block of zeros is a zero block, with a reference or without
 pub is_zero_zeros : (s : Parameters) (r : Option ℕ) → is_zero_block (zero_block s r) ≡ true
 is_zero_zeros s r = zeros_are_zero s.block
 
@@ -134,10 +135,12 @@ held_at s r (suc n) (suc i) ds h =
     none zero = refl
     none (suc i) = refl
 
+-- as many blocks are held as are counted
 pub held_len : (s : Parameters) (r : Option ℕ) (n : ℕ) (ds : List ℕ) → length (held_blocks s r n ds) ≡ n
 held_len s r zero ds = refl
 held_len s r (suc n) ds = ap (λ n. suc n) (held_len s None n (drop s.block ds))
 
+-- sound blocks without the first i are sound from block b + i on
 pub drop_sound : (s : Parameters) (b i : ℕ) (cs : List BlockData) → AreSoundBlocks s b cs → AreSoundBlocks s (b + i) (drop i cs)
 drop_sound s b zero cs h = let e : b ≡ b + 0 = omega arith in subst (λ n. AreSoundBlocks s n cs) e h
 drop_sound s b (suc i) [] h = tt

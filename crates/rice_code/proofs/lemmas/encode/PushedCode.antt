@@ -38,6 +38,7 @@ use Rattle.rice_code.proofs.lemmas.code.SegmentPlaces.{begins_next, cut_is, next
 use Rattle.rice_code.proofs.lemmas.code.SoundBlocks.{blocks_sound, last_legal, filled_len}
 use Rattle.rice_code.proofs.lemmas.code.WholeBlocks.{not_filled}
 
+-- of the samples that a coder has taken, those of whole segments are the ones that are coded
 pub complete_are_coded : (coder : CoderState) (xs : List ℤ) (h : HasTaken coder xs) → complete_samples coder.setting xs ≡ h.coded
 complete_are_coded coder xs h =
     let s = coder.setting in
@@ -81,6 +82,7 @@ pending_are coder xs h =
     let r = ap length h.holds.residuals ∙ length-residuals s (s.block * h.block) (last_of (pos 0) h.coded) h.held in
     omega (arith, len, c, r)
 
+-- fewer samples wait than 64 blocks have
 pub few_pending : (coder : CoderState) → IsCoder coder → length coder.residuals < 64 * coder.setting.block
 few_pending coder k =
     let h = k.taken in
@@ -90,6 +92,7 @@ few_pending coder k =
     let m : s.block * blocks_left s h.block ≤ s.block * 64 = mul-le-mul_left s.block left.1 in
     omega (arith, r, m, h.short)
 
+-- the previous sample of a coder is legal
 pub previous_legal : (coder : CoderState) → IsCoder coder → IsSample coder.setting coder.previous
 previous_legal coder k =
     let h = k.taken.holds in
@@ -122,6 +125,7 @@ stays_open coder x xs h legal less =
       short = omega (arith, count, m, less);
     }
 
+-- and it completes no segment
 pub stays_open_completes_none : (coder : CoderState) (x : ℤ) (xs : List ℤ) → (h : HasTaken coder xs) → IsSample coder.setting x
     → length (state_after coder x).residuals < coder.setting.block * blocks_left coder.setting coder.start →
     complete_samples coder.setting (xs ++ x ∷ []) ≡ complete_samples coder.setting xs
@@ -129,6 +133,7 @@ unfolding stays_open
 stays_open_completes_none coder x xs h legal less =
     complete_are_coded (state_after coder x) (xs ++ x ∷ []) (stays_open coder x xs h legal less) ∙ sym (complete_are_coded coder xs h)
 
+-- a coder holds fewer samples than its segment has room for
 pub short_of : (coder : CoderState) (xs : List ℤ) → HasTaken coder xs → length coder.residuals < coder.setting.block * blocks_left coder.setting coder.start
 short_of coder xs h =
     let l = ap (λ n. coder.setting.block * n) (left_same coder h.block h.coded h.held h.holds) in
@@ -163,11 +168,12 @@ open_between s start p xs k =
       ends = refl;
     }
 
--- a coder whose samples all make whole segments holds nothing
+-- a list of no length has nothing
 no_items : {X : Type 0} (xs : List X) → length xs ≡ 0 → xs ≡ []
 no_items [] e = refl
 no_items (x ∷ xs) e = absurd (omega arith)
 
+-- a coder whose samples all make whole segments holds nothing: it stands between two segments
 pub holds_nothing : (coder : CoderState) (xs : List ℤ) → HasTaken coder xs → cut coder.setting (length xs) ≡ length xs → coder ≡ state_between coder.setting coder.start coder.previous
 holds_nothing coder xs k all =
     let none : length coder.residuals ≡ 0 = omega (arith, pending_are coder xs k, all) in
@@ -205,6 +211,7 @@ same_position s end b m n ds h =
       | inr e ↦ laid_plain s end b m ds e ∙ sym (laid_plain s end b n ds e)
     ]
 
+-- what a coder holds is such a part where it holds the samples with their last block filled
 pub held_part : {coder : CoderState} {b n : ℕ} {coded held full : List ℤ} → HasCodedBefore coder b coded full
     → filled_samples coder.setting (last_of (pos 0) coded) held ≡ full → block_count coder.setting (length held) ≡ n → length full ≡ coder.setting.block * n
     → IsPart coder coded held
@@ -337,6 +344,7 @@ whole_part coder x xs h legal e =
     let bare = not_filled s (blocks_left s coder.start) (last_of (pos 0) h.coded) full j len in
     held_part more bare.0 bare.1 len
 
+-- such a sample leaves a coder that holds sound whole blocks
 pub whole_sound : (coder : CoderState) (x : ℤ) (xs : List ℤ) → HasTaken coder xs → IsSample coder.setting x → IsWhole (state_after coder x) → HoldsSoundBlocks (state_after coder x)
 whole_sound coder x xs h legal e = let part = whole_part coder x xs h legal e in record { sound = part.sound; whole = part.blocks }
 
@@ -406,6 +414,7 @@ filled_part coder xs h =
     let shape : filled_samples s p h.held ≡ full = λ i. h.held ++ replicate (fill i) (last i) in
     held_part holds shape refl (sym (ap length shape) ∙ filled_len s p h.held j)
 
+-- with them the coder holds sound blocks
 pub filled_sound : (coder : CoderState) (xs : List ℤ) → HasTaken coder xs → HoldsSoundBlocks (state_with_fill coder (fill_count coder.setting (length coder.residuals)))
 filled_sound coder xs h = let part = filled_part coder xs h in record { sound = part.sound; whole = part.blocks }
 
@@ -427,6 +436,7 @@ fill_count_is coder xs h =
 pub finish_sound : (coder held : CoderState) → held ≡ state_with_fill coder (fill_count coder.setting (length coder.residuals)) → IsCoder coder → HoldsSoundBlocks held
 finish_sound coder held g k = subst HoldsSoundBlocks (sym g) (filled_sound coder k.samples k.taken)
 
+-- and where these blocks are coded, the code of all samples is complete, with a step for each sample that filled them
 pub finish_adds : {coder value held : CoderState} {xs : List ℤ} {old new : List Bool} {n m0 m1 m2 : ℕ} → coder ≡ value
     → held ≡ state_with_fill coder (fill_count coder.setting (length coder.residuals)) → CodesHeld held old new n m1 m2
     → m1 ≡ m0 + fill_count coder.setting (length coder.residuals) → HasTaken value xs →

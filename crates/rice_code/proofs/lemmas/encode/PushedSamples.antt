@@ -141,6 +141,7 @@ holds_levels {value} {coder} {held} levels {t} e k legal room few g =
     let same : values_at coder.setting (take t levels) ≡ take t (values_at s levels) = ap (λ (v : CoderState). values_at v.setting (take t levels)) e ∙ sym (take-map (value_at s) t levels) in
     holds_first (values_at s levels) t e k (legal_values s levels legal) room (omega (arith, few, length-values s levels)) (g ∙ ap (state_after_all coder) same)
 
+-- where t steps were made, one was made for each of these,
 pub steps_of_levels : (s : Parameters) (levels : List ℕ) (t m0 m1 : ℕ) → t ≤ length levels → m1 ≡ m0 + t → m1 ≡ m0 + length (take t (values_at s levels))
 steps_of_levels s levels t m0 m1 few steps = steps_of_first (values_at s levels) t m0 m1 (omega (arith, few, length-values s levels)) steps
 
@@ -196,6 +197,7 @@ whole_pushes {coder} {after} {ys} {old} {new} {n} {m0} {m1} {m2} h whole e codes
       adds = λ xs k. adds_code (several_add_code coder ys xs h.legal is_whole k) coded steps;
     })
 
+-- and all samples so far are complete
 pub whole_completes_all : (value coder held : CoderState) (ys : List ℤ) → HoldsMore value coder held ys → IsWhole held → CompletesAll value ys
 whole_completes_all value coder held ys h whole =
     subst (λ v. CompletesAll v ys) h.same (λ xs k. all_complete (state_after_segment (state_after_all coder ys)) (xs ++ ys) (several_end coder ys xs h.legal (subst IsWhole h.holds whole) k) refl)
@@ -210,6 +212,7 @@ still_short value coder held ys h not_whole =
       | inr le ↦ absurd (let whole : IsWhole (state_after_all coder ys) = omega (arith, count, h.room, le) in not_whole (subst IsWhole (sym h.holds) whole))
     ]
 
+-- the call makes a step for each sample, and nothing is put
 pub open_pushes : {value coder held : CoderState} {ys : List ℤ} {sink : List Bool} {m0 m1 : ℕ} → HoldsMore value coder held ys → (IsWhole held → ⊥)
     → m1 ≡ m0 + length ys → PushesSamples value held ys sink sink 0 m0 m1
 open_pushes {value} {coder} {held} {ys} {sink} {m0} {m1} h not_whole steps =
@@ -230,6 +233,7 @@ none_before_last {coder} xs {m} e legal room few less =
     let len : length (take m xs) ≡ m = length-take-le m xs (omega (arith, less, few)) in
     subst (λ v. CompletesNone v (take m xs)) e (λ zs k. (several_stay_open coder (take m xs) zs k firsts (omega (arith, len, less, room))).1)
 
+-- the same of samples that are given by their levels
 pub none_before_level : {value coder : CoderState} (levels : List ℕ) {t m : ℕ} → coder ≡ value → All (λ l. l < value_count value.setting) levels
     → length coder.residuals + t ≤ coder.setting.block * blocks_left coder.setting coder.start → t ≤ length levels → m < t →
     CompletesNone value (take m (values_at value.setting levels))

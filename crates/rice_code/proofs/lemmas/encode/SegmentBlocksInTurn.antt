@@ -65,12 +65,15 @@ to_come s start r n ds i run = bits_of_sets s (data_sets s (start + (i - run)) f
 abbrev pub held : Parameters → Option ℕ → List ℕ → ℕ → BlockData
 held s r ds i = block_with (reference_at r i) (take s.block (drop (i * s.block) ds))
 
+-- the residuals of block i are a range of all
 pub held_range : (s : Parameters) (ds : List ℕ) (i : ℕ) → slice_range ds (i * s.block) (i * s.block + s.block) ≡ take s.block (drop (i * s.block) ds)
 held_range s ds i = let e : i * s.block + s.block - i * s.block ≡ s.block = omega arith in ap (λ n. take n (drop (i * s.block) ds)) e
 
+-- and it is sound at its place, if all blocks that are held are sound
 pub held_sound : (s : Parameters) (start : ℕ) (r : Option ℕ) (n : ℕ) (ds : List ℕ) (i : ℕ) → i < n → AreSoundBlocks s start (held_blocks s r n ds) → IsSoundBlock s (start + i) (held s r ds i)
 held_sound s start r n ds i h k = (subst (λ cs. AreSoundBlocks s (start + i) cs) (held_at s r n i ds h) (drop_sound s start i (held_blocks s r n ds) k)).0
 
+-- the contents of a sound block are sound wherever it stands
 pub sound_of : (s : Parameters) (b : ℕ) (c : BlockData) → IsSoundBlock s b c → IsSoundData s c
 sound_of s b c h = record { len = h.block.len; fit = h.fit; reference = h.block.reference.fits; zero = h.at_reference }
 
@@ -81,6 +84,7 @@ reference_later : (r : Option ℕ) (i run : ℕ) → run ≤ i → 0 < run → r
 reference_later r zero run h k = absurd (omega arith)
 reference_later r (suc i) run h k = refl
 
+-- a block of zeros joins the run that waits, and the code that is to come is the same
 pub next_zero : (s : Parameters) (start : ℕ) (r : Option ℕ) {n : ℕ} (ds : List ℕ) {i run : ℕ} → run ≤ i → i < n → AreSoundBlocks s start (held_blocks s r n ds) →
     is_zero_block (held s r ds i) ≡ true → to_come s start r n ds i run ≡ to_come s start r n ds (i + 1) (run + 1)
 next_zero s start r {n} ds {i} {run} h k sound z =
@@ -97,6 +101,7 @@ next_zero s start r {n} ds {i} {run} h k sound z =
 run_is_inside : (s : Parameters) (start n i run : ℕ) → 1 ≤ s.interval → run ≤ i → i < n → n ≤ blocks_left s start → run < blocks_left s (start + (i - run))
 run_is_inside s start n i run h k l m = let e = left_inside s start (i - run) h (omega arith) in omega arith
 
+-- before another block the code of the run that waits comes, and then the shortest code of the block
 pub next_other : (s : Parameters) (start : ℕ) (r : Option ℕ) {n : ℕ} (ds : List ℕ) {i run : ℕ} → 1 ≤ s.interval → n ≤ blocks_left s start → run ≤ i → i < n →
     is_zero_block (held s r ds i) ≡ false → to_come s start r n ds i run ≡ bits_of_sets s (pending_run false (reference_at r (i - run)) run)
     ++ (bits_of_set s (shortest s (held s r ds i)) ++ to_come s start r n ds (i + 1) 0)
@@ -112,6 +117,7 @@ next_other s start r {n} ds {i} {run} h m l k z =
     ∙ (ap (bits_of_sets s) (f ∙ ap (λ m. w ++ shortest s c ∷ data_sets s m false rest) g)
     ∙ flat_map-append (bits_of_set s) w (shortest s c ∷ data_sets s (start + (i + 1 - 0)) false rest))
 
+-- and at the end only the code of the run that waits is to come
 pub at_end : (s : Parameters) (start : ℕ) (r : Option ℕ) (n : ℕ) (ds : List ℕ) (run : ℕ) → 1 ≤ s.interval → n ≤ blocks_left s start → run ≤ n →
     to_come s start r n ds n run ≡ bits_of_sets s (pending_run true (reference_at r (n - run)) run)
 at_end s start r n ds run h m l =
@@ -137,12 +143,14 @@ sum_next f (suc i) (d ∷ cs) c rest e =
     let g = ap (λ n. sum_by f (take n (d ∷ cs))) n in
     omega (arith, ih, a, b, g)
 
+-- one block takes at most so many looks, whatever its residuals are,
 pub most_of_one : (s : Parameters) (c : BlockData) → most_looks s c ≤ s.block * (k_max s + 5)
 most_of_one s c =
     let p : s.block * (min (best_split s c + 1) (k_max s) + 5) ≤ s.block * (k_max s + 5) = mul-le-mul_left s.block (omega arith) in
     let q : s.block * 1 ≤ s.block * (k_max s + 5) = mul-le-mul_left s.block (omega arith) in
     elim (is_zero_block c) as (λ v. cond v s.block (s.block * (min (best_split s c + 1) (k_max s) + 5)) ≤ s.block * (k_max s + 5)) [ true ↦ omega (arith, q) | false ↦ p ]
 
+-- and i blocks take at most i times as many
 pub most_of_all : (s : Parameters) (i : ℕ) (cs : List BlockData) → sum_by (most_looks s) (take i cs) ≤ i * (s.block * (k_max s + 5))
 most_of_all s zero cs = omega arith
 most_of_all s (suc i) [] = omega arith
@@ -152,13 +160,16 @@ most_of_all s (suc i) (c ∷ cs) =
     let d = most_of_one s c in
     omega (arith, a, b, d)
 
+-- a block of zeros takes one look at each of its residuals, no fewer and no more
 pub looks_zero : (s : Parameters) (c : BlockData) → is_zero_block c ≡ true → (least_looks s c ≡ s.block) × (most_looks s c ≡ s.block)
 looks_zero s c e = (ap (λ v. cond v s.block (s.block * (best_split s c + 3) - 1)) e, ap (λ v. cond v s.block (s.block * (min (best_split s c + 1) (k_max s) + 5))) e)
 
+-- the fewest and the most looks that another block takes
 pub looks_other : (s : Parameters) (c : BlockData) → is_zero_block c ≡ false → (least_looks s c ≡ s.block * (best_split s c + 3) - 1)
     × (most_looks s c ≡ s.block * (min (best_split s c + 1) (k_max s) + 5))
 looks_other s c e = (ap (λ v. cond v s.block (s.block * (best_split s c + 3) - 1)) e, ap (λ v. cond v s.block (s.block * (min (best_split s c + 1) (k_max s) + 5))) e)
 
+-- the text of a block by its shortest option is as long as its cost
 pub shortest_len : (s : Parameters) (b : ℕ) (c : BlockData) → 1 ≤ s.block → IsSoundBlock s b c → length (bits_of_set s (shortest s c)) ≡ cost s (shortest s c)
 shortest_len s b c j h = cost_is_length s b (shortest s c) j (shortest_is_form s b c h)
 
@@ -195,6 +206,7 @@ room_other {s} {start} r {n} ds {i} {run} sink before all some place other same 
     let g = shortest_len s (start + i) c some.block (held_sound s start r n ds i place.below other.sound) in
     omega (arith, e, a, b, d, f, g)
 
+-- a sink and what is to come are together as long as what stood before and all that was to come then
 pub room_within : (sink more before all : List Bool) → sink ++ more ≡ before ++ all → length sink + length more ≡ length before + length all
 room_within sink more before all e = omega (arith, ap length e, length-append sink more, length-append before all)
 
@@ -211,14 +223,17 @@ meter_fits {i} {n} x meter h =
     let e : suc i * x ≤ n * x = mul-le-mul_right x h in
     omega (arith, e)
 
+-- and for what is put behind any number of them
 pub meter_ends : {m m0 a a0 t put total i n : ℕ} (x : ℕ) → MeterBehind m m0 a a0 t put total i n x → i ≤ n → m + put < 2 ^ 62
 meter_ends {i} {n} x meter h =
     let e : i * x ≤ n * x = mul-le-mul_right x h in
     omega (arith, e)
 
+-- a look at each of j residuals is among the most looks of a block
 pub looks_more : (j k : ℕ) → j ≤ j * (k + 5)
 looks_more j k = let e : j * 1 ≤ j * (k + 5) = mul-le-mul_left j (omega arith) in omega (arith, e)
 
+-- where a run and a block were put, what was put and what is to come make up the same whole
 pub other_same : (sink new w x y total : List Bool) → new ≡ sink ++ w ++ x → sink ++ (w ++ (x ++ y)) ≡ total → new ++ y ≡ total
 other_same sink new w x y total e f =
     ap (λ v. v ++ y) e ∙ (append_assoc (sink ++ w) x y ∙ (append_assoc sink w (x ++ y) ∙ f))
@@ -242,8 +257,10 @@ pub record GrowsAtMost (m0 m m' a a' a0 put total x : ℕ) : Type 0 where
   pub more : m' ≤ m + put + x
   pub put_is : a' ≡ a + put
 
+-- and the most steps of one block more
 pub most_more : {most : ℕ} (m0 m m' a : ℕ) {a' : ℕ} (a0 put total : ℕ) {x : ℕ} → GrowsAtMost m0 m m' a a' a0 put total x → most ≡ x → m' + a0 ≤ m0 + a' + (total + most)
 most_more m0 m m' a a0 put total grows f = omega arith
 
+-- a text is as long as its front and what was put behind it
 pub length_both : (new old more : List Bool) → new ≡ old ++ more → length new ≡ length old + length more
 length_both new old more e = ap length e ∙ length-append old more

@@ -15,10 +15,12 @@ pub later_ranks : (s : Parameters) (p : ℤ) (xs : List ℤ) → s.preprocess �
 later_ranks s p [] e = refl
 later_ranks s p (x ∷ xs) e = let rest = later_ranks s x xs e in λ i. cond (e i) (rank s p x) (pattern s x) ∷ rest i
 
+-- without preprocessing their residuals are their patterns
 pub later_patterns : (s : Parameters) (p : ℤ) (xs : List ℤ) → s.preprocess ≡ false → later_residuals s p xs ≡ map (pattern s) xs
 later_patterns s p [] e = refl
 later_patterns s p (x ∷ xs) e = let rest = later_patterns s x xs e in λ i. cond (e i) (rank s p x) (pattern s x) ∷ rest i
 
+-- they have as many residuals as they are
 pub length-later : (s : Parameters) (p : ℤ) (xs : List ℤ) → length (later_residuals s p xs) ≡ length xs
 length-later s p [] = refl
 length-later s p (x ∷ xs) = ap (λ n. suc n) (length-later s x xs)
@@ -27,6 +29,7 @@ length-next : (coder : CoderState) (xs : List ℤ) → length (next_residuals co
 length-next coder [] = refl
 length-next coder (x ∷ xs) = ap (λ n. suc n) (length-later coder.setting x xs)
 
+-- a coder that takes several samples holds as many residuals more
 pub length-state_after_all : (coder : CoderState) (xs : List ℤ) → length (state_after_all coder xs).residuals ≡ length coder.residuals + length xs
 length-state_after_all coder xs = length-append coder.residuals (next_residuals coder xs) ∙ ap (λ n. length coder.residuals + n) (length-next coder xs)
 
@@ -50,6 +53,7 @@ pub state_after_all-none : (coder : CoderState) (xs : List ℤ) → length xs �
 state_after_all-none coder [] e = λ i. record { setting = coder.setting; residuals = append-nil coder.residuals i; reference = coder.reference; previous = coder.previous; start = coder.start }
 state_after_all-none coder (x ∷ xs) e = absurd (omega arith)
 
+-- behind any sample the next is no reference sample
 pub not_first : (coder : CoderState) (x : ℤ) → (coder.setting.preprocess && is_first (state_after coder x)) ≡ false
 not_first coder x = ap (λ v. coder.setting.preprocess && (v && coder.start == 0)) (some coder.residuals (next_residual coder x)) ∙ and-false coder.setting.preprocess
   where

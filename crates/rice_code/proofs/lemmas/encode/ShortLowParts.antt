@@ -27,6 +27,7 @@ joined_value {w = suc (suc (suc (suc (suc (suc zero)))))} a b c d le h i j k = o
 joined_value {w = suc (suc (suc (suc (suc (suc (suc zero))))))} a b c d le h i j k = omega arith
 joined_value {w = suc (suc (suc (suc (suc (suc (suc (suc w)))))))} a b c d le h i j k = absurd (omega arith)
 
+-- the w lowest digits of four numbers, joined by products in lanes, are the words of all four in a row
 pub joined_lanes : (w a b c d : ℕ) → w ≤ 7 →
     let m = 2 ^ w - 1 in
     let all = lanes_joined w (bit_and a m) (bit_and b m) (bit_and c m) (bit_and d m) in
@@ -85,8 +86,10 @@ eight_added f xs i n a le added same =
     let row = flat_map f (slice_range xs i n) in
     ap (λ v. v ++ rest) added ∙ (append_assoc a row rest ∙ (ap (λ v. a ++ v) (sym (flat_map-append f (slice_range xs i n) (drop n xs)) ∙ ap (flat_map f) (sym (drop_split xs i n le))) ∙ same))
 
+-- the digits of the residuals that are left are those of the next eight and of the rest
 pub eight_fewer : (n i m w : ℕ) → i + 7 < n → m ≡ i + 8 → (n - i) * w ≡ (n - m) * w + 8 * w
 eight_fewer n i m w h e = let f : n - i ≡ n - m + 8 = omega arith in ap (λ k. k * w) f ∙ (omega arith)
 
+-- and those of the first eight, with or without the first, and of the rest
 pub first_eight_fewer : (n from w : ℕ) → from ≤ 1 → 8 ≤ n → (n - from) * w ≡ (n - 8) * w + (8 - from) * w
 first_eight_fewer n from w h e = let f : n - from ≡ (n - 8) + (8 - from) = omega arith in ap (λ k. k * w) f ∙ (omega arith)

@@ -106,6 +106,7 @@ more_zeros s b (suc n) h =
     let none : is_reference s b ≡ false = elim (bool_cases (is_reference s b)) [ inl r ↦ absurd (let f : true ≡ false = sym (reference_begins s b r) ∙ h.0 in cc) | inr r ↦ r ] in
     (zeros_sound s b None (record { there = sym none; fits = tt }), more_zeros s (b + 1) n h.1)
 
+-- the blocks of a sound coded data set are sound
 pub blocks_are_sound : (s : Parameters) (b : ℕ) (d : CodedDataSet) → IsLegal s → IsSound s b d → AreSoundBlocks s b (blocks_in s b d)
 blocks_are_sound s b (NoCompression c) legal h = (record { block = h.0.0; at_reference = h.0.1; fit = h.0.2 }, tt)
 blocks_are_sound s b (SecondExtension c) legal h = (record { block = h.0; at_reference = h.2.0; fit = h.2.1 }, tt)
@@ -171,6 +172,7 @@ block_has_samples s b p (Some v) (d ∷ ds) legal j h k =
     let reference = ap (λ u. cond u (Some (pattern s x.0)) None) there ∙ ap (λ n. Some n) x.2 in
     (x.0 ∷ rest.0, ap (λ n. suc n) rest.1 ∙ len, (x.1, rest.2), λ t. record { reference = reference t; residuals = first t ∷ others t })
 
+-- sound blocks, after a legal sample, are those of legal samples that fill them
 pub blocks_have_samples : (s : Parameters) (b : ℕ) (p : ℤ) (cs : List BlockData) → IsLegal s → 1 ≤ s.block → IsSample s p → AreSoundBlocks s b cs →
     (xs : List ℤ) × (length xs ≡ s.block * length cs) × AllByRecursion (IsSample s) xs × (blocks_from s b p (length cs) xs ≡ cs)
 blocks_have_samples s b p [] legal j h k = ([], omega arith, tt, refl)
@@ -257,6 +259,7 @@ bits_are_decoded (suc fuel) {s} {b} {position} {p} {bits} {asked} legal j h lt w
     places : (position total t more n rest front : ℕ) → total ≡ t + more → rest ≡ more - n → front ≡ t + n → n ≤ more → (position + total) % 8 ≡ 0 → (position + front + rest) % 8 ≡ 0
     places position total t more n rest front e f g le h = let same : position + front + rest ≡ position + total = omega arith in ap (λ m. m % 8) same ∙ h
 
+-- Any bytes, whatever number of samples is asked for, are decoded to some samples, with some ending, by some number of bits.
 pub all_bytes_are_decoded : (s : Parameters) → IsLegal s → (bytes : List ℕ) (asked : Option ℕ) → (xs : List ℤ) × (p : Ending) × (n : ℕ) × Decoded s (bits_of bytes) asked xs p n
 all_bytes_are_decoded s legal bytes asked =
     let j : 1 ≤ s.block = grind (arith, legal.block) in

@@ -22,10 +22,12 @@ abbrev pub AreBlocks : Parameters → ℕ → List BlockData → Type 0
 AreBlocks s b [] = Unit {0}
 AreBlocks s b (c ∷ cs) = IsBlock s b c × AreBlocks s (b + 1) cs
 
+-- a test holds, or it does not
 pub bool_cases : (b : Bool) → (b ≡ true) ⊎ (b ≡ false)
 bool_cases true = inl refl
 bool_cases false = inr refl
 
+-- where two tests hold together, each holds
 pub and-split : (a b : Bool) → (a && b) ≡ true → (a ≡ true) × (b ≡ true)
 and-split true b e = (refl, e)
 and-split false b e = absurd (let f : false ≡ true = e in cc)
@@ -62,6 +64,7 @@ no_run_of : (n : ℕ) (c : BlockData) (cs : List BlockData) → is_zero_block c 
 no_run_of zero c cs z = refl
 no_run_of (suc n) c cs z = ap (λ v. cond v (1 + prefix_len is_zero_block (take n cs)) 0) z
 
+-- a zero block begins a run of one more than would be skipped behind it
 pub run_cons : (s : Parameters) (b : ℕ) (c : BlockData) (cs : List BlockData) → 1 ≤ s.interval → is_zero_block c ≡ true → run_len s b (c ∷ cs) ≡ suc (skipped s (b + 1) true cs)
 run_cons s b c cs h z =
     elim (bool_cases (begins_segment s (b + 1))) [
@@ -72,10 +75,12 @@ run_cons s b c cs h z =
 run_stops : (s : Parameters) (b : ℕ) (c : BlockData) (cs : List BlockData) → 1 ≤ s.interval → is_zero_block c ≡ false → run_len s b (c ∷ cs) ≡ 0
 run_stops s b c cs h z = no_run_of (blocks_left s b) c cs z
 
+-- a block that is not zero is sent by its shortest option
 pub data_sets_plain : (s : Parameters) (b : ℕ) (behind : Bool) (c : BlockData) (cs : List BlockData) → is_zero_block c ≡ false
     → data_sets s b behind (c ∷ cs) ≡ shortest s c ∷ data_sets s (b + 1) false cs
 data_sets_plain s b behind c cs e = rw e refl
 
+-- a zero block that is in no run yet begins one, which is sent
 pub data_sets_start : (s : Parameters) (b : ℕ) (behind : Bool) (c : BlockData) (cs : List BlockData) → is_zero_block c ≡ true → (behind && not (begins_segment s b)) ≡ false →
     data_sets s b behind (c ∷ cs) ≡ zero_run s b c.reference (c ∷ cs) ∷ data_sets s (b + 1) true cs
 data_sets_start s b behind c cs e f =
@@ -83,6 +88,7 @@ data_sets_start s b behind c cs e f =
     ap (λ v. cond v (cond (behind && not (begins_segment s b)) [] (run ∷ [])) (shortest s c ∷ []) ++ data_sets s (b + 1) v cs) e
     ∙ ap (λ v. cond v [] (run ∷ []) ++ data_sets s (b + 1) true cs) f
 
+-- and for one that is in a run nothing more is sent
 pub data_sets_inside : (s : Parameters) (b : ℕ) (behind : Bool) (c : BlockData) (cs : List BlockData) → is_zero_block c ≡ true → (behind && not (begins_segment s b)) ≡ true →
     data_sets s b behind (c ∷ cs) ≡ data_sets s (b + 1) true cs
 data_sets_inside s b behind c cs e f =
@@ -94,6 +100,7 @@ prefix_none : (n : ℕ) → prefix_len is_zero_block (take n []) ≡ 0
 prefix_none zero = refl
 prefix_none (suc n) = refl
 
+-- where there are no blocks, none is skipped,
 pub skipped_nil : (s : Parameters) (b : ℕ) (behind : Bool) → skipped s b behind [] ≡ 0
 skipped_nil s b behind =
     elim (bool_cases (behind && not (begins_segment s b))) [
@@ -101,6 +108,7 @@ skipped_nil s b behind =
       | inr e ↦ ap (λ v. cond v (run_len s b []) 0) e
     ]
 
+-- nor is one before a block that is not zero
 pub skipped_plain : (s : Parameters) (b : ℕ) (behind : Bool) (c : BlockData) (cs : List BlockData) → 1 ≤ s.interval → is_zero_block c ≡ false → skipped s b behind (c ∷ cs) ≡ 0
 skipped_plain s b behind c cs h z =
     elim (bool_cases (behind && not (begins_segment s b))) [
@@ -108,10 +116,12 @@ skipped_plain s b behind c cs h z =
       | inr e ↦ ap (λ v. cond v (run_len s b (c ∷ cs)) 0) e
     ]
 
+-- a zero block inside a run is skipped, and so is what would be skipped behind it
 pub skipped_go : (s : Parameters) (b : ℕ) (behind : Bool) (c : BlockData) (cs : List BlockData) → 1 ≤ s.interval → is_zero_block c ≡ true → (behind && not (begins_segment s b)) ≡ true →
     skipped s b behind (c ∷ cs) ≡ suc (skipped s (b + 1) true cs)
 skipped_go s b behind c cs h z e = ap (λ v. cond v (run_len s b (c ∷ cs)) 0) e ∙ run_cons s b c cs h z
 
+-- none is skipped behind a block that is not zero, or where a segment begins
 pub skipped_stop : (s : Parameters) (b : ℕ) (behind : Bool) (cs : List BlockData) → (behind && not (begins_segment s b)) ≡ false → skipped s b behind cs ≡ 0
 skipped_stop s b behind cs e = ap (λ v. cond v (run_len s b cs) 0) e
 
@@ -201,6 +211,7 @@ drop_none (suc n) = refl
 cons_covers : (s : Parameters) (b : ℕ) (d : CodedDataSet) (ds : List CodedDataSet) (xs : List BlockData) → blocks_in s b d ≡ xs → blocks_in_all s b (d ∷ ds) ≡ xs ++ blocks_in_all s (b + length xs) ds
 cons_covers s b d ds xs e = ap (λ x. x ++ blocks_in_all s (b + length x) ds) e
 
+-- a run has no more blocks than are left in its segment
 pub run_inside : (s : Parameters) (b : ℕ) (cs : List BlockData) → run_len s b cs ≤ blocks_left s b
 run_inside s b cs = omega (arith, prefix_len-le-length is_zero_block (take (blocks_left s b) cs), length-take (blocks_left s b) cs)
 
@@ -239,6 +250,7 @@ abbrev pub GoOn : Parameters → ℕ → ℕ → Type 0
 GoOn s b zero = Unit {0}
 GoOn s b (suc n) = (begins_segment s b ≡ false) × GoOn s (b + 1) n
 
+-- of the blocks that are left in a segment, none behind the first begins a segment
 pub segment_goes_on : (s : Parameters) (b n : ℕ) → 1 ≤ s.interval → suc n ≤ blocks_left s b → GoOn s (b + 1) n
 segment_goes_on s b zero h le = tt
 segment_goes_on s b (suc n) h le =
@@ -300,6 +312,7 @@ covers_one_more s b behind ahead c cs ih e =
     let P : ℕ → Type 0 = λ x. GoOn s x ih.fill in
     record { fill = ih.fill; few = ih.few; inside = subst P n ih.inside; last = λ h. ends_cons c cs (ih.last h); blocks = e }
 
+-- The coded data sets of any blocks cover these in this way.
 pub covers_blocks : (s : Parameters) (b : ℕ) (behind : Bool) (cs : List BlockData) → 1 ≤ s.interval → AreBlocks s b cs → Covering s b behind cs
 covers_blocks s b behind [] h k = record {
   fill = 0;

@@ -202,6 +202,7 @@ same_samples {s} b p (suc count) {xs} {ys} legal j h these those e =
     second_of_two : (c d : BlockData) (cs ds : List BlockData) → c ∷ cs ≡ d ∷ ds → cs ≡ ds
     second_of_two c d cs ds e = cc
 
+-- Two decodings of the same bits from the same place on agree: in their samples, their ending, and how many bits they used.
 pub decoded_is_one : {s : Parameters} → IsLegal s → {b position : ℕ} {t : ℤ} → IsSample s t → {bits : List Bool} {asked : Option ℕ} {xs ys : List ℤ} {p q : Ending} {m n : ℕ} →
     DecodedFrom s b position t bits asked xs p m → DecodedFrom s b position t bits asked ys q n → (xs ≡ ys) × (p ≡ q) × (m ≡ n)
 decoded_is_one {s} legal {b} {position} {t} sample {asked} {p} {q} h k =

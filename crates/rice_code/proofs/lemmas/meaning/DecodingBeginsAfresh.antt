@@ -263,6 +263,7 @@ decodes_behind {s} {before} asked {ending} h all front d =
     sizes : (j all a b n m count : ℕ) → all ≡ a + b → a ≡ j * n → b ≡ j * m → count ≡ n + m → all ≡ j * count
     sizes j all a b n m count e f g h = let k = ap (λ v. j * v) h in omega arith
 
+-- What the bits decode to from the beginning of an interval on, all bits decode to behind the samples before it.
 pub decoding_begins_afresh : DecodingBeginsAfresh
 decoding_begins_afresh s legal bits before xs asked ending begin used b d =
     let h = b.decoded in

@@ -12,9 +12,11 @@ use Rattle.rice_code.specs.code.Decoded.{DecodedFrom, Ending, Reached, Ended, Cu
 use Rattle.rice_code.proofs.lemmas.code.Layouts.{lies_at}
 use Rattle.rice_code.proofs.lemmas.code.BlocksByPlaceAlone.{place_on, same_reference, same_left, same_blocks_in, same_blocks}
 
+-- behind the same coded data set two blocks at the same place in their intervals are followed by such blocks
 pub next_place : (s : Parameters) (b c : ℕ) (d : CodedDataSet) → place s b ≡ place s c → place s (block_after s b d) ≡ place s (block_after s c d)
 next_place s b c d e = place_on s b c (length (blocks_in s b d)) e ∙ ap (λ v. place s (c + length v)) (same_blocks_in s b c d e)
 
+-- from such blocks on coded data sets stand for the same blocks,
 pub same_all_blocks : (s : Parameters) (b c : ℕ) (ds : List CodedDataSet) → place s b ≡ place s c → blocks_in_all s b ds ≡ blocks_in_all s c ds
 same_all_blocks s b c [] e = refl
 same_all_blocks s b c (d ∷ ds) e =
@@ -22,6 +24,7 @@ same_all_blocks s b c (d ∷ ds) e =
     let rest = same_all_blocks s (block_after s b d) (block_after s c d) ds (next_place s b c d e) in
     λ i. first i ++ rest i
 
+-- and lie in the same bits
 pub same_lie : (s : Parameters) (b c m : ℕ) (ds : List CodedDataSet) (bits : List Bool) → place s b ≡ place s c → Lies s b m ds bits → Lies s c m ds bits
 same_lie s b c m [] bits e h = h
 same_lie s b c m (d ∷ ds) bits e h =
@@ -31,6 +34,7 @@ same_lie s b c m (d ∷ ds) bits e h =
 reference_there : (s : Parameters) (b c : ℕ) (r : Option ℕ) → place s b ≡ place s c → IsReference s b r → IsReference s c r
 reference_there s b c r e h = record { there = h.there ∙ same_reference s b c e; fits = h.fits }
 
+-- a coded data set that has a lawful form at one of them has it at the other too,
 pub form_there : (s : Parameters) (b c : ℕ) (d : CodedDataSet) → place s b ≡ place s c → IsForm s b d → IsForm s c d
 form_there s b c (NoCompression v) e h = (record { reference = reference_there s b c v.reference e h.0.reference; len = h.0.len }, h.1, h.2)
 form_there s b c (SecondExtension v) e h = record { reference = reference_there s b c v.reference e h.reference; len = h.len }
@@ -38,6 +42,7 @@ form_there s b c (Split k v) e h = (record { reference = reference_there s b c v
 form_there s b c (ZeroBlocks r z) e h = (reference_there s b c r e h.0, h.1)
 form_there s b c (RemainderOfSegment r) e h = reference_there s b c r e h
 
+-- and if its run is sound at the one, it is sound at the other
 pub run_there : (s : Parameters) (b c : ℕ) (d : CodedDataSet) → place s b ≡ place s c → RunIsSound s b d → RunIsSound s c d
 run_there s b c (NoCompression v) e h = tt
 run_there s b c (SecondExtension v) e h = tt
@@ -92,9 +97,11 @@ ends_there {s} asked there b c rest Large used alike h =
     let u = h.1 in
     (alike.wanted h.0, record { refused = u.refused; more = u.more; form = form_there s b c u.refused alike.place_is u.form; unsound = u.unsound; begins = u.begins; bits = u.bits })
 
+-- where no number is asked for, bits that end decoding at one of them in some way do so at the other
 pub end_there : (s : Parameters) (b c : ℕ) (rest : List Bool) (ending : Ending) (used : ℕ) → place s b ≡ place s c → EndsWith s None b rest ending used → EndsWith s None c rest ending used
 end_there s b c rest ending used e h = ends_there None None b c rest ending used (record { place_is = e; wanted = λ k. k; reached = λ k. absurd k }) h
 
+-- So does all decoding from one of them on, also behind other bits, if as many of these are in the last byte.
 pub decoding_stands : {s : Parameters} → IsLegal s → {b c m n : ℕ} (p : ℤ) (bits : List Bool) (xs : List ℤ) (ending : Ending) (used : ℕ) → place s b ≡ place s c → m % 8 ≡ n % 8 →
     DecodedFrom s b m p bits None xs ending used → DecodedFrom s c n p bits None xs ending used
 decoding_stands {s} legal {b} {c} {m} {n} p bits xs ending used e f h =

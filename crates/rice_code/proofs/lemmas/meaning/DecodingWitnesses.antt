@@ -98,5 +98,6 @@ decoded_from_none s b position p bits asked ending used ends =
       bits_used = omega arith;
     }
 
+-- the same of all bits, where decoding ends before the first block
 pub decoded_by_none : (s : Parameters) (bits : List Bool) (asked : Option ℕ) (ending : Ending) (used : ℕ) → EndsWith s asked 0 bits ending used → Decoded s bits asked (cut_to s asked 0 []) ending used
 decoded_by_none s bits asked ending used ends = decoded_from_none s 0 0 (pos 0) bits asked ending used ends

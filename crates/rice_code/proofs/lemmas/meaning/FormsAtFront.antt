@@ -373,6 +373,7 @@ tail_piece s b (suc k) bits legal lt =
           subst P e (pieces_to_forms s (PlainBody s) (IsUncoded s b) (IsTail s b (2 ^ id_len s - 1)) bits (λ x h. to_plain s b x j h) (λ d h. from_plain s b d h) (plain_piece s b bits))
     ]
 
+-- bits begin with the text of a coded data set that block b can have, sound or not, or with that of none
 pub form_piece : (s : Parameters) (b : ℕ) (bits : List Bool) → IsLegal s → Search (bits_of_set s) (IsForm s b) bits
 form_piece s b bits legal =
     elim (word_piece (id_len s) bits) [

@@ -55,6 +55,7 @@ first_block s b p q x ys j e =
     let first = first_residual s b p q x j e in
     λ i. record { reference = cond (is_reference s b) (Some (pattern s x)) None; residuals = first i ∷ residuals s (s.block * b + 1) x ys }
 
+-- where an interval begins, the blocks that samples make do not depend on the sample before them
 pub first_blocks : (s : Parameters) (b : ℕ) (p q : ℤ) (n : ℕ) (x : ℤ) (xs : List ℤ) → 1 ≤ s.block → place s b ≡ 0 → blocks_from s b p n (x ∷ xs) ≡ blocks_from s b q n (x ∷ xs)
 first_blocks s b p q zero x xs j e = refl
 first_blocks s b p q (suc n) x xs j e =
@@ -84,6 +85,7 @@ whatever_before s position p q (x ∷ xs) legal =
 stands_alone : (s : Parameters) → IsLegal s → (b position : ℕ) (p : ℤ) (xs : List ℤ) → place s b ≡ 0 → code_from s b position p xs ≡ code_from s 0 position (pos 0) xs
 stands_alone s legal b position p xs e = code_stands_in_intervals s legal b 0 position p xs (e ∙ sym (mod-eq_of_lt legal.interval_from)) ∙ whatever_before s position p (pos 0) xs legal
 
+-- from the start of an interval on, code is that of the same samples alone, begun at the same place in a byte
 pub intervals_begin_afresh : IntervalsBeginAfresh
 intervals_begin_afresh s legal b position p xs e =
     let same : position % 8 ≡ position % 8 % 8 = omega arith in
@@ -91,6 +93,7 @@ intervals_begin_afresh s legal b position p xs e =
 
 -- ---- and ends with a byte
 
+-- bits, with those that fill their last byte, are whole bytes
 pub to_byte : (n : ℕ) → (n + bits_to_byte n) % 8 ≡ 0
 to_byte n = omega arith
 
@@ -151,6 +154,7 @@ code_to_byte s xs pads w =
     let all : 0 + length (code s xs) ≡ length (code s xs) = omega arith in
     ap (λ n. n % 8) (sym all) ∙ laid_to_byte s end 0 0 (sets_of s xs) padded (omega (arith, w.reach, w.count)) (λ none. refl)
 
+-- the code of whole intervals and of samples behind them is that of the intervals and then that of these samples
 pub intervals_are_joined : IntervalsAreJoined
 intervals_are_joined s legal count xs ys h =
     let w = intervals_are_whole s legal count xs h in
@@ -182,12 +186,14 @@ bytes_joined a b e =
     let count : length a ≡ 8 * (length a / 8) = omega (arith, e) in
     ap whole_bytes (padded_behind a b e) ∙ (whole-append (length a / 8) a (padded_bits b) count ∙ ap (λ l. whole_bytes l ++ whole_bytes (padded_bits b)) (sym (not_padded a e)))
 
+-- and where intervals are padded, so is the output
 pub padded_intervals_are_joined : PaddedIntervalsAreJoined
 padded_intervals_are_joined s legal pads count xs ys h =
     ap (λ l. whole_bytes (padded_bits l)) (intervals_are_joined s legal count xs ys h) ∙ bytes_joined (code s xs) (code s ys) (code_to_byte s xs pads (intervals_are_whole s legal count xs h))
 
 -- ---- and is decoded by itself
 
+-- The code of whole intervals, with any bits behind it, decodes to their samples where as many are asked for, and all of it is used.
 pub intervals_are_decoded_alone : IntervalsAreDecodedAlone
 intervals_are_decoded_alone s legal count xs rest h =
     let j : 1 ≤ s.block = grind (arith, legal.block) in
@@ -223,6 +229,7 @@ intervals_are_decoded_alone s legal count xs rest h =
 
 -- ---- what is damaged
 
+-- With padding, as many other bytes in place of some intervals leave those before them to be decoded, and the output behind them at its place.
 pub damage_stays : DamageStaysInItsInterval
 damage_stays s legal pads m n xs ys zs damaged h k same =
     let first = output s xs in

@@ -152,9 +152,11 @@ sets_are_no_shorter {s} legal size xs more way {asked} h =
       taken_padded s 0 0 h.sets h.front h.lie,
     )
 
+-- With blocks of 4 samples or more, preprocessed or all full, bits that decode to samples, and perhaps to others behind them, use no fewer bits than their code has.
 pub no_code_is_shorter : NoCodeIsShorter
 no_code_is_shorter s legal size xs more way bits asked ending used h = omega (arith, sets_are_no_shorter legal size xs more way h, h.bits_used)
 
+-- and no bytes that decode so are fewer than the output of these samples
 pub no_output_is_shorter : NoOutputIsShorter
 no_output_is_shorter s legal size xs more way bytes asked ending used h =
     let own = code s xs in

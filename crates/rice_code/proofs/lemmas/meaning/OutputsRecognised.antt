@@ -21,11 +21,13 @@ decodes_to {s} legal {bytes} {count} xs {ys} {ending} {used} k number is d =
     let one = decoded_is_one legal (zero_is_sample s legal.bits_from) d there in
     (one.0, one.1)
 
+-- equally many samples with the same output are the same
 pub codes_differ : CodesDiffer
 codes_differ s legal xs ys kx ky same equal =
     let all = returns_samples s legal ys ky in
     sym (decodes_to legal xs kx same equal all.1).0
 
+-- bytes whose decoding does not reach a number of samples are the output of no samples that are as many
 pub refused_bytes : RefusedBytesAreNoOutput
 refused_bytes s legal bytes xs ys ending used k d other is = other (decodes_to legal xs k refl is d).1
 
@@ -37,6 +39,7 @@ reached_samples s bits count xs used d =
     let enough : count ≤ length d.all = omega (arith, d.ends.0, d.len) in
     (subst (All (IsSample s)) (sym is) (All-take (IsSample s) count d.all d.legal), ap length is ∙ length-take-le count d.all enough)
 
+-- bytes are the output of a number of samples just where decoding reaches this number, and what it gives has these bytes as its output
 pub own_bytes : OwnBytesAreRecognised
 own_bytes s legal bytes count xs ending used d = (own, again)
   where

@@ -56,6 +56,7 @@ with_none s sets bits h = let P : List Bool → Type 0 = λ v. Lies s 0 0 sets v
 two_lengths : (bits x y : List Bool) → bits ≡ x ++ y → length x + length y ≡ length bits
 two_lengths bits x y e = sym (ap length e ∙ length-append x y)
 
+-- the output of samples is coded data sets that decode to them and to fewer than 64 blocks of others, and then zeros
 pub samples_are_returned : (s : Parameters) → IsLegal s → (xs : List ℤ) → All (IsSample s) xs → Returned s xs
 samples_are_returned s legal xs k =
     let jay : 1 ≤ s.block = grind (arith, legal.block) in
@@ -160,6 +161,7 @@ begins_before j len i h lt =
       | inr none ↦ let m : j * suc i ≤ j * (len / j) = mul-le-mul_left j (omega arith) in omega arith
     ]
 
+-- where as many are asked for as there are samples, their output decodes to just these
 pub returns_samples : (s : Parameters) → IsLegal s → (xs : List ℤ) → All (IsSample s) xs → (used : ℕ) × Decoded s (bits_of (output s xs)) (Some (length xs)) xs Reached used
 returns_samples s legal xs k =
     let jay : 1 ≤ s.block = grind (arith, legal.block) in
@@ -168,6 +170,7 @@ returns_samples s legal xs k =
     let all = sym (ap (λ m. take m (xs ++ r.more)) n ∙ take-append_seam xs r.more) in
     (r.size + 0, r.decoded (Some (length xs)) xs Reached 0 (λ i lt. begins_before s.block (length xs) i jay lt) all (r.enough, refl))
 
+-- and where no number is asked for, to these and to fewer than 64 blocks of others, up to its last bit
 pub returns_samples_and_fill : (s : Parameters) → IsLegal s → (xs : List ℤ) → All (IsSample s) xs →
     (fill : List ℤ) × (length fill < 64 * s.block) × Decoded s (bits_of (output s xs)) None (xs ++ fill) Ended (length (bits_of (output s xs)))
 returns_samples_and_fill s legal xs k =

@@ -42,6 +42,7 @@ numbered_is_short : (z left len : ℕ) → z ≤ left → left ≤ 64 → (nat_l
 numbered_is_short z left len h k e =
     elim (cases_lt z left) [ inl lt ↦ omega arith | inr le ↦ elim (cases_lt z 64) [ inl lt ↦ omega arith | inr ge ↦ absurd (grind (arith, nat_tests)) ] ]
 
+-- what is sent for a run of at least one zero block is a sound form
 pub zero_run_is_sound : (s : Parameters) (b w : ℕ) (r : Option ℕ) (cs : List BlockData) → 1 ≤ s.interval → IsReference s b r → run_len s b cs ≡ suc w → IsSound s b (zero_run s b r cs)
 zero_run_is_sound s b w r cs h k e =
     let z = run_len s b cs in
@@ -65,6 +66,7 @@ take_one s asked b {n} d ds go sound e h =
     let f : b + 1 + n ≡ block_after s b d = omega arith in
     (go, sound.0, sound.1, sound.2, subst P f h)
 
+-- the coded data sets that are sent for sound blocks, all of them wanted, are taken from the first block on that no earlier run covers
 pub are_taken : (s : Parameters) (asked : Option ℕ) (b : ℕ) (behind : Bool) (cs : List BlockData) → 1 ≤ s.interval → AreSoundBlocks s b cs → ((i : ℕ) → i < b + length cs → IsWanted s asked i) →
     AreTaken s asked (b + skipped s b behind cs) (data_sets s b behind cs)
 are_taken s asked b behind [] h k go = tt

@@ -3,6 +3,7 @@ use Rattle.std.proofs.Common.{◌≡◌, ℕ, zero, suc, ◌+◌, ◌*◌, ◌<�
 use Rattle.std.proofs.lemmas.List.Sums.{sum_by-cons}
 use Rattle.rice_samples.specs.blocks.Pairs.{pair_code, pair_codes}
 
+-- one pair more adds its number and 1, the bits of its fundamental sequence, to the sum of those before it
 pub pairs_more : (i : ℕ) (xs : List ℕ) → 2 * i + 1 < length xs →
     sum_by (λ g. g + 1) (pair_codes (take (2 * (i + 1)) xs)) ≡ sum_by (λ g. g + 1) (pair_codes (take (2 * i) xs)) + (pair_code (get_or xs (2 * i) 0) (get_or xs (2 * i + 1) 0) + 1)
 pairs_more i [] h = absurd (omega arith)

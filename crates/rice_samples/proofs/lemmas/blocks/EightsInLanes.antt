@@ -16,6 +16,7 @@ use Rattle.std.proofs.Math.Nat.{div-mul-le_self, mul-le-mul_right}
 pub take_chunk : (i : ℕ) (xs : List ℕ) → take (8 * (i + 1)) xs ≡ take (8 * i) xs ++ chunk (8 * i) 8 xs
 take_chunk i xs = let e : 8 * (i + 1) ≡ 8 * i + 8 = omega arith in rw e (take-add (8 * i) 8 xs)
 
+-- numbers that fill their chunks are all there once as many chunks are taken, or more
 pub take_all : (n : ℕ) (xs : List ℕ) → length xs % 8 ≡ 0 → length xs / 8 ≤ n → take (8 * n) xs ≡ xs
 take_all n xs e le = whole (8 * n) xs (omega arith)
   where
@@ -27,10 +28,12 @@ take_all n xs e le = whole (8 * n) xs (omega arith)
 
 -- sums
 
+-- the sum of what a function makes of numbers is their sum by this function
 pub sum_map : (f : ℕ → ℕ) (xs : List ℕ) → sum_l (map f xs) ≡ sum_by f xs
 sum_map f [] = refl
 sum_map f (x ∷ xs) = ap (λ n. f x + n) (sum_map f xs) ∙ sym (sum_by-cons f x xs)
 
+-- numbers below a limit, each without its k lowest digits, sum up to no more than the limit for each of them
 pub sum_limit : (k limit : ℕ) (xs : List ℕ) → ((i : ℕ) → get_or xs i 0 < limit) → sum_by (λ d. d / 2 ^ k) xs ≤ length xs * limit
 sum_limit k limit [] h = omega arith
 sum_limit k limit (x ∷ xs) h = rw (sum_by-cons (λ d. d / 2 ^ k) x xs)
@@ -44,10 +47,12 @@ sum_limit k limit (x ∷ xs) h = rw (sum_by-cons (λ d. d / 2 ^ k) x xs)
 pub lanes_without_digits : (k : ℕ) (xs : List ℕ) → length xs ≡ 8 → zip2 (λ d s. d / 2 ^ s) xs (replicate 8 k) ≡ map (λ d. d / 2 ^ k) xs
 lanes_without_digits k xs e = zip2_splat (λ d s. d / 2 ^ s) xs 8 k e
 
+-- a function makes as many numbers as there were
 pub length-map : (f : ℕ → ℕ) (xs : List ℕ) → length (map f xs) ≡ length xs
 length-map f [] = refl
 length-map f (x ∷ xs) = ap (λ n. suc n) (length-map f xs)
 
+-- the sum in the lanes and that of the next chunk, without k digits each, are the sum up to the end of this chunk
 pub next_sum : (k i : ℕ) (xs total : List ℕ) → length total ≡ 8 → 8 * i + 8 ≤ length xs → sum_l total ≡ sum_by (λ d. d / 2 ^ k) (take (8 * i) xs) →
     sum_l total + sum_l (zip2 (λ d s. d / 2 ^ s) (chunk (8 * i) 8 xs) (replicate 8 k)) ≡ sum_by (λ d. d / 2 ^ k) (take (8 * (i + 1)) xs)
 next_sum k i xs total lanes room value =
@@ -59,6 +64,7 @@ next_sum k i xs total lanes room value =
       value,
     ) refl
 
+-- numbers of which each is left as it is are the same
 pub map_same : (xs : List ℕ) → map (λ d. d) xs ≡ xs
 map_same [] = refl
 map_same (x ∷ xs) = ap (λ ys. x ∷ ys) (map_same xs)
@@ -81,9 +87,11 @@ fold_or_above a (x ∷ xs) =
     let r = le_or_r a x in
     (omega (arith, rest.0), (omega (arith, rest.0), rest.1))
 
+-- no number is above the digits of all together, joined by or
 pub lanes_below_digits : (xs : List ℕ) → Each1 (λ x. x ≤ fold_l bit_or 0 xs) xs
 lanes_below_digits xs = (fold_or_above 0 xs).1
 
+-- where the digits of each two lanes together are within a limit, so are both lanes
 pub parts_below : (limit : ℕ) (xs ys : List ℕ) → length xs ≡ length ys → Each1 (λ x. x ≤ limit) (zip2 bit_or xs ys) → Each1 (λ x. x ≤ limit) xs × Each1 (λ x. x ≤ limit) ys
 parts_below limit [] [] n h = (tt, tt)
 parts_below limit [] (y ∷ ys) n h = absurd (omega arith)
@@ -94,12 +102,14 @@ parts_below limit (x ∷ xs) (y ∷ ys) n h =
     let r = le_or_r x y in
     ((omega (arith, h.0), rest.0), (omega (arith, h.0), rest.1))
 
+-- what holds of each number of two lists holds of each of both together
 pub Each1-append : (P : ℕ → Type 0) (xs ys : List ℕ) → Each1 P xs → Each1 P ys → Each1 P (xs ++ ys)
 Each1-append P [] ys h k = k
 Each1-append P (x ∷ xs) ys h k = (h.0, Each1-append P xs ys h.1 k)
 
 -- zeros
 
+-- where the digits of all numbers together are 0, each number is 0
 pub zero_digits : (xs : List ℕ) → fold_l bit_or 0 xs ≡ 0 → list_all (λ d. d == 0) xs ≡ true
 zero_digits xs e = zeros xs (subst (λ (n : ℕ). Each1 (λ x. x ≤ n) xs) e (lanes_below_digits xs))
   where
@@ -108,20 +118,24 @@ zero_digits xs e = zeros xs (subst (λ (n : ℕ). Each1 (λ x. x ≤ n) xs) e (l
     zeros (zero ∷ xs) h = zeros xs h.1
     zeros (suc x ∷ xs) h = absurd (omega (arith, h.0))
 
+-- and where each number is 0, so are the digits of all together
 pub no_digits : (xs : List ℕ) → list_all (λ d. d == 0) xs ≡ true → fold_l bit_or 0 xs ≡ 0
 no_digits [] e = refl
 no_digits (zero ∷ xs) e = no_digits xs e
 no_digits (suc x ∷ xs) e = absurd (grind (arith, nat_tests))
 
+-- two lists together pass a test just where both of them pass it
 pub list_all-append : (p : ℕ → Bool) (xs ys : List ℕ) → list_all p (xs ++ ys) ≡ (list_all p xs && list_all p ys)
 list_all-append p [] ys = refl
 list_all-append p (x ∷ xs) ys =
     let rest = list_all-append p xs ys in
     elim (p x) as (λ b. (b && list_all p (xs ++ ys)) ≡ (b && list_all p xs && list_all p ys)) [ true ↦ rest | false ↦ refl ]
 
+-- where all numbers before a chunk are 0, and so are the digits of the chunk together, all numbers up to its end are 0
 pub more_zeros : (i : ℕ) (xs : List ℕ) → list_all (λ d. d == 0) (take (8 * i) xs) ≡ true → fold_l bit_or 0 (chunk (8 * i) 8 xs) ≡ 0 → list_all (λ d. d == 0) (take (8 * (i + 1)) xs) ≡ true
 more_zeros i xs h e = rw (take_chunk i xs, list_all-append (λ d. d == 0) (take (8 * i) xs) (chunk (8 * i) 8 xs), h) (zero_digits (chunk (8 * i) 8 xs) e)
 
+-- where the digits of a chunk together are not 0, not all numbers are 0
 pub some_digits : (i : ℕ) (xs : List ℕ) → fold_l bit_or 0 (chunk (8 * i) 8 xs) ≢ 0 → list_all (λ d. d == 0) xs ≡ false
 some_digits i xs h = by_value (list_all (λ d. d == 0) xs) refl
   where
@@ -146,6 +160,7 @@ some_digits i xs h = by_value (list_all (λ d. d == 0) xs) refl
 
 -- a step of a sum
 
+-- a chunk without its k lowest digits has eight lanes still
 pub lanes_shifted : (k i : ℕ) (xs : List ℕ) → 8 * i + 8 ≤ length xs → length (zip2 (λ d s. d / 2 ^ s) (chunk (8 * i) 8 xs) (replicate 8 k)) ≡ 8
 lanes_shifted k i xs room = let e = length-chunk (8 * i) 8 xs room in length-zip2 (λ d s. d / 2 ^ s) (chunk (8 * i) 8 xs) (replicate 8 k) e ∙ e
 
@@ -156,34 +171,42 @@ sums_below k i limit xs total lanes room small value =
     rw (next_sum k i xs total lanes room value)
     (let a = sum_by-take-le (λ d. d / 2 ^ k) xs (8 * (i + 1)) in omega arith)
 
+-- with at most 64 numbers below 2^32, the sum in the lanes and that of the next chunk are below 2^64 together
 pub sums_fit : (k i : ℕ) (xs total : List ℕ) → length total ≡ 8 → 8 * i + 8 ≤ length xs → length xs ≤ 64 → ((j : ℕ) → get_or xs j 0 < 2 ^ 32)
     → sum_l total ≡ sum_by (λ d. d / 2 ^ k) (take (8 * i) xs) →
     sum_l total + sum_l (zip2 (λ d s. d / 2 ^ s) (chunk (8 * i) 8 xs) (replicate 8 k)) < 2 ^ 64
 sums_fit k i xs total lanes room few small value = sums_below k i (2 ^ 64) xs total lanes room (let b = sum_limit k (2 ^ 32) xs small in omega arith) value
 
+-- the lanes of the sum, with the next chunk added lane by lane, hold the sum up to the end of this chunk
 pub sum_added : (k i : ℕ) (xs total : List ℕ) → length total ≡ 8 → 8 * i + 8 ≤ length xs → sum_l total ≡ sum_by (λ d. d / 2 ^ k) (take (8 * i) xs) →
     sum_l (zip2 (λ a b. a + b) total (zip2 (λ d s. d / 2 ^ s) (chunk (8 * i) 8 xs) (replicate 8 k))) ≡ sum_by (λ d. d / 2 ^ k) (take (8 * (i + 1)) xs)
 sum_added k i xs total lanes room value = sum-zip2 total _ (lanes ∙ sym (lanes_shifted k i xs room)) ∙ next_sum k i xs total lanes room value
 
+-- and are eight again
 pub lanes_added : (k i : ℕ) (xs total : List ℕ) → length total ≡ 8 → 8 * i + 8 ≤ length xs → length (zip2 (λ a b. a + b) total (zip2 (λ d s. d / 2 ^ s) (chunk (8 * i) 8 xs) (replicate 8 k))) ≡ 8
 lanes_added k i xs total lanes room = length-zip2 (λ a b. a + b) total _ (lanes ∙ sym (lanes_shifted k i xs room)) ∙ lanes
 
+-- once all chunks are added, the lanes, summed up, are the sum of all numbers without their k lowest digits
 pub whole_sum : (k n : ℕ) (xs total : List ℕ) → length xs % 8 ≡ 0 → length xs / 8 ≤ n → sum_l total ≡ sum_by (λ d. d / 2 ^ k) (take (8 * n) xs)
     → fold_l (λ s x. s + x) 0 total ≡ sum_by (λ d. d / 2 ^ k) xs
 whole_sum k n xs total e le value = fold-sum 0 total ∙ (omega arith ∙ (value ∙ ap (λ ys. sum_by (λ d. d / 2 ^ k) ys) (take_all n xs e le)))
 
+-- the sum of the chunks so far is below each limit that the sum of all numbers is below
 pub total_below : (k n limit : ℕ) (xs total : List ℕ) → sum_by (λ d. d / 2 ^ k) xs < limit → sum_l total ≡ sum_by (λ d. d / 2 ^ k) (take (8 * n) xs) → 0 + sum_l total < limit
 total_below k n limit xs total small value = let a = sum_by-take-le (λ d. d / 2 ^ k) xs (8 * n) in omega arith
 
+-- so it is below 2^64 with at most 64 numbers below 2^32
 pub total_fits : (k n : ℕ) (xs total : List ℕ) → length xs ≤ 64 → ((j : ℕ) → get_or xs j 0 < 2 ^ 32) → sum_l total ≡ sum_by (λ d. d / 2 ^ k) (take (8 * n) xs) → 0 + sum_l total < 2 ^ 64
 total_fits k n xs total few small value = total_below k n (2 ^ 64) xs total (let b = sum_limit k (2 ^ 32) xs small in omega arith) value
 
 -- lanes of 32 bits
 
+-- what holds of what a function makes of each number holds of each number that it made
 pub Each1-map : (P : ℕ → Type 0) (f : ℕ → ℕ) (xs : List ℕ) → Each1 (λ x. P (f x)) xs → Each1 P (map f xs)
 Each1-map P f [] h = tt
 Each1-map P f (x ∷ xs) h = (h.0, Each1-map P f xs h.1)
 
+-- a lane of a chunk of numbers below 2^32, without its k lowest digits, stays below 2^32 when it is multiplied by 2^k
 pub lanes_small : (k i : ℕ) (xs : List ℕ) → 8 * i + 8 ≤ length xs → ((j : ℕ) → get_or xs j 0 < 2 ^ 32)
     → Each1 (λ y. y * 2 ^ k ≤ 2 ^ 32 - 1) (zip2 (λ d s. d / 2 ^ s) (chunk (8 * i) 8 xs) (replicate 8 k))
 lanes_small k i xs room small =
@@ -192,6 +215,7 @@ lanes_small k i xs room small =
     (Each1-weaker (λ d. d < 2 ^ 32) (λ d. d / 2 ^ k * 2 ^ k ≤ 2 ^ 32 - 1) (λ d h. let a = div-mul-le_self d (2 ^ k) in omega arith) (chunk (8 * i) 8 xs)
     (Each1-chunk (λ d. d < 2 ^ 32) (8 * i) 8 xs (Each1-from_get_or (λ d. d < 2 ^ 32) xs 0 (λ j _. small j)))))
 
+-- where there are no more than 2^k chunks, the lanes of the sum fit 32 bits with the next chunk added
 pub narrow_fits : (k i : ℕ) (xs total : List ℕ) → 8 * i + 8 ≤ length xs → length xs ≤ 8 * 2 ^ k → ((j : ℕ) → get_or xs j 0 < 2 ^ 32) → Each1 (λ t. t * 2 ^ k ≤ i * (2 ^ 32 - 1)) total →
     Each2 (λ a b. Fits w32 (a + b)) total (zip2 (λ d s. d / 2 ^ s) (chunk (8 * i) 8 xs) (replicate 8 k))
 narrow_fits k i xs total room narrow small below =
@@ -205,10 +229,12 @@ narrow_fits k i xs total room narrow small below =
           | inr ge ↦ let e : 2 ^ 32 * p ≤ (a + b) * p = mul-le-mul_right p ge in absurd (omega arith)
         ]
 
+-- so the lanes after this addition fit 32 bits
 pub narrow_lanes : (k i : ℕ) (xs total : List ℕ) → 8 * i + 8 ≤ length xs → length xs ≤ 8 * 2 ^ k → ((j : ℕ) → get_or xs j 0 < 2 ^ 32) → Each1 (λ t. t * 2 ^ k ≤ i * (2 ^ 32 - 1)) total →
     Each1 (Fits w32) (zip2 (λ a b. a + b) total (zip2 (λ d s. d / 2 ^ s) (chunk (8 * i) 8 xs) (replicate 8 k)))
 narrow_lanes k i xs total room narrow small below = Each1-zip2 (λ a b. a + b) (Fits w32) total _ (narrow_fits k i xs total room narrow small below)
 
+-- and each of them, times 2^k, is at most the greatest sum of i + 1 numbers below 2^32
 pub narrow_below : (k i : ℕ) (xs total : List ℕ) → 8 * i + 8 ≤ length xs → ((j : ℕ) → get_or xs j 0 < 2 ^ 32) → Each1 (λ t. t * 2 ^ k ≤ i * (2 ^ 32 - 1)) total →
     Each1 (λ t. t * 2 ^ k ≤ (i + 1) * (2 ^ 32 - 1)) (zip2 (λ a b. a + b) total (zip2 (λ d s. d / 2 ^ s) (chunk (8 * i) 8 xs) (replicate 8 k)))
 narrow_below k i xs total room small below =
@@ -221,18 +247,21 @@ narrow_below k i xs total room small below =
 
 -- a step of a test
 
+-- a limit of the digits gathered, with those of the next chunk, is one of all numbers up to the end of this chunk
 pub digits_above : (limit i : ℕ) (xs digits : List ℕ) → length digits ≡ 8 → 8 * i + 8 ≤ length xs → ((limit : ℕ) → Each1 (λ d. d ≤ limit) digits → Each1 (λ d. d ≤ limit) (take (8 * i) xs)) →
     Each1 (λ d. d ≤ limit) (zip2 bit_or digits (chunk (8 * i) 8 xs)) → Each1 (λ d. d ≤ limit) (take (8 * (i + 1)) xs)
 digits_above limit i xs digits lanes room above h =
     let parts = parts_below limit digits (chunk (8 * i) 8 xs) (lanes ∙ sym (length-chunk (8 * i) 8 xs room)) h in
     rw (take_chunk i xs) (Each1-append (λ d. d ≤ limit) (take (8 * i) xs) (chunk (8 * i) 8 xs) (above limit parts.0) parts.1)
 
+-- once all chunks are gathered, no number is above the digits of all lanes together
 pub digits_bound : (n : ℕ) (xs digits : List ℕ) → length xs % 8 ≡ 0 → length xs / 8 ≤ n
     → ((limit : ℕ) → Each1 (λ d. d ≤ limit) digits → Each1 (λ d. d ≤ limit) (take (8 * n) xs)) → All (λ d. d ≤ fold_l bit_or 0 digits) xs
 digits_bound n xs digits e le above = λ k d lt.
     let all : Each1 (λ d. d ≤ fold_l bit_or 0 digits) xs = rw (take_all n xs e le) at (above (fold_l bit_or 0 digits) (lanes_below_digits digits)) in
     Each1-get_or (λ d. d ≤ fold_l bit_or 0 digits) xs k d lt all
 
+-- at most 64 numbers below 2^32, each without its k lowest digits, sum up to at most 2^38
 pub sum_limited : (k n : ℕ) (xs total : List ℕ) → length xs ≤ 64 → length xs % 8 ≡ 0 → length xs / 8 ≤ n → ((j : ℕ) → get_or xs j 0 < 2 ^ 32)
     → sum_l total ≡ sum_by (λ d. d / 2 ^ k) (take (8 * n) xs) → fold_l (λ s x. s + x) 0 total ≤ 2 ^ 38
 sum_limited k n xs total few e le small value = let a = whole_sum k n xs total e le value in let b = sum_limit k (2 ^ 32) xs small in omega arith

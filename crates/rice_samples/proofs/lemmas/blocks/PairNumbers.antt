@@ -12,6 +12,7 @@ next_triangle : (s : ℕ) → triangle (suc s) ≡ triangle s + suc s
 unfolding triangle
 next_triangle s = refl
 
+-- half of s times s + 1 is the sum of the numbers up to s
 pub triangle_is : (s : ℕ) → s * (s + 1) / 2 ≡ triangle s
 unfolding triangle
 triangle_is zero = refl
@@ -37,6 +38,7 @@ same_sum s u b d hb hd e =
       ]
     ]
 
+-- two pairs with the same number are the same pair
 pub same_pair : (a b c d : ℕ) → pair_code a b ≡ pair_code c d → (a ≡ c) × (b ≡ d)
 same_pair a b c d e =
     let p = triangle_is (a + b) in
@@ -46,6 +48,7 @@ same_pair a b c d e =
     let triangles = ap triangle sums in
     (omega arith, omega arith)
 
+-- lists of the same length have the same number of pairs
 pub length-pair_codes : (ds es : List ℕ) → length ds ≡ length es → length (pair_codes ds) ≡ length (pair_codes es)
 length-pair_codes [] [] n = refl
 length-pair_codes [] (e ∷ es) n = absurd cc
@@ -86,6 +89,7 @@ next_row b g e =
     let h = ap (λ s. s * (s + 1) / 2) m in
     omega arith
 
+-- the pair that a number stands for, found by going on from the pair of the number before it
 pub pair_of : (g : ℕ) → (a : ℕ) × (b : ℕ) × (pair_code a b ≡ g)
 pair_of zero = (0, 0, refl)
 pair_of (suc g) = let p = pair_of g in go p.0 p.1 p.2
@@ -94,20 +98,24 @@ pair_of (suc g) = let p = pair_of g in go p.0 p.1 p.2
     go zero b e = (suc b, 0, next_row b g e)
     go (suc a) b e = (a, suc b, next_left a b g e)
 
+-- the parts of the pairs that these numbers stand for, one after another
 pub unpaired : List ℕ → List ℕ
 unpaired [] = []
 unpaired (g ∷ gs) = (pair_of g).0 ∷ (pair_of g).1 ∷ unpaired gs
 
+-- their pairs have these numbers again
 pub codes_of_unpaired : (gs : List ℕ) → pair_codes (unpaired gs) ≡ gs
 unfolding unpaired
 codes_of_unpaired [] = refl
 codes_of_unpaired (g ∷ gs) = λ i. (pair_of g).2 i ∷ codes_of_unpaired gs i
 
+-- and they are twice as many as the numbers
 pub length-unpaired : (gs : List ℕ) → length (unpaired gs) ≡ length gs + length gs
 unfolding unpaired
 length-unpaired [] = refl
 length-unpaired (g ∷ gs) = let e = length-unpaired gs in omega arith
 
+-- two times so many parts make so many pairs
 pub count_pairs : (half : ℕ) (ds : List ℕ) → length ds ≡ half + half → length (pair_codes ds) ≡ half
 count_pairs zero [] e = refl
 count_pairs zero (d ∷ ds) e = absurd (omega arith)
@@ -115,10 +123,12 @@ count_pairs (suc half) [] e = absurd (omega arith)
 count_pairs (suc half) (d ∷ []) e = absurd (omega arith)
 count_pairs (suc half) (d ∷ c ∷ ds) e = ap (λ n. suc n) (count_pairs half ds (omega arith))
 
+-- the sum of the numbers up to 0 is 0
 pub triangle_none : triangle 0 ≡ 0
 unfolding triangle
 triangle_none = refl
 
+-- and that up to the next number is greater by this number
 pub triangle-more : (s : ℕ) → triangle (s + 1) ≡ triangle s + (s + 1)
 unfolding triangle
 triangle-more s = rw add-one refl
@@ -137,6 +147,7 @@ triangle_small s h =
       | inr ge ↦ let f : m ≡ s = omega arith in let g = ap triangle f in omega arith
     ]
 
+-- the number that is r behind the first of those with the sum s, r being no more than s, stands for the pair of s - r and r
 pub pair_is : (s r g : ℕ) → r ≤ s → triangle s + r ≡ g → pair_code (s - r) r ≡ g
 pair_is s r g h e =
     let f : s - r + r ≡ s = omega arith in

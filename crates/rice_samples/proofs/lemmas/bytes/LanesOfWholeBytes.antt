@@ -151,24 +151,30 @@ kept_words msb w bs widths m len fit =
       ]
     ])
 
+-- bytes stay as they are, in either order, where each is a word
 pub single_words : (msb : Bool) (w : ℕ) (bs : List ℕ) → w ≡ 1 → All (λ v. v < 2 ^ 8) bs → OrdersWords msb w bs bs
 single_words msb w bs e fit = subst (λ k. OrdersWords msb k bs bs) (sym e) (single_bytes_ordered msb bs fit)
 
+-- where a word is two bytes and the least significant is to stand first, the bytes of each pair change places
 pub swapped_words : (msb : Bool) (w : ℕ) (bs ordered : List ℕ) → w ≡ 2 → msb ≡ false → length bs ≡ 16 → All (λ v. v < 2 ^ 8) bs → ordered ≡ swapped bs → OrdersWords msb w bs ordered
 swapped_words msb w bs ordered e m len fit is =
     subst (λ t. OrdersWords t w bs ordered) (sym m) (subst (λ k. OrdersWords false k bs ordered) (sym e) (subst (λ l. OrdersWords false 2 bs l) (sym is) (pairs_ordered false 8 bs len fit)))
 
+-- and where it is four bytes, those of each four are turned around
 pub turned_words : (msb : Bool) (w : ℕ) (bs ordered : List ℕ) → w ≡ 4 → msb ≡ false → length bs ≡ 16 → All (λ v. v < 2 ^ 8) bs → ordered ≡ turned_in_fours bs → OrdersWords msb w bs ordered
 turned_words msb w bs ordered e m len fit is =
     subst (λ t. OrdersWords t w bs ordered) (sym m) (subst (λ k. OrdersWords false k bs ordered) (sym e) (subst (λ l. OrdersWords false 4 bs l) (sym is) (fours_ordered false 4 bs len fit)))
 
+-- the bytes of a vector, picked so, are turned in fours
 pub fours_turned : (xs : List ℕ) → length xs ≡ 16 → pick_l 0 (xs ++ xs) (3 ∷ 2 ∷ 1 ∷ 0 ∷ 7 ∷ 6 ∷ 5 ∷ 4 ∷ 11 ∷ 10 ∷ 9 ∷ 8 ∷ 15 ∷ 14 ∷ 13 ∷ 12 ∷ []) ≡ turned_in_fours xs
 fours_turned xs n = sixteen_lanes (λ xs. pick_l 0 (xs ++ xs) (3 ∷ 2 ∷ 1 ∷ 0 ∷ 7 ∷ 6 ∷ 5 ∷ 4 ∷ 11 ∷ 10 ∷ 9 ∷ 8 ∷ 15 ∷ 14 ∷ 13 ∷ 12 ∷ []) ≡ turned_in_fours xs)
     (λ a0 a1 a2 a3 a4 a5 a6 a7 a8 a9 a10 a11 a12 a13 a14 a15. refl) xs n
 
+-- sixteen bytes that are turned in fours are sixteen
 pub length-turned : (xs : List ℕ) → length xs ≡ 16 → length (turned_in_fours xs) ≡ 16
 length-turned xs n = sixteen_lanes (λ xs. length (turned_in_fours xs) ≡ 16) (λ a0 a1 a2 a3 a4 a5 a6 a7 a8 a9 a10 a11 a12 a13 a14 a15. refl) xs n
 
+-- and so are sixteen that are swapped in pairs
 pub length-swapped : (xs : List ℕ) → length xs ≡ 16 → length (swapped xs) ≡ 16
 length-swapped xs n = sixteen_lanes (λ xs. length (swapped xs) ≡ 16) (λ a0 a1 a2 a3 a4 a5 a6 a7 a8 a9 a10 a11 a12 a13 a14 a15. refl) xs n
 

@@ -158,6 +158,7 @@ same_offset v w h c hv hw le e =
       | inr p ↦ elim (mod_once (w + h) c (omega arith)) [ inl q ↦ absurd (omega (arith, p.0, p.1, q.0, q.1)) | inr q ↦ omega (arith, p.0, q.0) ]
     ]
 
+-- there are no more values below 0 than patterns of as many bits as a sample has, or of more bits
 pub offset_limit : (s : Parameters) (more : ℕ) → 1 ≤ s.bits → s.bits ≤ more → offset s ≤ 2 ^ more
 offset_limit s more h le = by_sign s.signed
   where

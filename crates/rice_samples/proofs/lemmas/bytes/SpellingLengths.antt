@@ -15,6 +15,7 @@ high_count : (k v : ℕ) → length (bytes_high_first k v) ≡ k
 high_count zero v = refl
 high_count (suc k) v = ap suc (high_count k v)
 
+-- one sample is spelled in as many bytes as the width says
 pub length-spelling : (s : Parameters) (x : ℤ) → length (spelling s x) ≡ width s
 length-spelling s x = by_order s.msb
   where
@@ -22,6 +23,7 @@ length-spelling s x = by_order s.msb
     by_order true = high_count (width s) (twos_complement (8 * width s) x)
     by_order false = low_count 0 (width s) (twos_complement (8 * width s) x)
 
+-- and several samples in so many times as many
 pub length-spellings : (s : Parameters) (xs : List ℤ) → length (spellings s xs) ≡ width s * length xs
 length-spellings s [] = omega arith
 length-spellings s (x ∷ xs) = length-append (spelling s x) (spellings s xs) ∙ (λ i. length-spelling s x i + length-spellings s xs i) ∙ next (width s) (length xs)
@@ -29,6 +31,7 @@ length-spellings s (x ∷ xs) = length-append (spelling s x) (spellings s xs) �
     next : (w n : ℕ) → w + w * n ≡ w * suc n
     next w n = omega arith
 
+-- the bytes of samples and of others behind them stand one after the other
 pub spellings-append : (s : Parameters) (xs ys : List ℤ) → spellings s (xs ++ ys) ≡ spellings s xs ++ spellings s ys
 spellings-append s xs ys = flat_map-append (spelling s) xs ys
 
@@ -36,5 +39,6 @@ spellings-append s xs ys = flat_map-append (spelling s) xs ys
 pub some_width : (s : Parameters) → 1 ≤ width s
 some_width s = grind (arith, nat_tests)
 
+-- and no more than four
 pub narrow_width : (s : Parameters) → width s ≤ 4
 narrow_width s = grind (arith, nat_tests)

@@ -125,6 +125,7 @@ high-threes-spelled s {n = suc n} {o} (l ∷ levels) h few three order e len leg
 words_in_bytes : (o : ℕ) (levels : List ℕ) → length levels ≡ 8 → digits_l 256 32 (number_l 4294967296 (words_of 8 o levels)) ≡ quads (words_of 8 o levels)
 words_in_bytes o levels len = quads_are 8 (words_of 8 o levels) (length-words_of 8 o levels len) (words_below 8 o levels)
 
+-- of the words of eight levels, the three low bytes of each, the least significant first, spell the samples at these levels
 pub low_first : (s : Parameters) (o : ℕ) (levels : List ℕ) → 1 ≤ s.bits → width s ≡ 3 → s.msb ≡ false → o ≡ offset s → length levels ≡ 8 → All (λ l. l < value_count s) levels
     → let bytes = digits_l 256 32 (number_l 4294967296 (words_of 8 o levels)) in
     take 24 (pick_l 0 (bytes ++ bytes) (0 ∷ 1 ∷ 2 ∷ 4 ∷ 5 ∷ 6 ∷ 8 ∷ 9 ∷ 10 ∷ 12 ∷ 13 ∷ 14 ∷ 16 ∷ 17 ∷ 18 ∷ 20 ∷ 21 ∷ 22 ∷ 24 ∷ 25 ∷ 26 ∷ 28 ∷ 29 ∷ 30 ∷ 0 ∷ 0 ∷ 0 ∷ 0 ∷ 0 ∷ 0 ∷ 0 ∷ 0 ∷ []))
@@ -136,6 +137,7 @@ low_first s o levels h three order e len legal =
     (words_in_bytes o levels len)
     ∙ (low_threes (words_of 8 o levels) (length-words_of 8 o levels len) ∙ low-threes-spelled s levels h few three order e len legal)
 
+-- and so do they with the most significant first, where samples are spelled so
 pub high_first : (s : Parameters) (o : ℕ) (levels : List ℕ) → 1 ≤ s.bits → width s ≡ 3 → s.msb ≡ true → o ≡ offset s → length levels ≡ 8 → All (λ l. l < value_count s) levels
     → let bytes = digits_l 256 32 (number_l 4294967296 (words_of 8 o levels)) in
     take 24 (pick_l 0 (bytes ++ bytes) (2 ∷ 1 ∷ 0 ∷ 6 ∷ 5 ∷ 4 ∷ 10 ∷ 9 ∷ 8 ∷ 14 ∷ 13 ∷ 12 ∷ 18 ∷ 17 ∷ 16 ∷ 22 ∷ 21 ∷ 20 ∷ 26 ∷ 25 ∷ 24 ∷ 30 ∷ 29 ∷ 28 ∷ 0 ∷ 0 ∷ 0 ∷ 0 ∷ 0 ∷ 0 ∷ 0 ∷ 0 ∷ []))

@@ -17,6 +17,7 @@ wrapped_add a b = (a + b) % 256
 one_above_or_zero : (x y : ℕ) → x < 256 → y < 256 → wrapped_sub (cond (nat_lt x y) y x) y ≡ x - y
 one_above_or_zero x y h k = grind (arith, nat_tests)
 
+-- the greater of two lanes, less the second by a difference that wraps at 8 bits, is how far the first is above the second, or 0
 pub lanes_above_or_zero : (xs ys : List ℕ) → Each1 (Fits w8) xs → Each1 (Fits w8) ys → zip2 wrapped_sub (sel_l (zip2 nat_lt xs ys) ys xs) ys ≡ zip2 (λ x y. x - y) xs ys
 lanes_above_or_zero [] ys h k = refl
 lanes_above_or_zero (x ∷ xs) [] h k = refl
@@ -26,6 +27,7 @@ one_rank : (g p x : ℕ) → g < 256 → p ≤ g → x ≤ g →
     wrapped_add (wrapped_add (p - x) (x - p)) (min (wrapped_add (x - p) (p - x - 1)) (min p (wrapped_sub g p))) ≡ rank_below (g + 1) p x
 one_rank g p x h hp hx = grind (arith, nat_tests)
 
+-- distances and reaches, added in lanes that wrap at 8 bits, are the ranks of numbers up to g from other such numbers
 pub lanes_ranked : (g n : ℕ) (ps xs : List ℕ) → g < 256 → length ps ≡ n → length xs ≡ n → Each1 (λ p. p ≤ g) ps → Each1 (λ x. x ≤ g) xs →
     let down = zip2 (λ x y. x - y) ps xs in
     let up = zip2 (λ x y. x - y) xs ps in
@@ -37,5 +39,6 @@ lanes_ranked g (suc n) [] xs h e f hp hx = absurd (omega arith)
 lanes_ranked g (suc n) (p ∷ ps) [] h e f hp hx = absurd (omega arith)
 lanes_ranked g (suc n) (p ∷ ps) (x ∷ xs) h e f hp hx = λ i. one_rank g p x h hp.0 hx.0 i ∷ lanes_ranked g n ps xs h (omega arith) (omega arith) hp.1 hx.1 i
 
+-- sixteen numbers below 2^8 fit lanes of 8 bits
 pub bytes_fit : (xs : List ℕ) → length xs ≡ 16 → All (λ d. d < 2 ^ 8) xs → Each1 (Fits w8) (take 16 xs)
 bytes_fit xs n all = rw (take_all 16 xs (omega arith)) (each_of_all (Fits w8) xs (λ k d lt. record { fits = all k d lt }))

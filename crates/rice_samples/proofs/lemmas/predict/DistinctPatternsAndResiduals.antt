@@ -37,6 +37,7 @@ same_unsigned n (pos v) (pos w) h k f = ap (λ d. pos d) f
 same_unsigned n (pos v) (negsuc w) h k f = absurd (omega (arith, ints))
 same_unsigned n (negsuc v) y h k f = absurd (omega (arith, ints))
 
+-- samples with the same pattern are the same
 pub same_pattern : (s : Parameters) (x y : ℤ) → 1 ≤ s.bits → IsSample s x → IsSample s y → pattern s x ≡ pattern s y → x ≡ y
 same_pattern s x y h k l e = by_sign s.signed s.bits h k.0 k.1 l.0 l.1 e
   where
@@ -54,6 +55,7 @@ same_residual s i p {x} {y} n h k l r e = by_way s.preprocess (is_reference_samp
     by_way true false r e = same_level s x y k l (rank_injective (value_count s) (level s p) (level s x) (level s y) h.1 k.1 l.1 e)
     by_way false b r e = same_pattern s x y n k l e
 
+-- samples that follow the same sample, with no reference sample among them, and have the same residuals are the same
 pub same_residuals : (s : Parameters) (i : ℕ) (p : ℤ) {xs ys : List ℤ} → 1 ≤ s.bits → IsSample s p → AllByRecursion (IsSample s) xs → AllByRecursion (IsSample s) ys →
     ((t : ℕ) → t < length xs → is_reference_sample s (i + t) ≡ false) → residuals s i p xs ≡ residuals s i p ys → xs ≡ ys
 same_residuals s i p {xs = []} {ys = []} n h k l r e = refl
@@ -82,6 +84,7 @@ inside_block s b t h lt =
     never true = refl
     never false = refl
 
+-- the first sample of a block without a reference is no reference sample
 pub no_reference_at : (s : Parameters) (b : ℕ) → 1 ≤ s.block → is_reference s b ≡ false → is_reference_sample s (s.block * b) ≡ false
 no_reference_at s b h e =
     let q : s.block * b / s.block ≡ b = mul-div_cancel_left b h in

@@ -34,6 +34,7 @@ one_word (suc (suc (suc (suc (suc (suc (suc zero))))))) m l h k lt = omega (arit
 one_word (suc (suc (suc (suc (suc (suc (suc (suc zero)))))))) m l h k lt = omega (arith, k, lt)
 one_word (suc (suc (suc (suc (suc (suc (suc (suc (suc w))))))))) m l h k lt = absurd (omega (arith, h))
 
+-- high parts of a byte, moved up at most 8 places in lanes of 16 bits, and with the low parts added, are the joined numbers
 pub words-joined : (w n : ℕ) (ms ls : List ℕ) → w ≤ 8 → length ms ≡ n → length ls ≡ n → All (λ m. m < 256) ms → All (λ l. l < 2 ^ w) ls
     → zip2 (λ a b. (a + b) % 65536) (zip2 (λ c s. c * 2 ^ s % 65536) ms (replicate n w)) ls ≡ joined_parts w ms ls
 words-joined w n [] ls h e f small low = refl
@@ -44,6 +45,7 @@ words-joined w (suc n) (m ∷ ms) (l ∷ ls) h e f small low =
     let rest = words-joined w n ms ls h (omega (arith, e)) (omega (arith, f)) (λ i d lt. small (suc i) d (omega (arith, lt))) (λ i d lt. low (suc i) d (omega (arith, lt))) in
     λ j. one j ∷ rest j
 
+-- there are as many joined numbers as high parts, where there are as many low parts
 pub length-joined : (w : ℕ) (ms ls : List ℕ) → length ms ≡ length ls → length (joined_parts w ms ls) ≡ length ms
 length-joined w [] ls e = refl
 length-joined w (m ∷ ms) [] e = absurd (omega (arith, e))
@@ -93,6 +95,7 @@ halves_are {before} {width} greatest {highs} {lows} first second count lens e fi
 
 -- spellings
 
+-- a sample of 9 to 16 bits has two bytes
 pub two_bytes : (s : Parameters) → 8 < s.bits → s.bits ≤ 16 → width s ≡ 2
 two_bytes s h k = grind (arith, nat_tests)
 
@@ -128,6 +131,7 @@ high_spelling s l o h wide few order e lt =
     let two = two_bytes s wide few in
     (λ j. cond (order j) (bytes_high_first (two j) (word j)) (bytes_low_first 0 (two j) (word j))) ∙ high_pair ((l + (65536 - o)) % 65536) (omega arith)
 
+-- the words of levels, parted into bytes, spell the samples where the least significant byte comes first
 pub low-spelled : (s : Parameters) {n o : ℕ} (levels : List ℕ) → 1 ≤ s.bits → 8 < s.bits → s.bits ≤ 16 → s.msb ≡ false → o ≡ offset s → length levels ≡ n → All (λ l. l < value_count s) levels
     → parted (zip2 (λ a b. (a + (65536 - b)) % 65536) levels (replicate n o)) ≡ spellings s (values_at s levels)
 low-spelled s [] h wide few order e len legal = refl
@@ -137,6 +141,7 @@ low-spelled s {n = suc n} {o} (l ∷ levels) h wide few order e len legal =
     let rest = low-spelled s {n = n} levels h wide few order e (omega (arith, len)) (λ i d lt. legal (suc i) d (omega (arith, lt))) in
     λ j. sym one j ++ rest j
 
+-- and with the bytes of each pair swapped where the most significant comes first
 pub high-spelled : (s : Parameters) {n o : ℕ} (levels : List ℕ) → 1 ≤ s.bits → 8 < s.bits → s.bits ≤ 16 → s.msb ≡ true → o ≡ offset s → length levels ≡ n → All (λ l. l < value_count s) levels
     → swapped (parted (zip2 (λ a b. (a + (65536 - b)) % 65536) levels (replicate n o))) ≡ spellings s (values_at s levels)
 high-spelled s [] h wide few order e len legal = refl
@@ -151,9 +156,11 @@ pub pairs_swapped : (xs : List ℕ) → length xs ≡ 16 → pick_l 0 (xs ++ xs)
 pairs_swapped xs n = sixteen_lanes (λ xs. pick_l 0 (xs ++ xs) (1 ∷ 0 ∷ 3 ∷ 2 ∷ 5 ∷ 4 ∷ 7 ∷ 6 ∷ 9 ∷ 8 ∷ 11 ∷ 10 ∷ 13 ∷ 12 ∷ 15 ∷ 14 ∷ []) ≡ swapped xs)
     (λ a0 a1 a2 a3 a4 a5 a6 a7 a8 a9 a10 a11 a12 a13 a14 a15. refl) xs n
 
+-- lanes 0 to 7 of sixteen, picked, are the first eight
 pub first_eight : (xs : List ℕ) → length xs ≡ 16 → pick_l 0 (xs ++ xs) (0 ∷ 1 ∷ 2 ∷ 3 ∷ 4 ∷ 5 ∷ 6 ∷ 7 ∷ []) ≡ take 8 xs
 first_eight xs n = sixteen_lanes (λ xs. pick_l 0 (xs ++ xs) (0 ∷ 1 ∷ 2 ∷ 3 ∷ 4 ∷ 5 ∷ 6 ∷ 7 ∷ []) ≡ take 8 xs) (λ a0 a1 a2 a3 a4 a5 a6 a7 a8 a9 a10 a11 a12 a13 a14 a15. refl) xs n
 
+-- and lanes 8 to 15 the last eight
 pub last_eight : (xs : List ℕ) → length xs ≡ 16 → pick_l 0 (xs ++ xs) (8 ∷ 9 ∷ 10 ∷ 11 ∷ 12 ∷ 13 ∷ 14 ∷ 15 ∷ []) ≡ drop 8 xs
 last_eight xs n = sixteen_lanes (λ xs. pick_l 0 (xs ++ xs) (8 ∷ 9 ∷ 10 ∷ 11 ∷ 12 ∷ 13 ∷ 14 ∷ 15 ∷ []) ≡ drop 8 xs) (λ a0 a1 a2 a3 a4 a5 a6 a7 a8 a9 a10 a11 a12 a13 a14 a15. refl) xs n
 
@@ -164,6 +171,7 @@ words_below n o [] = tt
 words_below zero o (l ∷ levels) = tt
 words_below (suc n) o (l ∷ levels) = (omega arith, words_below n o levels)
 
+-- the words of eight levels in a vector, read as sixteen bytes, are these words parted into bytes
 pub words_parted : (o : ℕ) (levels : List ℕ) → length levels ≡ 8
     → digits_l 256 16 (number_l 65536 (zip2 (λ a b. (a + (65536 - b)) % 65536) levels (replicate 8 o))) ≡ parted (zip2 (λ a b. (a + (65536 - b)) % 65536) levels (replicate 8 o))
 words_parted o levels len = bytes_of 8 (zip2 (λ a b. (a + (65536 - b)) % 65536) levels (replicate 8 o))

@@ -25,6 +25,7 @@ signed_pattern n (suc half) v e lt h =
 unsigned_pattern : (n v : ℕ) → v < 2 ^ n → (x : ℤ) × Value (pos 0) n x × (twos_complement n x ≡ v)
 unsigned_pattern n v h = (pos v, (omega (arith, ints), omega (arith, ints)), refl)
 
+-- each number below the count of values is the pattern of a sample
 pub has_pattern : (s : Parameters) → 1 ≤ s.bits → (v : ℕ) → v < value_count s → (x : ℤ) × IsSample s x × (pattern s x ≡ v)
 has_pattern s h v lt = by_sign s.signed s.bits h lt
   where
@@ -40,6 +41,7 @@ signed_level n (suc half) l e lt h =
       | inr high ↦ (pos (l - suc half), (omega (arith, ints), omega (arith, ints)), omega (arith, ints))
     ]
 
+-- and the level of one
 pub has_level : (s : Parameters) → 1 ≤ s.bits → (l : ℕ) → l < value_count s → (x : ℤ) × IsSample s x × (level s x ≡ l)
 has_level s h l lt = by_sign s.signed s.bits h lt
   where
@@ -52,6 +54,7 @@ number_fits : (count p d : ℕ) → p < count → d < count → number_with coun
 unfolding number_with
 number_fits count p d hp hd = grind (arith, nat_tests)
 
+-- and, from any sample p, the rank of one
 pub has_rank : (s : Parameters) → 1 ≤ s.bits → (p : ℤ) → IsSample s p → (d : ℕ) → d < value_count s → (x : ℤ) × IsSample s x × (rank s p x ≡ d)
 has_rank s h p hp d lt =
     let n = number_with (value_count s) (level s p) d in

@@ -30,6 +30,7 @@ pairs_of (suc n) (a ∷ b ∷ xs) e h =
     let same = ap (digits_l 65536 n) behind ∙ pairs_of n xs (omega arith) h.1.1 in
     λ j. first j ∷ same j
 
+-- lanes of 16 bits, read as bytes, are the low and the high byte of each
 pub bytes_of : (n : ℕ) (ys : List ℕ) → length ys ≡ n → Each1 (λ y. y < 65536) ys → digits_l 256 (twice n) (number_l 65536 ys) ≡ parted ys
 bytes_of zero [] e h = refl
 bytes_of zero (c ∷ ys) e h = absurd (omega arith)
@@ -84,6 +85,7 @@ each_of : (P : ℕ → Type 0) (xs : List ℕ) → All P xs → Each1 P xs
 each_of P [] h = tt
 each_of P (x ∷ xs) h = (h 0 0 (omega arith), each_of P xs (λ k d lt. h (suc k) d (omega (arith, lt))))
 
+-- sixteen bytes, moved up in lanes of 16 bits two at a time, are each moved up, where all are so small that they stay within their bytes
 pub highs-raised : (w : ℕ) (ms : List ℕ) → w ≤ 7 → length ms ≡ 16 → Each1 (Fits w8) ms → All (λ m. m ≤ 255 / 2 ^ w) ms
     → digits_l 256 16 (number_l 65536 (zip2 (λ c s. c * 2 ^ s % 65536) (digits_l 65536 8 (number_l 256 ms)) (replicate 8 w))) ≡ map (λ m. m * 2 ^ w) ms
 highs-raised w ms h e fits small =
@@ -104,6 +106,7 @@ one_lane (suc (suc (suc (suc (suc (suc zero)))))) m l h few low = omega arith
 one_lane (suc (suc (suc (suc (suc (suc (suc zero))))))) m l h few low = omega arith
 one_lane (suc (suc (suc (suc (suc (suc (suc (suc k)))))))) m l h few low = absurd (omega arith)
 
+-- with the low parts added lane by lane they are the joined numbers
 pub bytes-joined : (k : ℕ) (ms ls : List ℕ) → k ≤ 7 → length ls ≡ length ms → All (λ m. m ≤ 255 / 2 ^ k) ms → All (λ l. l < 2 ^ k) ls
     → zip2 (λ a b. (a + b) % 256) (map (λ m. m * 2 ^ k) ms) ls ≡ joined_parts k ms ls
 bytes-joined k [] ls h e few low = refl

@@ -12,6 +12,7 @@ use Rattle.rice_samples.specs.predict.Residuals.{rank_below, ranks_below, last_n
 one_least : (x y : ℕ) → cond (nat_lt x y) x y ≡ min x y
 one_least x y = grind (arith, nat_tests)
 
+-- where the first of two lanes is picked if it is the lesser, and else the second, each is the lesser of both
 pub lanes_least : (xs ys : List ℕ) → sel_l (zip2 nat_lt xs ys) xs ys ≡ zip2 min xs ys
 lanes_least [] ys = refl
 lanes_least (x ∷ xs) [] = refl
@@ -27,6 +28,7 @@ wrapped_add a b = (a + b) % 65536
 one_above_or_zero : (x y : ℕ) → x < 65536 → y < 65536 → wrapped_sub (cond (nat_lt x y) y x) y ≡ x - y
 one_above_or_zero x y h k = grind (arith, nat_tests)
 
+-- the greater of two lanes, less the second by a difference that wraps at 16 bits, is how far the first is above the second, or 0
 pub lanes_above_or_zero : (xs ys : List ℕ) → Each1 (Fits w16) xs → Each1 (Fits w16) ys → zip2 wrapped_sub (sel_l (zip2 nat_lt xs ys) ys xs) ys ≡ zip2 (λ x y. x - y) xs ys
 lanes_above_or_zero [] ys h k = refl
 lanes_above_or_zero (x ∷ xs) [] h k = refl
@@ -36,6 +38,7 @@ one_rank : (g p x : ℕ) → g < 65536 → p ≤ g → x ≤ g →
     wrapped_add (wrapped_add (p - x) (x - p)) (min (wrapped_add (x - p) (p - x - 1)) (min p (wrapped_sub g p))) ≡ rank_below (g + 1) p x
 one_rank g p x h hp hx = grind (arith, nat_tests)
 
+-- distances and reaches, added in lanes that wrap at 16 bits, are the ranks of numbers up to g from other such numbers
 pub lanes_ranked : (g n : ℕ) (ps xs : List ℕ) → g < 65536 → length ps ≡ n → length xs ≡ n → Each1 (λ p. p ≤ g) ps → Each1 (λ x. x ≤ g) xs →
     let down = zip2 (λ x y. x - y) ps xs in
     let up = zip2 (λ x y. x - y) xs ps in
@@ -57,10 +60,12 @@ each_taken n zero xs h = tt
 each_taken n (suc k) [] h = tt
 each_taken n (suc k) (x ∷ xs) h = (h.0, each_taken n k xs h.1)
 
+-- numbers below n are at most g, which is one less
 pub each_below : (n g : ℕ) (xs : List ℕ) → g + 1 ≡ n → Each1 (λ x. x < n) xs → Each1 (λ x. x ≤ g) xs
 each_below n g [] e h = tt
 each_below n g (x ∷ xs) e h = (omega (arith, h.0), each_below n g xs e h.1)
 
+-- so are the last number of one row and the first m numbers of the next, which stand one lane on
 pub shifted_below : (m n g : ℕ) (before levels : List ℕ) → g + 1 ≡ n → length before ≡ suc m → Each1 (λ x. x < n) before → Each1 (λ x. x < n) levels
     → Each1 (λ x. x ≤ g) (get_or before m 0 ∷ take m levels)
 shifted_below m n g before levels e len h k = let b = each_get n m before h (omega arith) in (omega (arith, b), each_below n g (take m levels) e (each_taken n m levels k))
@@ -81,6 +86,7 @@ ranked_each : (n b : ℕ) (xs : List ℕ) → zip2 (rank_below n) (b ∷ xs) xs 
 ranked_each n b [] = refl
 ranked_each n b (x ∷ xs) = ap (λ v. rank_below n b x ∷ v) (ranked_each n x xs)
 
+-- ranks taken lane by lane, from b and from the numbers moved one lane on, are those from one number to the next
 pub ranked_row : (m n b : ℕ) (xs : List ℕ) → length xs ≡ suc m → zip2 (rank_below n) (b ∷ take m xs) xs ≡ ranks_below n b xs
 ranked_row m n b xs len = zip2_taken (rank_below n) (suc m) (b ∷ xs) xs len ∙ ranked_each n b xs
 
@@ -100,12 +106,15 @@ last_number_of zero p (y ∷ []) len = refl
 last_number_of zero p (y ∷ z ∷ ys) len = absurd (omega arith)
 last_number_of (suc m) p (y ∷ ys) len = last_number_of m y ys (omega arith)
 
+-- the last lane of a row is the last of all numbers up to its end
 pub last_of_row : (m p : ℕ) (xs ys : List ℕ) → length ys ≡ suc m → get_or ys m 0 ≡ last_number p (xs ++ ys)
 last_of_row m p xs ys len = last_number_of m (last_number p xs) ys len ∙ sym (last-append p xs ys)
 
+-- the numbers of a list from a place on to m places behind it are m, where the list goes as far
 pub row_long : (m at n : ℕ) (xs : List ℕ) → n ≡ at + m → n ≤ length xs → length (slice_range xs at n) ≡ m
 row_long m at n xs e le = length-take-le (n - at) (drop at xs) (omega (arith, length-drop at xs)) ∙ (omega (arith, e))
 
+-- there are as many ranks as numbers
 pub length-ranks_below : (n p : ℕ) (xs : List ℕ) → length (ranks_below n p xs) ≡ length xs
 length-ranks_below n p [] = refl
 length-ranks_below n p (x ∷ xs) = ap (λ k. suc k) (length-ranks_below n x xs)

@@ -32,6 +32,7 @@ eight_lanes P each (a ∷ b ∷ c ∷ d ∷ e ∷ f ∷ g ∷ h ∷ i ∷ xs) n 
 
 -- ways
 
+-- half of a rank, with each of its k digits turned over where the rank is odd, is the way of this rank
 pub way_lane : (k d : ℕ) → d < 2 ^ k → bit_xor (d / 2) ((0 + (2 ^ k - bit_and d 1)) % 2 ^ k) ≡ way (2 ^ k) d
 way_lane k d h =
     let odd : bit_and d 1 ≡ d % 2 = and_mask d 1 in
@@ -57,6 +58,7 @@ way_lane k d h =
 abbrev ways_of : Width → List ℕ → List ℕ
 ways_of w ds = zip2 bit_xor (zip2 (λ d s. d / 2 ^ s) ds (replicate 8 1)) (zip2 (λ a b. (a + (2 ^ bits w - b)) % 2 ^ bits w) (replicate 8 0) (zip2 bit_and ds (replicate 8 1)))
 
+-- and so in eight lanes
 pub ways_are : (w : Width) (ds : List ℕ) → length ds ≡ 8 → Each1 (Fits w) ds → ways_of w ds ≡ map (way (2 ^ bits w)) ds
 ways_are w ds n fits = eight_lanes (λ ds. Each1 (Fits w) ds → ways_of w ds ≡ map (way (2 ^ bits w)) ds)
     (λ a b c d e f g h. λ k. λ j. way_lane (bits w) a k.0.fits j ∷ way_lane (bits w) b k.1.0.fits j ∷ way_lane (bits w) c k.1.1.0.fits j ∷ way_lane (bits w) d
@@ -65,16 +67,19 @@ ways_are w ds n fits = eight_lanes (λ ds. Each1 (Fits w) ds → ways_of w ds �
 
 -- sums
 
+-- eight lanes, and the same moved one lane on behind a 0, add up to each number with the one before it
 pub plus_one_before : (m : ℕ) (xs : List ℕ) → length xs ≡ 8 →
     zip2 (λ x y. (x + y) % m) xs (0 ∷ get_or xs 0 0 ∷ get_or xs 1 0 ∷ get_or xs 2 0 ∷ get_or xs 3 0 ∷ get_or xs 4 0 ∷ get_or xs 5 0 ∷ get_or xs 6 0 ∷ []) ≡ sums_behind m 1 xs
 plus_one_before m xs n = eight_lanes (λ xs. zip2 (λ x y. (x + y) % m) xs
     (0 ∷ get_or xs 0 0 ∷ get_or xs 1 0 ∷ get_or xs 2 0 ∷ get_or xs 3 0 ∷ get_or xs 4 0 ∷ get_or xs 5 0 ∷ get_or xs 6 0 ∷ []) ≡ sums_behind m 1 xs) (λ a b c d e f g h. refl) xs n
 
+-- moved two lanes on, to each with the one two places before it
 pub plus_two_before : (m : ℕ) (xs : List ℕ) → length xs ≡ 8 →
     zip2 (λ x y. (x + y) % m) xs (0 ∷ 0 ∷ get_or xs 0 0 ∷ get_or xs 1 0 ∷ get_or xs 2 0 ∷ get_or xs 3 0 ∷ get_or xs 4 0 ∷ get_or xs 5 0 ∷ []) ≡ sums_behind m 2 xs
 plus_two_before m xs n = eight_lanes (λ xs. zip2 (λ x y. (x + y) % m) xs
     (0 ∷ 0 ∷ get_or xs 0 0 ∷ get_or xs 1 0 ∷ get_or xs 2 0 ∷ get_or xs 3 0 ∷ get_or xs 4 0 ∷ get_or xs 5 0 ∷ []) ≡ sums_behind m 2 xs) (λ a b c d e f g h. refl) xs n
 
+-- and moved four, to each with the one four places before it
 pub plus_four_before : (m : ℕ) (xs : List ℕ) → length xs ≡ 8 →
     zip2 (λ x y. (x + y) % m) xs (0 ∷ 0 ∷ 0 ∷ 0 ∷ get_or xs 0 0 ∷ get_or xs 1 0 ∷ get_or xs 2 0 ∷ get_or xs 3 0 ∷ []) ≡ sums_behind m 4 xs
 plus_four_before m xs n = eight_lanes (λ xs. zip2 (λ x y. (x + y) % m) xs (0 ∷ 0 ∷ 0 ∷ 0 ∷ get_or xs 0 0 ∷ get_or xs 1 0 ∷ get_or xs 2 0 ∷ get_or xs 3 0 ∷ [])
@@ -110,6 +115,7 @@ lane7 m p a = simp (mod-add-mod, add-mod-mod) (ap (λ x. x % m) (omega arith))
 abbrev sums_from : ℕ → ℕ → List ℕ → List ℕ
 sums_from m p ds = zip2 (λ x y. (x + y) % m) (sums_behind m 4 (sums_behind m 2 (sums_behind m 1 (map (way m) ds)))) (replicate 8 p)
 
+-- the sums of eight ways over one, then two, then four places, with p added in each lane, are the near numbers from p on
 pub sums_are : (m p : ℕ) (ds : List ℕ) → length ds ≡ 8 → zip2 (λ x y. (x + y) % m) (sums_behind m 4 (sums_behind m 2 (sums_behind m 1 (map (way m) ds)))) (replicate 8 p) ≡ near_numbers m p ds
 sums_are m p ds n = eight_lanes (λ ds. sums_from m p ds ≡ near_numbers m p ds) (λ a b c d e f g h. lanes (way m a) (way m b) (way m c) (way m d) (way m e) (way m f) (way m g) (way m h)) ds n
   where
@@ -121,10 +127,12 @@ sums_are m p ds n = eight_lanes (λ ds. sums_from m p ds ≡ near_numbers m p ds
         let ways = λ (i : ℕ). get_or (a ∷ b ∷ c ∷ d ∷ e ∷ f ∷ g ∷ h ∷ []) i 0 in
         λ j. lane0 m p ways j ∷ lane1 m p ways j ∷ lane2 m p ways j ∷ lane3 m p ways j ∷ lane4 m p ways j ∷ lane5 m p ways j ∷ lane6 m p ways j ∷ lane7 m p ways j ∷ []
 
+-- there are as many near numbers as ranks
 pub length-near_numbers : (m p : ℕ) (ds : List ℕ) → length (near_numbers m p ds) ≡ length ds
 length-near_numbers m p [] = refl
 length-near_numbers m p (d ∷ ds) = ap (λ n. suc n) (length-near_numbers m ((p + way m d) % m) ds)
 
+-- p, and then all but the last of eight lanes, are the numbers before these lanes
 pub all_before : (p : ℕ) (xs : List ℕ) → length xs ≡ 8 →
     (p ∷ get_or xs 0 0 ∷ get_or xs 1 0 ∷ get_or xs 2 0 ∷ get_or xs 3 0 ∷ get_or xs 4 0 ∷ get_or xs 5 0 ∷ get_or xs 6 0 ∷ []) ≡ take 8 (p ∷ xs)
 all_before p xs n = eight_lanes (λ xs. (p ∷ get_or xs 0 0 ∷ get_or xs 1 0 ∷ get_or xs 2 0 ∷ get_or xs 3 0 ∷ get_or xs 4 0 ∷ get_or xs 5 0 ∷ get_or xs 6 0 ∷ [])
@@ -132,6 +140,7 @@ all_before p xs n = eight_lanes (λ xs. (p ∷ get_or xs 0 0 ∷ get_or xs 1 0 �
 
 -- bounds
 
+-- where the first of two lanes is picked if it is the lesser, and else the second, each is the lesser of both
 pub select_min : (xs ys : List ℕ) → sel_l (zip2 nat_lt xs ys) xs ys ≡ zip2 min xs ys
 select_min [] ys = refl
 select_min (x ∷ xs) [] = refl
@@ -139,6 +148,7 @@ select_min (x ∷ xs) (y ∷ ys) =
     let one : cond (nat_lt x y) x y ≡ min x y = grind (arith, nat_tests) in
     λ j. one j ∷ select_min xs ys j
 
+-- and picked the other way round, the greater
 pub select_max : (xs ys : List ℕ) → sel_l (zip2 nat_lt xs ys) ys xs ≡ zip2 max xs ys
 select_max [] ys = refl
 select_max (x ∷ xs) [] = refl
@@ -152,6 +162,7 @@ masks w xs ys = map (top (hbits w)) (zip2 (λ a b. cond (nat_lt a b) (2 ^ bits w
 abbrev up_to_greatest : ℕ → ℕ → List ℕ → List ℕ
 up_to_greatest m g xs = zip2 (λ a b. (a + (m - b)) % m) (replicate 8 g) xs
 
+-- in eight lanes, the lesser of each number and what is left from it up to g, twice, is its bound
 pub bounds_are : (w : Width) (g : ℕ) (xs : List ℕ) → length xs ≡ 8 →
     (let reaches = sel_l (masks w xs (up_to_greatest (2 ^ bits w) g xs)) xs (up_to_greatest (2 ^ bits w) g xs) in
     zip2 (λ x y. (x + y) % 2 ^ bits w) reaches reaches) ≡ map (bound (2 ^ bits w) g) xs

@@ -24,6 +24,7 @@ use Rattle.rice_samples.proofs.lemmas.predict.NearEights.{select_max, select_min
 
 -- ways
 
+-- in n lanes, half of each rank, with its digits turned over where the rank is odd, is its way
 pub vector_of_ways : (w : Width) (n : ℕ) (ds : List ℕ) → length ds ≡ n → Each1 (Fits w) ds
     → zip2 bit_xor (zip2 (λ d s. d / 2 ^ s) ds (replicate n 1)) (zip2 (λ a b. (a + (2 ^ bits w - b)) % 2 ^ bits w) (replicate n 0) (zip2 bit_and ds (replicate n 1))) ≡ map (way (2 ^ bits w)) ds
 vector_of_ways w n [] e fits = refl
@@ -66,6 +67,7 @@ of_least n m g [] e = refl
 of_least zero m g (x ∷ xs) e = absurd (omega arith)
 of_least (suc n) m g (x ∷ xs) e = ap (λ z. bound m g x ∷ z) (of_least n m g xs (omega arith))
 
+-- in n lanes, the lesser of each number and what is left from it up to g, twice, is its bound
 pub vector_of_bounds : (w : Width) (n g : ℕ) (xs : List ℕ) → length xs ≡ n →
     (let reaches = sel_l (masks w xs (up_to_greatest n (2 ^ bits w) g xs)) xs (up_to_greatest n (2 ^ bits w) g xs) in
     zip2 (λ x y. (x + y) % 2 ^ bits w) reaches reaches) ≡ map (bound (2 ^ bits w) g) xs
@@ -86,6 +88,7 @@ one_excess m d b h k = elim (cases_lt b d) [
       ap (λ n. n % m) up ∙ (add-mod_right (d - b) m ∙ mod-eq_of_lt (omega arith)))
 ]
 
+-- the greater of rank and bound, less the bound by a difference that wraps, is how far the rank is above it, or 0
 pub excess_of_each : (w : Width) (ds bs : List ℕ) → Each1 (Fits w) ds → Each1 (Fits w) bs
     → zip2 (λ a b. (a + (2 ^ bits w - b)) % 2 ^ bits w) (sel_l (masks w ds bs) bs ds) bs ≡ zip2 (λ d b. d - b) ds bs
 excess_of_each w ds bs h k =
@@ -120,6 +123,7 @@ vector_is_near {n} {m} {g} {p} ds {bs} {xs} {before} h k len numbers shifted bou
     let near = near_ranks m g p ds h k (subst (λ (ys : List ℕ). Each2 (λ d b. d ≤ b) ds ys) all each) in
     subst (λ (ys : List ℕ). All (λ x. x ≤ g) ys × (ranks_below (g + 1) p ys ≡ ds)) (sym numbers) ((λ i d lt. Each1-get_or (λ x. x ≤ g) (near_numbers m p ds) i d lt near.0), near.1)
 
+-- where no lane exceeds the limit, no number is above it
 pub none_above : (n most : ℕ) (ms over : List ℕ) → over ≡ zip2 (λ d b. d - b) ms (replicate n most) → length ms ≡ n → over ≡ replicate n 0 → All (λ m. m ≤ most) ms
 none_above n most ms over are len test = λ i d lt. Each1-get_or (λ m. m ≤ most) ms i d lt
     (each n ms len (no_excess_in_vector n ms (replicate n most) (len ∙ sym (length-replicate n most)) (sym are ∙ test)))
@@ -129,6 +133,7 @@ none_above n most ms over are len test = λ i d lt. Each1-get_or (λ m. m ≤ mo
     each zero (m ∷ ms) e h = absurd (omega arith)
     each (suc n) (m ∷ ms) e h = (h.0, each n ms (omega arith) h.1)
 
+-- where all digits of two vectors, joined by or, are 0, each lane of both is 0
 pub zeros-each : (n : ℕ) (xs ys : List ℕ) → length xs ≡ n → length ys ≡ n → (fold_l bit_or 0 (zip2 bit_or xs ys) == 0) ≡ true → (xs ≡ replicate n 0) × (ys ≡ replicate n 0)
 zeros-each n xs ys h k test =
     let none : fold_l bit_or 0 (zip2 bit_or xs ys) ≡ 0 = grind (arith, nat_tests) in
@@ -144,10 +149,12 @@ zeros-each n xs ys h k test =
         let rest = all n xs (omega arith) h.1 in
         λ j. first j ∷ rest j
 
+-- a number that fits a lane fits all lanes of a vector
 pub splat-fits : (w : Width) (n x : ℕ) → Fits w x → Each1 (Fits w) (replicate n x)
 splat-fits w zero x h = tt
 splat-fits w (suc n) x h = (h, splat-fits w n x h)
 
+-- bounds, which wrap at as many values as a lane has, fit the lanes
 pub bounds-fit : (w : Width) (g : ℕ) (xs bs : List ℕ) → bs ≡ map (bound (2 ^ bits w) g) xs → Each1 (Fits w) bs
 bounds-fit w g xs bs e = subst (λ (ys : List ℕ). Each1 (Fits w) ys) (sym e) (each xs)
   where

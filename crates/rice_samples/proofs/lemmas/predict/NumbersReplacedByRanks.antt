@@ -3,7 +3,7 @@ use Rattle.std.proofs.Common.{◌≡◌, ℕ, ◌+◌, ◌<◌, List, [], ◌∷
 use Rattle.std.proofs.lemmas.List.{drop_more, take_more_set, drop-set-lt}
 use Rattle.rice_samples.specs.predict.Residuals.{rank_below, ranks_below}
 
--- one number more is replaced by its rank
+-- two lists that agree from a place on agree there, and behind it
 pub same_rest : (now xs : List ℕ) (i : ℕ) → i < length now → i < length xs → drop i now ≡ drop i xs → (slice_index_or now i 0 ≡ slice_index_or xs i 0) × (drop (i + 1) now ≡ drop (i + 1) xs)
 same_rest now xs i h k e =
     let heads : slice_index_or now i 0 ∷ drop (i + 1) now ≡ slice_index_or xs i 0 ∷ drop (i + 1) xs = sym (drop_more now i 0 h) ∙ (e ∙ drop_more xs i 0 k) in
@@ -14,6 +14,7 @@ pub record PlaceInBoth (i : ℕ) (now xs : List ℕ) : Type 0 where
   pub here : i < length now
   pub there : i < length xs
 
+-- with the number at place i replaced by its rank, the ranks of all are the numbers up to there and the ranks of those behind it
 pub one_rank : (count p before : ℕ) {r i : ℕ} (now xs : List ℕ) → PlaceInBoth i now xs
     → ranks_below count p xs ≡ take i now ++ ranks_below count before (drop i xs) → drop i now ≡ drop i xs → r ≡ rank_below count before (slice_index_or now i 0) →
     ranks_below count p xs ≡ take (i + 1) (slice_set now i r) ++ ranks_below count (slice_index_or now i 0) (drop (i + 1) xs)
@@ -29,5 +30,6 @@ one_rank count p before {r} {i} now xs inside folded rest e =
     (λ v. take (i + 1) (slice_set now i r) ++ ranks_below count v (drop (i + 1) xs)) (sym same.0) in
     a ∙ (c ∙ (sym d ∙ f))
 
+-- and behind this place the numbers are as they were
 pub rest_after : (now xs : List ℕ) (i r : ℕ) → i < length now → i < length xs → drop i now ≡ drop i xs → drop (i + 1) (slice_set now i r) ≡ drop (i + 1) xs
 rest_after now xs i r h k e = drop-set-lt (i + 1) now i r (omega arith) ∙ (same_rest now xs i h k e).1

@@ -19,9 +19,11 @@ gap_is (pos a) (negsuc x) h = absurd (omega (arith, ints))
 gap_is (negsuc a) (pos x) h = omega (arith, ints)
 gap_is (negsuc a) (negsuc x) h = omega (arith, ints)
 
+-- a value is not above what it is with a number added
 pub above_least : (z : ℤ) (l : ℕ) → z ≤ℤ (z +ℤ pos l)
 above_least z l = omega (arith, ints)
 
+-- and the gap between both is this number
 pub gap_above : (z : ℤ) (l : ℕ) → int_gap z (z +ℤ pos l) ≡ l
 gap_above z l = let e = gap_is z (z +ℤ pos l) (above_least z l) in omega (arith, ints)
 
@@ -46,6 +48,7 @@ counted_by_levels z p d a (suc n) h =
     sum_by-cons (λ v. cond (nat_lt (distance p v) d) 1 0) y rest
     ∙ ((λ i. cond (nat_lt (here i) d) 1 0 + later i) ∙ sym (sum_by-cons (λ l. cond (nat_lt (abs_diff (int_gap z p) l) d) 1 0) a (range_with_len (a + 1) n)))
 
+-- the legal values nearer to p than x, counted one by one, are as many as the overlap by levels says
 pub nearer_count_is : (s : Parameters) (p x : ℤ) → IsSample s p → IsSample s x → nearer_count s p x ≡ nearer (value_count s) (level s p) (level s x)
 nearer_count_is s p x hp hx =
     counted_by_levels (least s) p (distance p x) 0 (value_count s) hp.0
@@ -80,11 +83,13 @@ without_tie : (count p x : ℕ) → (x ≤ p) ⊎ (2 * p < x) → rank_below cou
 without_tie count p x (inl le) = grind (arith, nat_tests)
 without_tie count p x (inr lt) = grind (arith, nat_tests)
 
+-- where x is the second of two values as near, its rank is one more than the number of nearer values
 pub rank_of_second : (s : Parameters) (p x : ℤ) → IsSample s p → IsSample s x → IsSecondOfTwo s p x → rank s p x ≡ nearer_count s p x + 1
 rank_of_second s p x hp hx h =
     let l = second_levels s p x hp hx h in
     with_tie (value_count s) (level s p) (level s x) l.0 l.1 ∙ sym (ap (λ n. n + 1) (nearer_count_is s p x hp hx))
 
+-- and else it is this number
 pub rank_of_other : (s : Parameters) (p x : ℤ) → IsSample s p → IsSample s x → (IsSecondOfTwo s p x → ⊥) → rank s p x ≡ nearer_count s p x
 rank_of_other s p x hp hx h = without_tie (value_count s) (level s p) (level s x) one ∙ sym (nearer_count_is s p x hp hx)
   where
@@ -110,6 +115,7 @@ reach_by_level s p hp =
         let same : z +ℤ pos (count - 1) ≡ p +ℤ pos (count - 1 - int_gap z p) = omega (arith, ints) in
         ap (λ y. int_gap p y) same ∙ gap_above p (count - 1 - int_gap z p)
 
+-- The rank is the standard's fold: twice the distance within reach of both sides, one less for samples below p, and beyond it the reach and the distance.
 pub rank_folds : (s : Parameters) (p x : ℤ) → IsSample s p → IsSample s x →
     let θ = min (int_gap (least s) p) (int_gap p (greatest s)) in
     let Δ = distance p x in

@@ -7,6 +7,7 @@ use borrow.Rule.Slice.PartMut.{put_mid}
 use Rattle.rice_samples.specs.predict.Residuals.{ranks_below, last_number}
 use Rattle.rice_samples.proofs.lemmas.predict.RestoredLevels.{ranks_below-append}
 
+-- the last of some numbers, where there are any, stands at the last place
 pub last_number_at : (p d : ℕ) (xs : List ℕ) → 0 < length xs → last_number p xs ≡ get_or xs (length xs - 1) d
 last_number_at p d [] h = absurd (omega arith)
 last_number_at p d (x ∷ []) h = refl
@@ -14,11 +15,13 @@ last_number_at p d (x ∷ y ∷ ys) h =
     let e : suc (length (y ∷ ys) - 1) ≡ length (x ∷ y ∷ ys) - 1 = omega arith in
     last_number_at x d (y ∷ ys) (omega arith) ∙ ap (λ n. get_or (x ∷ y ∷ ys) n d) e
 
+-- where all numbers and the one before them are below a count, so is the last of the first n
 pub last_legal : (count p n : ℕ) (xs : List ℕ) → p < count → All (λ l. l < count) xs → last_number p (take n xs) < count
 last_legal count p zero xs hp h = hp
 last_legal count p (suc n) [] hp h = hp
 last_legal count p (suc n) (x ∷ xs) hp h = last_legal count x n xs (h 0 x (omega arith)) (λ k d lt. h (suc k) d (omega arith))
 
+-- where all numbers are below a count, so are those from one place to another
 pub legal_row : (count i n : ℕ) (xs : List ℕ) → All (λ l. l < count) xs → All (λ l. l < count) (slice_range xs i n)
 legal_row count i n xs h = All-take (λ l. l < count) (n - i) (drop i xs) (All-drop (λ l. l < count) i xs h)
 

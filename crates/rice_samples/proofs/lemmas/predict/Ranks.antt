@@ -7,9 +7,11 @@ use Rattle.std.proofs.lemmas.Bool.Decides.{nat_tests}
 use Rattle.std.proofs.lemmas.List.Sums.{sum_by-cons}
 use Rattle.rice_samples.specs.predict.Residuals.{nearer, rank_below}
 
+-- a rank is below the count too
 pub rank_fits : (count p x : ℕ) → p < count → x < count → rank_below count p x < count
 rank_fits count p x hp hx = grind (arith, nat_tests)
 
+-- two numbers with the same rank from p are the same
 pub rank_injective : (count p x y : ℕ) → p < count → x < count → y < count → rank_below count p x ≡ rank_below count p y → x ≡ y
 rank_injective count p x y hp hx hy e = grind (arith, nat_tests)
 
@@ -21,9 +23,11 @@ reach count p = min p (count - 1 - p)
 pub rank_above : (count p x : ℕ) → p < count → x < count → p ≤ x → x - p ≤ min p (count - 1 - p) → rank_below count p x ≡ 2 * (x - p)
 rank_above count p x hp hx le near = grind (arith, nat_tests)
 
+-- below p it is one less than twice the distance, as far as the range reaches to both sides
 pub rank_under : (count p x : ℕ) → p < count → x < count → x < p → p - x ≤ min p (count - 1 - p) → suc (rank_below count p x) ≡ 2 * (p - x)
 rank_under count p x hp hx lt near = grind (arith, nat_tests)
 
+-- and farther away, on either side, the distance and this reach
 pub rank_far : (count p x : ℕ) → p < count → x < count → min p (count - 1 - p) < abs_diff p x → rank_below count p x ≡ min p (count - 1 - p) + abs_diff p x
 rank_far count p x hp hx far = grind (arith, nat_tests)
 
@@ -33,6 +37,7 @@ number_with count p d =
     let t = min p (count - 1 - p) in
     if nat_le d (2 * t) then (if d % 2 == 0 then p + d / 2 else p - (d + 1) / 2) else if nat_le p t then d else count - 1 - d
 
+-- this number has that rank, where the rank is below the count
 pub rank_of_number : (count p d : ℕ) → p < count → d < count → rank_below count p (number_with count p d) ≡ d
 unfolding number_with
 rank_of_number count p d hp hd = grind (arith, nat_tests)

@@ -15,6 +15,7 @@ last_number-push : (p : ℕ) (xs : List ℕ) (x : ℕ) → last_number p (xs ++ 
 last_number-push p [] x = refl
 last_number-push p (y ∷ xs) x = last_number-push y xs x
 
+-- the ranks of numbers and of others behind them, which go on from the last of these numbers
 pub ranks_below-append : (count p : ℕ) (xs ys : List ℕ) → ranks_below count p (xs ++ ys) ≡ ranks_below count p xs ++ ranks_below count (last_number p xs) ys
 ranks_below-append count p [] ys = refl
 ranks_below-append count p (x ∷ xs) ys = ap (λ v. rank_below count p x ∷ v) (ranks_below-append count x xs ys)
@@ -57,6 +58,7 @@ long_enough {A = A} m xs e = omega (arith, e, all m xs)
     all (suc n) [] = omega arith
     all (suc n) (x ∷ xs) = omega (arith, all n xs)
 
+-- the number at place n is the last of the first n + 1
 pub last_taken : (p n m : ℕ) (xs : List ℕ) (d : ℕ) → m ≡ n + 1 → n < length xs → get_or xs n d ≡ last_number p (take m xs)
 last_taken p n m xs d e h = sym (ap (λ k. last_number p (take k xs)) e ∙ (ap (last_number p) (take_more xs n d h) ∙ last_number-push p (take n xs) (get_or xs n d)))
 

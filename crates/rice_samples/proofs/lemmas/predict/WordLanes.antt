@@ -15,6 +15,7 @@ one_word w m l h k lt =
     let part : m * 2 ^ w ≤ 255 * 2 ^ w = mul-le-mul_right (2 ^ w) (omega (arith, k)) in
     omega (arith, most, part, lt)
 
+-- high parts of a byte, moved up at most 24 places in lanes of 32 bits, and with the low parts added, are the joined numbers
 pub wide-joined : (w n : ℕ) (ms ls : List ℕ) → w ≤ 24 → length ms ≡ n → length ls ≡ n → All (λ m. m < 256) ms → All (λ l. l < 2 ^ w) ls
     → zip2 (λ a b. (a + b) % 4294967296) (zip2 (λ c s. c * 2 ^ s % 4294967296) ms (replicate n w)) ls ≡ joined_parts w ms ls
 wide-joined w n [] ls h e f small low = refl

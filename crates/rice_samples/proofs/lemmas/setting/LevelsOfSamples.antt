@@ -17,6 +17,7 @@ same_gap (negsuc a) (pos x) (negsuc y) h k e = absurd (omega (arith, ints))
 same_gap (negsuc a) (negsuc x) (pos y) h k e = absurd (omega (arith, ints))
 same_gap (negsuc a) (negsuc x) (negsuc y) h k e = ap (λ n. negsuc n) (omega (arith, ints))
 
+-- samples with the same level are the same
 pub same_level : (s : Parameters) (x y : ℤ) → IsSample s x → IsSample s y → level s x ≡ level s y → x ≡ y
 same_level s x y h k e = same_gap (least s) x y h.0 k.0 e
 
@@ -34,6 +35,7 @@ fits_unsigned : (n : ℕ) (x : ℤ) → pos 0 ≤ℤ x → int_gap (pos 0) x < 2
 fits_unsigned n (pos v) h k = omega (arith, ints)
 fits_unsigned n (negsuc v) h k = absurd (omega (arith, ints))
 
+-- the pattern of a sample is below the count of values
 pub pattern_fits : (s : Parameters) (x : ℤ) → 1 ≤ s.bits → IsSample s x → pattern s x < value_count s
 pattern_fits s x h k = by_sign s.signed s.bits x h k.0 k.1
   where
@@ -42,6 +44,7 @@ pattern_fits s x h k = by_sign s.signed s.bits x h k.0 k.1
     by_sign true n x h l g = fits_signed n (2 ^ (n - 1)) x (half_pow n h) (pow_pos (n - 1)) l g
     by_sign false n x h l g = fits_unsigned n x l g
 
+-- 0 is a legal value, signed or not
 pub zero_is_sample : (s : Parameters) → 1 ≤ s.bits → IsSample s (pos 0)
 zero_is_sample s h = by_sign s.signed s.bits h
   where

@@ -7,26 +7,33 @@ use Rattle.rice_samples.specs.predict.Residuals.{rank_below, ranks, ranks_below,
 use Rattle.rice_samples.proofs.lemmas.setting.ValuesAboveLeast.{gap_above, sample_at}
 use Rattle.rice_samples.proofs.lemmas.setting.LevelsOfSamples.{same_level}
 
+-- the value at a level has this level
 pub level_of_value : (s : Parameters) (l : ℕ) → level s (value_at s l) ≡ l
 level_of_value s l = gap_above (least s) l
 
+-- a sample is the value at its level
 pub value_of_level : (s : Parameters) (x : ℤ) → IsSample s x → value_at s (level s x) ≡ x
 value_of_level s x h = same_level s (value_at s (level s x)) x (sample_at s (level s x) h.1) h (level_of_value s (level s x))
 
+-- the values at levels below the count of values are samples
 pub legal_values : (s : Parameters) (ls : List ℕ) → All (λ l. l < value_count s) ls → All (IsSample s) (values_at s ls)
 legal_values s ls h = All-map (IsSample s) (value_at s) ls (λ k d lt. sample_at s (slice_index_or ls k d) (h k d lt))
 
+-- there are as many values as levels
 pub length-values : (s : Parameters) (ls : List ℕ) → length (values_at s ls) ≡ length ls
 length-values s ls = length-map ls (value_at s)
 
+-- the ranks of values are those of their levels
 pub ranks_of_values : (s : Parameters) (p : ℕ) (ls : List ℕ) → ranks s (value_at s p) (values_at s ls) ≡ ranks_below (value_count s) p ls
 ranks_of_values s p [] = refl
 ranks_of_values s p (l ∷ ls) = λ i. rank_below (value_count s) (level_of_value s p i) (level_of_value s l i) ∷ ranks_of_values s l ls i
 
+-- the values at one level again and again are its value again and again
 pub values_replicate : (s : Parameters) (n l : ℕ) → values_at s (replicate n l) ≡ replicate n (value_at s l)
 values_replicate s zero l = refl
 values_replicate s (suc n) l = ap (λ xs. value_at s l ∷ xs) (values_replicate s n l)
 
+-- the last of some samples, where there are any, stands at the last place
 pub last_at : (p d : ℤ) (xs : List ℤ) → 0 < length xs → last_of p xs ≡ slice_index_or xs (length xs - 1) d
 last_at p d [] h = absurd (omega arith)
 last_at p d (x ∷ []) h = refl
