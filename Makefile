@@ -13,7 +13,7 @@ PYTHON_CODES ?= 1000000
 LIBRARY_CODES ?= 1000000
 
 .DEFAULT_GOAL := help
-.PHONY: help library compat python install install-command install-library install-compat uninstall check clean dist release deb released two-builds test test-each rows hostile interop exhaustive any-block refused-memory installed recipes documents options guesses vectors pictures imports progress bench-others bench examples stack header axioms hostile-library hostile-pulls clients hostile-compat python-tests aarch64 bench-compat bench-library wrappers clauses trusted plant
+.PHONY: help library compat python install install-command install-library install-compat uninstall check clean dist release deb released two-builds test test-each rows hostile interop exhaustive any-block refused-memory installed recipes documents options guesses vectors pictures imports lemmas progress bench-others bench examples stack header axioms hostile-library hostile-pulls clients hostile-compat python-tests aarch64 bench-compat bench-library wrappers clauses trusted plant
 
 help:
 	@echo 'make aec                    prove and build the program, as ./aec (some fifteen minutes the first time)'
@@ -64,6 +64,7 @@ help:
 	@echo 'make wrappers               turn the wrappers of readers, writers and the runtime into wrong ones, which the tests refuse'
 	@echo 'make clauses                compare the clauses of public calls with the edits that must fail'
 	@echo 'make imports                look for imports of definitions that no clause uses'
+	@echo 'make lemmas                 look for public lemmas below no line that says what they state'
 	@echo 'make trusted                compare docs/TRUSTED.md with the definitions that the promises rest on'
 	@echo 'make plant                  plant wrong bodies under all contracts, and compare what is proved with docs/PLANTS.md (hours)'
 	@echo "make bench-library          compare the speed of the library and Debian's libaec (libaec-dev)"
@@ -334,6 +335,9 @@ trusted:
 
 imports:
 	scripts/unused_imports.py
+
+lemmas:
+	scripts/lemma_lines.py
 
 plant:
 	scripts/plant_wrong_bodies.py
