@@ -64,7 +64,7 @@ help:
 	@echo 'make wrappers               turn the wrappers of readers, writers and the runtime into wrong ones, which the tests refuse'
 	@echo 'make clauses                compare the clauses of public calls with the edits that must fail'
 	@echo 'make imports                look for imports of definitions that no clause uses'
-	@echo 'make lemmas                 look for public lemmas below no line that says what they state'
+	@echo 'make lemmas                 look for public lemmas without a line that says what they state, and for long lines'
 	@echo 'make trusted                compare docs/TRUSTED.md with the definitions that the promises rest on'
 	@echo 'make plant                  plant wrong bodies under all contracts, and compare what is proved with docs/PLANTS.md (hours)'
 	@echo "make bench-library          compare the speed of the library and Debian's libaec (libaec-dev)"

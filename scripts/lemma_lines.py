@@ -9,7 +9,7 @@ import re
 import subprocess
 import sys
 
-LEMMA = re.compile(r"pub ([A-Za-z][^\s:]*) : ")
+LEMMA = re.compile(r"(?:  )?pub ([A-Za-z][^\s:]*) : ")
 COLUMNS = 200
 
 
@@ -17,11 +17,15 @@ def faults(path):
     """Yields what is wrong in a file, with the number of its line."""
     with open(path, encoding="utf-8") as file:
         lines = file.read().split("\n")
+    outer = ""  # the last line that is not indented: below that of a module, what is public is a lemma, and not a field
     for number, (before, line) in enumerate(zip(["", *lines], lines), 1):
         if len(line) > COLUMNS:
             yield number, f"{len(line)} columns"
+        if re.match(r"[^\s-]", line):
+            outer = line
         lemma = LEMMA.match(line)
-        if lemma and "/proofs/lemmas/" in path and not before.startswith("--"):
+        states = lemma and (outer == line or outer.startswith("module"))
+        if states and "/proofs/lemmas/" in path and not before.lstrip().startswith("--"):
             yield number, f"no line says what {lemma[1]} states"
 
 

@@ -490,11 +490,12 @@ fn devices_over_buffers(rt: HostRuntime) -> Result<(), Fail> {
     let behind = FailingWriter { bytes_before: 10 };
     let mut outlet = FromBufWriter::new(BufWriter::with_capacity(rt.alloc(), 4, behind)?);
     cases.check(outlet.put(&[1, 2]) == Ok(2));
-    cases.check(outlet.put(&[3, 4, 5]) == Ok(3));
+    cases.check(outlet.put(&[3, 4, 5]) == Ok(2));
+    cases.check(outlet.put(&[5]) == Ok(1));
     cases.check(outlet.put(&[6]) == Ok(1));
     cases.check(outlet.failures() == 0);
     let waiting = outlet.into_inner();
-    cases.check(waiting.buffer() == [3, 4, 5, 6].as_slice());
+    cases.check(waiting.buffer() == [5, 6].as_slice());
     cases.end()
 }
 

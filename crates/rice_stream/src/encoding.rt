@@ -30,8 +30,9 @@ pub(crate) const LONGEST: usize = 4096;
 /// than to code a few such intervals.
 pub(crate) const SHORT: usize = 128;
 
-/// The fewest bits of the segments before the last one of a row. Where blocks are longest, the sink has room for one segment alone.
-const LEAST_BITS_OF_ROW: u64 = 4096;
+/// The least room, in bits, for the segments before the last one of a row. With the longest blocks there is less, and segments go
+/// one by one.
+const LEAST_ROOM_OF_ROW: u64 = 4096;
 
 /// A coder with room for `N` residuals, its sink, its meter, and what it has counted for the report.
 #[derive(Drop)]
@@ -186,7 +187,7 @@ impl<const N: usize> Encoding<N> {
         ensures { result ≡ true → (xs : List ℤ) → HasTaken self.now.coder xs →
             cut self.now.coder.setting (length xs) ≡ length xs }
     {
-        if N > SHORT || self.coder.most_before() < LEAST_BITS_OF_ROW {
+        if N > SHORT || self.coder.most_before() < LEAST_ROOM_OF_ROW {
             return false;
         }
         self.coder.pending() == 0

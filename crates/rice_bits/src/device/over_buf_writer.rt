@@ -61,8 +61,8 @@ impl<W: Write + Drop> FromBufWriter<W> {
         }
     }
 
-    /// Takes bytes that the buffer may have no room for: so many of them that it is full, where it has some, since writing takes less
-    /// where each write begins and ends with a page of the file.
+    /// Takes bytes for which the buffer may have too little room. Where it has some, it takes only as many as fill it: a write takes
+    /// less time where it begins and ends with a page of the file.
     #[inline(never)]
     fn put_slowly(&mut self, bytes: &[u8]) -> Result<usize, WriteFault>
         requires some { 0 < length bytes.now }

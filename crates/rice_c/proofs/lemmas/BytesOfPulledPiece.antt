@@ -16,6 +16,7 @@ written_fits s old new piece room count rest pauses.ResidualTooLarge at = let h 
 written_fits s old new piece room count rest pauses.TooLong at = let e : width s * count ≡ 0 = ap (λ n. width s * n) at.none ∙ omega arith in omega arith
 
 module _ (s : Parameters) (o : Origin) (front : List Bool) (given : List ℤ) (piece : List ℕ) (old new : Stand) (out_old out : List ℕ) (pause : Pause) where
+  -- behind a piece stand as many samples more as it gave
   pub more_samples : IsStand s o old front given → (d : DecodesMore s o front given piece old out_old out new pause) → new.samples ≡ old.samples + length d.samples
   more_samples h d = omega (arith, h.samples, d.stands.samples, length-append given d.samples)
 
@@ -24,5 +25,6 @@ module _ (s : Parameters) (o : Origin) (front : List Bool) (given : List ℤ) (p
       → w * (new.samples - old.samples) ≡ width s * length d.samples
   bytes_written w e h d = let n : new.samples - old.samples ≡ length d.samples = omega (arith, more_samples h d) in (λ i. e i * n i)
 
+  -- the bytes of these samples fit the memory that they are written to
   pub bytes_fit : (w : ℕ) → w ≡ width s → IsStand s o old front given → DecodesMore s o front given piece old out_old out new pause → w * (new.samples - old.samples) ≤ length out_old
   bytes_fit w e h d = omega (arith, bytes_written w e h d, written_fits s old new piece (length out_old) (length d.samples) d.rest pause d.pauses_at)

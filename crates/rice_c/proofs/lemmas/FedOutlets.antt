@@ -22,6 +22,7 @@ unfolding room_of
 fills_nothing a b e = let same : b ≡ a = ap (λ o. room_of o a) e in record { borrow = ap (λ r. r.borrow) same; bytes = ap (λ r. r.bytes) same ∙ sym (append-nil a.bytes); rest = ap (λ r. r.rest) same }
 
 module _ (s : Parameters) (xs : List ℤ) (input : List ℕ) (a b : Room) where
+  -- whatever becomes of a piece that is fed, the outlet has some bytes more
   pub more_fills : (r : Result Seam Fault) → EncodesMore s xs input (Some a) (Some b) r → (more : List ℕ) × Fills a b more
   more_fills (Ok seam) h = (h.writes.more, h.writes.took)
   more_fills (Err (SampleOutOfRange index)) h = (h.1.writes.more, h.1.writes.took)
@@ -33,6 +34,7 @@ module _ (s : Parameters) (xs : List ℤ) (input : List ℕ) (a b : Room) where
   more_fills (Err (RunPastSegment block)) h = absurd h
   more_fills (Err (ResidualTooLarge block)) h = absurd h
 
+  -- and it has failed if, and only if, the answer says so
   pub more_fails : (r : Result Seam Fault) (n : ℕ) → EncodesMore s xs input (Some a) (Some b) r → PushFails 0 n r → Fails (fault_of r) 0 0 0 n
   more_fails (Ok seam) n h f = (refl, f)
   more_fails (Err (SampleOutOfRange index)) n h f = (refl, f)
@@ -44,6 +46,7 @@ module _ (s : Parameters) (xs : List ℤ) (input : List ℕ) (a b : Room) where
   more_fails (Err (RunPastSegment block)) n h f = absurd h
   more_fails (Err (ResidualTooLarge block)) n h f = absurd h
 
+  -- and so it is with the last piece
   pub rest_fills : (r : Report) (fault : Option Fault) → EncodesRest s xs input (Some a) (Some b) r fault → (more : List ℕ) × Fills a b more
   rest_fills r None h = (h.3.more, h.3.took)
   rest_fills r (Some (SampleOutOfRange index)) h = (h.1.writes.more, h.1.writes.took)

@@ -4,6 +4,7 @@ use Rattle.std.specs.Prelude.{List, [], ◌∷◌, ◌++◌, length, replicate, 
 use Rattle.rice_samples.specs.Parameters.{Parameters, IsLegal, IsSample, value_count}
 use Rattle.rice_samples.specs.Places.{place, begins_segment, blocks_left}
 use Rattle.rice_samples.specs.predict.Residuals.{pattern, rank, last_of}
+use Rattle.rice_code.specs.Bounds.{block_bound}
 use Rattle.rice_code.specs.code.Blocks.{BlockData}
 use Rattle.rice_code.specs.code.Code.{data_sets}
 use Rattle.rice_code.specs.code.CodedDataSets.{CodedDataSet, bits_of_set}
@@ -43,13 +44,13 @@ is_empty (d ∷ ds) = false
 abbrev pub HoldsAnySegment : ℕ → Parameters → Type 0
 HoldsAnySegment size s = (b : ℕ) → s.block * blocks_left s b ≤ size
 
--- how many bits a coder's sink may hold where it has room for the code of a segment behind them: 64 blocks take an identifier and words of as many bits as there may be
+-- how many bits a coder's sink may hold where it has room behind them for 64 blocks, each an identifier of 5 bits and words of 32
 abbrev pub most_before : Parameters → ℕ
 most_before s = sink_bits - 64 * (5 + 32 * s.block)
 
--- A coder's sink has room for the code of a segment: it holds less than a byte, or not so much.
+-- A coder's sink has room for the code of a segment: it holds less than a byte, or so much is left.
 abbrev pub HasRoomForSegment : Parameters → List Bool → Type 0
-HasRoomForSegment s sink = (length sink ≤ 7) ⊎ (length sink ≤ most_before s)
+HasRoomForSegment s sink = (length sink ≤ 7) ⊎ (length sink + 64 * block_bound s ≤ sink_bits)
 
 -- a coder that holds nothing
 abbrev pub empty_state : Parameters → CoderState

@@ -59,6 +59,8 @@ impl SizedCoder<4096> {
 }
 
 impl<const N: usize> SizedCoder<N> {
+    ghost use Rattle.rice_code.specs.Bounds.{block_bound};
+    ghost use Rattle.rice_code.specs.encode.BitBuffer.{sink_bits};
     ghost use Rattle.rice_code.specs.encode.OpenSegment.{HoldsAnySegment, HasRoomForSegment, most_before, state_between};
     ghost use Rattle.rice_code.specs.code.Code.{complete_samples};
     ghost use Rattle.rice_code.specs.code.Blocks.{fill_count_of};
@@ -102,7 +104,8 @@ impl<const N: usize> SizedCoder<N> {
     /// Returns how many bits a sink may hold where `push_some` is to find room for the code of a segment.
     #[inline]
     pub fn most_before(&self) -> u64
-        ensures { result ≡ most_before self.now.setting }
+        ensures value { result ≡ most_before self.now.setting }
+        ensures room { result + 64 * block_bound self.now.setting ≤ sink_bits }
     {
         self.segment.most_before()
     }

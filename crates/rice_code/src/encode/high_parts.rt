@@ -266,7 +266,7 @@ fn put_sixteen_numbers_with_total(
     ensures { AddsBits (flat_map fundamental_sequence (drop from numbers))
         sink.old fields.old sink.new fields.new meter.old meter.new }
 {
-    // Asked first, and not together with the lanes: of both at once the compiler makes no single test of these.
+    // Asked first: asked together with it, the lanes are no longer tested by one instruction.
     if total > 56 {
         put_any_sixteen(numbers, from, fields, sink, meter);
         return;

@@ -6,8 +6,10 @@ ghost use Rattle.rice_samples.specs.Limits.{longest_interval, longest_segment};
 ghost use Rattle.rice_samples.specs.Parameters.{IsLegal, IsSample, value_at, value_count, values_at};
 ghost use Rattle.rice_samples.specs.Places.{blocks_left};
 ghost use Rattle.rice_samples.specs.predict.Residuals.{pattern, rank};
+ghost use Rattle.rice_code.specs.Bounds.{block_bound};
 ghost use Rattle.rice_code.specs.CoderSteps.{coding_steps};
 ghost use Rattle.rice_code.specs.code.Blocks.{fill_count};
+ghost use Rattle.rice_code.specs.encode.BitBuffer.{sink_bits};
 ghost use Rattle.rice_code.specs.encode.OpenSegment.{IsOpen, IsWhole, HoldsAnySegment, HasRoomForSegment, empty_state, state_between, state_after, state_after_all, state_with_later, later_residuals, state_with_fill, state_after_segment, HoldsSoundBlocks, CodesHeld, is_first, most_before};
 
 use crate::encode::SegmentSink;
@@ -122,7 +124,8 @@ impl<const N: usize> OpenSegment<N> {
     /// Returns how many bits a sink may hold, so that there is room for the code of the segment behind them.
     #[inline]
     pub fn most_before(&self) -> u64
-        ensures { result ≡ most_before self.now.setting }
+        ensures value { result ≡ most_before self.now.setting }
+        ensures room { result + 64 * block_bound self.now.setting ≤ sink_bits }
     {
         // Of the sink's 16,432 bytes, 64 blocks take an identifier and words of as many bits as there may be.
         let size = self.setting.block();

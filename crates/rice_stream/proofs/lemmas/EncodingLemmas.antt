@@ -52,7 +52,7 @@ Follows-trans old now new bytes more f a = record {
 pub Follows-all : (old new : Option Room) (bytes : List ℕ) → Follows (afresh old) new bytes → Appends old new bytes
 Follows-all old new bytes f = subst (λ (l : List ℕ). Appends old new l) (sym f.split) f.took
 
--- the levels from a place on, and the samples
+-- the levels from a place on, as many as are left, are all of them
 pub levels_from : (at : ℕ) (levels : List ℕ) → take (length levels - at) (drop at levels) ≡ drop at levels
 levels_from at levels = ap (λ n. take n (drop at levels)) (sym (length-drop at levels)) ∙ take-length (drop at levels)
 
@@ -60,11 +60,11 @@ levels_from at levels = ap (λ n. take n (drop at levels)) (sym (length-drop at 
 pub samples_from : (s : Parameters) (at : ℕ) (levels : List ℕ) → values_at s (take (length levels - at) (drop at levels)) ≡ drop at (values_at s levels)
 samples_from s at levels = ap (values_at s) (levels_from at levels) ∙ sym (drop-map (value_at s) at levels)
 
--- some samples, and some of those behind them
+-- the first samples up to a place, and then the next n, are the first at + n
 pub samples_on : (xs samples : List ℤ) (at n : ℕ) → (xs ++ take at samples) ++ take n (drop at samples) ≡ xs ++ take (at + n) samples
 samples_on xs samples at n = append_assoc xs (take at samples) (take n (drop at samples)) ∙ ap (λ l. xs ++ l) (sym (take-add at n samples))
 
--- those levels are legal too, and few
+-- the levels from a place on are legal too
 pub legal_from : (count at : ℕ) (levels : List ℕ) → All (λ l. l < count) levels → All (λ l. l < count) (take (length levels - at) (drop at levels))
 legal_from count at levels legal = subst (All (λ l. l < count)) (sym (levels_from at levels)) (All-drop (λ l. l < count) at levels legal)
 

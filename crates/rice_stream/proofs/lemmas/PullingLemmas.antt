@@ -85,6 +85,7 @@ module _ {I : Type 0} (s : Parameters) (stand next : Stand) (r new : Reader I) (
             (subst (λ (n : ℕ). HasSets s h.sets front n) end h.has_sets) (subst (λ (n : ℕ). DecodedSoFar s front h.begun h.blocks n given) none h.decoded) k.gives
       ]
 
+  -- by such steps the next block is given where the code stands
   pub gives_next : (o : Origin) (front : List Bool) (given : List ℤ) → Steps → IsStand s o stand front given → GivesNext s o front given next r new xs
   gives_next o front given t h =
       let g = gained o front given t h in
@@ -120,6 +121,7 @@ module _ {I : Type 0} (s : Parameters) (stand next : Stand) (r new : Reader I) (
         };
       }
 
+  -- and a decoder in the state of the next place goes on there
   pub goes_on_at : (o : Origin) (front : List Bool) (given : List ℤ) (q : DecoderState) → q ≡ state_of s next → Steps → IsStand s o stand front given → GoesOnAt s stand next q r new
   goes_on_at o front given q same t h =
       let g = gained o front given t h in

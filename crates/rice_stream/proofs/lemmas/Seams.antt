@@ -30,7 +30,7 @@ use Rattle.rice_stream.proofs.lemmas.EncodingLemmas.{counts_small}
 use Rattle.rice_stream.proofs.lemmas.SamplesOfFirstBytes.{stops_before, none_left, few_more}
 use Rattle.rice_samples.proofs.lemmas.bytes.SpellingLengths.{some_width, length-spellings}
 
--- no bits are the word of 0 of their length
+-- a list of no bits is the word of 0 of its length
 pub no_bits : (bits : List Bool) → length bits ≡ 0 → word (length bits) 0 ≡ bits
 no_bits [] e = word-nil 0
 no_bits (x ∷ bits) e = absurd (omega arith)
@@ -269,6 +269,7 @@ module _ {N : ℕ} (s : Parameters) (old new : Option Room) (e : Encoding N) (r 
   rest_stops_at (RunPastSegment block) told bad = absurd bad
   rest_stops_at (ResidualTooLarge block) told bad = absurd bad
 
+  -- where a push stops in the last piece, its fault is what the piece tells
   pub rest_stops : (f : Fault) (g : Option Fault) → g ≡ Some f → ((ys : List ℤ) → CountsSamples s e ys → ReportsTaken s r ys)
       → Pushes {T = Unit {0}} s (behind s xs old) new e xs bytes (Err f) → EncodesRest s xs bytes old new r g
   rest_stops f g is told m = subst (EncodesRest s xs bytes old new r) (sym is) (rest_stops_at f told m)

@@ -111,7 +111,7 @@ low_set_cut {old} {mid} {new} first {last} {s} {b} {id} {f} lt e t steps cut =
     behind true y h = h
     behind false y h = absurd (let none : false ≡ true = h in cc)
 
--- what a block by no compression says
+-- one whose identifier and block by no compression were read was read
 pub no_compression_set : {I : Type 0} {old mid new : Reader I} {first second last : ℕ} {s : Parameters} {b id : ℕ} (r : Option ℕ) (sound near : Bool) {items : List ℕ}
     → id ≡ 2 ^ id_len s - 1 → Takes old mid (word (id_len s) id) → second + old.taken ≡ first + mid.taken
     → BlockRead mid new second last s b NoCompression (record { reference = r; sound = sound }) items → SetRead old new first last s b (Residuals r sound near) items
@@ -131,7 +131,7 @@ no_compression_set {old} {mid} {new} r sound near e t steps read = record {
   steps = omega (arith, read.steps);
 }
 
--- what a block by a split says
+-- one whose identifier and block by a split were read was read
 pub split_set : {I : Type 0} {old mid new : Reader I} {first second last : ℕ} {s : Parameters} {b : ℕ} (id k : ℕ) (r : Option ℕ) (sound near : Bool) {items : List ℕ}
     → id ≡ k + 1 → Takes old mid (word (id_len s) id) → second + old.taken ≡ first + mid.taken
     → BlockRead mid new second last s b (Split k) (record { reference = r; sound = sound }) items → SetRead old new first last s b (Residuals r sound near) items

@@ -55,13 +55,8 @@ segment_room s n h k =
 pub room_behind : (s : Parameters) (n : ℕ) (sink : List Bool) → IsLegal s → n ≤ 64 → HasRoomForSegment s sink → length sink + n * block_bound s ≤ sink_bits
 room_behind s n sink legal few (inl short) = omega (arith, short, segment_room s n legal few)
 room_behind s n sink legal few (inr room) =
-    let low : 2 ≤ s.block = grind (arith, legal.block) in
-    let high : s.block ≤ 64 = grind (arith, legal.block) in
-    let id : id_len s ≤ 5 = grind (arith, nat_tests) in
-    let words : s.block * s.bits ≤ s.block * 32 = mul-le-mul_left s.block legal.bits_to in
-    let bound : block_bound s ≤ 5 + 32 * s.block = omega (arith, words, id, low, legal.bits_to) in
     let all : n * block_bound s ≤ 64 * block_bound s = mul-le-mul_right (block_bound s) few in
-    omega (arith, all, bound, high, room)
+    omega (arith, all, room)
 
 -- and the steps
 pub segment_meter : (n bound looks m len : ℕ) → n ≤ 64 → len ≤ n * bound → m + 64 * (bound + looks) < 2 ^ 62 → m + len + n * looks < 2 ^ 62

@@ -46,7 +46,7 @@ one_more_times from i w le = let e : i + 1 - from ≡ suc (i - from) = omega ari
 pub split_times : (n from to w : ℕ) → from ≤ to → to ≤ n → (n - from) * w ≡ (to - from) * w + (n - to) * w
 split_times n from to w h k = let e : n - from ≡ (to - from) + (n - to) = omega arith in ap (λ m. m * w) e ∙ (omega arith)
 
--- what is summed over both
+-- and so is a sum over it
 pub split_summed : (g : ℕ → ℕ) (ds : List ℕ) (from to : ℕ) → from ≤ to → sum_by g (drop from ds) ≡ sum_by g (slice_range ds from to) + sum_by g (drop to ds)
 split_summed g ds from to le = ap (sum_by g) (drop_split ds from to le) ∙ sum_by-append g (slice_range ds from to) (drop to ds)
 

@@ -30,7 +30,7 @@ abbrev seconds : List ℕ → List ℕ
 seconds (x ∷ y ∷ xs) = y ∷ seconds xs
 seconds _ = []
 
--- the lanes that a vector of 16 is parted in
+-- of a vector of 16, the lanes at even places are the first of each two, those at odd places the second
 pub parted_sixteen : (xs : List ℕ) → length xs ≡ 16 →
     (pick_l 0 (xs ++ xs) (0 ∷ 2 ∷ 4 ∷ 6 ∷ 8 ∷ 10 ∷ 12 ∷ 14 ∷ []) ≡ firsts xs) × (pick_l 0 (xs ++ xs) (1 ∷ 3 ∷ 5 ∷ 7 ∷ 9 ∷ 11 ∷ 13 ∷ 15 ∷ []) ≡ seconds xs)
 parted_sixteen (a ∷ b ∷ c ∷ d ∷ e ∷ f ∷ g ∷ h ∷ i ∷ j ∷ k ∷ l ∷ m ∷ n ∷ o ∷ p ∷ []) len = (refl, refl)
@@ -226,7 +226,7 @@ sixteen_joined ms {ws} {v2} {w2} {v4} {w4} {v8} {w8} len e a2 b2 a4 b4 a8 b8 =
     ∙ ((λ i. whole_value (a2 i) (b2 i)) ∙ (value_kept 8 ones ws l0 n0
     ∙ ((λ i. whole_value (replicate (sym len i) 1) (e i)) ∙ sym (sequences_are_whole ms))))))))
 
--- what the table gives
+-- at numbers of at most 6 the table has their weights
 pub weights_swizzled : (ms : List ℕ) → length ms ≡ 16 → Each1 (λ m. m ≤ 6) ms → swz_l w8 16 WEIGHTS 0 ms ≡ map weight ms
 weights_swizzled ms len small = each 0 ms (omega arith) small
   where
@@ -252,7 +252,7 @@ weights_swizzled ms len small = each 0 ms (omega arith) small
         let one = picked i m (omega arith) k.0 in
         λ j. one j ∷ rest j
 
--- the places in the table
+-- numbers of at most 6 are places of the table
 pub places_are_ok : (ms : List ℕ) → length ms ≡ 16 → Each1 (λ m. m ≤ 6) ms → SwzOk w8 16 16 0 ms
 places_are_ok ms len small = SwzOk-from_below w8 16 1 16 0 ms (omega arith) (omega arith) (wider ms small)
   where
@@ -260,7 +260,7 @@ places_are_ok ms len small = SwzOk-from_below w8 16 1 16 0 ms (omega arith) (ome
     wider [] h = tt
     wider (m ∷ ms) h = (omega (arith, h.0), wider ms h.1)
 
--- the weights of numbers of at most 6
+-- the weights of numbers of at most 6 are at most 2^7
 pub weights_few : (ms : List ℕ) → Each1 (λ m. m ≤ 6) ms → Each1 (λ w. w ≤ 2 ^ 7) (map weight ms)
 weights_few [] h = tt
 weights_few (m ∷ ms) h = (pow-le-pow_right {n = 2} (omega arith) {i = m + 1} {j = 7} (omega (arith, h.0)), weights_few ms h.1)
@@ -327,7 +327,7 @@ joined_values_bounded a b c vs ws {more} le h k e =
     let few = all_of (λ v. v ≤ a * b + a) more (subst (Each1 (λ v. v ≤ a * b + a)) (sym e) (values_bounded a b vs ws (each_of (λ v. v ≤ a) vs h) (each_of (λ w. w ≤ b) ws k))) in
     λ i d lt. let one = few i d lt in omega (arith, one, le)
 
--- the numbers of the sequences themselves
+-- the number of each sequence is at most 1
 pub ones_bounded : (n : ℕ) → All (λ v. v ≤ 1) (replicate n 1)
 ones_bounded n = all_of (λ v. v ≤ 1) (replicate n 1) (each n)
   where
@@ -362,7 +362,7 @@ summed a (m ∷ ms) h few =
     let more = summed (a + m) ms h.1 (omega (arith, h.0, few)) in
     ap (λ x. fold_l (λ x y. (x + y) % 256) x ms + suc (length ms)) here ∙ omega (arith, more, len)
 
--- how many bits sixteen sequences have
+-- 16 and the sum of the lanes is how many bits sixteen sequences have
 pub len_of_row : (ms : List ℕ) → length ms ≡ 16 → Each1 (λ m. m ≤ 6) ms → fold_l (λ x y. (x + y) % 256) 0 ms + 16 ≡ length (flat_map fundamental_sequence ms)
 len_of_row ms len h = let all = summed 0 ms h (omega (arith, len)) in omega (arith, all, len)
 

@@ -1,7 +1,7 @@
 use Rattle.std.proofs.Common.{arith, rules, ◌≡◌, ◌<◌, ◌≤◌, ◌++◌, zero, suc, refl, length, take, ap, sym, ◌∙◌, subst, inr, append-nil, length-drop, List, ℕ, ℤ}
 use Rattle.rice_samples.specs.Limits.{most_input}
 use Rattle.rice_samples.specs.Parameters.{Parameters, value_count, values_at}
-use Rattle.rice_code.specs.encode.OpenSegment.{most_before}
+use Rattle.rice_code.specs.Bounds.{block_bound}
 use Rattle.rice_stream.specs.EncodingState.{HoldsCode}
 use Rattle.rice_stream.proofs.lemmas.EncodingLemmas.{few_from, legal_from, levels_from, samples_from}
 use Rattle.rice_stream.proofs.lemmas.RowsOfSegments.{TakesNext, code_short, goes_on_at_first, row_goes_on, row_inside}
@@ -21,7 +21,7 @@ returns-then-len-most-clause-some g c some =
     let short : c.loop-at.at ≡ 0 → length c.loop-at.self.sink ≤ 7 = i.begins in
     let legal = c.requires.holds.counts.stands.holds.legal in
     let block : c.args.self.now.coder.setting.block ≤ 64 = grind (arith, legal.block) in
-    let enough : 64 ≤ c.most_before-most.result = omega (arith, c.most_before-most.ensures, block) in
+    let enough : 64 ≤ c.most_before-most.result = omega (arith, c.most_before-most.ensures.value, block) in
     some_taken c.loop-at.at (length c.loop-at.self.sink) c.most_before-most.result short enough (omega (arith, c.if-len-most.true, c.len.ensures.value))
   where
     some_taken : (n size most : ℕ) → (n ≡ 0 → size ≤ 7) → 64 ≤ most → most < size → 0 < n
@@ -36,7 +36,7 @@ push_to_coder-at-requires g c =
     let at = c.loop-at.at in
     let i = c.loop-at.invariant in
     let holds = i.holds k.setting k.before k.holds in
-    let same = ap most_before (holds.counts.setting ∙ sym k.holds.counts.setting) in (
+    let same = ap block_bound (holds.counts.setting ∙ sym k.holds.counts.setting) in (
       search rules,
       (
         record {
@@ -47,7 +47,7 @@ push_to_coder-at-requires g c =
           legal = legal_from (value_count k.setting) at levels k.legal;
           few = few_from k.setting k.before at levels most_input k.few i.within;
         },
-        inr (omega (arith, c.most_before-most.ensures, c.if-len-most.false, c.len.ensures.value, same)),
+        inr (omega (arith, c.most_before-most.ensures.room, c.if-len-most.false, c.len.ensures.value, same)),
       ),
     )
 
