@@ -2,7 +2,7 @@
 use Rattle.std.specs.Prelude.{ℕ, ◌+◌, ◌-◌, ◌*◌, ◌/◌, ◌^◌, Bool, List, length, drop, flat_map, sum_by}
 use Rattle.rice_bits.specs.Bits.{word, fundamental_sequence}
 use Rattle.rice_samples.specs.blocks.Pairs.{pair_codes}
-use Rattle.rice_code.specs.encode.BitBuffer.{HasRoomFor, AddsFields}
+use Rattle.rice_code.specs.encode.BitBuffer.{HasRoomFor, HasRoomForBits, AddsBits, AddsFields}
 
 -- `width` lowest digits of each of n residuals, and a look at each
 abbrev pub HasRoomForLow : ℕ → ℕ → ℕ → ℕ → Type 0
@@ -28,6 +28,13 @@ abbrev pub AddsOnes : ℕ → ℕ → ℕ → List ℕ → List Bool → List Bo
 AddsOnes k looks n ds sink_old fields_old sink_new fields_new meter_old meter_new =
     AddsFields (flat_map (λ d. fundamental_sequence (d / 2 ^ k)) ds) (n + sum_by (λ d. d / 2 ^ k) ds) (looks + (n + sum_by (λ d. d / 2 ^ k) ds)) sink_old fields_old sink_new fields_new
     meter_old meter_new
+
+-- the fundamental sequences of numbers, which are looked at already
+abbrev pub HasRoomForSequences : List ℕ → ℕ → ℕ → Type 0
+HasRoomForSequences ms bits meter = HasRoomForBits (flat_map fundamental_sequence ms) bits meter
+
+abbrev pub AddsSequences : List ℕ → List Bool → List Bool → List Bool → List Bool → ℕ → ℕ → Type 0
+AddsSequences ms sink_old fields_old sink_new fields_new meter_old meter_new = AddsBits (flat_map fundamental_sequence ms) sink_old fields_old sink_new fields_new meter_old meter_new
 
 -- the bits of the codewords that second extension sends for the pairs
 abbrev pub pairs_len : List ℕ → ℕ

@@ -5,7 +5,7 @@ ghost use Rattle.rice_bits.specs.Limits.{step_limit};
 ghost use Rattle.rice_bits.specs.Bits.{fundamental_sequence};
 ghost use Rattle.rice_code.specs.encode.BitBuffer.{HasRoomFor, HasRoomForBits, AddsBits};
 ghost use Rattle.rice_code.specs.encode.GatheredSequences.{Gathers, four_sequences, sequences_from};
-ghost use Rattle.rice_code.specs.encode.SentParts.{HasRoomForOnes, AddsOnes};
+ghost use Rattle.rice_code.specs.encode.SentParts.{HasRoomForOnes, AddsOnes, HasRoomForSequences, AddsSequences};
 
 use crate::encode::SegmentSink;
 use crate::encode::bit_buffer::BitBuffer;
@@ -14,7 +14,7 @@ use crate::encode::gathered_sequences::{
     number_and_len_of_ones, ones_with_four_sequences,
 };
 use crate::encode::sequences_by_products::{
-    are_at_most_six, len_of_sequences_from, number_of_sequences_from, numbers_in_bytes,
+    are_at_most_six, joined_sequences_from, len_of_sequences_from, numbers_in_bytes,
 };
 use rice_bits::Meter;
 use rice_samples::Block;
@@ -261,9 +261,9 @@ fn put_sixteen_numbers_with_total(
     requires len { length numbers ≡ 16 }
     requires from { from ≤ 1 }
     requires total { total ≡ length (flat_map fundamental_sequence (drop from numbers)) }
-    requires room { HasRoomForBits (flat_map fundamental_sequence (drop from numbers))
+    requires room { HasRoomForSequences (drop from numbers)
         (length sink.old + length fields.old) (meter.old + length fields.old) }
-    ensures { AddsBits (flat_map fundamental_sequence (drop from numbers))
+    ensures { AddsSequences (drop from numbers)
         sink.old fields.old sink.new fields.new meter.old meter.new }
 {
     // Asked first: asked together with it, the lanes are no longer tested by one instruction.
@@ -273,7 +273,7 @@ fn put_sixteen_numbers_with_total(
     }
     let small = numbers_in_bytes(numbers);
     if are_at_most_six(small) {
-        let value = number_of_sequences_from(small, from, total as u32);
+        let value = joined_sequences_from(small, from, total as u32);
         fields.add(value, total as u32, sink, meter);
         return;
     }
@@ -291,16 +291,16 @@ fn put_sixteen_numbers(
 )
     requires len { length numbers ≡ 16 }
     requires from { from ≤ 1 }
-    requires room { HasRoomForBits (flat_map fundamental_sequence (drop from numbers))
+    requires room { HasRoomForSequences (drop from numbers)
         (length sink.old + length fields.old) (meter.old + length fields.old) }
-    ensures { AddsBits (flat_map fundamental_sequence (drop from numbers))
+    ensures { AddsSequences (drop from numbers)
         sink.old fields.old sink.new fields.new meter.old meter.new }
 {
     let small = numbers_in_bytes(numbers);
     if are_at_most_six(small) {
         let total = len_of_sequences_from(small, from);
         if total <= 56 {
-            let value = number_of_sequences_from(small, from, total);
+            let value = joined_sequences_from(small, from, total);
             fields.add(value, total, sink, meter);
             return;
         }
@@ -320,20 +320,20 @@ fn put_any_sixteen(
 )
     requires len { length numbers ≡ 16 }
     requires from { from ≤ 1 }
-    requires room { HasRoomForBits (flat_map fundamental_sequence (drop from numbers))
+    requires room { HasRoomForSequences (drop from numbers)
         (length sink.old + length fields.old) (meter.old + length fields.old) }
-    ensures { AddsBits (flat_map fundamental_sequence (drop from numbers))
+    ensures { AddsSequences (drop from numbers)
         sink.old fields.old sink.new fields.new meter.old meter.new }
 {
     let held = std::mem::replace(fields, BitBuffer::new());
     let mut steps = Meter::new();
-    *fields = put_sixteen_in_turn(&numbers.to_array(), from, held, sink, &mut steps);
+    *fields = put_any_sixteen_in_a_call(&numbers.to_array(), from, held, sink, &mut steps);
     meter.tick(steps.steps());
 }
 
 /// Adds them by bits that are set, all at once where they are short and else by fours, and returns the buffer.
 #[inline(never)]
-fn put_sixteen_in_turn(
+fn put_any_sixteen_in_a_call(
     numbers: &[u32; 16],
     from: usize,
     mut fields: BitBuffer,
@@ -341,9 +341,9 @@ fn put_sixteen_in_turn(
     meter: &mut Meter,
 ) -> BitBuffer
     requires from { from ≤ 1 }
-    requires room { HasRoomForBits (flat_map fundamental_sequence (drop from numbers.now))
+    requires room { HasRoomForSequences (drop from numbers.now)
         (length sink.old + length fields) (meter.old + length fields) }
-    ensures { AddsBits (flat_map fundamental_sequence (drop from numbers.now))
+    ensures { AddsSequences (drop from numbers.now)
         sink.old fields sink.new result meter.old meter.new }
 {
     let a = (numbers[0], numbers[1], numbers[2], numbers[3]);

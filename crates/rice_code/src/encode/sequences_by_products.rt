@@ -46,7 +46,7 @@ pub fn len_of_sequences_from(numbers: u8x16, from: usize) -> u32
 /// Returns the number whose digits are the fundamental sequences of 16 numbers of at most 6 from number `from` on, which is one
 /// of the first two: `total` bits.
 #[inline(always)]
-pub fn number_of_sequences_from(numbers: u8x16, from: usize, total: u32) -> u64
+pub fn joined_sequences_from(numbers: u8x16, from: usize, total: u32) -> u64
     requires len { length numbers ≡ 16 }
     requires small { All (λ m. m ≤ 6) numbers }
     requires from { from ≤ 1 }
@@ -54,7 +54,7 @@ pub fn number_of_sequences_from(numbers: u8x16, from: usize, total: u32) -> u64
     requires few { total ≤ 56 }
     ensures { HasDigits (flat_map fundamental_sequence (drop from numbers)) result total }
 {
-    let all = number_of_sequences(numbers);
+    let all = joined_sequences(numbers);
     if from == 0 {
         return all;
     }
@@ -64,7 +64,7 @@ pub fn number_of_sequences_from(numbers: u8x16, from: usize, total: u32) -> u64
 /// Returns the number whose digits are the fundamental sequences of 16 numbers of at most 6, one after the other: at most 56 bits,
 /// and before them the up to 7 of a number that is not sent.
 #[inline(always)]
-fn number_of_sequences(numbers: u8x16) -> u64
+fn joined_sequences(numbers: u8x16) -> u64
     requires len { length numbers ≡ 16 }
     requires small { All (λ m. m ≤ 6) numbers }
     requires few { length (flat_map fundamental_sequence numbers) ≤ 63 }

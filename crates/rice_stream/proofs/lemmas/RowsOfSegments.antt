@@ -7,15 +7,16 @@ use Rattle.std.proofs.lemmas.List.{length-take-le, take-append-le, take-take}
 use Rattle.rice_bits.specs.device.OutletRoom.{Room, Appends}
 use Rattle.rice_bits.specs.Bits.{bits_in_bytes, whole_bytes, word}
 use Rattle.rice_bits.proofs.lemmas.bits.BytesAndBits.{bits_of-whole_bytes, length-bits_of}
-use Rattle.rice_samples.specs.Parameters.{Parameters}
+use Rattle.rice_samples.specs.Limits.{most_input}
+use Rattle.rice_samples.specs.Parameters.{Parameters, value_count, values_at}
 use Rattle.rice_code.specs.code.Code.{early_output, code}
 use Rattle.rice_code.specs.encode.Coder.{HasTaken, complete_code}
 use Rattle.rice_code.specs.encode.OpenSegment.{CoderState, state_between}
 use Rattle.rice_stream.specs.DevicesInCalls.{StopsBetween}
-use Rattle.rice_stream.specs.EncodingState.{Beginning, CountsSamples, IsEncodingOf, HoldsCode, TakesSamples, GoesOnInside, IsRowStart, StopsAt, FailsIn, whole_part}
+use Rattle.rice_stream.specs.EncodingState.{Beginning, CanTakeFrom, CanTakeMore, CountsSamples, IsEncodingOf, HoldsCode, TakesSamples, GoesOnInside, IsRowStart, StopsAt, FailsIn, whole_part}
 use Rattle.rice_stream.specs.declared.encoding.Encoding.{Encoding}
 use Rattle.rice_stream.specs.declared.seam.Seam.{Seam}
-use Rattle.rice_stream.proofs.lemmas.EncodingLemmas.{Follows-trans, counts_small, parts_of, samples_on}
+use Rattle.rice_stream.proofs.lemmas.EncodingLemmas.{Follows-trans, counts_small, few_from, legal_from, parts_of, samples_on}
 use Rattle.rice_stream.proofs.lemmas.BytesOfGrowingCode.{length-part, more_bytes, more_rest}
 
 -- how many bytes are whole
@@ -148,6 +149,18 @@ back_at_start {s = s} {start = start} {xs = xs} {e = e} r coder sink meter sampl
       };
       code_is = sym (ap (λ l. whole_part a ++ l) (sink ∙ r.waiting) ∙ take-append-drop (bits_in_bytes (length a)) a);
     }
+
+-- an encoding that has taken the first `at` of the samples that another can take can take those behind them
+pub can_take_rest : {N : ℕ} {e f : Encoding N} {levels : List ℕ} {written : List ℤ} (k : CanTakeFrom e levels) (at : ℕ) → at ≤ length levels
+    → HoldsCode k.setting f written (k.before ++ take at (values_at k.setting levels)) → CanTakeMore f (take (length levels - at) (drop at levels))
+can_take_rest {levels = levels} k at within holds = record {
+  setting = k.setting;
+  written = _;
+  before = _;
+  holds = holds;
+  legal = legal_from (value_count k.setting) at levels k.legal;
+  few = few_from k.setting k.before at levels most_input k.few within;
+}
 
 -- an encoding takes the n samples behind the first `at` of some
 pub record TakesNext {N : ℕ} (s : Parameters) (f : Encoding N) (written xs samples : List ℤ) (at n : ℕ) : Type 0 where

@@ -3,7 +3,6 @@ use Rattle.std.proofs.Common.{◌≡◌, ℕ, zero, suc, ◌+◌, ◌-◌, ◌*�
 use Rattle.std.proofs.Common.{◌++◌, length, take, drop, map, get_or, replicate, refl, ◌∙◌, ap, arith, bit_and, bit_or, append_assoc, mod-eq_of_lt}
 use Rattle.std.specs.Prelude.{All, flat_map}
 use Rattle.std.specs.Simd.Lanes.{zip2}
-use Rattle.std.proofs.lemmas.List.Elements.{All-cons, All-nil}
 use Rattle.std.specs.List.{slice_index}
 use Rattle.std.proofs.lemmas.List.{drop_more}
 use Rattle.std.proofs.lemmas.Nat.{and_mask, mod_below, or_shifted, pow_pos}
@@ -16,11 +15,6 @@ pub masked_low : (w : ℕ) (ws : List ℕ) (n : ℕ) → length ws ≡ n → zip
 masked_low w [] n h = refl
 masked_low w (x ∷ ws) zero h = absurd (omega (arith, h))
 masked_low w (x ∷ ws) (suc n) h = λ i. and_mask x w i ∷ masked_low w ws n (omega (arith, h)) i
-
--- and each of these fits so many digits
-pub low_fit : (w : ℕ) (ws : List ℕ) → All (λ v. v < 2 ^ w) (map (λ d. d % 2 ^ w) ws)
-low_fit w [] = All-nil (λ v. v < 2 ^ w)
-low_fit w (x ∷ ws) = All-cons (λ v. v < 2 ^ w) (x % 2 ^ w) (map (λ d. d % 2 ^ w) ws) (mod_below x (2 ^ w) (pow_pos w)) (low_fit w ws)
 
 -- a number that is moved up, and another in its place
 joined_or : (w a b : ℕ) → w ≤ 28 → a < 2 ^ w → b < 2 ^ w → bit_or (a * 2 ^ w % 18446744073709551616) b ≡ a * 2 ^ w + b

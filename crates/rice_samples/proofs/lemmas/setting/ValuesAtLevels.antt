@@ -1,5 +1,5 @@
 -- Values by their levels.
-use Rattle.std.proofs.Common.{◌≡◌, ℕ, zero, suc, ◌-◌, ◌<◌, List, [], ◌∷◌, length, map, replicate, All, refl, sym, ap, arith, ◌∙◌, ℤ, pos, slice_index_or}
+use Rattle.std.proofs.Common.{◌≡◌, ℕ, zero, suc, ◌-◌, ◌<◌, List, [], ◌∷◌, length, replicate, All, refl, sym, ap, arith, ◌∙◌, ℤ, pos, slice_index_or}
 use Rattle.std.proofs.lemmas.List.{get_or-map, length-map}
 use Rattle.std.proofs.lemmas.List.Elements.{All-map}
 use Rattle.rice_samples.specs.Parameters.{Parameters, IsSample, least, level, value_at, value_count, values_at}
@@ -48,11 +48,3 @@ last_value s p ls h =
     let last : slice_index_or (values_at s ls) (length (values_at s ls) - 1) (pos 0) ≡ value_at s (slice_index_or ls (length ls - 1) 0) = ap
     (λ n. slice_index_or (values_at s ls) (n - 1) (pos 0)) len ∙ get_or-map (value_at s) ls (length ls - 1) 0 (pos 0) (omega arith) in
     sym (last_at p (pos 0) (values_at s ls) (omega (arith, len)) ∙ last)
-
--- different levels are of different values
-pub same_levels : (s : Parameters) (xs ys : List ℕ) → values_at s xs ≡ values_at s ys → xs ≡ ys
-same_levels s xs ys e = sym (levels_are s xs) ∙ (ap (map (level s)) e ∙ levels_are s ys)
-  where
-    levels_are : (s : Parameters) (ls : List ℕ) → map (level s) (values_at s ls) ≡ ls
-    levels_are s [] = refl
-    levels_are s (l ∷ ls) = λ i. level_of_value s l i ∷ levels_are s ls i

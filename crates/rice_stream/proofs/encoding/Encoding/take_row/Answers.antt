@@ -1,10 +1,9 @@
 use Rattle.std.proofs.Common.{arith, rules, ◌≡◌, ◌<◌, ◌≤◌, ◌++◌, zero, suc, refl, length, take, ap, sym, ◌∙◌, subst, inr, append-nil, length-drop, List, ℕ, ℤ}
-use Rattle.rice_samples.specs.Limits.{most_input}
-use Rattle.rice_samples.specs.Parameters.{Parameters, value_count, values_at}
+use Rattle.rice_samples.specs.Parameters.{Parameters, values_at}
 use Rattle.rice_code.specs.Bounds.{block_bound}
 use Rattle.rice_stream.specs.EncodingState.{HoldsCode}
-use Rattle.rice_stream.proofs.lemmas.EncodingLemmas.{few_from, legal_from, levels_from, samples_from}
-use Rattle.rice_stream.proofs.lemmas.RowsOfSegments.{TakesNext, code_short, goes_on_at_first, row_goes_on, row_inside}
+use Rattle.rice_stream.proofs.lemmas.EncodingLemmas.{levels_from, samples_from}
+use Rattle.rice_stream.proofs.lemmas.RowsOfSegments.{TakesNext, can_take_rest, code_short, goes_on_at_first, row_goes_on, row_inside}
 use Rattle.rice_stream.proofs.encoding.Encoding.take_row.Goals as goal
 
 pub loop-at-init : goal.loop-at-init
@@ -31,25 +30,10 @@ returns-then-len-most-clause-some g c some =
 pub push_to_coder-at-requires : goal.push_to_coder-at-requires
 push_to_coder-at-requires g c =
     let k = c.requires in
-    let levels = c.args.levels.now in
-    let samples = values_at k.setting levels in
-    let at = c.loop-at.at in
     let i = c.loop-at.invariant in
     let holds = i.holds k.setting k.before k.holds in
-    let same = ap block_bound (holds.counts.setting ∙ sym k.holds.counts.setting) in (
-      search rules,
-      (
-        record {
-          setting = k.setting;
-          written = k.before;
-          before = k.before ++ take at samples;
-          holds = holds;
-          legal = legal_from (value_count k.setting) at levels k.legal;
-          few = few_from k.setting k.before at levels most_input k.few i.within;
-        },
-        inr (omega (arith, c.most_before-most.ensures.room, c.if-len-most.false, c.len.ensures.value, same)),
-      ),
-    )
+    let same = ap block_bound (holds.counts.setting ∙ sym k.holds.counts.setting) in
+    (search rules, (can_take_rest k c.loop-at.at i.within holds, inr (omega (arith, c.most_before-most.ensures.room, c.if-len-most.false, c.len.ensures.value, same))))
 
 pub loop-at-smaller : goal.loop-at-smaller
 loop-at-smaller g c =

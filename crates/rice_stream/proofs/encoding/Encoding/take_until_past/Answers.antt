@@ -1,12 +1,11 @@
 use Rattle.std.proofs.Common.{arith, rules, ◌≡◌, ◌+◌, ◌/◌, ◌≤◌, ◌++◌, length, take, ap, sym, ◌∙◌, subst, inl, append-nil, length-drop, List, ℤ}
 use Rattle.std.proofs.Math.Seq.{take-length}
-use Rattle.rice_samples.specs.Limits.{most_input}
-use Rattle.rice_samples.specs.Parameters.{value_count, values_at}
+use Rattle.rice_samples.specs.Parameters.{values_at}
 use Rattle.rice_samples.proofs.lemmas.setting.ValuesAtLevels.{length-values}
 use Rattle.rice_code.specs.code.Code.{early_output}
 use Rattle.rice_stream.specs.EncodingState.{HoldsCode}
-use Rattle.rice_stream.proofs.lemmas.EncodingLemmas.{few_from, legal_from, levels_from, samples_from}
-use Rattle.rice_stream.proofs.lemmas.RowsOfSegments.{TakesNext, code_short, stops_here, passes_on}
+use Rattle.rice_stream.proofs.lemmas.EncodingLemmas.{levels_from, samples_from}
+use Rattle.rice_stream.proofs.lemmas.RowsOfSegments.{TakesNext, can_take_rest, code_short, stops_here, passes_on}
 use Rattle.rice_stream.proofs.encoding.Encoding.take_until_past.Goals as goal
 
 pub loop-at-init : goal.loop-at-init
@@ -21,24 +20,9 @@ loop-at-init g c = record {
 pub push_to_coder_in_a_call-at-requires : goal.push_to_coder_in_a_call-at-requires
 push_to_coder_in_a_call-at-requires g c =
     let k = c.requires in
-    let levels = c.args.levels.now in
-    let samples = values_at k.setting levels in
-    let at = c.loop-at.at in
     let i = c.loop-at.invariant in
-    let holds = (i.holds k.setting k.before k.holds).0 in (
-      search rules,
-      (
-        record {
-          setting = k.setting;
-          written = k.before ++ take at samples;
-          before = k.before ++ take at samples;
-          holds = holds;
-          legal = legal_from (value_count k.setting) at levels k.legal;
-          few = few_from k.setting k.before at levels most_input k.few i.within;
-        },
-        inl (code_short holds),
-      ),
-    )
+    let holds = (i.holds k.setting k.before k.holds).0 in
+    (search rules, (can_take_rest k c.loop-at.at i.within holds, inl (code_short holds)))
 
 pub returns-then-left-bytes : goal.returns-then-left-bytes
 returns-then-left-bytes g c s xs h enough =

@@ -2,7 +2,7 @@ use Rattle.std.proofs.Common.{arith, ◌^◌, replicate}
 use Rattle.std.specs.Prelude.{flat_map}
 use Rattle.rice_bits.specs.Bits.{fundamental_sequence}
 use Rattle.rice_code.proofs.lemmas.encode.SequencesByProducts.{first_bounded, joined_weights_bounded, joined_values_bounded, ones_bounded, row_fits, sixteen_joined}
-use Rattle.rice_code.proofs.encode.sequences_by_products.number_of_sequences.Goals as goal
+use Rattle.rice_code.proofs.encode.sequences_by_products.joined_sequences.Goals as goal
 
 pub joined_pairs-requires-clause-fit : goal.joined_pairs-requires-clause-fit
 joined_pairs-requires-clause-fit c = first_bounded c.args.numbers c.requires.small c.weights_of-weights.ensures

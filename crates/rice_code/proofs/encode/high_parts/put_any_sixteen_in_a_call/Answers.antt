@@ -1,7 +1,7 @@
 use Rattle.std.proofs.Common.{◌+◌, List, Bool, sym, subst, length, rules}
 use Rattle.rice_code.specs.encode.BitBuffer.{HasRoomFor, AddsFields}
 use Rattle.rice_code.proofs.lemmas.encode.HighParts.{sequences_of_sixteen}
-use Rattle.rice_code.proofs.encode.high_parts.put_sixteen_in_turn.Goals as goal
+use Rattle.rice_code.proofs.encode.high_parts.put_any_sixteen_in_a_call.Goals as goal
 
 pub put_sixteen_sequences-requires-clause-room : goal.put_sixteen_sequences-requires-clause-room
 put_sixteen_sequences-requires-clause-room c =
