@@ -1,6 +1,8 @@
 """Where an edit changes a crate: the function whose body it changes, or none."""
 import dataclasses
 import difflib
+import functools
+import os
 import re
 
 HEAD = re.compile(r'( *)(?:pub(?:\([^)]*\))? )?(?:const |unsafe |extern "C" )*fn (\w+)')
@@ -57,6 +59,7 @@ def item_at(lines, at):
     return at
 
 
+@functools.lru_cache(maxsize=256)
 def functions_in(crate, file, text):
     """Returns the functions with a body of a source file."""
     module = [it for it in file[len("src/") : -len(".rt")].split("/") if it not in ("lib", "main")]
@@ -94,9 +97,8 @@ def beside(function, text):
 
 def changed(old, new):
     """Returns the first and the last place of the old text that differ from the new, and the new text between them."""
-    most = min(len(old), len(new))
-    front = next((it for it in range(most) if old[it] != new[it]), most)
-    back = next((it for it in range(most - front) if old[len(old) - 1 - it] != new[len(new) - 1 - it]), most - front)
+    front = len(os.path.commonprefix([old, new]))
+    back = len(os.path.commonprefix([old[front:][::-1], new[front:][::-1]]))
     return front, len(old) - back, new[front : len(new) - back]
 
 

@@ -16,7 +16,7 @@ before it, by the goals of this statement, which are searched for. Where all of 
 searched for, and its line says so: clauses.md has such edits in a table of their own, and they are searched for at once.
 
 usage: edits [NAME ..]         the edits of these names, or of the crates of these names; all, if none is named
-       edits --since COMMIT    the edits of functions whose text, definitions or proofs that commit, or one after it, changed
+       edits --since COMMIT    the edits of functions whose text, definitions or proofs that commit changed, or what came after it
 """
 import collections
 import dataclasses
@@ -333,10 +333,11 @@ def refused(edit, goals):
     return Verdict(True, f"refused, as it must be: {first[0].function}: {', '.join([*names][:MOST])}")
 
 
-def judged(edit, texts, said):
-    """Returns the verdict on an edit of one body, or None where its function was not judged for one that it calls."""
-    line = lines_of_functions(said).get(edit.judged_name, "")
-    goals = [it for it in goals_in(edit.crate, texts, said) if it.function == edit.judged_name]
+def judged(edit, texts, lines, goals):
+    """Returns the verdict on an edit of one body by a check's lines on functions and the open goals that it tells, or None where its
+    function was not judged for one that it calls."""
+    line = lines.get(edit.judged_name, "")
+    goals = [it for it in goals if it.function == edit.judged_name]
     if edit.by_answers:
         return judged_by_answers(edit, texts, goals)
     if re.match(r"not proved|no proof", line) and goals:
@@ -380,7 +381,8 @@ def tried_together(edits):
     # (the answers of a twin may name what its edit took away, which says something of that edit alone)
     sources = [it for it in texts if it.startswith("src/")]
     if has_verdict(said) and not any(rt.unread(it, sources) for it in said.split("\n")):
-        return first_of({it.path: judged(it, texts, said)} for it in edits)
+        lines, goals = lines_of_functions(said), goals_in(edits[0].crate, texts, said)
+        return first_of({it.path: judged(it, texts, lines, goals)} for it in edits)
     if len(edits) == 1:
         return {edits[0].path: tried_alone(edits[0])}
     half = len(edits) // 2
@@ -461,14 +463,20 @@ def git(*words):
     return ran.stdout if ran.returncode == 0 else stop(ran.stderr.strip())
 
 
+def changed_files(commit, *paths):
+    """Returns the files that differ from a commit, those among them that git does not have."""
+    new = git("ls-files", "--others", "--exclude-standard", "--", *paths)
+    return (git("diff", "--name-only", commit, "--", *paths) + new).split()
+
+
 def definitions_changed(commit):
     """Returns the modules of definitions that differ from a commit, and those that use them."""
     files = git("ls-files", "crates/*/specs/*.antt", "crates/*/specs/**/*.antt").split()
     uses, found = {}, set()
     for file in files:
         crate, inside = re.match(r"crates/(\w+)/specs/(.*)\.antt", file).groups()
-        uses[f"Rattle.{crate}.specs.{inside.replace('/', '.')}"] = read(file)
-    for file in git("diff", "--name-only", commit, "--", "crates/*/specs").split():
+        uses[f"Rattle.{crate}.specs.{inside.replace('/', '.')}"] = read(file) if os.path.exists(file) else ""
+    for file in changed_files(commit, "crates/*/specs/*.antt"):
         crate, inside = re.match(r"crates/(\w+)/specs/(.*)\.antt", file).groups()
         found.add(f"Rattle.{crate}.specs.{inside.replace('/', '.')}")
     size = -1
@@ -487,7 +495,7 @@ def is_touched(edit, commit, definitions):
     folder = os.path.relpath(edit.crate.folder, os.getcwd())
     proof = edit.function and "/".join(edit.function.name.split("::")[1:])
     paths = [os.path.relpath(edit.path), *([f"{folder}/proofs/{proof}"] if proof else [])]
-    if not edit.function or git("diff", "--name-only", commit, "--", *paths):
+    if not edit.function or changed_files(commit, *paths):
         return True
     old = subprocess.run(["git", "show", f"{commit}:{folder}/{edit.function.file}"], capture_output=True, text=True).stdout
     new = read(f"{edit.crate.folder}/{edit.function.file}")
@@ -500,8 +508,9 @@ def chosen(words):
     """Returns the edits that the words ask for."""
     every = {it.name: it for crate in crates(os.getcwd()).values() for it in edits_of(crate)}
     if words[:1] == ["--since"] and len(words) == 2:
-        definitions = definitions_changed(words[1])
-        return [it for it in every.values() if is_touched(it, words[1], definitions)]
+        before = git("rev-parse", "--verify", f"{words[1]}^").strip()
+        definitions = definitions_changed(before)
+        return [it for it in every.values() if is_touched(it, before, definitions)]
     lost = [it for it in words if not any(it in (name, name.split("/")[1], name.split("/")[0]) for name in every)]
     if lost:
         stop(f"no edit or crate is named {', '.join(lost)}")

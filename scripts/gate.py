@@ -152,7 +152,7 @@ def try_edits(crate, paths, number):
 def told(crate, paths, verdicts):
     """Returns whether each edit is refused and what is said of it: no edit is refused where a control is not told as it has to be."""
     if not paths:
-        return []
+        return [(False, f"must-fail {crate.name}: {os.path.relpath(it)} is no edit") for it in rt.edits_of(crate)[1]]
     wrong = [f"; but {it}: {verdicts[it].said}" for it, said in controls_of(crate).items() if not verdicts[it].said.startswith(said)]
     wrong += [f"; but {os.path.relpath(it)} is no edit" for it in rt.edits_of(crate)[1]]
     label = lambda path: f"must-fail {crate.name}/{os.path.basename(path)}"
