@@ -402,7 +402,9 @@ impl Decoder {
         ensures setting { self.new.setting ≡ self.old.setting }
         ensures steps { AreCounted meter.old meter.new reader.old.taken reader.new.taken }
     {
-        let begin = reader.taken();
+        let _taken = reader.taken();
+        // Each step is a bit that is taken.
+        let begin = meter.steps();
         let len = WIDTH * known_or::<SIZE>(self.setting.block() as usize);
         for i in 0..most {
             let k = match split_of_block_ahead::<I, WIDTH>(&self.setting, reader) {
@@ -413,7 +415,7 @@ impl Decoder {
             if !self.read_split_to_bytes::<I, SIZE, WIDTH, false>(k, reader, meter, own) {
                 return i;
             }
-            ends[i] = (reader.taken() - begin) as u32;
+            ends[i] = (meter.steps() - begin) as u32;
         }
         most
     }
@@ -451,11 +453,12 @@ impl Decoder {
         ensures setting { self.new.setting ≡ self.old.setting }
         ensures steps { AreCounted meter.old meter.new reader.old.taken reader.new.taken }
     {
-        let begin = reader.taken();
+        let _taken = reader.taken();
+        let begin = meter.steps();
         if !self.read_split_to_bytes::<I, SIZE, WIDTH, true>(k, reader, meter, bytes) {
             return 0;
         }
-        ends[0] = (reader.taken() - begin) as u32;
+        ends[0] = (meter.steps() - begin) as u32;
         1
     }
 
@@ -538,14 +541,15 @@ impl Decoder {
         ensures setting { self.new.setting ≡ self.old.setting }
         ensures steps { AreCounted meter.old meter.new reader.old.taken reader.new.taken }
     {
-        let start = reader.taken();
+        let _taken = reader.taken();
+        let start = meter.steps();
         let size = known_or::<SIZE>(self.setting.block() as usize);
         for i in 0..most {
             if !is_uncompressed_ahead::<I, 1>(&self.setting, size, reader) {
                 return i;
             }
             self.read_uncompressed_to_bytes::<I, SIZE>(reader, meter, &mut bytes[size * i..]);
-            ends[i] = (reader.taken() - start) as u32;
+            ends[i] = (meter.steps() - start) as u32;
         }
         most
     }

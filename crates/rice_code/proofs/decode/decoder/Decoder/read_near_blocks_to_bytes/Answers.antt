@@ -35,7 +35,7 @@ loop-i-preserved g c =
     let k = length l.bytes - at in
     let new = c.read_split_to_bytes.new in
     let more = put_mid at k l.bytes new.bytes in
-    let end = c.taken.result - c.taken-begin.result in
+    let end = c.steps.result - c.steps-begin.result in
     let own : size ≡ p.setting.block = c.known_or-len.ensures ∙ (c.block.ensures.value ∙ ap (λ (p : DecoderState). p.setting.block) c.self.view_is) in
     let all : w * size * c.args.most ≡ w * p.setting.block * c.args.most = ap (λ n. w * n * c.args.most) own in
     let room = block_room w size l.i c.args.most (length l.bytes) (narrow_width p.setting p.setting.block w c.requires.lanes) c.loop-i-test.true (omega (arith, all, c.requires.bytes, l.auto.bytes)) in
@@ -44,9 +44,9 @@ loop-i-preserved g c =
     let front = ap (λ n. take n more) place ∙ kept_before at k l.bytes new.bytes room.0 ∙ ap (λ n. take n l.bytes) (sym place) in
     let back = ap (λ n. drop n more) place ∙ written_behind at k l.bytes new.bytes room.0 refl (c.read_split_to_bytes.auto.bytes ∙ long) in
     let next : suc l.i ≡ l.i + 1 = omega arith in
-    let given = one_block_more end
-    i.given (c.read_split_to_bytes.ensures.some c.if-not-read_split_to_bytes.false) i.counted c.read_split_to_bytes.ensures.steps front back
-    (omega (arith, c.taken.ensures.value, c.taken-begin.ensures.value)) (omega (arith, c.loop-i-test.true, c.requires.few, i.places)) in
+    let one = c.read_split_to_bytes.ensures.some c.if-not-read_split_to_bytes.false in
+    let given = one_block_more end i.given one i.counted c.read_split_to_bytes.ensures.steps front back
+    (omega (arith, c.steps.ensures, c.steps-begin.ensures, i.given.ticked, one.ticked)) (omega (arith, c.loop-i-test.true, c.requires.few, i.places)) in
     record {
       given = subst (λ n. GivesBlocks n c.args.reader.now new.reader c.args.meter.now new.meter p new.self more (slice_set l.ends l.i end)) next given;
       places = length-set l.ends l.i end ∙ i.places;

@@ -39,7 +39,7 @@ loop-i-preserved g c =
     let k = length l.bytes - at in
     let new = c.read_uncompressed_to_bytes.new in
     let more = put_mid at k l.bytes new.bytes in
-    let end = c.taken.result - c.taken-start.result in
+    let end = c.steps.result - c.steps-start.result in
     let own : size ≡ p.setting.block = c.known_or-size.ensures ∙ (c.block.ensures.value ∙ ap (λ (p : DecoderState). p.setting.block) c.self.view_is) in
     let all : w * size * c.args.most ≡ p.setting.block * c.args.most = ap (λ n. n * c.args.most) (one ∙ own) in
     let room = block_room w size l.i c.args.most (length l.bytes) (narrow_width p.setting p.setting.block w c.requires.lanes) c.loop-i-test.true (omega (arith, all, c.requires.bytes, l.auto.bytes)) in
@@ -51,7 +51,7 @@ loop-i-preserved g c =
     let next : suc l.i ≡ l.i + 1 = omega arith in
     let given = one_block_more end
     i.given (c.read_uncompressed_to_bytes.ensures.gives) i.counted c.read_uncompressed_to_bytes.ensures.steps front back
-    (omega (arith, c.taken.ensures.value, c.taken-start.ensures.value)) (omega (arith, c.loop-i-test.true, c.requires.few, i.places)) in
+    (omega (arith, c.steps.ensures, c.steps-start.ensures, i.given.ticked, c.read_uncompressed_to_bytes.ensures.gives.ticked)) (omega (arith, c.loop-i-test.true, c.requires.few, i.places)) in
     record {
       given = subst (λ n. GivesBlocks n c.args.reader.now new.reader c.args.meter.now new.meter p new.self more (slice_set l.ends l.i end)) next given;
       places = length-set l.ends l.i end ∙ i.places;
