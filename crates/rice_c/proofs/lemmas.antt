@@ -4,6 +4,7 @@ pub mod FedPlaces
 pub mod RoomOfPieceSuffices
 pub mod FedOutlets
 pub mod WrittenMemory
+pub mod EncodedAtOnce
 pub mod PulledPieces
 pub mod ReturnedSamples
 pub mod RoomOfCallSuffices

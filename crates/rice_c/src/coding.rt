@@ -11,11 +11,12 @@ ghost use Rattle.rice_c.specs.Calls.{EncodesInto, DecodesInto, RefusesSetting};
 ghost use Rattle.rice_c.specs.SufficientRoom.{code_room};
 ghost use Rattle.rice_c.specs.Statuses.{status_number};
 
+use crate::feeding::finish_into;
 use crate::report::RiceReport;
 use crate::setting::RiceSetting;
 use rice_bits::{SliceIn, SliceOut};
-use rice_samples::Setting;
-use rice_stream::{Outcome, decode, encode};
+use rice_samples::{MOST_INPUT, Setting};
+use rice_stream::{Outcome, Seam, decode, encode};
 
 /// Encodes the samples that the bytes of `samples` spell, and writes their code to the front of `code`.
 #[unsafe(no_mangle)]
@@ -39,8 +40,26 @@ pub extern "C" fn rice_encode(
     }
 }
 
-/// Encodes from memory to memory.
+/// Encodes from memory to memory: as one piece that begins a code and ends it, which is read where it stands.
 fn encode_into(setting: &Setting, samples: &[u8], code: &mut [u8], report: &mut RiceReport) -> u32
+    ensures { EncodesInto setting.now samples.now code.old code.new report.new result }
+{
+    if samples.len() as u64 > MOST_INPUT {
+        return encode_past_limit(setting, samples, code, report);
+    }
+    let seam = Seam::new(setting);
+    finish_into(setting, &seam, samples, code, report)
+}
+
+/// Encodes from memory to memory, as any intake and outlet. Of more bytes than a code may be given, those within the limit are encoded,
+/// which one piece would refuse.
+#[inline(never)]
+fn encode_past_limit(
+    setting: &Setting,
+    samples: &[u8],
+    code: &mut [u8],
+    report: &mut RiceReport,
+) -> u32
     ensures { EncodesInto setting.now samples.now code.old code.new report.new result }
 {
     let mut intake = SliceIn::new(samples);

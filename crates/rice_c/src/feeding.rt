@@ -168,7 +168,7 @@ fn push_slice_to_slice(
 }
 
 /// Encodes the last samples, from memory to memory.
-fn finish_into(
+pub(crate) fn finish_into(
     setting: &Setting,
     seam: &Seam,
     samples: &[u8],

@@ -14,17 +14,13 @@ pub fn write_spellings(setting: &Setting, levels: &[u32], bytes: &mut [u8])
     requires len { length bytes.old ≡ width_of setting.now * length levels.now }
     ensures { bytes.new ≡ spellings setting.now (values_at setting.now levels.now) }
 {
-    // The loop is laid out for each of these: with a known width and order it writes a sample at one stroke, with a known length
-    // a block.
-    match (setting.width(), setting.msb(), levels.len()) {
-        (1, msb, 8) => write_spellings_laid_out(setting, 1, msb, &levels[..8], bytes),
-        (1, msb, 16) => write_spellings_laid_out(setting, 1, msb, &levels[..16], bytes),
-        (2, false, 16) => write_spellings_laid_out(setting, 2, false, &levels[..16], bytes),
-        (1, msb, _) => write_spellings_laid_out(setting, 1, msb, levels, bytes),
-        (2, false, _) => write_spellings_laid_out(setting, 2, false, levels, bytes),
-        (2, true, _) => write_spellings_laid_out(setting, 2, true, levels, bytes),
-        (3, false, _) => write_spellings_laid_out(setting, 3, false, levels, bytes),
-        (4, false, _) => write_spellings_laid_out(setting, 4, false, levels, bytes),
+    // The loop is laid out for each of these: with a known width and order it writes a sample at one stroke.
+    match (setting.width(), setting.msb()) {
+        (1, msb) => write_spellings_laid_out(setting, 1, msb, levels, bytes),
+        (2, false) => write_spellings_laid_out(setting, 2, false, levels, bytes),
+        (2, true) => write_spellings_laid_out(setting, 2, true, levels, bytes),
+        (3, false) => write_spellings_laid_out(setting, 3, false, levels, bytes),
+        (4, false) => write_spellings_laid_out(setting, 4, false, levels, bytes),
         _ => write_others(setting, levels, bytes),
     }
 }
