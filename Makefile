@@ -13,7 +13,7 @@ PYTHON_CODES ?= 1000000
 LIBRARY_CODES ?= 1000000
 
 .DEFAULT_GOAL := help
-.PHONY: help library compat python install install-command install-library install-compat uninstall check clean dist release deb released two-builds test test-each rows hostile interop exhaustive any-block refused-memory installed recipes documents options guesses vectors pictures imports lemmas progress bench-others bench examples stack header axioms hostile-library hostile-pulls clients hostile-compat python-tests aarch64 bench-compat bench-library wrappers clauses trusted plant
+.PHONY: help library compat python install install-command install-library install-compat uninstall check clean dist release deb released two-builds test test-each rows hostile interop exhaustive any-block refused-memory installed recipes documents options guesses vectors pictures imports lemmas progress bench-others bench examples stack header axioms hostile-library hostile-pulls clients hostile-compat python-tests aarch64 bench-compat wrappers clauses trusted plant
 
 help:
 	@echo 'make aec                    prove and build the program, as ./aec (some fifteen minutes the first time)'
@@ -49,7 +49,7 @@ help:
 	@echo 'make bench-others           compare sizes and speeds with zstd, xz, lz4, bzip2, fpack, blosc and libaec'
 	@echo "make vectors                try the files of vectors/ with ./aec and with Debian's aec"
 	@echo 'make guesses                have recipes/guess.py find the options of codes (minutes)'
-	@echo "make bench                  compare the speed of ./aec and Debian's aec"
+	@echo "make bench                  compare the speed of ./aec and the library with Debian's aec and libaec (libaec-tools, libaec-dev)"
 	@echo 'make examples               build and run examples/c and examples/cpp, with sanitizers and under valgrind'
 	@echo 'make python-tests           try the Python package against ./aec, and with damaged codes'
 	@echo 'make stack                  measure the stack that a call of the library takes'
@@ -67,7 +67,6 @@ help:
 	@echo 'make lemmas                 look for public lemmas without a line that says what they state, and for long lines'
 	@echo 'make trusted                compare docs/TRUSTED.md with the definitions that the promises rest on'
 	@echo 'make plant                  plant wrong bodies under all contracts, and compare what is proved with docs/PLANTS.md (hours)'
-	@echo "make bench-library          compare the speed of the library and Debian's libaec (libaec-dev)"
 	@scripts/toolchain
 
 # Another processor than that of x86-64 Linux, as `rt lib --target` names it. What is built for it stands in a folder of its own.
@@ -275,7 +274,7 @@ progress: aec
 pictures:
 	scripts/pictures.py
 
-bench-others: aec
+bench-others: aec python
 	scripts/bench_others.py ./aec
 
 vectors: aec
@@ -284,7 +283,7 @@ vectors: aec
 guesses: aec python
 	scripts/guesses.py ./aec /usr/bin/aec
 
-bench: aec
+bench: aec library
 	scripts/bench
 
 examples: library
@@ -320,9 +319,6 @@ aarch64: library
 
 bench-compat: compat
 	scripts/bench_compat $(COMPAT) $(LIBRARY)librice.a
-
-bench-library: library
-	scripts/bench_library librice.a
 
 wrappers:
 	scripts/wrong_wrappers.py

@@ -1,14 +1,15 @@
 #!/usr/bin/env python3
-"""Compares ./aec with Debian's aec (package libaec-tools) on generated data. Both decode what ours has coded.
+"""Compares ./aec with Debian's aec (package libaec-tools), and the library with libaec, on generated data. All decode what ours has coded.
 
-Prints a table in Markdown: for each row the CPU time of each program (user and system, the least of some runs) and,
-where valgrind is there, the instructions for each byte of the samples. Under it stand the least and the geometric mean
-of the ratios of both programs.
+Prints a table in Markdown: for each row the CPU time of each program (user and system), the least of all runs of some rounds;
+where valgrind is there, the instructions for each byte of the samples; and where bench_library is given, the speeds of both
+libraries, from memory to memory. Under it stand the least and the geometric mean of the ratios, with the means of the rounds.
 
-usage: bench.py [--mispredictions] [--only TEXT] OURS THEIRS [MEBIBYTES]
+usage: bench.py [--mispredictions] [--only TEXT] [--library BENCH_LIBRARY] OURS THEIRS [MEBIBYTES]
 """
 import argparse
 import concurrent.futures
+import dataclasses
 import math
 import os
 import random
@@ -18,7 +19,8 @@ import subprocess
 import sys
 import tempfile
 
-RUNS = 25
+ROUNDS = 3
+RUNS = 9  # of each program in each round
 COUNTED = 1 << 20  # bytes of samples that callgrind is given
 DIRECTIONS = ("encode", "decode")
 
@@ -162,20 +164,98 @@ ROWS = [
 ]
 
 
-def cpu_times(commands):
-    """The least CPU time of some runs of each command, in seconds. The commands run in turn, so that a busy machine slows all, and
-    on one processor, so that none is moved to another."""
+@dataclasses.dataclass
+class Row:
+    """A row of samples with options, in files of a folder, and what is measured of it by direction."""
+
+    name: str
+    make: object
+    width: int
+    options: list
+    folder: str
+    # For each round the CPU times of both programs in seconds, and where they are measured those of both libraries, and of pulls.
+    times: dict = dataclasses.field(default_factory=lambda: {direction: [] for direction in DIRECTIONS})
+    # What callgrind counts of both programs.
+    counts: dict = dataclasses.field(default_factory=dict)
+
+    @property
+    def title(self):
+        return f"{self.name}, `{' '.join(self.options)}`" if self.options else f"{self.name}, defaults"
+
+    def path(self, name):
+        return os.path.join(self.folder, name)
+
+    def write(self, kind, samples):
+        """Writes samples, and their code."""
+        with open(self.path(kind), "wb") as file:
+            file.write(samples)
+        subprocess.run([OPTIONS.ours, *self.options, self.path(kind), self.path(kind + ".code")], check=True)
+
+    def prepare(self):
+        """Writes few samples, and none."""
+        os.mkdir(self.folder)
+        self.write("small", self.make(COUNTED // self.width * self.width, self.width, random.Random(1)))
+        self.write("empty", b"")
+
+    def command(self, direction, program, kind, out):
+        if direction == "encode":
+            return [program, *self.options, self.path(kind), self.path(out)]
+        return [program, "-d", *self.options, self.path(kind + ".code"), self.path(out)]
+
+    def time(self, size):
+        """Measures the times of a round, over the few samples again and again."""
+        with open(self.path("small"), "rb") as file:
+            small = file.read()
+        self.write("large", (small * -(-size // len(small)))[: size // self.width * self.width])
+        libraries = library_times(self.options, self.path("large")) if OPTIONS.library else {}
+        for direction in DIRECTIONS:
+            programs = cpu_times([self.command(direction, program, "large", "out") for program in (OPTIONS.ours, OPTIONS.theirs)])
+            self.times[direction].append(programs + libraries.get(direction, []))
+        for name in ("large", "large.code", "out"):
+            os.remove(self.path(name))
+
+    def count(self):
+        for direction in DIRECTIONS:
+            self.counts[direction] = counted(lambda *words: self.command(direction, *words))
+
+    def least(self, direction):
+        return [min(times) for times in zip(*self.times[direction])]
+
+
+def on_one_processor(call):
+    """Returns what a call returns that runs on one processor, so that none of its programs is moved to another."""
     processors = os.sched_getaffinity(0)
     os.sched_setaffinity(0, {max(processors)})
+    try:
+        return call()
+    finally:
+        os.sched_setaffinity(0, processors)
+
+
+def cpu_times(commands):
+    """The least CPU time of some runs of each command, in seconds. The commands run in turn, so that a busy machine slows all."""
     best = [math.inf] * len(commands)
-    for _ in range(RUNS):
-        for i, command in enumerate(commands):
-            before = resource.getrusage(resource.RUSAGE_CHILDREN)
-            subprocess.run(command, check=True)
-            after = resource.getrusage(resource.RUSAGE_CHILDREN)
-            best[i] = min(best[i], after.ru_utime + after.ru_stime - before.ru_utime - before.ru_stime)
-    os.sched_setaffinity(0, processors)
+
+    def run():
+        for _ in range(RUNS):
+            for i, command in enumerate(commands):
+                before = resource.getrusage(resource.RUSAGE_CHILDREN)
+                subprocess.run(command, check=True)
+                after = resource.getrusage(resource.RUSAGE_CHILDREN)
+                best[i] = min(best[i], after.ru_utime + after.ru_stime - before.ru_utime - before.ru_stime)
+
+    on_one_processor(run)
     return best
+
+
+def library_times(options, path):
+    """The least CPU times of both libraries, by direction, and with decoding that of pulls, in seconds."""
+    value = lambda flag, default: options[options.index(flag) + 1] if flag in options else default
+    numbers = [value("-n", "8"), value("-j", "8"), value("-r", "2"), *(str(int(it)) for it in ("-N" not in options, "-s" in options, "-3" in options))]
+    command = [OPTIONS.library, *numbers, path]
+    found = on_one_processor(lambda: subprocess.run(command, check=True, capture_output=True, text=True)).stdout
+    times = [float(word) for word in found.split()[:5]]
+    return {"encode": times[:2], "decode": times[2:]}
 
 
 def events(command, mispredictions):
@@ -195,79 +275,77 @@ def events(command, mispredictions):
     return [found["Ir"], found.get("Bcm", 0) + found.get("Bim", 0)]
 
 
-def counted(command_of, folder, mispredictions):
+def counted(command_of):
     """The events of each program for each byte of samples, less those for no samples."""
     runs = [(program, kind) for program in (OPTIONS.ours, OPTIONS.theirs) for kind in ("empty", "small")]
     with concurrent.futures.ThreadPoolExecutor(len(os.sched_getaffinity(0))) as pool:
-        commands = [command_of(program, kind, os.path.join(folder, f"out{i}")) for i, (program, kind) in enumerate(runs)]
-        found = list(pool.map(lambda command: events(command, mispredictions), commands))
+        commands = [command_of(program, kind, f"out{i}") for i, (program, kind) in enumerate(runs)]
+        found = list(pool.map(lambda command: events(command, OPTIONS.mispredictions), commands))
     return [[(full - empty) / COUNTED for empty, full in zip(*found[i : i + 2])] for i in (0, 2)]
 
 
-def measured(command_of, size, folder):
-    """What is measured of a row in one direction: the times of both programs, and what callgrind counts."""
-    times = cpu_times([command_of(program, "large", os.path.join(folder, "out")) for program in (OPTIONS.ours, OPTIONS.theirs)])
-    counts = counted(command_of, folder, OPTIONS.mispredictions) if shutil.which("valgrind") else None
-    return times, counts
-
-
-def line(title, size, times, counts):
+def line(row, direction, size):
     """A line of the table."""
-    cells = [title] + [f"{seconds:.3f} s ({size / seconds / 1e6:.0f} MB/s)" for seconds in times]
-    cells += [f"{count[0]:.1f}" for count in counts] if counts else ["-", "-"]
-    if OPTIONS.mispredictions:
-        cells += [f"{count[1]:.3f}" for count in counts] if counts else ["-", "-"]
+    programs, libraries = row.least(direction)[:2], row.least(direction)[2:]
+    cells = [f"{row.title}, {direction}"] + [f"{seconds:.3f} s ({size / seconds / 1e6:.0f} MB/s)" for seconds in programs]
+    counts = row.counts.get(direction)
+    for i in range(2 if OPTIONS.mispredictions else 1):
+        cells += [f"{count[i]:{('.1f', '.3f')[i]}}" for count in counts] if counts else ["-", "-"]
+    speeds = [f"{size / seconds / 1e6:.0f} MB/s" for seconds in libraries]
+    if speeds:
+        cells += [speeds[0] + (f" ({speeds[2]})" if speeds[2:] else ""), speeds[1]]
     return "| " + " | ".join(cells) + " |"
 
 
-def summary(direction, ratios, what):
-    mean = math.exp(sum(map(math.log, ratios)) / len(ratios))
-    return f"{direction}, {what}: {min(ratios):.2f} at least, {mean:.2f} in the geometric mean"
+def mean(ratios):
+    return math.exp(sum(map(math.log, ratios)) / len(ratios))
 
 
-def prepare(make, width, options, size, path):
-    """Writes the samples of a row, and their codes. Large ones are the small ones over and over."""
-    small = make(COUNTED // width * width, width, random.Random(1))
-    copies = -(-size // len(small))
-    for kind, samples in (("large", (small * copies)[: size // width * width]), ("small", small), ("empty", b"")):
-        with open(path(kind), "wb") as file:
-            file.write(samples)
-        subprocess.run([OPTIONS.ours, *options, path(kind), path(kind + ".code")], check=True)
+def summary(direction, what, ratios, rounds=()):
+    """A line on the ratios of all rows, and on those of each round."""
+    spread = f" ({', '.join(f'{mean(it):.2f}' for it in rounds)} by rounds)" if rounds else ""
+    return f"- {direction}, {what}: {min(ratios):.2f} at least, {mean(ratios):.2f} in the geometric mean{spread}"
+
+
+def print_summaries(rows):
+    print("\nHow many times as fast as Debian's `aec` and libaec, and how many times fewer instructions than `aec`:\n")
+    for direction in DIRECTIONS:
+        for what, i in [("CPU time", 0), *([("the library", 2)] if OPTIONS.library else [])]:
+            ratios = [least[i + 1] / least[i] for least in (row.least(direction) for row in rows)]
+            rounds = [[row.times[direction][j][i + 1] / row.times[direction][j][i] for row in rows] for j in range(ROUNDS)]
+            print(summary(direction, what, ratios, rounds))
+        if all(row.counts for row in rows):
+            print(summary(direction, "instructions", [row.counts[direction][1][0] / row.counts[direction][0][0] for row in rows]))
 
 
 def main():
     size = OPTIONS.mebibytes << 20
-    heads = ["data, options", "aec here: CPU time", "Debian's aec: CPU time", "here: instructions a byte", "Debian's"]
-    if OPTIONS.mispredictions:
-        heads += ["here: mispredictions a byte", "Debian's"]
-    print("| " + " | ".join(heads) + " |")
-    print("|" + "---|" * len(heads))
-    rows = []
     with tempfile.TemporaryDirectory() as folder:
-        path = lambda name: os.path.join(folder, name)
-        for name, make, width, options in ROWS:
-            title = f"{name}, `{' '.join(options)}`" if options else f"{name}, defaults"
-            if OPTIONS.only not in title:
-                continue
-            prepare(make, width, options, size, path)
-            encode = lambda program, kind, out: [program, *options, path(kind), out]
-            decode = lambda program, kind, out: [program, "-d", *options, path(kind + ".code"), out]
-            for direction, command_of in zip(DIRECTIONS, (encode, decode)):
-                times, counts = measured(command_of, size, folder)
-                print(line(f"{title}, {direction}", size, times, counts), flush=True)
-                rows.append((direction, times, counts))
-    print("\nHow many times as fast as Debian's `aec`, and how many times fewer instructions:\n")
-    for direction in DIRECTIONS:
-        chosen = [row for row in rows if row[0] == direction]
-        print("- " + summary(direction, [times[1] / times[0] for _, times, _ in chosen], "CPU time"))
-        if all(counts for _, _, counts in chosen):
-            print("- " + summary(direction, [counts[1][0] / counts[0][0] for _, _, counts in chosen], "instructions"))
+        rows = [Row(*words, os.path.join(folder, str(i))) for i, words in enumerate(ROWS)]
+        rows = [row for row in rows if OPTIONS.only in row.title]
+        for row in rows:
+            row.prepare()
+        for number in range(ROUNDS):
+            print(f"bench: round {number + 1} of {ROUNDS}", file=sys.stderr)
+            for row in rows:
+                row.time(size)
+        heads = ["data, options", "aec here: CPU time", "Debian's aec: CPU time", "here: instructions a byte", "Debian's"]
+        heads += ["here: mispredictions a byte", "Debian's"] * OPTIONS.mispredictions
+        heads += ["the library here (in pieces)", "libaec"] if OPTIONS.library else []
+        print("| " + " | ".join(heads) + " |\n|" + "---|" * len(heads))
+        for row in rows:
+            if shutil.which("valgrind"):
+                row.count()
+            for direction in DIRECTIONS:
+                print(line(row, direction, size), flush=True)
+    print_summaries(rows)
 
 
 def options():
-    parser = argparse.ArgumentParser(description="Compares two programs aec.")
+    parser = argparse.ArgumentParser(description="Compares two programs aec, and both libraries.")
     parser.add_argument("--mispredictions", action="store_true", help="count the jumps that a simple predictor misses")
     parser.add_argument("--only", metavar="TEXT", default="", help="measure only the rows whose titles contain TEXT")
+    parser.add_argument("--library", metavar="PROGRAM", help="what bench_library.c is compiled to, to measure both libraries")
     parser.add_argument("ours")
     parser.add_argument("theirs")
     parser.add_argument("mebibytes", nargs="?", type=int, default=32)

@@ -9,7 +9,7 @@
 #include <string.h>
 #include <time.h>
 
-enum { RUNS = 15, PIECE = 64 << 10 };
+enum { RUNS = 5, PIECE = 64 << 10 };
 
 static struct rice_setting setting;
 static struct aec_stream stream;

@@ -4,6 +4,7 @@ whenever this runs, and speeds, which are those of this machine and of what else
 
 A size is that of the samples alone. A speed is over copies of them that have 8 MiB together, each with another constant added, so that no
 copy repeats another; by CPU time, the best of some runs; for blosc that of its call, for the others that of the program from file to file, by hyperfine.
+Under the table stands one of samples that bench.py generates, with what aec and zstd -1 make of them and how fast they decompress it.
 
 usage: bench_others.py PROGRAM [--json FILE]
 """
@@ -11,6 +12,7 @@ import gzip
 import json
 import math
 import os
+import random
 import shlex
 import subprocess
 import sys
@@ -18,6 +20,8 @@ import tempfile
 import time
 
 import numpy
+
+from bench import ROWS
 
 COPIES = 8 << 20  # bytes
 RUNS = 3
@@ -116,7 +120,7 @@ def fpack(files):
 
 def tools(program):
     return {"aec": aec(program), "libaec's aec": aec("/usr/bin/aec"), "fpack": fpack, "blosc -9, bitshuffle and zstd": None,
-            "zstd -3": plain("zstd", "-q", "-3"), "zstd -19": plain("zstd", "-q", "-19"), "lz4": plain("lz4", "-q"),
+            "zstd -1": plain("zstd", "-q", "-1"), "zstd -19": plain("zstd", "-q", "-19"), "lz4": plain("lz4", "-q"),
             "bzip2": plain("bzip2"), "xz": plain("xz")}
 
 
@@ -200,6 +204,34 @@ def rows(program):
     return sizes, found
 
 
+GENERATED = ("8-bit image", "10-bit detector", "16-bit walk")
+
+
+def decompressed(forth, back, to_standard, files):
+    """The size, and the speed back, in MB/s."""
+    raw, packed, unpacked = files
+    run(forth, to_standard, packed)
+    run(back, to_standard, unpacked)
+    with open(unpacked, "rb") as one, open(raw, "rb") as other:
+        assert one.read() == other.read()
+    return os.path.getsize(packed), os.path.getsize(raw) / 1e6 / best(lambda: run(back, to_standard, unpacked))
+
+
+def print_generated(program):
+    print("| 8 MiB, options | aec: bytes | zstd -1: bytes | aec: decompress, MB/s | zstd -1: decompress, MB/s |")
+    print("|---|---|---|---|---|")
+    with tempfile.TemporaryDirectory() as folder:
+        raw, packed, unpacked = files = [os.path.join(folder, name) for name in ("raw", "packed", "unpacked")]
+        for name, make, width, options in ROWS:
+            if name not in GENERATED or options[-4:] != ["-j", "16", "-r", "128"]:
+                continue
+            with open(raw, "wb") as file:
+                file.write(make(COPIES, width, random.Random(1)))
+            size, speed = decompressed([program, *options, raw, packed], [program, "-d", *options, packed, unpacked], False, files)
+            other, of_other = decompressed(["zstd", "-q", "-1", "-c", raw], ["zstd", "-d", "-c", packed], True, files)
+            print(f"| {name}, `{' '.join(options)}` | {size} | {other} | {speed:.0f} | {of_other:.0f} |", flush=True)
+
+
 def mean(speeds):
     return math.exp(sum(map(math.log, speeds)) / len(speeds))
 
@@ -217,6 +249,8 @@ def main():
     for name, row in found.items():
         speeds = [f"{mean(row[way].values()):.0f}" for way in ("forth", "back")]
         print(f"| {name} | " + " | ".join(str(row["sizes"][kind]) for kind in KINDS) + f" | {' | '.join(speeds)} |", flush=True)
+    print()
+    print_generated(program)
     if "--json" in sys.argv:
         with open(sys.argv[sys.argv.index("--json") + 1], "w") as file:
             json.dump({"samples": sizes, "tools": found}, file, indent=1)
