@@ -256,7 +256,7 @@ def others():
     for row in tools:
         there, back = number(row[-2]), number(row[-1])
         panels[1].plot(there, back, "o", color="black")
-        panels[1].annotate(row[0], (there, back), xytext=(5, -11 if row[0] == "fpack" else 3), textcoords="offset points", size=8.5)
+        panels[1].annotate(row[0], (there, back), xytext=(5, -11 if row[0] in ("fpack", "zstd -1") else 3), textcoords="offset points", size=8.5)
     panels[1].set_xscale("log")
     panels[1].set_yscale("log")
     panels[1].set_xlim(0.5, 5000)
