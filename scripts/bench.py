@@ -2,10 +2,10 @@
 """Compares ./aec with Debian's aec (package libaec-tools), and the library with libaec, on generated data. All decode what ours has coded.
 
 Prints a table in Markdown: for each row the CPU time of each program (user and system), the least of all runs of some rounds;
-where valgrind is there, the instructions for each byte of the samples; and where bench_library is given, the speeds of both
+where valgrind is there, the instructions for each byte of the samples; and where the program of bench_library.c is given, the speeds of both
 libraries, from memory to memory. Under it stand the least and the geometric mean of the ratios, with the means of the rounds.
 
-usage: bench.py [--mispredictions] [--only TEXT] [--library BENCH_LIBRARY] OURS THEIRS [MEBIBYTES]
+usage: bench.py [--mispredictions] [--only TEXT] [--library PROGRAM] OURS THEIRS [MEBIBYTES]
 """
 import argparse
 import concurrent.futures
@@ -323,6 +323,8 @@ def main():
     with tempfile.TemporaryDirectory() as folder:
         rows = [Row(*words, os.path.join(folder, str(i))) for i, words in enumerate(ROWS)]
         rows = [row for row in rows if OPTIONS.only in row.title]
+        if not rows:
+            sys.exit("bench: no row has that in its title")
         for row in rows:
             row.prepare()
         for number in range(ROUNDS):

@@ -40,7 +40,8 @@ pub extern "C" fn rice_encode(
     }
 }
 
-/// Encodes from memory to memory: as one piece that begins a code and ends it, which is read where it stands.
+/// Encodes from memory to memory: as one piece that begins a code and ends it, which is read where it stands. Longer input goes by
+/// `encode_past_limit`.
 fn encode_into(setting: &Setting, samples: &[u8], code: &mut [u8], report: &mut RiceReport) -> u32
     ensures { EncodesInto setting.now samples.now code.old code.new report.new result }
 {
@@ -51,8 +52,8 @@ fn encode_into(setting: &Setting, samples: &[u8], code: &mut [u8], report: &mut 
     finish_into(setting, &seam, samples, code, report)
 }
 
-/// Encodes from memory to memory, as any intake and outlet. Of more bytes than a code may be given, those within the limit are encoded,
-/// which one piece would refuse.
+/// Encodes from memory to memory by an intake, which gives no more bytes than a code may have: of longer input the samples within that
+/// limit are encoded, where one piece is refused whole. It is never inlined, so that other calls don't take its stack.
 #[inline(never)]
 fn encode_past_limit(
     setting: &Setting,

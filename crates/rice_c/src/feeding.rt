@@ -167,7 +167,7 @@ fn push_slice_to_slice(
     encode_more(setting, seam, samples, outlet)
 }
 
-/// Encodes the last samples, from memory to memory.
+/// Encodes the last samples, or all of them from a new seam on, from memory to memory.
 pub(crate) fn finish_into(
     setting: &Setting,
     seam: &Seam,

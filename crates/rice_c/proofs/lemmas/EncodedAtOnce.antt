@@ -1,11 +1,11 @@
 -- A code that is begun and finished by one piece is that of a call that encodes all at once.
-use Rattle.std.proofs.Common.{◌≡◌, ◌≢◌, ℕ, ◌+◌, ◌-◌, ◌*◌, ◌<◌, ◌≤◌, List, [], ◌∷◌, ◌++◌, length, take, drop, Option, Some, None, refl, sym, ◌∙◌, ap, subst, arith, inl, inr, append-nil, append_assoc, length-append, take-append-drop, take-take, ℤ}
+use Rattle.std.proofs.Common.{◌≡◌, ℕ, ◌+◌, ◌-◌, ◌*◌, ◌<◌, ◌≤◌, List, [], ◌∷◌, ◌++◌, length, take, drop, Option, Some, None, refl, sym, ◌∙◌, ap, subst, arith, inl, inr, append-nil, append_assoc, length-append, take-append-drop, take-take, ℤ}
 use Rattle.std.proofs.Math.Seq.{take-append_seam}
 use Rattle.std.proofs.lemmas.List.{length-take-le}
 use Rattle.rice_bits.specs.device.OutletRoom.{Room, begun}
 use Rattle.rice_samples.specs.Limits.{most_input}
-use Rattle.rice_samples.specs.Parameters.{Parameters, IsLegal, IsSample, width}
-use Rattle.rice_samples.specs.bytes.Spelling.{Reads, spelling, spellings, Spells, NoSpelling}
+use Rattle.rice_samples.specs.Parameters.{Parameters, IsLegal, width}
+use Rattle.rice_samples.specs.bytes.Spelling.{spellings}
 use Rattle.rice_samples.proofs.lemmas.bytes.SpellingLengths.{length-spellings, narrow_width}
 use Rattle.rice_code.specs.code.Code.{early_output}
 use Rattle.rice_stream.specs.DevicesInCalls.{Call, StopsBetween}
@@ -71,7 +71,7 @@ module _ (s : Parameters) (legal : IsLegal s) (input : List ℕ) (few : length i
         written = refl;
       }
 
-  -- whatever becomes of the piece
+  -- What one piece does that begins a code and ends it, with a fault or none, a call does that encodes all at once.
   pub by_one_piece : (fault : Option Fault) → EncodesRest s [] input (Some (begun name old)) (Some room) r fault → EncodedBy s input room.bytes r fault
   by_one_piece None (more, all, rep, follows) = record {
     call = record { given = input; left = Some []; written = room.bytes };
@@ -163,7 +163,7 @@ module _ (s : Parameters) (legal : IsLegal s) (input : List ℕ) (few : length i
   by_one_piece (Some (RunPastSegment block)) h = absurd h
   by_one_piece (Some (ResidualTooLarge block)) h = absurd h
 
--- so it is for the caller's memory
+-- So where finishing a code of no samples did this with the caller's memory, a call that encodes into memory did.
 pub encodes_at_once : (s : Parameters) (input old new : List ℕ) (r : RiceReport) (status : ℕ) → IsLegal s → length input ≤ most_input → FinishesInto s [] input old new r status
     → EncodesInto s input old new r status
 encodes_at_once s input old new r status legal few f =
