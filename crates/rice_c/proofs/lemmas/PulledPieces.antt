@@ -1,6 +1,6 @@
 -- Pieces of a code that are pulled give what a call writes that decodes all of it.
 use Rattle.std.proofs.Common.{◌≡◌, ◌≢◌, ℕ, ◌+◌, ◌*◌, ◌/◌, ◌<◌, ◌≤◌, ◌==◌, Bool, cond, List, [], ◌∷◌, ◌++◌, length, take}
-use Rattle.std.proofs.Common.{drop, Option, Some, None, refl, inl, inr, sym, ◌∙◌, ap, subst, arith, length-append, take-append-drop, ℤ, pos}
+use Rattle.std.proofs.Common.{drop, Option, Some, None, refl, inl, inr, sym, ◌∙◌, ap, subst, arith, length-append, take-append-drop, ℤ}
 use Rattle.std.proofs.Math.Nat.{mul-div_cancel_left, mul-le-mul_left}
 use Rattle.std.proofs.lemmas.Bool.{cases_lt}
 use Rattle.std.proofs.lemmas.List.{length-take-le, take_at}
