@@ -10,7 +10,6 @@ usage: bench_others.py PROGRAM [--json FILE]
 """
 import gzip
 import json
-import math
 import os
 import random
 import shlex
@@ -21,7 +20,7 @@ import time
 
 import numpy
 
-from bench import ROWS
+from bench import ROWS, mean
 
 COPIES = 8 << 20  # bytes
 RUNS = 3
@@ -91,14 +90,11 @@ def write_fits(path, samples):
 class Files:
     """Samples as the programs want them: raw, and as FITS, of which fpack makes another file."""
 
-    def __init__(self, folder, samples):
-        self.samples, self.bits = samples, bits_of(samples)
+    def __init__(self, folder, samples, options=()):
+        self.samples, self.options = samples, options or ["-n", str(bits_of(samples)), "-j", "32", "-r", "128"]
         self.raw, self.packed, self.back, self.fits = (os.path.join(folder, name) for name in ("raw", "packed", "back", "raw.fits"))
         samples.tofile(self.raw)
         write_fits(self.fits, samples)
-
-    def options(self):
-        return ["-n", str(self.bits), "-j", "32", "-r", "128"]
 
 
 def plain(*words):
@@ -110,7 +106,7 @@ def plain(*words):
 
 def aec(program):
     def forth_and_back(files):
-        return [program, *files.options(), files.raw, files.packed], [program, "-d", *files.options(), files.packed, files.back], False
+        return [program, *files.options, files.raw, files.packed], [program, "-d", *files.options, files.packed, files.back], False
     return forth_and_back
 
 
@@ -207,33 +203,18 @@ def rows(program):
 GENERATED = ("8-bit image", "10-bit detector", "16-bit walk")
 
 
-def decompressed(forth, back, to_standard, files):
-    """The size, and the speed back, in MB/s."""
-    raw, packed, unpacked = files
-    run(forth, to_standard, packed)
-    run(back, to_standard, unpacked)
-    with open(unpacked, "rb") as one, open(raw, "rb") as other:
-        assert one.read() == other.read()
-    return os.path.getsize(packed), os.path.getsize(raw) / 1e6 / best(lambda: run(back, to_standard, unpacked))
-
-
 def print_generated(program):
     print("| 8 MiB, options | aec: bytes | zstd -1: bytes | aec: decompress, MB/s | zstd -1: decompress, MB/s |")
     print("|---|---|---|---|---|")
     with tempfile.TemporaryDirectory() as folder:
-        raw, packed, unpacked = files = [os.path.join(folder, name) for name in ("raw", "packed", "unpacked")]
         for name, make, width, options in ROWS:
             if name not in GENERATED or options[-4:] != ["-j", "16", "-r", "128"]:
                 continue
-            with open(raw, "wb") as file:
-                file.write(make(COPIES, width, random.Random(1)))
-            size, speed = decompressed([program, *options, raw, packed], [program, "-d", *options, packed, unpacked], False, files)
-            other, of_other = decompressed(["zstd", "-q", "-1", "-c", raw], ["zstd", "-d", "-c", packed], True, files)
-            print(f"| {name}, `{' '.join(options)}` | {size} | {other} | {speed:.0f} | {of_other:.0f} |", flush=True)
-
-
-def mean(speeds):
-    return math.exp(sum(map(math.log, speeds)) / len(speeds))
+            samples = numpy.frombuffer(make(COPIES, width, random.Random(1)), f"<u{width}")
+            files = Files(folder, samples, options)
+            found = [measured(tools(program)[tool], files, True) for tool in ("aec", "zstd -1")]
+            cells = [str(size) for size, _, _ in found] + [f"{samples.nbytes / 1e6 / back:.0f}" for _, _, back in found]
+            print(f"| {name}, `{' '.join(options)}` | {' | '.join(cells)} |", flush=True)
 
 
 def main():

@@ -6,13 +6,13 @@ use Rattle.std.proofs.lemmas.List.{length-take-le}
 use Rattle.rice_bits.specs.device.OutletRoom.{Room, begun}
 use Rattle.rice_samples.specs.Limits.{most_input}
 use Rattle.rice_samples.specs.Parameters.{Parameters, IsLegal, width}
-use Rattle.rice_samples.specs.bytes.Spelling.{spellings}
+use Rattle.rice_samples.specs.bytes.Spelling.{AtEnd, Spells, spellings}
 use Rattle.rice_samples.proofs.lemmas.bytes.SpellingLengths.{length-spellings, narrow_width}
 use Rattle.rice_code.specs.code.Code.{early_output}
 use Rattle.rice_stream.specs.DevicesInCalls.{Call, StopsBetween}
 use Rattle.rice_stream.specs.Encodes.{Encodes, ReportsTaken}
 use Rattle.rice_stream.specs.EncodingState.{Follows, FollowsBetween}
-use Rattle.rice_stream.specs.Feeding.{behind, EncodesRest, MeetsNone}
+use Rattle.rice_stream.specs.Feeding.{behind, AreAll, EncodesRest, MeetsNone}
 use Rattle.rice_stream.proofs.lemmas.FedPieces.{nothing_early}
 use Rattle.rice_stream.specs.declared.outcome.Fault.{Fault}
 use Rattle.rice_stream.specs.declared.outcome.Fault.TheVariants.{Read, Write, TooLong, SampleOutOfRange, SampleCut, CodeEnds, RunPastSegment, ResidualTooLarge}
@@ -23,7 +23,7 @@ use Rattle.rice_c.specs.Feeding.{FinishesInto}
 use Rattle.rice_c.specs.Reports.{report_of}
 
 -- a call that encodes these bytes, and writes those
-pub record EncodedBy (s : Parameters) (input bytes : List ℕ) (r : Report) (fault : Option Fault) : Type 0 where
+record EncodedBy (s : Parameters) (input bytes : List ℕ) (r : Report) (fault : Option Fault) : Type 0 where
   pub call : Call
   pub takes : TakesInput input call
   pub encodes : Encodes s call r fault
@@ -34,12 +34,20 @@ module _ (s : Parameters) (legal : IsLegal s) (input : List ℕ) (few : length i
   all_written : {bytes : List ℕ} → Follows (behind s [] (Some (begun name old))) (Some room) bytes → room.bytes ≡ bytes
   all_written f = f.took.bytes ∙ sym (f.split ∙ ap (λ l. l ++ f.more) (nothing_early s legal))
 
+  -- and so is what stops before its end
   stops_so : {from to : List ℕ} → FollowsBetween (behind s [] (Some (begun name old))) (Some room) from to → StopsBetween from to room.bytes
   stops_so {from} {to} f = subst (λ l. StopsBetween from to l) (sym (all_written f.took)) f.stops
 
-  -- all of the bytes are given
-  all_given : TakesInput input (record { given = input; left = Some []; written = room.bytes })
+  -- a call that is given all of the bytes
+  abbrev of_all : Call
+  of_all = record { given = input; left = Some []; written = room.bytes }
+
+  all_given : TakesInput input of_all
   all_given = record { left = []; gave = sym (append-nil input); left_is = refl }
+
+  -- which spell these samples and no others
+  spells_all : (more : List ℤ) → AreAll s [] input (Some (begun name old)) (Some room) more → Spells s input more AtEnd
+  spells_all more all = record { rest = []; whole = all.spelled ∙ sym (append-nil (spellings s more)); legal = all.legal; stops = refl }
 
   -- so many samples have so many bytes
   bytes_of_samples : (xs : List ℤ) (bytes : List ℕ) → bytes ≡ spellings s xs → r.samples ≡ length xs → length bytes ≡ r.samples * width s
@@ -73,17 +81,13 @@ module _ (s : Parameters) (legal : IsLegal s) (input : List ℕ) (few : length i
       }
 
   -- What one piece does that begins a code and ends it, with a fault or none, a call does that encodes all at once.
-  pub by_one_piece : (fault : Option Fault) → EncodesRest s [] input (Some (begun name old)) (Some room) r fault → EncodedBy s input room.bytes r fault
+  by_one_piece : (fault : Option Fault) → EncodesRest s [] input (Some (begun name old)) (Some room) r fault → EncodedBy s input room.bytes r fault
   by_one_piece None (more, all, rep, follows) = record {
-    call = record { given = input; left = Some []; written = room.bytes };
+    call = of_all;
     takes = all_given;
     encodes = record {
       samples = more;
-      ends = (
-        record { rest = []; whole = all.spelled ∙ sym (append-nil (spellings s more)); legal = all.legal; stops = refl },
-        refl,
-        record { written = all_written follows; reports = rep },
-      );
+      ends = (spells_all more all, refl, record { written = all_written follows; reports = rep });
       limit = few;
       ahead = omega (arith, bytes_of_samples more input all.spelled rep.samples);
     };
@@ -91,7 +95,7 @@ module _ (s : Parameters) (legal : IsLegal s) (input : List ℕ) (few : length i
   }
   by_one_piece (Some (SampleOutOfRange index)) (more, meets, rep) = refused more index meets rep
   by_one_piece (Some (SampleCut index)) (more, meets, rep) = record {
-    call = record { given = input; left = Some []; written = room.bytes };
+    call = of_all;
     takes = all_given;
     encodes = record {
       samples = more;
@@ -140,14 +144,14 @@ module _ (s : Parameters) (legal : IsLegal s) (input : List ℕ) (few : length i
         written = refl;
       }
   by_one_piece (Some Write) (inr (more, all, rep, stops)) = record {
-    call = record { given = input; left = Some []; written = room.bytes };
+    call = of_all;
     takes = all_given;
     encodes = record {
       samples = more;
       ends = (
         omega (arith, bytes_of_samples more input all.spelled rep.samples),
         inr (record {
-          given = record { rest = []; whole = all.spelled ∙ sym (append-nil (spellings s more)); legal = all.legal; stops = refl };
+          given = spells_all more all;
           end = refl;
           reports = rep;
           stops = stops_so stops;
