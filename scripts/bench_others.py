@@ -8,6 +8,7 @@ Under the table stands one of samples that bench.py generates, with what aec and
 
 usage: bench_others.py PROGRAM [--json FILE]
 """
+import filecmp
 import gzip
 import json
 import os
@@ -20,7 +21,7 @@ import time
 
 import numpy
 
-from bench import ROWS, mean
+from bench import ROWS, cpu_times, mean
 
 COPIES = 8 << 20  # bytes
 RUNS = 3
@@ -90,11 +91,14 @@ def write_fits(path, samples):
 class Files:
     """Samples as the programs want them: raw, and as FITS, of which fpack makes another file."""
 
-    def __init__(self, folder, samples, options=()):
-        self.samples, self.options = samples, options or ["-n", str(bits_of(samples)), "-j", "32", "-r", "128"]
+    def __init__(self, folder, samples):
+        self.samples, self.bits = samples, bits_of(samples)
         self.raw, self.packed, self.back, self.fits = (os.path.join(folder, name) for name in ("raw", "packed", "back", "raw.fits"))
         samples.tofile(self.raw)
         write_fits(self.fits, samples)
+
+    def options(self):
+        return ["-n", str(self.bits), "-j", "32", "-r", "128"]
 
 
 def plain(*words):
@@ -106,7 +110,7 @@ def plain(*words):
 
 def aec(program):
     def forth_and_back(files):
-        return [program, *files.options, files.raw, files.packed], [program, "-d", *files.options, files.packed, files.back], False
+        return [program, *files.options(), files.raw, files.packed], [program, "-d", *files.options(), files.packed, files.back], False
     return forth_and_back
 
 
@@ -204,16 +208,22 @@ GENERATED = ("8-bit image", "10-bit detector", "16-bit walk")
 
 
 def print_generated(program):
+    """Both decompress in turn, on one processor."""
     print("| 8 MiB, options | aec: bytes | zstd -1: bytes | aec: decompress, MB/s | zstd -1: decompress, MB/s |")
     print("|---|---|---|---|---|")
     with tempfile.TemporaryDirectory() as folder:
+        raw, code, other, back, other_back = (os.path.join(folder, name) for name in ("raw", "code", "raw.zst", "back", "zst.back"))
         for name, make, width, options in ROWS:
             if name not in GENERATED or options[-4:] != ["-j", "16", "-r", "128"]:
                 continue
-            samples = numpy.frombuffer(make(COPIES, width, random.Random(1)), f"<u{width}")
-            files = Files(folder, samples, options)
-            found = [measured(tools(program)[tool], files, True) for tool in ("aec", "zstd -1")]
-            cells = [str(size) for size, _, _ in found] + [f"{samples.nbytes / 1e6 / back:.0f}" for _, _, back in found]
+            with open(raw, "wb") as file:
+                file.write(make(COPIES, width, random.Random(1)))
+            for command in ([program, *options, raw, code], ["zstd", "-q", "-1", "-f", raw, "-o", other]):
+                subprocess.run(command, check=True)
+            commands = [program, "-d", *options, code, back], ["zstd", "-q", "-d", "-f", other, "-o", other_back]
+            times = [min(it) for it in zip(*(cpu_times(commands) for _ in range(RUNS)))]
+            assert all(filecmp.cmp(raw, it, shallow=False) for it in (back, other_back))
+            cells = [str(os.path.getsize(it)) for it in (code, other)] + [f"{COPIES / 1e6 / it:.0f}" for it in times]
             print(f"| {name}, `{' '.join(options)}` | {' | '.join(cells)} |", flush=True)
 
 
