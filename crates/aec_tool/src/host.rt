@@ -18,8 +18,11 @@ use std::os::unix::fs::OpenOptionsExt;
 use std::rt::Runtime;
 use std::{fs, io};
 
-/// The size of the buffer in front of the destination, in bytes.
+/// The size of the buffer in front of standard output, in bytes.
 const BUFFER: usize = 1 << 16;
+
+/// The size of the buffer in front of a file, in bytes.
+const FILE_BUFFER: usize = 1 << 18;
 
 /// The permissions that a new file gets where those of the source are not known, less those that the system withholds.
 const ANY_NEW_FILE: u32 = 0o666;
@@ -97,7 +100,7 @@ impl<'a, 'r, R: Runtime + AllocGlobal> System<'a> for Host<'r, R> {
         let _output = File::open(self.rt, "/");
         let _errors = File::open(self.rt, "/");
         let sink = Counted::new(self.rt, self.progress, Sink::Pending);
-        let Ok(mut writer) = BufWriter::with_capacity(self.rt.alloc(), BUFFER, sink) else {
+        let Ok(mut writer) = BufWriter::with_capacity(self.rt.alloc(), FILE_BUFFER, sink) else {
             return Err(CreateFault::NoMemory);
         };
         let mut options = File::options();

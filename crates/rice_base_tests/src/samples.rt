@@ -5,10 +5,10 @@ use crate::case_table::{self, Columns, answer_to, bytes_of, setting_of};
 use crate::cases::Cases;
 use rice_bits::{BitSink, Meter, SliceIn};
 use rice_samples::{
-    Block, SampleFault, SampleReader, Segment, Setting, SettingFault, bytes_of as bytes_of_sample,
-    first_levels, from_pattern, level_of_pattern, levels_of_patterns, pattern, pattern_of_level,
-    read_legal_levels, residual, restore, restore_near_first, sample_of, set_unused_bits,
-    write_spellings, write_spellings_laid_out,
+    Block, LevelRow, Levels, SampleFault, SampleReader, Segment, Setting, SettingFault,
+    bytes_of as bytes_of_sample, from_pattern, level_of_pattern, levels_of_patterns, pattern,
+    pattern_of_level, read_legal_levels, residual, restore, restore_near_first, sample_of,
+    set_unused_bits, write_spellings, write_spellings_laid_out,
 };
 use std::alloc::Global;
 use std::process::Abort;
@@ -609,8 +609,8 @@ fn samples_in_a_row(rt: HostRuntime) -> Result<(), Fail> {
     assert!(rt; are_below(setting.number_of_values(), &levels));
     assert!(rt; are_below(signed.number_of_values(), &negative));
     let mut segment = Segment::new();
-    segment.push_residuals_of_levels(&setting, 5, &levels);
-    segment.push_patterns_of_levels(&signed, &negative);
+    segment.push_residuals_of_levels(&setting, 5, &Levels::of_words(&levels));
+    segment.push_patterns_of_levels(&signed, &Levels::of_words(&negative));
     cases.check(segment.len() == 16);
     let residuals = [2, 1, 0, 1, 7, 255, 255, 255];
     cases.check(is_of(segment.block(0, 8), &residuals));
@@ -769,13 +769,31 @@ fn row_is_written_as_laid_out(setting: &Setting, bytes: &[u8], levels: &[u32]) -
 fn samples_of_an_intake() -> Result<(), Fail> {
     let mut cases = Cases::new();
     let setting = of_bits(10, false)?;
-    let mut levels = [0; 4];
+    let mut levels = LevelRow::new();
     let mut intake = SliceIn::new(&[1, 2, 255, 3, 0, 4]);
     let mut samples = SampleReader::new(setting);
     cases.check(samples.next_levels(&mut intake, &mut levels) == Ok(2));
-    cases.check(levels[..2] == [513, 1023]);
+    cases.check(levels.front(2).first_or(0) == 513);
+    cases.check(levels.front(2).last_or(0) == 1023);
     cases.check(samples.next_levels(&mut intake, &mut levels) == Err(SampleFault::OutOfRange));
-    cases.check(first_levels(&setting, &[255, 3, 0, 4], &mut levels) == 1);
+    cases.check(levels.read_first(&setting, &[255, 3, 0, 4]) == 1);
+    cases.end()
+}
+
+/// Of 4 bits 16 is no sample, and -8 is the least of those with a sign.
+#[test]
+fn levels_of_samples_of_a_byte() -> Result<(), Fail> {
+    let mut cases = Cases::new();
+    let mut levels = LevelRow::new();
+    cases.check(levels.read_first(&of_bits(4, false)?, &[3, 15, 16, 0]) == 2);
+    cases.check(levels.front(2).behind(1).first_or(0) == 15);
+    cases.check(levels.read_first(&of_bits(4, true)?, &[0xF8, 7, 8, 0]) == 2);
+    cases.check(levels.front(2).first_or(9) == 0);
+    cases.check(levels.front(2).last_or(0) == 15);
+    cases.check(levels.front(2).len() == 2);
+    cases.check(levels.front(0).is_empty());
+    cases.check(Levels::of_bytes(&[1, 2]).last_or(0) == 2);
+    cases.check(Levels::of_words(&[1, 300]).last_or(0) == 300);
     cases.end()
 }
 
@@ -784,7 +802,7 @@ fn samples_of_an_intake() -> Result<(), Fail> {
 fn the_end_of_an_intake() -> Result<(), Fail> {
     let mut cases = Cases::new();
     let setting = of_bits(10, false)?;
-    let mut levels = [0; 4];
+    let mut levels = LevelRow::new();
     let mut intake = SliceIn::new(&[1, 2, 3]);
     let mut samples = SampleReader::new(setting);
     cases.check(samples.next_levels(&mut intake, &mut levels) == Ok(1));

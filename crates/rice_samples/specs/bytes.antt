@@ -1,4 +1,5 @@
 -- Samples in bytes.
+pub mod Levels
 pub mod PatternLanes
 pub mod SampleReader
 pub mod UnusedBits

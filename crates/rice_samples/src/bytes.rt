@@ -1,5 +1,7 @@
 //! Samples in bytes: the one spelling of each, and reading and writing several at once.
 
+pub mod level_row;
+pub mod levels;
 pub mod pattern_lanes;
 pub mod reading;
 pub mod sample_fault;

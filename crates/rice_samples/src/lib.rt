@@ -12,8 +12,10 @@ pub mod setting;
 
 pub use blocks::block::Block;
 pub use blocks::segment::{Residuals, Segment};
+pub use bytes::level_row::LevelRow;
+pub use bytes::levels::Levels;
 pub use bytes::pattern_lanes::bytes_of_patterns;
-pub use bytes::reading::{first_levels, read_legal_levels};
+pub use bytes::reading::read_legal_levels;
 pub use bytes::sample_fault::SampleFault;
 pub use bytes::sample_reader::{MOST_INPUT, SampleReader};
 pub use bytes::spelling::{bytes_of, sample_of};

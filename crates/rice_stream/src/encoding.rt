@@ -18,10 +18,7 @@ use crate::seam::{Seam, take_waiting_number};
 use crate::write::{write_counted, write_whole};
 use rice_bits::{BitSink, Intake, Meter, Outlet, WriteFault};
 use rice_code::{SegmentSink, SizedCoder};
-use rice_samples::{SampleFault, SampleReader, Setting, first_levels};
-
-/// The number of samples that are taken from bytes at a time.
-pub(crate) const SAMPLES: usize = 512;
+use rice_samples::{LevelRow, Levels, SampleFault, SampleReader, Setting};
 
 /// The residuals of any segment.
 pub(crate) const LONGEST: usize = 4096;
@@ -37,10 +34,11 @@ const LEAST_ROOM_OF_ROW: u64 = 4096;
 /// A coder with room for `N` residuals, its sink, its meter, and what it has counted for the report.
 #[derive(Drop)]
 pub(crate) struct Encoding<const N: usize> {
+    /// It stands apart from `bits`: neighbours would be added to as a pair, which takes longer.
+    samples: u64,
     coder: SizedCoder<N>,
     sink: SegmentSink,
     meter: Meter,
-    samples: u64,
     bits: u64,
 }
 
@@ -52,10 +50,10 @@ impl<const N: usize> Encoding<N> {
         ensures { (now : Option Room) → IsEncodingOf setting (afresh now) now result [] }
     {
         Encoding {
+            samples: 0,
             coder: SizedCoder::begin(setting),
             sink: BitSink::new(),
             meter: Meter::new(),
-            samples: 0,
             bits: 0,
         }
     }
@@ -73,10 +71,10 @@ impl<const N: usize> Encoding<N> {
         let mut meter = Meter::new();
         meter.tick(seam.steps);
         Encoding {
+            samples: seam.samples,
             coder: SizedCoder::resume(setting, seam.start, seam.previous),
             sink: BitSink::new(),
             meter,
-            samples: seam.samples,
             bits: seam.bits,
         }
     }
@@ -130,7 +128,7 @@ impl<const N: usize> Encoding<N> {
 
     /// Takes the samples with these levels up to the one that completes a segment, or all of them, and returns their number.
     #[inline(always)]
-    fn push_to_coder(&mut self, levels: &[u32]) -> usize
+    fn push_to_coder(&mut self, levels: &Levels<'_>) -> usize
         requires ready { CanTakeMore self.old levels.now }
         requires room { HasRoomForSegment self.old.coder.setting self.old.sink }
         ensures count { result ≤ length levels.now }
@@ -147,7 +145,7 @@ impl<const N: usize> Encoding<N> {
 
     /// Does what `push_to_coder` does, in a call of its own.
     #[inline(never)]
-    fn push_to_coder_in_a_call(&mut self, levels: &[u32]) -> usize
+    fn push_to_coder_in_a_call(&mut self, levels: &Levels<'_>) -> usize
         requires ready { CanTakeMore self.old levels.now }
         requires room { HasRoomForSegment self.old.coder.setting self.old.sink }
         ensures count { result ≤ length levels.now }
@@ -161,7 +159,7 @@ impl<const N: usize> Encoding<N> {
     /// reported is as if each segment were written before the sample after it is taken.
     fn push_some_and_write<O: Outlet>(
         &mut self,
-        levels: &[u32],
+        levels: &Levels<'_>,
         outlet: &mut O,
     ) -> Result<usize, WriteFault>
         requires ready { CanTake (O.taken outlet.old) self.old levels.now }
@@ -196,7 +194,7 @@ impl<const N: usize> Encoding<N> {
     /// Takes samples as `push_to_coder` does, writes the bytes that they complete, and returns their number.
     fn push_segment<O: Outlet>(
         &mut self,
-        levels: &[u32],
+        levels: &Levels<'_>,
         outlet: &mut O,
     ) -> Result<usize, WriteFault>
         requires ready { CanTake (O.taken outlet.old) self.old levels.now }
@@ -220,7 +218,11 @@ impl<const N: usize> Encoding<N> {
 
     /// Takes the samples of many segments, and writes the bytes that they complete in one call. Where the outlet fails, the
     /// samples are taken once more, up to those of the segment that it has not taken whole.
-    fn push_row<O: Outlet>(&mut self, levels: &[u32], outlet: &mut O) -> Result<usize, WriteFault>
+    fn push_row<O: Outlet>(
+        &mut self,
+        levels: &Levels<'_>,
+        outlet: &mut O,
+    ) -> Result<usize, WriteFault>
         requires between { (xs : List ℤ) → HasTaken self.old.coder xs →
             cut self.old.coder.setting (length xs) ≡ length xs }
         requires ready { CanTake (O.taken outlet.old) self.old levels.now }
@@ -243,7 +245,7 @@ impl<const N: usize> Encoding<N> {
             }
             Err(count) => {
                 self.go_back(&start);
-                self.take_until_past(&levels[..taken], count);
+                self.take_until_past(&levels.front(taken), count);
                 Err(WriteFault)
             }
         }
@@ -251,7 +253,7 @@ impl<const N: usize> Encoding<N> {
 
     /// Takes samples segment after segment, as long as the sink has room for the code of one more, or all of them, and returns their
     /// number.
-    fn take_row(&mut self, levels: &[u32]) -> usize
+    fn take_row(&mut self, levels: &Levels<'_>) -> usize
         requires { CanTakeFrom self.old levels.now }
         ensures count { result ≤ length levels.now }
         ensures some { 0 < length levels.now → 0 < result }
@@ -266,7 +268,7 @@ impl<const N: usize> Encoding<N> {
             if self.sink.len() > most {
                 return at;
             }
-            at += self.push_to_coder(&levels[at..]);
+            at += self.push_to_coder(&levels.behind(at));
         }
         at
     }
@@ -305,7 +307,7 @@ impl<const N: usize> Encoding<N> {
     /// Takes samples segment after segment, up to the one with which the code passes `count` more whole bytes.
     #[cold]
     #[inline(never)]
-    fn take_until_past(&mut self, levels: &[u32], count: usize)
+    fn take_until_past(&mut self, levels: &Levels<'_>, count: usize)
         requires { CanTakeFrom self.old levels.now }
         ensures { (s : Parameters) (xs : List ℤ) → HoldsCode s self.old xs xs →
             length (early_output s xs) + count < length (early_output s (xs ++ values_at s levels.now)) →
@@ -314,7 +316,7 @@ impl<const N: usize> Encoding<N> {
         let mut at = 0;
         let mut left = count as u64;
         while at < levels.len() {
-            at += self.push_to_coder_in_a_call(&levels[at..]);
+            at += self.push_to_coder_in_a_call(&levels.behind(at));
             let bytes = self.sink.len() / 8;
             if left < bytes {
                 return;
@@ -327,7 +329,7 @@ impl<const N: usize> Encoding<N> {
     /// Takes all samples, and writes the bytes that they complete, as if those of each segment before the sample after it is taken.
     fn push_all_levels<O: Outlet>(
         &mut self,
-        levels: &[u32],
+        levels: &Levels<'_>,
         outlet: &mut O,
     ) -> Result<(), WriteFault>
         requires ready { CanTake (O.taken outlet.old) self.old levels.now }
@@ -342,7 +344,7 @@ impl<const N: usize> Encoding<N> {
     {
         let mut at = 0;
         while at < levels.len() {
-            at += self.push_some_and_write(&levels[at..], outlet)?;
+            at += self.push_some_and_write(&levels.behind(at), outlet)?;
         }
         Ok(())
     }
@@ -353,11 +355,10 @@ impl<const N: usize> Encoding<N> {
         &mut self,
         setting: &Setting,
         bytes: &[u8],
-        levels: &mut [u32],
+        levels: &mut LevelRow,
         outlet: &mut O,
     ) -> Result<(), Fault>
         requires ready { CanPush setting.now (O.taken outlet.old) self.old bytes.now }
-        requires some { 0 < length levels.old }
         requires writes { O.failed outlet.old + 1 < 2 ^ 64 }
         ensures did { PushesBytes setting.now (O.taken outlet.old) (O.taken outlet.new)
             self.old self.new bytes.now result }
@@ -366,13 +367,13 @@ impl<const N: usize> Encoding<N> {
         let width = setting.width() as usize;
         let mut at = 0;
         while width <= bytes.len() - at {
-            let count = first_levels(setting, &bytes[at..], levels);
+            let count = levels.read_first(setting, &bytes[at..]);
             if count == 0 {
                 return Err(Fault::SampleOutOfRange {
                     index: self.samples,
                 });
             }
-            match self.push_all_levels(&levels[..count], outlet) {
+            match self.push_all_levels(&levels.front(count), outlet) {
                 Ok(()) => at += width * count,
                 Err(_) => return Err(Fault::Write),
             }
@@ -509,7 +510,7 @@ fn encode_by_sized_coder<const N: usize, I: Intake, O: Outlet>(
 {
     let mut encoding = Encoding::<N>::new(*setting);
     let mut samples = SampleReader::new(*setting);
-    let mut levels = [0u32; SAMPLES];
+    let mut levels = LevelRow::new();
     'encode_all: loop {
         let count = match samples.next_levels(intake, &mut levels) {
             Ok(count) => count,
@@ -518,7 +519,7 @@ fn encode_by_sized_coder<const N: usize, I: Intake, O: Outlet>(
         if count == 0 {
             return encoding.finish(outlet);
         }
-        match encoding.push_all_levels(&levels[..count], outlet) {
+        match encoding.push_all_levels(&levels.front(count), outlet) {
             Ok(()) => {}
             Err(_) => return encoding.stopped(Fault::Write),
         }

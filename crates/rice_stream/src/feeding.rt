@@ -8,11 +8,11 @@ ghost use Rattle.rice_stream.specs.Encodes.{EncodesWithin};
 ghost use Rattle.rice_stream.specs.EncodingState.{PushFails};
 ghost use Rattle.rice_stream.specs.Feeding.{IsSomeSeam, EncodesOn, EncodesToEnd};
 
-use crate::encoding::{Encoding, LONGEST, SAMPLES, SHORT, has_short_intervals};
+use crate::encoding::{Encoding, LONGEST, SHORT, has_short_intervals};
 use crate::outcome::{Fault, Outcome};
 use crate::seam::Seam;
 use rice_bits::Outlet;
-use rice_samples::{MOST_INPUT, Setting};
+use rice_samples::{LevelRow, MOST_INPUT, Setting};
 
 /// Encodes the next samples, which the bytes spell, and returns where their code ends.
 ///
@@ -61,7 +61,7 @@ fn encode_more_by_sized_coder<const N: usize, O: Outlet>(
     let part = &bytes[..width * count as usize];
     let mut encoding = Encoding::<N>::resume(*setting, seam);
     encoding.put_bits_of_seam(seam);
-    let mut levels = [0u32; SAMPLES];
+    let mut levels = LevelRow::new();
     encoding.push_samples_of_bytes(setting, part, &mut levels, outlet)?;
     Ok(encoding.seam())
 }
@@ -109,7 +109,7 @@ fn encode_rest_by_sized_coder<const N: usize, O: Outlet>(
     if bytes.len() as u64 > bytes_left(width, encoding.taken()) {
         return encoding.stopped(Fault::TooLong);
     }
-    let mut levels = [0u32; SAMPLES];
+    let mut levels = LevelRow::new();
     match encoding.push_samples_of_bytes(setting, bytes, &mut levels, outlet) {
         Ok(()) => {}
         Err(fault) => return encoding.stopped(fault),

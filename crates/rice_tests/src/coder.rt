@@ -5,7 +5,7 @@ use rice_base_tests::case_table::{Columns, bytes_of, number_of, samples_of, sett
 use rice_base_tests::cases::Cases;
 use rice_bits::{BitSink, Meter};
 use rice_code::{Coder, SegmentSink, bit_bound, padded_bound, step_bound};
-use rice_samples::Setting;
+use rice_samples::{Levels, Setting};
 use std::alloc::Global;
 use std::process::Abort;
 use std::test::Fail;
@@ -105,7 +105,9 @@ fn push_some(
     let _block = setting.block();
     assert!(rt; are_legal(setting, levels));
     assert!(rt; meter.steps() < 1 << 61);
-    coder.push_some(levels, sink, meter).samples
+    coder
+        .push_some(&Levels::of_words(levels), sink, meter)
+        .samples
 }
 
 /// Codes samples as `code` does, several at a time.

@@ -9,7 +9,7 @@ ghost use Rattle.rice_code.specs.CoderSteps.{segment_steps};
 use crate::encode::SegmentSink;
 use crate::encode::open_segment::OpenSegment;
 use rice_bits::Meter;
-use rice_samples::Setting;
+use rice_samples::{Levels, Setting};
 use std::marker::Model;
 
 /// What `Coder::push_some` has taken.
@@ -162,7 +162,12 @@ impl<const N: usize> SizedCoder<N> {
     ///
     /// A step is a sample, a bit put, padding aside, or a look at a residual.
     #[inline(always)]
-    pub fn push_some(&mut self, levels: &[u32], sink: &mut SegmentSink, meter: &mut Meter) -> Pushed
+    pub fn push_some(
+        &mut self,
+        levels: &Levels<'_>,
+        sink: &mut SegmentSink,
+        meter: &mut Meter,
+    ) -> Pushed
         requires legal { All (λ l. l < value_count self.old.setting) levels.now }
         requires room { HasRoomForSegment self.old.setting sink.old }
         requires meter { meter.old + segment_steps self.old.setting < step_limit }
@@ -178,7 +183,7 @@ impl<const N: usize> SizedCoder<N> {
     {
         let taken = levels.len().min(self.segment.room());
         meter.tick(taken as u64);
-        self.segment.hold_levels(&levels[..taken]);
+        self.segment.hold_levels(&levels.front(taken));
         if self.segment.is_whole() {
             let bits = self.segment.code(sink, meter);
             self.segment.begin_next();

@@ -16,7 +16,7 @@ use crate::encode::SegmentSink;
 use crate::encode::blocks::code_blocks;
 use crate::encode::prepared_setting::PreparedSetting;
 use rice_bits::Meter;
-use rice_samples::{Residuals, Setting, pattern, pattern_of_level, residual};
+use rice_samples::{Levels, Residuals, Setting, pattern, pattern_of_level, residual};
 use std::marker::Model;
 
 /// The residuals of a segment that is not coded yet, at most `N`, and what is known of it.
@@ -173,7 +173,8 @@ impl<const N: usize> OpenSegment<N> {
     }
 
     /// Adds the residuals of the samples with these levels, for which the segment has room.
-    pub fn hold_levels(&mut self, levels: &[u32])
+    #[inline(always)]
+    pub fn hold_levels(&mut self, levels: &Levels<'_>)
         requires legal { All (λ l. l < value_count self.old.setting) levels.now }
         requires room { length self.old.residuals + length levels.now ≤
             self.old.setting.block * blocks_left self.old.setting self.old.start }
@@ -184,7 +185,7 @@ impl<const N: usize> OpenSegment<N> {
         }
         // The residual of a sample after itself is 0, as it is at a reference place.
         if self.is_reference_next() {
-            let first = levels[0];
+            let first = levels.first_or(0);
             self.reference = Some(pattern_of_level(self.setting.plain(), first));
             self.hold_levels_after(first, levels);
         } else {
@@ -194,7 +195,8 @@ impl<const N: usize> OpenSegment<N> {
 
     /// Adds the residuals of samples: of the first one after the sample at level `before`, and of each other after the one before
     /// it.
-    fn hold_levels_after(&mut self, before: u32, levels: &[u32])
+    #[inline(always)]
+    fn hold_levels_after(&mut self, before: u32, levels: &Levels<'_>)
         requires some { 0 < length levels.now }
         requires before { before < value_count self.old.setting }
         requires legal { All (λ l. l < value_count self.old.setting) levels.now }
@@ -204,7 +206,7 @@ impl<const N: usize> OpenSegment<N> {
             (values_at self.old.setting levels.now) }
     {
         push_each_after_the_one_before(&self.setting, before, levels, &mut self.residuals);
-        self.previous = levels[levels.len() - 1];
+        self.previous = levels.last_or(before);
     }
 
     /// Fills the last block by repeating the last sample, a step for each.
@@ -380,10 +382,11 @@ fn note_reference(setting: &PreparedSetting, first: bool, reference: &mut Option
 
 /// Adds the residuals of samples: of the first one after the sample at level `previous`, and of each other after the one before it.
 /// A reference sample comes after itself, and has the residual 0.
+#[inline(always)]
 fn push_each_after_the_one_before<const N: usize>(
     setting: &PreparedSetting,
     previous: u32,
-    levels: &[u32],
+    levels: &Levels<'_>,
     segment: &mut Residuals<N>,
 )
     requires before { previous < value_count setting.now }

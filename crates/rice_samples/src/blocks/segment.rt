@@ -6,7 +6,7 @@ ghost use Rattle.rice_samples.specs.predict.Residuals.{pattern, ranks_below};
 ghost use Rattle.rice_samples.specs.Parameters.{IsBlockSize};
 
 use crate::predict::residuals::from_levels::{write_patterns, write_residuals};
-use crate::{Block, Setting};
+use crate::{Block, Levels, Setting};
 use std::marker::Model;
 
 /// The most residuals of a segment: 64 blocks of 64.
@@ -96,8 +96,8 @@ impl<const N: usize> Residuals<N> {
 
     /// Adds the residuals of the samples with these levels: of the first one after the sample at level `p`, and of each other after
     /// the one before it.
-    #[inline]
-    pub fn push_residuals_of_levels(&mut self, setting: &Setting, p: u32, levels: &[u32])
+    #[inline(always)]
+    pub fn push_residuals_of_levels(&mut self, setting: &Setting, p: u32, levels: &Levels<'_>)
         requires before { p < value_count setting.now }
         requires legal { All (λ l. l < value_count setting.now) levels.now }
         requires room { length self.old + length levels.now ≤ N }
@@ -112,8 +112,8 @@ impl<const N: usize> Residuals<N> {
     }
 
     /// Adds the patterns of the samples with these levels.
-    #[inline]
-    pub fn push_patterns_of_levels(&mut self, setting: &Setting, levels: &[u32])
+    #[inline(always)]
+    pub fn push_patterns_of_levels(&mut self, setting: &Setting, levels: &Levels<'_>)
         requires legal { All (λ l. l < value_count setting.now) levels.now }
         requires room { length self.old + length levels.now ≤ N }
         ensures value { self.new ≡ self.old ++ map (pattern setting.now)

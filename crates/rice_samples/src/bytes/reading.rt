@@ -28,7 +28,7 @@ pub fn read_legal_levels(setting: &Setting, bytes: &[u8], levels: &mut [u32]) ->
 
 /// Reads the levels of the samples at the front of the bytes, as many as are whole and `levels` has room for, up to the first bytes
 /// that spell no sample, and returns their number. What `levels` holds after them is unspecified.
-pub fn first_levels(setting: &Setting, bytes: &[u8], levels: &mut [u32]) -> usize
+pub(crate) fn first_levels(setting: &Setting, bytes: &[u8], levels: &mut [u32]) -> usize
     requires some { width_of setting.now ≤ length bytes.now }
     requires room { 0 < length levels.old }
     ensures count { result ≤ length levels.new }
@@ -46,6 +46,38 @@ pub fn first_levels(setting: &Setting, bytes: &[u8], levels: &mut [u32]) -> usiz
     let width = setting.width() as usize;
     let count = levels.len().min(bytes.len() / width);
     read_legal_levels(setting, &bytes[..width * count], &mut levels[..count])
+}
+
+/// Reads the levels of the values that a byte each spells, and returns whether they are all of samples.
+pub(crate) fn read_levels_in_bytes(setting: &Setting, bytes: &[u8], levels: &mut [u8]) -> bool
+    requires narrow { setting.now.bits ≤ 8 }
+    requires len { length bytes.now ≡ length levels.old }
+    ensures len { length levels.new ≡ length levels.old }
+    ensures legal { result ≡ true → All (λ l. l < value_count setting.now) levels.new }
+    ensures all { All (λ l. l < value_count setting.now) levels.new → result ≡ true }
+    ensures spelled { bytes.now ≡ spellings setting.now (values_at setting.now levels.new) }
+{
+    let msb = setting.msb();
+    let offset = setting.offset() as u32;
+    for i in 0..levels.len() {
+        let word = number_of_bytes(&bytes[i..i + 1], msb);
+        levels[i] = low_digits(word.wrapping_add(offset), 8) as u8;
+    }
+    setting.bits() == 8 || are_bytes_in_range(setting, levels)
+}
+
+/// Returns whether all of these are levels of samples of at most 8 bits.
+fn are_bytes_in_range(setting: &Setting, levels: &[u8]) -> bool
+    requires { setting.now.bits ≤ 8 }
+    ensures legal { result ≡ true → All (λ l. l < value_count setting.now) levels.now }
+    ensures all { All (λ l. l < value_count setting.now) levels.now → result ≡ true }
+{
+    let most = (setting.number_of_values() - 1) as u8;
+    let mut all = true;
+    for i in 0..levels.len() {
+        all = all & (levels[i] <= most);
+    }
+    all
 }
 
 /// Returns whether all of these are levels of samples.
@@ -88,8 +120,6 @@ fn read_levels_of(setting: &Setting, bytes: &[u8], levels: &mut [u32])
 {
     // The loop is laid out for each of these: with a known width and order it reads a sample at one stroke.
     match (setting.width(), setting.msb(), setting.signed()) {
-        (1, msb, false) => read_levels_laid_out(setting, 1, msb, false, bytes, levels),
-        (1, msb, signed) => read_levels_laid_out(setting, 1, msb, signed, bytes, levels),
         (2, false, false) => read_levels_laid_out(setting, 2, false, false, bytes, levels),
         (2, true, false) => read_levels_laid_out(setting, 2, true, false, bytes, levels),
         (2, msb, signed) => read_levels_laid_out(setting, 2, msb, signed, bytes, levels),

@@ -9,7 +9,7 @@ ghost use Rattle.rice_samples.specs.bytes.Spelling.{EndsSpelling, NoSpelling};
 ghost use Rattle.rice_samples.specs.bytes.SampleReader.{IsWithinLimits, unread, GivesSamples, LacksSample, LeavesNoSample, StopsSamples, CountsReads, Refills};
 
 use crate::Setting;
-use crate::bytes::reading::first_levels;
+use crate::bytes::level_row::LevelRow;
 use crate::bytes::sample_fault::SampleFault;
 use rice_bits::{Intake, ReadFault};
 use std::marker::Model;
@@ -165,9 +165,8 @@ impl SampleReader {
 
     /// Takes the samples that wait, as many as `levels` has room for, and returns their number: 0 if the first bytes spell none.
     #[inline]
-    fn take_waiting_levels(&mut self, levels: &mut [u32]) -> usize
+    fn take_waiting_levels(&mut self, levels: &mut LevelRow) -> usize
         requires some { width_of self.old.setting ≤ length self.old.waiting }
-        requires room { 0 < length levels.old }
         ensures count { result ≤ length levels.new }
         ensures len { length levels.new ≡ length levels.old }
         ensures legal { All (λ l. l < value_count self.old.setting) (take result levels.new) }
@@ -181,7 +180,7 @@ impl SampleReader {
         ensures limits { IsWithinLimits self.new }
     {
         let buffer: &[u8] = &self.buffer;
-        let count = first_levels(&self.setting, &buffer[self.at..self.end], levels);
+        let count = levels.read_first(&self.setting, &buffer[self.at..self.end]);
         self.at += self.setting.width() as usize * count;
         count
     }
@@ -193,9 +192,8 @@ impl SampleReader {
     pub fn next_levels<I: Intake>(
         &mut self,
         intake: &mut I,
-        levels: &mut [u32],
+        levels: &mut LevelRow,
     ) -> Result<usize, SampleFault>
-        requires room { 0 < length levels.old }
         requires countable { I.failed intake.old + 1 < 2 ^ 64 }
         ensures count { IfOk result (λ n. n ≤ length levels.new) }
         ensures len { length levels.new ≡ length levels.old }

@@ -1,5 +1,5 @@
 -- A coder at work takes a sample, writes, and ends.
-use Rattle.std.proofs.Common.{◌≡◌, ℕ, ◌+◌, ◌-◌, ◌*◌, ◌<◌, ◌≤◌, Bool, List, [], ◌∷◌, ◌++◌, length, take, drop, replicate, false}
+use Rattle.std.proofs.Common.{◌≡◌, ℕ, ◌+◌, ◌*◌, ◌<◌, ◌≤◌, Bool, List, [], ◌∷◌, ◌++◌, length, take, drop, replicate, false}
 use Rattle.std.proofs.Common.{refl, ap, arith, sym, ◌∙◌, subst, append_assoc, append-nil, length-append, length-drop, take-append-drop, Option, ℤ, pos, zero, suc}
 use Rattle.std.specs.Prelude.{All, sum_by}
 use Rattle.std.specs.Int.{div_ceil}
@@ -30,7 +30,7 @@ use Rattle.rice_stream.specs.declared.outcome.Report.{Report}
 use Rattle.rice_samples.proofs.lemmas.bytes.SampleReaderLemmas.{reads_then}
 use Rattle.rice_samples.proofs.lemmas.bytes.SpellingLengths.{spellings-append}
 use Rattle.rice_samples.proofs.lemmas.setting.ValuesAtLevels.{length-values}
-use Rattle.std.proofs.Math.Seq.{take-add, take-append_seam, take-length}
+use Rattle.std.proofs.Math.Seq.{take-add, take-append_seam}
 use Rattle.std.proofs.lemmas.List.{drop-map, length-take-le}
 use Rattle.std.proofs.lemmas.List.Elements.{All-drop, All-take}
 use Rattle.rice_stream.proofs.lemmas.EncodingBounds.{Settles, taken_settles, early_bounded, all_bounded, few_steps, few_bits}
@@ -52,29 +52,25 @@ Follows-trans old now new bytes more f a = record {
 pub Follows-all : (old new : Option Room) (bytes : List ℕ) → Follows (afresh old) new bytes → Appends old new bytes
 Follows-all old new bytes f = subst (λ (l : List ℕ). Appends old new l) (sym f.split) f.took
 
--- the levels from a place on, as many as are left, are all of them
-pub levels_from : (at : ℕ) (levels : List ℕ) → take (length levels - at) (drop at levels) ≡ drop at levels
-levels_from at levels = ap (λ n. take n (drop at levels)) (sym (length-drop at levels)) ∙ take-length (drop at levels)
-
 -- the samples at the levels from a place on are the samples from this place on
-pub samples_from : (s : Parameters) (at : ℕ) (levels : List ℕ) → values_at s (take (length levels - at) (drop at levels)) ≡ drop at (values_at s levels)
-samples_from s at levels = ap (values_at s) (levels_from at levels) ∙ sym (drop-map (value_at s) at levels)
+pub samples_from : (s : Parameters) (at : ℕ) (levels : List ℕ) {rest : List ℕ} → rest ≡ drop at levels → values_at s rest ≡ drop at (values_at s levels)
+samples_from s at levels e = ap (values_at s) e ∙ sym (drop-map (value_at s) at levels)
 
 -- the first samples up to a place, and then the next n, are the first at + n
 pub samples_on : (xs samples : List ℤ) (at n : ℕ) → (xs ++ take at samples) ++ take n (drop at samples) ≡ xs ++ take (at + n) samples
 samples_on xs samples at n = append_assoc xs (take at samples) (take n (drop at samples)) ∙ ap (λ l. xs ++ l) (sym (take-add at n samples))
 
 -- the levels from a place on are legal too
-pub legal_from : (count at : ℕ) (levels : List ℕ) → All (λ l. l < count) levels → All (λ l. l < count) (take (length levels - at) (drop at levels))
-legal_from count at levels legal = subst (All (λ l. l < count)) (sym (levels_from at levels)) (All-drop (λ l. l < count) at levels legal)
+pub legal_from : (count at : ℕ) (levels : List ℕ) {rest : List ℕ} → rest ≡ drop at levels → All (λ l. l < count) levels → All (λ l. l < count) rest
+legal_from count at levels e legal = subst (All (λ l. l < count)) (sym e) (All-drop (λ l. l < count) at levels legal)
 
 -- where some of the samples have been taken, these, those before and those that are left keep to the limit that all of them keep to
-pub few_from : (s : Parameters) (before : List ℤ) (at : ℕ) (levels : List ℕ) (most : ℕ) → length before + length levels ≤ most → at ≤ length levels
-    → length (before ++ take at (values_at s levels)) + length (take (length levels - at) (drop at levels)) ≤ most
-few_from s before at levels most few within =
+pub few_from : (s : Parameters) (before : List ℤ) (at : ℕ) (levels : List ℕ) {rest : List ℕ} (most : ℕ) → rest ≡ drop at levels → length before + length levels ≤ most → at ≤ length levels
+    → length (before ++ take at (values_at s levels)) + length rest ≤ most
+few_from s before at levels most e few within =
     let samples = values_at s levels in
     let inside = length-take-le at samples (omega (arith, within, length-values s levels)) in
-    omega (arith, few, within, inside, length-append before (take at samples), ap length (levels_from at levels), length-drop at levels)
+    omega (arith, few, within, inside, length-append before (take at samples), ap length e, length-drop at levels)
 
 -- what was counted settles the bounds of the samples
 pub settled_by : {N : ℕ} (s : Parameters) (e : Encoding N) (xs : List ℤ) → CountsSamples s e xs → Settles s xs

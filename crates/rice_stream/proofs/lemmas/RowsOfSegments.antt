@@ -151,15 +151,15 @@ back_at_start {s = s} {start = start} {xs = xs} {e = e} r coder sink meter sampl
     }
 
 -- an encoding that has taken the first `at` of the samples that another can take can take those behind them
-pub can_take_rest : {N : ℕ} {e f : Encoding N} {levels : List ℕ} {written : List ℤ} (k : CanTakeFrom e levels) (at : ℕ) → at ≤ length levels
-    → HoldsCode k.setting f written (k.before ++ take at (values_at k.setting levels)) → CanTakeMore f (take (length levels - at) (drop at levels))
-can_take_rest {levels = levels} k at within holds = record {
+pub can_take_rest : {N : ℕ} {e f : Encoding N} {levels rest : List ℕ} {written : List ℤ} (k : CanTakeFrom e levels) (at : ℕ) → at ≤ length levels → rest ≡ drop at levels
+    → HoldsCode k.setting f written (k.before ++ take at (values_at k.setting levels)) → CanTakeMore f rest
+can_take_rest {levels = levels} k at within behind holds = record {
   setting = k.setting;
   written = _;
   before = _;
   holds = holds;
-  legal = legal_from (value_count k.setting) at levels k.legal;
-  few = few_from k.setting k.before at levels most_input k.few within;
+  legal = legal_from (value_count k.setting) at levels behind k.legal;
+  few = few_from k.setting k.before at levels most_input behind k.few within;
 }
 
 -- an encoding takes the n samples behind the first `at` of some

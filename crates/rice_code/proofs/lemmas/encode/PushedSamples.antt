@@ -133,12 +133,12 @@ steps_of_first : (xs : List ℤ) (t m0 m1 : ℕ) → t ≤ length xs → m1 ≡ 
 steps_of_first xs t m0 m1 few steps = let len : length (take t xs) ≡ t = length-take-le t xs few in omega (arith, len, steps)
 
 -- which are given by their levels,
-pub holds_levels : {value coder held : CoderState} (levels : List ℕ) {t : ℕ} → coder ≡ value → IsCoder coder → All (λ l. l < value_count value.setting) levels
+pub holds_levels : {value coder held : CoderState} (levels : List ℕ) {front : List ℕ} {t : ℕ} → coder ≡ value → IsCoder coder → All (λ l. l < value_count value.setting) levels
     → length coder.residuals + t ≤ coder.setting.block * blocks_left coder.setting coder.start → t ≤ length levels →
-    held ≡ state_after_all coder (values_at coder.setting (take t levels)) → HoldsMore value coder held (take t (values_at value.setting levels))
-holds_levels {value} {coder} {held} levels {t} e k legal room few g =
+    front ≡ take t levels → held ≡ state_after_all coder (values_at coder.setting front) → HoldsMore value coder held (take t (values_at value.setting levels))
+holds_levels {value} {coder} {held} levels {front} {t} e k legal room few first g =
     let s = value.setting in
-    let same : values_at coder.setting (take t levels) ≡ take t (values_at s levels) = ap (λ (v : CoderState). values_at v.setting (take t levels)) e ∙ sym (take-map (value_at s) t levels) in
+    let same : values_at coder.setting front ≡ take t (values_at s levels) = (λ j. values_at (e j).setting (first j)) ∙ sym (take-map (value_at s) t levels) in
     holds_first (values_at s levels) t e k (legal_values s levels legal) room (omega (arith, few, length-values s levels)) (g ∙ ap (state_after_all coder) same)
 
 -- where t steps were made, one was made for each of these,

@@ -1,11 +1,9 @@
 -- Ranks in the lanes of vectors of bytes.
-use Rattle.std.proofs.Common.{◌≡◌, ℕ, zero, suc, ◌+◌, ◌-◌, ◌%◌, ◌^◌, ◌<◌, ◌≤◌, cond, nat_lt, List, [], ◌∷◌, length, take, min, refl, arith, Fits, w8}
-use Rattle.std.specs.Prelude.{All, replicate}
+use Rattle.std.proofs.Common.{◌≡◌, ℕ, zero, suc, ◌+◌, ◌-◌, ◌%◌, ◌<◌, ◌≤◌, cond, nat_lt, List, [], ◌∷◌, length, min, refl, arith, Fits, w8}
+use Rattle.std.specs.Prelude.{replicate}
 use Rattle.std.specs.Simd.Lanes.{zip2, Each1, sel_l}
 use Rattle.std.proofs.lemmas.Bool.Decides.{nat_tests}
-use Rattle.std.proofs.lemmas.List.{take_all}
 use Rattle.rice_samples.specs.predict.Residuals.{rank_below}
-use Rattle.rice_samples.proofs.lemmas.predict.NumbersThatFit16Bits.{each_of_all}
 
 -- a difference that wraps
 abbrev pub wrapped_sub : ℕ → ℕ → ℕ
@@ -38,7 +36,3 @@ lanes_ranked g zero (p ∷ ps) xs h e f hp hx = absurd (omega arith)
 lanes_ranked g (suc n) [] xs h e f hp hx = absurd (omega arith)
 lanes_ranked g (suc n) (p ∷ ps) [] h e f hp hx = absurd (omega arith)
 lanes_ranked g (suc n) (p ∷ ps) (x ∷ xs) h e f hp hx = λ i. one_rank g p x h hp.0 hx.0 i ∷ lanes_ranked g n ps xs h (omega arith) (omega arith) hp.1 hx.1 i
-
--- sixteen numbers below 2^8 fit lanes of 8 bits
-pub bytes_fit : (xs : List ℕ) → length xs ≡ 16 → All (λ d. d < 2 ^ 8) xs → Each1 (Fits w8) (take 16 xs)
-bytes_fit xs n all = rw (take_all 16 xs (omega arith)) (each_of_all (Fits w8) xs (λ k d lt. record { fits = all k d lt }))

@@ -3,7 +3,7 @@ use Rattle.std.proofs.Common.{◌≡◌, ℕ, zero, suc, ◌-◌, ◌<◌, List,
 use Rattle.std.proofs.lemmas.List.{get_or-map, length-map}
 use Rattle.std.proofs.lemmas.List.Elements.{All-map}
 use Rattle.rice_samples.specs.Parameters.{Parameters, IsSample, least, level, value_at, value_count, values_at}
-use Rattle.rice_samples.specs.predict.Residuals.{rank_below, ranks, ranks_below, last_of}
+use Rattle.rice_samples.specs.predict.Residuals.{rank_below, ranks, ranks_below, last_number, last_of}
 use Rattle.rice_samples.proofs.lemmas.setting.ValuesAboveLeast.{gap_above, sample_at}
 use Rattle.rice_samples.proofs.lemmas.setting.LevelsOfSamples.{same_level}
 
@@ -48,3 +48,8 @@ last_value s p ls h =
     let last : slice_index_or (values_at s ls) (length (values_at s ls) - 1) (pos 0) ≡ value_at s (slice_index_or ls (length ls - 1) 0) = ap
     (λ n. slice_index_or (values_at s ls) (n - 1) (pos 0)) len ∙ get_or-map (value_at s) ls (length ls - 1) 0 (pos 0) (omega arith) in
     sym (last_at p (pos 0) (values_at s ls) (omega (arith, len)) ∙ last)
+
+-- the value at the last of some levels, or at the one before them, is the last of the values
+pub value_at_last : (s : Parameters) (p : ℕ) (ls : List ℕ) → value_at s (last_number p ls) ≡ last_of (value_at s p) (values_at s ls)
+value_at_last s p [] = refl
+value_at_last s p (l ∷ ls) = value_at_last s l ls

@@ -1,10 +1,11 @@
 //! Residuals of samples of at most 8 bits, sixteen at a time.
-ghost use Rattle.std.specs.Prelude.{◌≡◌, ◌+◌, ◌-◌, ◌*◌, ◌/◌, ◌^◌, ◌<◌, ◌≤◌, ◌∷◌, All, get_or, min, length, take};
+ghost use Rattle.std.specs.Prelude.{◌≡◌, ◌+◌, ◌-◌, ◌*◌, ◌/◌, ◌<◌, ◌≤◌, ◌∷◌, All, get_or, min, length, take};
 ghost use Rattle.std.specs.Simd.Lanes.{zip2, Each1};
 ghost use Rattle.rice_samples.specs.Parameters.{value_count};
 ghost use Rattle.rice_samples.specs.predict.Residuals.{rank_below, ranks_below};
 
 use crate::Setting;
+use crate::bytes::levels::sixteen_lanes;
 use std::simd::prelude::*;
 
 /// Writes the residuals of the first samples, sixteen at a time, as long as there are sixteen: of the first one after the sample at
@@ -13,7 +14,7 @@ use std::simd::prelude::*;
 pub(crate) fn write_ranks_by_sixteens(
     setting: &Setting,
     p: u32,
-    levels: &[u32],
+    levels: &[u8],
     residuals: &mut [u32],
 )
     requires narrow { setting.now.bits ≤ 8 }
@@ -27,22 +28,12 @@ pub(crate) fn write_ranks_by_sixteens(
     let greatest = (setting.number_of_values() - 1) as u8;
     let mut before = u8x16::splat(p as u8);
     for i in 0..levels.len() / 16 {
-        let sixteen = sixteen_narrowed(&levels[16 * i..16 * i + 16]);
+        let sixteen = sixteen_lanes(&levels[16 * i..16 * i + 16]);
         sixteen_ranks(greatest, numbers_before_each(before, sixteen), sixteen)
             .cast::<u32>()
             .copy_to_slice(&mut residuals[16 * i..]);
         before = sixteen;
     }
-}
-
-/// Returns sixteen numbers below 2^8 in narrow lanes.
-#[inline(always)]
-fn sixteen_narrowed(numbers: &[u32]) -> u8x16
-    requires narrow { All (λ x. x < 2 ^ 8) numbers.now }
-    requires sixteen { length numbers.now ≡ 16 }
-    ensures { result ≡ numbers.now }
-{
-    u32x16::from_slice(numbers).cast::<u8>()
 }
 
 /// Returns the last of the numbers `before`, and all but the last of `numbers`.

@@ -1,38 +1,76 @@
 //! The residuals of samples in a row, from their levels.
 ghost use Rattle.std.specs.Prelude.{◌≡◌, ◌+◌, ◌<◌, ◌≤◌, All, length, map};
 ghost use Rattle.rice_samples.specs.Parameters.{value_at, value_count, values_at};
-ghost use Rattle.rice_samples.specs.predict.Residuals.{pattern as pattern_of, ranks_below, last_number};
+ghost use Rattle.rice_samples.specs.predict.Residuals.{pattern as pattern_of, ranks_below};
 
 use crate::Setting;
+use crate::bytes::levels::{LevelSlice, Levels, widen};
 use crate::predict::preprocessor::rank_of;
 use crate::predict::residuals::byte_ranks::write_ranks_by_sixteens;
 use crate::predict::residuals::rank_lanes::write_ranks_by_eights;
 
 /// Writes the residuals of the samples with these levels: of the first one after the sample at level `p`, and of each other
 /// after the one before it.
-pub(crate) fn write_residuals(setting: &Setting, p: u32, levels: &[u32], residuals: &mut [u32])
+#[inline(always)]
+pub(crate) fn write_residuals(setting: &Setting, p: u32, levels: &Levels<'_>, residuals: &mut [u32])
     requires before { p < value_count setting.now }
     requires legal { All (λ l. l < value_count setting.now) levels.now }
     requires len { length residuals.old ≡ length levels.now }
     ensures { residuals.new ≡ ranks_below (value_count setting.now) p levels.now }
 {
-    if setting.bits() > 16 {
-        write_residuals_of_any_width(setting, p, levels, residuals);
-        return;
-    }
-    if setting.bits() > 8 || levels.len() < 16 {
-        write_residuals_by_eights(setting, p, levels, residuals);
-        return;
-    }
-    write_ranks_by_sixteens(setting, p, levels, residuals);
-    let end = 16 * (levels.len() / 16);
-    if end < levels.len() {
-        let last = last_level_or_before(p, &levels[..end]);
-        write_residuals_by_eights(setting, last, &levels[end..], &mut residuals[end..]);
+    match levels.slice {
+        LevelSlice::Bytes(bytes) if setting.bits() <= 8 => {
+            write_residuals_by_sixteens(setting, p, bytes, residuals)
+        }
+        LevelSlice::Words(words) if setting.bits() <= 16 => {
+            write_residuals_by_eights(setting, p, words, residuals)
+        }
+        _ => {
+            levels.copy_to_words(residuals);
+            replace_by_residuals(setting, p, residuals);
+        }
     }
 }
 
-/// Writes the residuals of samples of at most 16 bits, eight at a time, and of the last ones one at a time.
+/// Writes the residuals of samples of at most 8 bits, sixteen at a time, and of the last ones eight or one at a time.
+///
+/// It is a call, to which the levels are passed in registers.
+#[inline(never)]
+fn write_residuals_by_sixteens(setting: &Setting, p: u32, levels: &[u8], residuals: &mut [u32])
+    requires narrow { setting.now.bits ≤ 8 }
+    requires before { p < value_count setting.now }
+    requires legal { All (λ l. l < value_count setting.now) levels.now }
+    requires len { length residuals.old ≡ length levels.now }
+    ensures { residuals.new ≡ ranks_below (value_count setting.now) p levels.now }
+{
+    write_ranks_by_sixteens(setting, p, levels, residuals);
+    let end = 16 * (levels.len() / 16);
+    if end < levels.len() {
+        let last = Levels::of_bytes(&levels[..end]).last_or(p);
+        write_last_residuals(setting, last, &levels[end..], &mut residuals[end..]);
+    }
+}
+
+/// Writes the residuals of fewer than sixteen samples of at most 8 bits.
+///
+/// It is never inlined, so that what calls it only at the end of a row saves no registers for it.
+#[inline(never)]
+fn write_last_residuals(setting: &Setting, p: u32, levels: &[u8], residuals: &mut [u32])
+    requires few { length levels.now < 16 }
+    requires narrow { setting.now.bits ≤ 8 }
+    requires before { p < value_count setting.now }
+    requires legal { All (λ l. l < value_count setting.now) levels.now }
+    requires len { length residuals.old ≡ length levels.now }
+    ensures { residuals.new ≡ ranks_below (value_count setting.now) p levels.now }
+{
+    let mut words = [0u32; 15];
+    let words = &mut words[..levels.len()];
+    widen(levels, words);
+    write_residuals_by_eights(setting, p, words, residuals);
+}
+
+/// Writes the residuals of samples of at most 16 bits, eight at a time, and of the last ones one at a time. It is a call too.
+#[inline(never)]
 fn write_residuals_by_eights(setting: &Setting, p: u32, levels: &[u32], residuals: &mut [u32])
     requires narrow { setting.now.bits ≤ 16 }
     requires before { p < value_count setting.now }
@@ -43,35 +81,24 @@ fn write_residuals_by_eights(setting: &Setting, p: u32, levels: &[u32], residual
     write_ranks_by_eights(setting, p, levels, residuals);
     let end = 8 * (levels.len() / 8);
     if end < levels.len() {
-        let last = last_level_or_before(p, &levels[..end]);
-        write_residuals_of_any_width(setting, last, &levels[end..], &mut residuals[end..]);
+        let last = Levels::of_words(&levels[..end]).last_or(p);
+        let rest = &mut residuals[end..];
+        rest.copy_from_slice(&levels[end..]);
+        replace_by_residuals(setting, last, rest);
     }
 }
 
-/// Returns the last of the levels, or `p` where there are none.
-#[inline]
-fn last_level_or_before(p: u32, levels: &[u32]) -> u32
-    ensures { result ≡ last_number p levels.now }
-{
-    if levels.is_empty() {
-        return p;
-    }
-    levels[levels.len() - 1]
-}
-
-/// Writes the residuals of samples of any number of bits.
+/// Replaces the levels of samples of any number of bits by their residuals.
 ///
 /// It is never inlined, so that what calls it for few samples, or for none, saves no registers for it.
 #[inline(never)]
-fn write_residuals_of_any_width(setting: &Setting, p: u32, levels: &[u32], residuals: &mut [u32])
+fn replace_by_residuals(setting: &Setting, p: u32, levels: &mut [u32])
     requires before { p < value_count setting.now }
-    requires legal { All (λ l. l < value_count setting.now) levels.now }
-    requires len { length residuals.old ≡ length levels.now }
-    ensures { residuals.new ≡ ranks_below (value_count setting.now) p levels.now }
+    requires legal { All (λ l. l < value_count setting.now) levels.old }
+    ensures { levels.new ≡ ranks_below (value_count setting.now) p levels.old }
 {
     let greatest = (setting.number_of_values() - 1) as u32;
-    residuals.copy_from_slice(levels);
-    replace_by_ranks(greatest, p, residuals);
+    replace_by_ranks(greatest, p, levels);
 }
 
 /// Replaces numbers up to `greatest` by their ranks: of the first from `p`, and of each other from the one before it.
@@ -89,33 +116,28 @@ fn replace_by_ranks(greatest: u32, p: u32, numbers: &mut [u32])
     }
 }
 
-/// Writes the patterns of the samples with these levels. It is never inlined either.
-#[inline(never)]
-pub(crate) fn write_patterns(setting: &Setting, levels: &[u32], patterns: &mut [u32])
+/// Writes the patterns of the samples with these levels.
+#[inline(always)]
+pub(crate) fn write_patterns(setting: &Setting, levels: &Levels<'_>, patterns: &mut [u32])
     requires legal { All (λ l. l < value_count setting.now) levels.now }
     requires len { length patterns.old ≡ length levels.now }
     ensures { patterns.new ≡ map (pattern_of setting.now) (values_at setting.now levels.now) }
 {
-    let setting = *setting;
-    if !setting.signed() {
-        copy_levels_as_patterns(levels, patterns);
-        return;
-    }
-    for i in 0..levels.len() {
-        patterns[i] = pattern_of_level(&setting, levels[i]);
+    levels.copy_to_words(patterns);
+    if setting.signed() {
+        replace_by_patterns(setting, patterns);
     }
 }
 
-/// Copies the levels.
-#[inline(always)]
-fn copy_levels_as_patterns(levels: &[u32], patterns: &mut [u32])
-    requires { length patterns.old ≡ length levels.now }
-    ensures { patterns.new ≡ levels.now }
+/// Replaces levels of samples by their patterns. It is never inlined either.
+#[inline(never)]
+fn replace_by_patterns(setting: &Setting, levels: &mut [u32])
+    requires { All (λ l. l < value_count setting.now) levels.old }
+    ensures { levels.new ≡ map (pattern_of setting.now) (values_at setting.now levels.old) }
 {
-    // A segment of two blocks of eight, as by default, is copied without a call.
-    match levels.len() {
-        16 => patterns[..16].copy_from_slice(&levels[..16]),
-        _ => patterns.copy_from_slice(levels),
+    let setting = *setting;
+    for i in 0..levels.len() {
+        levels[i] = pattern_of_level(&setting, levels[i]);
     }
 }
 

@@ -27,7 +27,6 @@ encode_all-init g c = record {
     gave = Consumes-nil (g.I.Intake.left c.args.intake.now);
     holds = c.new-encoding.ensures (g.O.Outlet.taken c.args.outlet.now);
   };
-  room = refl;
   reads = refl;
   writes = refl;
 }
@@ -89,8 +88,9 @@ push_all_levels-requires g c =
           start = afresh start;
           before = i.runs.samples;
           holds = i.runs.holds;
-          legal = subst (λ (s : Parameters). All (λ l. l < value_count s) (take c.in-Ok.count c.next_levels.new.levels)) i.runs.setting says.legal;
-          few = omega (arith, few, n.0, n.1, says.limits.1);
+          legal = subst (All (λ l. l < value_count s)) (sym c.front.ensures)
+              (subst (λ (s : Parameters). All (λ l. l < value_count s) (take c.in-Ok.count c.next_levels.new.levels)) i.runs.setting says.legal);
+          few = omega (arith, few, n.0, n.1, ap length c.front.ensures, says.limits.1);
         },
         omega (arith, c.requires.writes, i.writes),
       ),
@@ -104,9 +104,10 @@ encode_all-smaller g c =
     let says = c.in-Ok.ensures in
     let few = few_given runs says.gives in
     let n = taken_count c.encode_all.samples.setting c.next_levels.new.levels c.in-Ok.count says.count in
-    let more = take c.in-Ok.count c.next_levels.new.levels in
+    let more = c.front.result in
     let all = c.in-Ok-push_all_levels.ensures.ok s (afresh start) runs.samples runs.holds in
-    omega (arith, few, n.0, n.1, says.limits.1, runs.holds.counts.samples, all.counts.samples, length-append runs.samples (values_at s more), length-values s more, c.if-count-eq0.false)
+    let front = ap length c.front.ensures in
+    omega (arith, few, n.0, n.1, front, says.limits.1, runs.holds.counts.samples, all.counts.samples, length-append runs.samples (values_at s more), length-values s more, c.if-count-eq0.false)
 
 pub encode_all-preserved : goal.encode_all-preserved
 encode_all-preserved g c =
@@ -120,11 +121,10 @@ encode_all-preserved g c =
     let n = c.in-Ok.count in
     let ys = take n (values_at s levels) in
     let gives = subst (λ (s : Parameters). GivesSamples c.encode_all.samples c.next_levels.new.self left new (take n (values_at s levels))) i.runs.setting c.in-Ok.ensures.gives in
-    let holds = subst (λ (l : List ℤ). IsEncodingOf s (afresh start) taken c.push_all_levels.new.self (i.runs.samples ++ l)) (sym (take-map (value_at s) n levels))
+    let holds = subst (λ (l : List ℤ). IsEncodingOf s (afresh start) taken c.push_all_levels.new.self (i.runs.samples ++ l)) (ap (values_at s) c.front.ensures ∙ sym (take-map (value_at s) n levels))
     (c.in-Ok-push_all_levels.ensures.ok s (afresh start) i.runs.samples i.runs.holds) in
     record {
       runs = reads_further i.runs gives holds;
-      room = c.in-Ok.ensures.len ∙ i.room;
       reads = c.in-Ok.ensures.failures ∙ i.reads;
       writes = c.in-Ok-push_all_levels.ensures.calm ∙ i.writes;
     }
@@ -144,7 +144,7 @@ returns-in-Err-push_all_levels-clause-call g c =
     let ys = take n (values_at s levels) in
     let o = c.stopped-in-Err-push_all_levels in
     let gives = subst (λ (s : Parameters). GivesSamples c.encode_all.samples c.next_levels.new.self left new (take n (values_at s levels))) runs.setting says.gives in
-    let fails = subst (λ (l : List ℤ). FailsIn s (afresh start) taken c.push_all_levels.new.self runs.samples l) (sym (take-map (value_at s) n levels))
+    let fails = subst (λ (l : List ℤ). FailsIn s (afresh start) taken c.push_all_levels.new.self runs.samples l) (ap (values_at s) c.front.ensures ∙ sym (take-map (value_at s) n levels))
     (c.in-Err-push_all_levels.ensures.err s (afresh start) runs.samples runs.holds) in
     let count : length ys ≡ n = (taken_count s levels n says.count).1 in
     let piece : width s * n + length c.next_levels.new.self.waiting ≤ 4096 = subst (λ (s : Parameters). width s * n + length c.next_levels.new.self.waiting ≤ 4096) runs.setting says.piece in

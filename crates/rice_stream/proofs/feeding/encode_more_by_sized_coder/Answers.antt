@@ -56,7 +56,7 @@ push_samples_of_bytes-requires g c =
                 bytes,
           ),
         ),
-        (omega arith, c.requires.writes),
+        c.requires.writes,
       ),
     )
 

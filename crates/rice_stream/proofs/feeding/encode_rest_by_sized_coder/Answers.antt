@@ -43,7 +43,7 @@ push_samples_of_bytes-requires g c =
       search rules,
       (
         (behind c.args.setting.now xs now, xs, holds, omega (arith, few, c.if-bytes-bytes_left.false, c.taken.ensures, holds.counts.samples)),
-        (omega arith, c.requires.writes),
+        c.requires.writes,
       ),
     )
 

@@ -1,4 +1,4 @@
-use Rattle.std.proofs.Common.{arith, rules, ◌≡◌, ◌+◌, ◌<◌, ◌++◌, length, take, ap, sym, ◌∙◌, subst, length-append, List, ℤ}
+use Rattle.std.proofs.Common.{arith, rules, ◌≡◌, ◌+◌, ◌<◌, ◌++◌, length, take, ap, sym, ◌∙◌, subst, length-append, All, List, ℤ}
 use Rattle.std.proofs.lemmas.List.{length-take-le, take-map}
 use Rattle.std.proofs.lemmas.List.Elements.{All-take}
 use Rattle.rice_bits.specs.Bits.{whole_bytes}
@@ -57,8 +57,8 @@ take_until_past-requires g c =
         setting = k.setting;
         before = k.before;
         holds = c.go_back.ensures k.setting k.before t.counts.setting start;
-        legal = All-take (λ l. l < value_count k.setting) n levels k.legal;
-        few = omega (arith, k.few, length-take-le n levels c.take_row-taken.ensures.count, c.take_row-taken.ensures.count);
+        legal = subst (All (λ l. l < value_count k.setting)) (sym c.front.ensures) (All-take (λ l. l < value_count k.setting) n levels k.legal);
+        few = omega (arith, k.few, ap length c.front.ensures, length-take-le n levels c.take_row-taken.ensures.count, c.take_row-taken.ensures.count);
       },
     )
 
@@ -89,9 +89,9 @@ returns-in-Err-clause-err g c s old xs h =
     let inside = c.take_row-taken.ensures.inside s xs at_start in
     let back = c.go_back.ensures s xs t.counts.setting start in
     let err = c.in-Err.ensures.err in
-    let same : values_at s (take n levels) ≡ take n samples = sym (take-map (value_at s) n levels) in
+    let same : values_at s c.front.result ≡ take n samples = ap (values_at s) c.front.ensures ∙ sym (take-map (value_at s) n levels) in
     let sink = c.take_row-taken.new.self.sink in
-    let enough : length (early_output s xs) + count < length (early_output s (xs ++ values_at s (take n levels))) =
+    let enough : length (early_output s xs) + count < length (early_output s (xs ++ values_at s c.front.result)) =
     omega (
       arith,
       ap (λ l. length (early_output s (xs ++ l))) same,

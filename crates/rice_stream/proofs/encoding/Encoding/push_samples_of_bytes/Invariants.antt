@@ -9,7 +9,6 @@ invariant-loop-at g l = record {
   part : (old : Beginning) (xs : List ℤ) → IsEncodingOf l.setting old (g.O.Outlet.taken l.fn.outlet) l.fn.self xs
       → (more : List ℤ) × Reads l.setting l.bytes more (drop l.at l.bytes) × IsEncodingOf l.setting old (g.O.Outlet.taken l.outlet) l.self (xs ++ more);
   failures : g.O.Outlet.failed l.outlet ≡ g.O.Outlet.failed l.fn.outlet;
-  room : length l.levels ≡ length l.fn.levels;
 }
 
 abbrev pub decreases-loop-at : goal.decreases-loop-at

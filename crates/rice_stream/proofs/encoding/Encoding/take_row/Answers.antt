@@ -2,7 +2,7 @@ use Rattle.std.proofs.Common.{arith, rules, ◌≡◌, ◌<◌, ◌≤◌, ◌++
 use Rattle.rice_samples.specs.Parameters.{Parameters, values_at}
 use Rattle.rice_code.specs.Bounds.{block_bound}
 use Rattle.rice_stream.specs.EncodingState.{HoldsCode}
-use Rattle.rice_stream.proofs.lemmas.EncodingLemmas.{levels_from, samples_from}
+use Rattle.rice_stream.proofs.lemmas.EncodingLemmas.{samples_from}
 use Rattle.rice_stream.proofs.lemmas.RowsOfSegments.{TakesNext, can_take_rest, code_short, goes_on_at_first, row_goes_on, row_inside}
 use Rattle.rice_stream.proofs.encoding.Encoding.take_row.Goals as goal
 
@@ -21,7 +21,7 @@ returns-then-len-most-clause-some g c some =
     let legal = c.requires.holds.counts.stands.holds.legal in
     let block : c.args.self.now.coder.setting.block ≤ 64 = grind (arith, legal.block) in
     let enough : 64 ≤ c.most_before-most.result = omega (arith, c.most_before-most.ensures.value, block) in
-    some_taken c.loop-at.at (length c.loop-at.self.sink) c.most_before-most.result short enough (omega (arith, c.if-len-most.true, c.len.ensures.value))
+    some_taken c.loop-at.at (length c.loop-at.self.sink) c.most_before-most.result short enough (omega (arith, c.if-len-most.true, c.len-in-loop-at.ensures.value))
   where
     some_taken : (n size most : ℕ) → (n ≡ 0 → size ≤ 7) → 64 ≤ most → most < size → 0 < n
     some_taken zero size most short some over = absurd (omega (arith, short refl, some, over))
@@ -33,15 +33,15 @@ push_to_coder-at-requires g c =
     let i = c.loop-at.invariant in
     let holds = i.holds k.setting k.before k.holds in
     let same = ap block_bound (holds.counts.setting ∙ sym k.holds.counts.setting) in
-    (search rules, (can_take_rest k c.loop-at.at i.within holds, inr (omega (arith, c.most_before-most.ensures.room, c.if-len-most.false, c.len.ensures.value, same))))
+    (search rules, (can_take_rest k c.loop-at.at i.within c.behind.ensures holds, inr (omega (arith, c.most_before-most.ensures.room, c.if-len-most.false, c.len-in-loop-at.ensures.value, same))))
 
 pub loop-at-smaller : goal.loop-at-smaller
 loop-at-smaller g c =
     let at = c.loop-at.at in
     let levels = c.args.levels.now in
-    let left = ap length (levels_from at levels) in
-    let some = c.push_to_coder-at.ensures.some (omega (arith, left, length-drop at levels, c.loop-at-test.true)) in
-    omega (arith, some, c.loop-at-test.true)
+    let left = ap length c.behind.ensures in
+    let some = c.push_to_coder-at.ensures.some (omega (arith, left, length-drop at levels, c.loop-at-test.true, c.len.ensures)) in
+    omega (arith, some, c.loop-at-test.true, c.len.ensures)
 
 pub loop-at-preserved : goal.loop-at-preserved
 loop-at-preserved g c =
@@ -49,13 +49,13 @@ loop-at-preserved g c =
     let levels = c.args.levels.now in
     let i = c.loop-at.invariant in
     let n = c.push_to_coder-at.result in
-    let left = ap length (levels_from at levels) in
-    let some = c.push_to_coder-at.ensures.some (omega (arith, left, length-drop at levels, c.loop-at-test.true)) in
+    let left = ap length c.behind.ensures in
+    let some = c.push_to_coder-at.ensures.some (omega (arith, left, length-drop at levels, c.loop-at-test.true, c.len.ensures)) in
     let next : (s : Parameters) (xs : List ℤ) → HoldsCode s c.args.self.now xs xs → TakesNext s c.push_to_coder-at.new.self xs xs (values_at s levels) at n =
     λ s xs h. record {
       more = _;
       takes = c.push_to_coder-at.ensures.took s xs (xs ++ take at (values_at s levels)) (i.holds s xs h);
-      is = ap (take n) (samples_from s at levels);
+      is = ap (take n) (samples_from s at levels c.behind.ensures);
     } in
     record {
       within = omega (arith, i.within, c.push_to_coder-at.ensures.count, left, length-drop at levels);

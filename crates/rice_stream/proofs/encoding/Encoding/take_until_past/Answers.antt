@@ -4,7 +4,7 @@ use Rattle.rice_samples.specs.Parameters.{values_at}
 use Rattle.rice_samples.proofs.lemmas.setting.ValuesAtLevels.{length-values}
 use Rattle.rice_code.specs.code.Code.{early_output}
 use Rattle.rice_stream.specs.EncodingState.{HoldsCode}
-use Rattle.rice_stream.proofs.lemmas.EncodingLemmas.{levels_from, samples_from}
+use Rattle.rice_stream.proofs.lemmas.EncodingLemmas.{samples_from}
 use Rattle.rice_stream.proofs.lemmas.RowsOfSegments.{TakesNext, can_take_rest, code_short, stops_here, passes_on}
 use Rattle.rice_stream.proofs.encoding.Encoding.take_until_past.Goals as goal
 
@@ -22,7 +22,7 @@ push_to_coder_in_a_call-at-requires g c =
     let k = c.requires in
     let i = c.loop-at.invariant in
     let holds = (i.holds k.setting k.before k.holds).0 in
-    (search rules, (can_take_rest k c.loop-at.at i.within holds, inl (code_short holds)))
+    (search rules, (can_take_rest k c.loop-at.at i.within c.behind.ensures holds, inl (code_short holds)))
 
 pub returns-then-left-bytes : goal.returns-then-left-bytes
 returns-then-left-bytes g c s xs h enough =
@@ -32,21 +32,21 @@ returns-then-left-bytes g c s xs h enough =
     let i = c.loop-at.invariant in
     let p = i.holds s xs h in
     let n = c.push_to_coder_in_a_call-at.result in
-    let left = ap length (levels_from at levels) in
-    let some = c.push_to_coder_in_a_call-at.ensures.some (omega (arith, left, length-drop at levels, c.loop-at-test.true)) in
+    let left = ap length c.behind.ensures in
+    let some = c.push_to_coder_in_a_call-at.ensures.some (omega (arith, left, length-drop at levels, c.loop-at-test.true, c.len.ensures)) in
     let within : at + n ≤ length samples = omega (arith, i.within, c.push_to_coder_in_a_call-at.ensures.count, left, length-drop at levels, length-values s levels) in
     let zs = xs ++ take at samples in
     let next : TakesNext s c.push_to_coder_in_a_call-at.new.self zs xs samples at n =
-    record { more = _; takes = c.push_to_coder_in_a_call-at.ensures.took s zs zs p.0; is = ap (take n) (samples_from s at levels) } in
+    record { more = _; takes = c.push_to_coder_in_a_call-at.ensures.took s zs zs p.0; is = ap (take n) (samples_from s at levels c.behind.ensures) } in
     stops_here c.loop-at.left next some within p.1 (omega (arith, c.if-left-bytes.true, c.len-bytes.ensures.value))
 
 pub loop-at-smaller : goal.loop-at-smaller
 loop-at-smaller g c =
     let at = c.loop-at.at in
     let levels = c.args.levels.now in
-    let left = ap length (levels_from at levels) in
-    let some = c.push_to_coder_in_a_call-at.ensures.some (omega (arith, left, length-drop at levels, c.loop-at-test.true)) in
-    omega (arith, some, c.loop-at-test.true)
+    let left = ap length c.behind.ensures in
+    let some = c.push_to_coder_in_a_call-at.ensures.some (omega (arith, left, length-drop at levels, c.loop-at-test.true, c.len.ensures)) in
+    omega (arith, some, c.loop-at-test.true, c.len.ensures)
 
 pub loop-at-preserved : goal.loop-at-preserved
 loop-at-preserved g c =
@@ -54,14 +54,14 @@ loop-at-preserved g c =
     let levels = c.args.levels.now in
     let i = c.loop-at.invariant in
     let n = c.push_to_coder_in_a_call-at.result in
-    let left = ap length (levels_from at levels) in
+    let left = ap length c.behind.ensures in
     record {
       within = omega (arith, i.within, c.push_to_coder_in_a_call-at.ensures.count, left, length-drop at levels);
       holds = λ s xs h. (let p = i.holds s xs h in
           let samples = values_at s levels in
           let zs = xs ++ take at samples in
           let next : TakesNext s c.push_to_coder_in_a_call-at.new.self zs xs samples at n =
-          record { more = _; takes = c.push_to_coder_in_a_call-at.ensures.took s zs zs p.0; is = ap (take n) (samples_from s at levels) } in
+          record { more = _; takes = c.push_to_coder_in_a_call-at.ensures.took s zs zs p.0; is = ap (take n) (samples_from s at levels c.behind.ensures) } in
           let k = next.takes.counts in
           passes_on c.loop-at.left next c.drop_whole.ensures.bits
           (record { setting = k.setting; stands = k.stands; samples = k.samples; bits = k.bits; least = k.least; most = k.most })
@@ -74,6 +74,6 @@ returns g c s xs h enough =
     let samples = values_at s c.args.levels.now in
     let i = c.loop-at.invariant in
     let p = i.holds s xs h in
-    let all : at ≡ length samples = omega (arith, i.within, c.loop-at-test.false, length-values s c.args.levels.now) in
+    let all : at ≡ length samples = omega (arith, i.within, c.loop-at-test.false, c.len.ensures, length-values s c.args.levels.now) in
     let same = ap (λ (l : List ℤ). length (early_output s (xs ++ l))) (ap (λ n. take n samples) all ∙ take-length samples) in
     absurd (omega (arith, p.1, same, enough))

@@ -1,4 +1,4 @@
-use Rattle.std.proofs.Common.{rules, ◌≡◌, ◌<◌, ◌&&◌, ◌∙◌, true, List, [], ◌∷◌, length, slice_index_or, arith, ap, refl, Some, ℕ, zero, suc, sym, false}
+use Rattle.std.proofs.Common.{rules, ◌≡◌, ◌<◌, ◌&&◌, ◌∙◌, true, List, [], ◌∷◌, length, slice_index_or, arith, ap, Some, ℕ, zero, suc, sym, false}
 use Rattle.std.specs.Prelude.{◌==◌}
 use Rattle.rice_samples.specs.Parameters.{Parameters, value_at, values_at}
 use Rattle.rice_samples.specs.predict.Residuals.{pattern}
@@ -40,8 +40,9 @@ returns-then-is_reference_next g c =
     let i = c.self.inside in
     let st : CoderState = record { setting = i.setting; residuals = i.residuals; reference = i.reference; previous = value_at i.setting i.previous; start = i.start } in
     let levels = c.args.levels.now in
-    let x = slice_index_or levels 0 0 in
+    let x = c.first_or-first.result in
     let some : 0 < length levels = not_none (length levels) (sym c.is_empty.ensures ∙ c.if-is_empty.false) in
     let first : (c.args.self.now.setting.preprocess && is_first c.args.self.now) ≡ true = search rules in
-    all_held st c.args.self.now c.hold_levels_after.new.self c.plain.result.now levels x c.pattern_of_level.result c.self.view_is some first refl c.plain.ensures c.pattern_of_level.ensures.value
+    let head = c.first_or-first.ensures in
+    all_held st c.args.self.now c.hold_levels_after.new.self c.plain.result.now levels x c.pattern_of_level.result c.self.view_is some first head c.plain.ensures c.pattern_of_level.ensures.value
     c.hold_levels_after.ensures

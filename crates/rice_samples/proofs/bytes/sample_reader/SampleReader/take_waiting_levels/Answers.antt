@@ -10,24 +10,24 @@ pub returns-clause-gives : goal.returns-clause-gives
 returns-clause-gives c left =
     let r = c.self.inside in
     let slice = bytes_between r.at r.end r.buffer c.self.invariant.0 in
-    let n = c.first_levels-count.result in
+    let n = c.read_first-count.result in
     let e : r.at + c.width.result * n ≡ r.at + width r.setting * n = ap (λ w. r.at + w * n) c.width.ensures.value in
     let rest = ap (λ m. drop m (take r.end r.buffer)) e ∙ sym (drop-drop (width r.setting * n) r.at (take r.end r.buffer)) ∙ ap (λ l. drop (width r.setting * n) l) (sym slice) in
-    rw (← c.self.view_is) (gives_taken left c.first_levels-count.ensures.reads slice rest refl refl)
+    rw (← c.self.view_is) (gives_taken left c.read_first-count.ensures.reads slice rest refl refl)
 
 pub returns-clause-none : goal.returns-clause-none
 returns-clause-none c zero =
     let r = c.self.inside in
-    let e : r.at + c.width.result * c.first_levels-count.result ≡ r.at = omega (arith, ap (λ n. c.width.result * n) zero) in
+    let e : r.at + c.width.result * c.read_first-count.result ≡ r.at = omega (arith, ap (λ n. c.width.result * n) zero) in
     let rest = ap (λ m. drop m (take r.end r.buffer)) e in
     let some = subst (λ (r : SamplesAhead). width r.setting ≤ length r.waiting) (sym c.self.view_is) c.requires.some in
-    let none = subst (IsNoSpelling r.setting) (bytes_between r.at r.end r.buffer c.self.invariant.0) (c.first_levels-count.ensures.none zero) in
+    let none = subst (IsNoSpelling r.setting) (bytes_between r.at r.end r.buffer c.self.invariant.0) (c.read_first-count.ensures.none zero) in
     subst (λ (l : List ℕ). EndsSpelling r.setting l NoSpelling) (sym rest) (some, none)
 
 pub returns-clause-stop : goal.returns-clause-stop
 returns-clause-stop c more room =
     let r = c.self.inside in
-    let n = c.first_levels-count.result in
+    let n = c.read_first-count.result in
     let w = width r.setting in
     let bytes = take (r.end - r.at) (drop r.at r.buffer) in
     let slice = bytes_between r.at r.end r.buffer c.self.invariant.0 in
@@ -37,4 +37,4 @@ returns-clause-stop c more room =
     let next : w * (n + 1) ≡ w * n + w = grind arith in
     let some : w ≤ length (drop (w * n) bytes) = subst (λ (l : List ℕ). w ≤ length l) rest room in
     let fits : w * (n + 1) ≤ length bytes = omega (arith, next, some, length-drop (w * n) bytes, c.width.ensures.range, c.width.ensures.value) in
-    subst (IsNoSpelling r.setting) (sym rest) (c.first_levels-count.ensures.stop more fits)
+    subst (IsNoSpelling r.setting) (sym rest) (c.read_first-count.ensures.stop more fits)

@@ -1,0 +1,96 @@
+//! Room for the levels of several samples.
+ghost use Rattle.std.specs.Prelude.{◌≡◌, true, ◌+◌, ◌*◌, ◌<◌, ◌≤◌, All, length, take, drop};
+ghost use Rattle.rice_samples.specs.Parameters.{value_count, values_at, width as width_of};
+ghost use Rattle.rice_samples.specs.bytes.Spelling.{Reads, IsNoSpelling};
+
+use crate::Setting;
+use crate::bytes::levels::Levels;
+use crate::bytes::reading::{first_levels, read_levels_in_bytes};
+use std::marker::Model;
+
+/// The number of samples of a row.
+const SAMPLES: usize = 512;
+
+/// Room for the levels of 512 samples: in bytes, where those of at most 8 bits are read by sixteens, or in words.
+///
+/// In contracts its value is the list of the levels.
+#[derive(Drop)]
+pub struct LevelRow {
+    bytes: [u8; SAMPLES],
+    words: [u32; SAMPLES],
+    /// Whether the levels are in bytes.
+    in_bytes: bool,
+}
+
+impl Model for LevelRow {
+    ghost use Rattle.std.specs.Prelude.{◌≡◌, ℕ, List, length, if◌then◌else◌};
+
+    ghost Value = { List ℕ };
+
+    ghost view = { λ r. if r.in_bytes then r.bytes else r.words };
+
+    ghost invariant = { λ r. (length r.bytes ≡ 512) × (length r.words ≡ 512) };
+}
+
+/// Returns whether levels are to be read in bytes, in which samples of at most 8 bits have room. Where intervals are not whole sixteens,
+/// what is left behind these goes faster from words.
+fn is_read_in_bytes(setting: &Setting) -> bool
+    ensures { result ≡ true → setting.now.bits ≤ 8 }
+{
+    setting.bits() <= 8 && setting.block() * setting.interval() % 16 == 0
+}
+
+impl LevelRow {
+    /// Returns a row. What it holds is unspecified.
+    pub fn new() -> Self
+        ensures { length result ≡ 512 }
+    {
+        LevelRow {
+            bytes: [0; SAMPLES],
+            words: [0; SAMPLES],
+            in_bytes: false,
+        }
+    }
+
+    /// Reads the levels of the samples at the front of the bytes, at least one of which is whole, as many as are whole and there is
+    /// room for, up to the first bytes that spell no sample, and returns their number: 0 if the first bytes spell none. What the row
+    /// holds after them is unspecified.
+    pub fn read_first(&mut self, setting: &Setting, bytes: &[u8]) -> usize
+        requires { width_of setting.now ≤ length bytes.now }
+        ensures count { result ≤ length self.new }
+        ensures len { length self.new ≡ length self.old }
+        ensures legal { All (λ l. l < value_count setting.now) (take result self.new) }
+        ensures within { width_of setting.now * result ≤ length bytes.now }
+        ensures reads { Reads setting.now bytes.now (take result (values_at setting.now self.new))
+            (drop (width_of setting.now * result) bytes.now) }
+        // Fewer than there is room for are read only where the next bytes are too few, or spell no sample.
+        ensures stop { result < length self.new →
+            width_of setting.now * (result + 1) ≤ length bytes.now →
+            IsNoSpelling setting.now (drop (width_of setting.now * result) bytes.now) }
+        ensures none { result ≡ 0 → IsNoSpelling setting.now bytes.now }
+    {
+        if is_read_in_bytes(setting) {
+            let count = self.bytes.len().min(bytes.len());
+            if read_levels_in_bytes(setting, &bytes[..count], &mut self.bytes[..count]) {
+                self.in_bytes = true;
+                return count;
+            }
+        }
+        // Where the levels were read in bytes, a sample is out of range, which this way finds.
+        self.in_bytes = false;
+        first_levels(setting, bytes, &mut self.words)
+    }
+
+    /// Returns the first `count` levels.
+    #[inline]
+    pub fn front(&self, count: usize) -> Levels<'_>
+        requires { count ≤ length self.now }
+        ensures { result ≡ take count self.now }
+    {
+        if self.in_bytes {
+            Levels::of_bytes(&self.bytes[..count])
+        } else {
+            Levels::of_words(&self.words[..count])
+        }
+    }
+}
