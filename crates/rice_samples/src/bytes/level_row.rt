@@ -5,7 +5,7 @@ ghost use Rattle.rice_samples.specs.bytes.Spelling.{Reads, IsNoSpelling};
 
 use crate::Setting;
 use crate::bytes::levels::Levels;
-use crate::bytes::reading::{first_levels, read_levels_in_bytes};
+use crate::bytes::reading::{read_legal_levels, read_levels_in_bytes};
 use std::marker::Model;
 
 /// The number of samples of a row.
@@ -78,7 +78,9 @@ impl LevelRow {
         }
         // Where the levels were read in bytes, a sample is out of range, which this way finds.
         self.in_bytes = false;
-        first_levels(setting, bytes, &mut self.words)
+        let width = setting.width() as usize;
+        let count = self.words.len().min(bytes.len() / width);
+        read_legal_levels(setting, &bytes[..width * count], &mut self.words[..count])
     }
 
     /// Returns the first `count` levels.

@@ -1,7 +1,7 @@
 //! Levels of samples from the bytes of several.
-ghost use Rattle.std.specs.Prelude.{◌≡◌, true, ◌+◌, ◌*◌, ◌^◌, ◌<◌, ◌≤◌, All, length, take, drop};
+ghost use Rattle.std.specs.Prelude.{◌≡◌, true, ◌*◌, ◌^◌, ◌<◌, ◌≤◌, All, length, take};
 ghost use Rattle.rice_samples.specs.Parameters.{value_count, values_at, width as width_of};
-ghost use Rattle.rice_samples.specs.bytes.Spelling.{Reads, ReadsSamples, IsNoSpelling, spellings};
+ghost use Rattle.rice_samples.specs.bytes.Spelling.{ReadsSamples, spellings};
 ghost use Rattle.rice_samples.specs.bytes.ValueRange.{offset};
 
 use crate::Setting;
@@ -24,28 +24,6 @@ pub fn read_legal_levels(setting: &Setting, bytes: &[u8], levels: &mut [u32]) ->
         return levels.len();
     }
     read_levels_one_by_one(setting, bytes, levels)
-}
-
-/// Reads the levels of the samples at the front of the bytes, as many as are whole and `levels` has room for, up to the first bytes
-/// that spell no sample, and returns their number. What `levels` holds after them is unspecified.
-pub(crate) fn first_levels(setting: &Setting, bytes: &[u8], levels: &mut [u32]) -> usize
-    requires some { width_of setting.now ≤ length bytes.now }
-    requires room { 0 < length levels.old }
-    ensures count { result ≤ length levels.new }
-    ensures len { length levels.new ≡ length levels.old }
-    ensures legal { All (λ l. l < value_count setting.now) (take result levels.new) }
-    ensures within { width_of setting.now * result ≤ length bytes.now }
-    ensures reads { Reads setting.now bytes.now (take result (values_at setting.now levels.new))
-        (drop (width_of setting.now * result) bytes.now) }
-    // Fewer than there is room for are read only where the next bytes are too few, or spell no sample.
-    ensures stop { result < length levels.new →
-        width_of setting.now * (result + 1) ≤ length bytes.now →
-        IsNoSpelling setting.now (drop (width_of setting.now * result) bytes.now) }
-    ensures none { result ≡ 0 → IsNoSpelling setting.now bytes.now }
-{
-    let width = setting.width() as usize;
-    let count = levels.len().min(bytes.len() / width);
-    read_legal_levels(setting, &bytes[..width * count], &mut levels[..count])
 }
 
 /// Reads the levels of the values that a byte each spells, and returns whether they are all of samples.
@@ -82,7 +60,8 @@ fn are_bytes_in_range(setting: &Setting, levels: &[u8]) -> bool
 
 /// Returns whether all of these are levels of samples.
 fn are_levels_in_range(setting: &Setting, levels: &[u32]) -> bool
-    ensures { result ≡ true → All (λ l. l < value_count setting.now) levels.now }
+    ensures legal { result ≡ true → All (λ l. l < value_count setting.now) levels.now }
+    ensures all { All (λ l. l < value_count setting.now) levels.now → result ≡ true }
 {
     let greatest = (setting.number_of_values() - 1) as u32;
     let mut all = true;

@@ -38,9 +38,10 @@ legal_row count i n xs h = All-take (λ l. l < count) (n - i) (drop i xs) (All-d
 
 -- ranks of the first, and of the rest
 pub ranks_of_rest : (count p : ℕ) {q n : ℕ} (xs first : List ℕ) {rest : List ℕ} → length first ≡ length xs → n ≤ length xs → take n first ≡ ranks_below count p (take n xs)
-    → q ≡ last_number p (take n xs) → rest ≡ ranks_below count q (drop n xs) →
+    → q ≡ last_number p (take n xs) → rest ≡ ranks_below count q (take (length xs - n) (drop n xs)) →
     put_mid n (length first - n) first rest ≡ ranks_below count p xs
 ranks_of_rest count p {n} xs first {rest} len le begun last more =
+    let whole : take (length xs - n) (drop n xs) ≡ drop n xs = take_all (length xs - n) (drop n xs) (omega (arith, length-drop n xs)) in
     let end : drop (length first - n) (drop n first) ≡ [] = drop_all (length first - n) (drop n first) (omega (arith, length-drop n first)) in
     ap (λ v. take n first ++ (rest ++ v)) end ∙ (ap (λ v. take n first ++ v) (append-nil rest)
-    ∙ ((λ i. begun i ++ (more ∙ (ap (λ v. ranks_below count v (drop n xs)) last)) i) ∙ (sym (ranks_below-append count p (take n xs) (drop n xs)) ∙ ap (ranks_below count p) (take-append-drop n xs))))
+    ∙ ((λ i. begun i ++ (more ∙ (λ j. ranks_below count (last j) (whole j))) i) ∙ (sym (ranks_below-append count p (take n xs) (drop n xs)) ∙ ap (ranks_below count p) (take-append-drop n xs))))

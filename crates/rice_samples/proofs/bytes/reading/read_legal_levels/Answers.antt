@@ -15,7 +15,7 @@ returns-then-bits-width-clause-reads c =
       | then-bits-width-via-then-bits-width w ↦
           let e : 8 * width_of s ≡ s.bits = omega arith in
           subst (λ (n : ℕ). All (λ l. l < 2 ^ n) levels) e read.ensures.fit
-      | then-bits-width-via-else-bits-width+then-are_levels_in_range w ↦ w.are_levels_in_range.ensures w.if-are_levels_in_range.true
+      | then-bits-width-via-else-bits-width+then-are_levels_in_range w ↦ w.are_levels_in_range.ensures.legal w.if-are_levels_in_range.true
     ] in
     reads_all s c.args.bytes.now levels (c.requires ∙ ap (λ n. width_of s * n) (sym read.ensures.len)) legal read.ensures.spelled
 

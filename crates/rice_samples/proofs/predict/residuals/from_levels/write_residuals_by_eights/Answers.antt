@@ -1,5 +1,4 @@
-use Rattle.std.proofs.Common.{arith, ◌*◌, ◌/◌, ◌-◌, ◌≡◌, ◌∙◌, ap, drop, length, take}
-use Rattle.std.proofs.lemmas.List.{length-drop, take_all}
+use Rattle.std.proofs.Common.{arith, ◌*◌, ◌/◌, ◌∙◌, ap, length}
 use Rattle.rice_samples.specs.Parameters.{value_count}
 use Rattle.rice_samples.specs.predict.Residuals.{last_number, ranks_below}
 use Rattle.rice_samples.proofs.lemmas.predict.RankedLevels.{last_legal, ranks_of_rest}
@@ -15,7 +14,6 @@ returns-then-end-levels c =
     let levels = c.args.levels.now in
     let end = 8 * (length levels / 8) in
     let count = value_count c.args.setting.now in
-    let whole : take (length levels - end) (drop end levels) ≡ drop end levels = take_all (length levels - end) (drop end levels) (omega (arith, length-drop end levels)) in
     ranks_of_rest count c.args.p levels c.write_ranks_by_eights.new.residuals c.write_ranks_by_eights.ensures.len (omega arith)
     c.write_ranks_by_eights.ensures.value (c.last_or-last.ensures ∙ ap (last_number c.args.p) c.of_words.ensures)
-    (c.replace_by_residuals.ensures ∙ ap (ranks_below count c.last_or-last.result) (c.copy_from_slice.ensures.after ∙ whole))
+    (c.replace_by_residuals.ensures ∙ ap (ranks_below count c.last_or-last.result) c.copy_from_slice.ensures.after)
