@@ -5,7 +5,7 @@ Prints a table in Markdown: for each row the CPU time of each program (user and 
 where valgrind is there, the instructions for each byte of the samples; and where the program of bench_library.c is given, the speeds of both
 libraries, from memory to memory. Under it stand the least and the geometric mean of the ratios, with the means of the rounds.
 
-usage: bench.py [--mispredictions] [--only TEXT] [--library PROGRAM] OURS THEIRS [MEBIBYTES]
+usage: bench.py [--mispredictions] [--more] [--only TEXT] [--library PROGRAM] OURS THEIRS [MEBIBYTES]
 """
 import argparse
 import concurrent.futures
@@ -141,6 +141,32 @@ def seismic(size, width, generator):
     return bytes(samples)
 
 
+def image_of(bits):
+    """The image in few shades."""
+    return lambda size, width, generator: bytes(shade(i, generator) >> (8 - bits) for i in range(size))
+
+
+def dark(bits, level, deviation):
+    """White noise at a low level."""
+
+    def make(size, width, generator):
+        values = (int(level + generator.gauss(0, deviation)) for _ in range(size // width))
+        return b"".join(min((1 << bits) - 1, max(0, value)).to_bytes(width, "little") for value in values)
+
+    return make
+
+
+def smooth(bits, order="little"):
+    """Slow waves with a little noise."""
+
+    def make(size, width, generator):
+        half = 1 << (bits - 1)
+        values = (int(half * (1 + 0.6 * math.sin(i / 300)) + generator.gauss(0, half / 400)) for i in range(size // width))
+        return b"".join(value.to_bytes(width, order) for value in values)
+
+    return make
+
+
 ROWS = [
     ("8-bit zeros", zeros, 1, ["-r", "128"]),
     ("8-bit sparse", sparse, 1, ["-j", "16", "-r", "128"]),
@@ -161,6 +187,20 @@ ROWS = [
     ("8-bit noise", noise, 1, ["-N"]),
     ("16-bit noise", noise, 2, ["-N", "-n", "16"]),
     ("32-bit noise", noise, 4, ["-N", "-n", "32"]),
+]
+
+# Settings and data beside these: few bits, widths between those above, other orders of bytes, intervals and blocks.
+MORE = [
+    *((f"{n}-bit image", image_of(n), 1, ["-n", str(n), "-j", j, "-r", "64"]) for n in (1, 2, 3, 4) for j in ("8", "16")),
+    *((f"{n}-bit image", image_of(n), 1, ["-n", str(n), "-j", j, "-r", "64"]) for n, j in ((5, "16"), (6, "32"), (7, "64"))),
+    *(("8-bit image", image, 1, words.split()) for words in ("-r 1", "-j 16 -r 3", "-j 32 -r 64 -p")),
+    *((f"8-bit level {level}", dark(8, level, level / 4), 1, ["-j", j, "-r", "64"]) for level in (2, 5, 12) for j in ("8", "16", "64")),
+    *((f"{n}-bit level 5", dark(n, 5, 1.2), 2, ["-n", str(n), "-j", "8", "-r", "64"]) for n in (9, 12)),
+    *((f"{n}-bit smooth", smooth(n), 2, ["-n", str(n), "-j", j, "-r", "64"]) for n, j in ((9, "8"), (12, "16"), (14, "64"))),
+    ("12-bit smooth", smooth(12, "big"), 2, ["-n", "12", "-m", "-j", "32", "-r", "128"]),
+    ("16-bit smooth", smooth(15, "big"), 2, ["-n", "16", "-m", "-s", "-j", "16", "-r", "64"]),
+    ("20-bit smooth", smooth(20), 4, ["-n", "20", "-j", "16", "-r", "64"]),
+    ("32-bit smooth", smooth(32, "big"), 4, ["-n", "32", "-m", "-j", "16", "-r", "64"]),
 ]
 
 
@@ -321,7 +361,7 @@ def print_summaries(rows):
 def main():
     size = OPTIONS.mebibytes << 20
     with tempfile.TemporaryDirectory() as folder:
-        rows = [Row(*words, os.path.join(folder, str(i))) for i, words in enumerate(ROWS)]
+        rows = [Row(*words, os.path.join(folder, str(i))) for i, words in enumerate(MORE if OPTIONS.more else ROWS)]
         rows = [row for row in rows if OPTIONS.only in row.title]
         if not rows:
             sys.exit("bench: no row has that in its title")
@@ -346,6 +386,7 @@ def main():
 def options():
     parser = argparse.ArgumentParser(description="Compares two programs aec, and both libraries.")
     parser.add_argument("--mispredictions", action="store_true", help="count the jumps that a simple predictor misses")
+    parser.add_argument("--more", action="store_true", help="measure settings and data that are in no row of the table")
     parser.add_argument("--only", metavar="TEXT", default="", help="measure only the rows whose titles contain TEXT")
     parser.add_argument("--library", metavar="PROGRAM", help="what bench_library.c is compiled to, to measure both libraries")
     parser.add_argument("ours")

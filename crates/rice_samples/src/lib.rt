@@ -29,7 +29,7 @@ pub use predict::restoring::bytes_in_turn::{levels_in_turn, levels_of_parts_in_t
 pub use predict::restoring::half_lanes::{LevelHalves, near_halves_of_parts, spelled_in_two_bytes};
 pub use predict::restoring::halves_in_turn::halves_of_parts_in_turn;
 pub use predict::restoring::levels::{
-    level_of_pattern, levels_of_patterns, restore_by_selection, restore_near_first,
+    has_few_near, level_of_pattern, levels_of_patterns, restore_by_selection, restore_near_first,
 };
 pub use predict::restoring::word_lanes::{LevelWords, near_words_of_parts};
 pub use setting::{Setting, SettingFault};

@@ -156,14 +156,15 @@ fn decode_counted<I: Intake, O: Outlet>(
     decode_blocks::<I, O, 0, 0>(setting, Some(count), intake, outlet)
 }
 
-/// Returns whether samples have `WIDTH` bytes, and the decoder may give the bytes of a block of them at one stroke.
+/// Returns whether samples have `WIDTH` bytes, and the decoder may give the bytes of a block of them at one stroke. Where they have few
+/// bits, most blocks are in runs or coded in pairs, and it would look in vain.
 pub(crate) fn has_lanes<const WIDTH: usize>(setting: &Setting) -> bool
     requires widths { (WIDTH ≡ 1) ⊎ (WIDTH ≡ 2) }
     ensures { result ≡ true → HasLanes setting.now setting.now.block WIDTH }
 {
     let bits = setting.bits() as usize;
     let wide = 8 * (WIDTH - 1) < bits && bits <= 8 * WIDTH;
-    wide && setting.preprocess()
+    wide && bits > 4 && setting.preprocess()
 }
 
 /// Decodes blocks of samples of `WIDTH` bytes that may be decoded at one stroke, by the loop for their size.

@@ -26,11 +26,11 @@ use crate::decode::wide_ahead::{restore_wide_ahead, wide_split_ahead};
 use crate::known_len::known_or;
 use arrayvec::ArrayVec;
 use rice_bits::{BitFault, BitReader, Intake, Meter};
-use rice_samples::Setting;
+use rice_samples::{Setting, has_few_near};
 use std::marker::Model;
 
-/// The least level that so many others are near to that near ones are expected after it.
-const FEW_BELOW: u32 = 8;
+/// The most blocks in a row that are read without a look whether their samples are near to those before them.
+const MOST_IN_TURN: u32 = 8;
 
 /// Returns the number of blocks of the run whose codeword has `zeros` zeros, or `None` if that run is not sound.
 fn run_blocks(setting: &Setting, block: u64, zeros: u64) -> Option<u32>
@@ -146,6 +146,8 @@ pub struct Decoder {
     before: u32,
     run: u32,
     stopped: Option<Result<NextBlock, CodeFault>>,
+    /// How many looks in a row for near samples were in vain, up to `MOST_IN_TURN`.
+    vain_looks: u32,
     /// Scratch space for the residuals of a block and for their high parts.
     scratch: [u32; 128],
 }
@@ -180,6 +182,7 @@ impl Decoder {
             before,
             run: 0,
             stopped: None,
+            vain_looks: 0,
             scratch: [0; 128],
         }
     }
@@ -205,6 +208,7 @@ impl Decoder {
             before: level,
             run,
             stopped: None,
+            vain_looks: 0,
             scratch: [0; 128],
         }
     }
@@ -349,20 +353,26 @@ impl Decoder {
         if self.run > 0 {
             return 0;
         }
-        if let Some(k) = split_of_block_ahead::<I, WIDTH>(&self.setting, reader) {
-            if self.before < FEW_BELOW {
-                return self.read_far_split_to_bytes::<I, SIZE, WIDTH>(
-                    k, reader, meter, bytes, ends,
+        if split_of_block_ahead::<I, WIDTH>(&self.setting, reader).is_some() {
+            if has_few_near(self.before) {
+                let few = most.min(MOST_IN_TURN as usize);
+                return self.read_split_blocks_to_bytes::<I, SIZE, WIDTH, true>(
+                    few, reader, meter, bytes, ends,
                 );
             }
             // Most samples are near to those before them. A call for others in the same function would take registers from these.
-            let blocks = self.read_near_blocks_to_bytes::<I, SIZE, WIDTH>(
+            let blocks = self.read_split_blocks_to_bytes::<I, SIZE, WIDTH, false>(
                 most, reader, meter, bytes, ends,
             );
             if blocks > 0 {
+                self.vain_looks = 0;
                 return blocks;
             }
-            return self.read_far_split_to_bytes::<I, SIZE, WIDTH>(k, reader, meter, bytes, ends);
+            self.vain_looks = self.vain_looks.min(MOST_IN_TURN - 1) + 1;
+            let few = most.min(self.vain_looks as usize);
+            return self.read_split_blocks_to_bytes::<I, SIZE, WIDTH, true>(
+                few, reader, meter, bytes, ends,
+            );
         }
         let size = known_or::<SIZE>(self.setting.block() as usize);
         if is_uncompressed_ahead::<I, WIDTH>(&self.setting, size, reader) {
@@ -373,9 +383,15 @@ impl Decoder {
         0
     }
 
-    /// As `next_bytes`, outside a run, of blocks by a split whose samples are near to those before them.
+    /// As `next_bytes`, outside a run, of blocks by a split: by `TURNS` whatever their samples are, else of samples that are near to those
+    /// before them.
     #[inline(never)]
-    fn read_near_blocks_to_bytes<I: Intake, const SIZE: usize, const WIDTH: usize>(
+    fn read_split_blocks_to_bytes<
+        I: Intake,
+        const SIZE: usize,
+        const WIDTH: usize,
+        const TURNS: bool,
+    >(
         &mut self,
         most: usize,
         reader: &mut BitReader<I>,
@@ -412,54 +428,12 @@ impl Decoder {
                 None => return i,
             };
             let own = &mut bytes[len * i..];
-            if !self.read_split_to_bytes::<I, SIZE, WIDTH, false>(k, reader, meter, own) {
+            if !self.read_split_to_bytes::<I, SIZE, WIDTH, TURNS>(k, reader, meter, own) {
                 return i;
             }
             ends[i] = (meter.steps() - begin) as u32;
         }
         most
-    }
-
-    /// As `next_bytes`, outside a run, of one block by split `k`, whatever its samples are.
-    #[inline(never)]
-    fn read_far_split_to_bytes<I: Intake, const SIZE: usize, const WIDTH: usize>(
-        &mut self,
-        k: u32,
-        reader: &mut BitReader<I>,
-        meter: &mut Meter,
-        bytes: &mut [u8],
-        ends: &mut [u32; 64],
-    ) -> usize
-        requires size { 0 < SIZE → SIZE ≡ self.old.setting.block }
-        requires lanes { HasLanes self.old.setting self.old.setting.block WIDTH }
-        requires stopped { self.old.stopped ≡ None }
-        requires run { self.old.run ≡ 0 }
-        requires there { 208 ≤ length reader.old.waiting }
-        requires split { k < 3 + 3 * WIDTH }
-        requires id { word (id_len self.old.setting) (k + 1)
-            ≡ take (id_len self.old.setting) reader.old.waiting }
-        requires going { reader.old.refusal ≡ None }
-        requires room { meter.old + 2 * (most_bits_read - reader.old.taken) + 64 < step_limit }
-        requires bytes { (32 ≤ length bytes.old) ×
-            (WIDTH * lanes_of self.old.setting.block ≤ length bytes.old) }
-        ensures most { result ≤ 1 }
-        ensures some { 0 < result →
-            GivesBlocks result reader.old reader.new meter.old meter.new self.old self.new bytes.new
-            ends.new }
-        ensures none { result ≡ 0 → (self.new ≡ self.old) × (reader.new ≡ reader.old) ×
-            (meter.new ≡ meter.old) × (bytes.new ≡ bytes.old) }
-        ensures going { reader.new.refusal ≡ None }
-        ensures stopped { self.new.stopped ≡ None }
-        ensures setting { self.new.setting ≡ self.old.setting }
-        ensures steps { AreCounted meter.old meter.new reader.old.taken reader.new.taken }
-    {
-        let _taken = reader.taken();
-        let begin = meter.steps();
-        if !self.read_split_to_bytes::<I, SIZE, WIDTH, true>(k, reader, meter, bytes) {
-            return 0;
-        }
-        ends[0] = (meter.steps() - begin) as u32;
-        1
     }
 
     /// Reads the block by split `k` that waits outside a run, and writes its bytes: by `TURNS` of any samples, else of samples that are

@@ -129,16 +129,6 @@ stood_with {count = count} {old = old} {steps = steps} {p = p} {bytes = bytes} m
   ticked = s.ticked ∙ ap (λ k. steps + k) e;
 }
 
--- no block
-pub no_blocks : {I : Type 0} (r : Reader I) (steps : ℕ) (p : DecoderState) (bytes ends : List ℕ) → p.run ≡ 0 → GivesBlocks 0 r r steps steps p p bytes ends
-no_blocks r steps p bytes ends none = record {
-  row = (refl, refl, refl);
-  run = none;
-  waited = record { left = refl; failed = refl; bits = refl };
-  ticked = refl;
-  ends_are = λ i lt. absurd (omega (arith, lt));
-}
-
 -- a block more, whose bytes stand behind those of the others
 pub one_block_more : {I : Type 0} {n : ℕ} {old middle new : Reader I} {steps steps_middle steps_new : ℕ} {p m q : DecoderState} {bytes more own ends : List ℕ} (end : ℕ)
     → GivesBlocks n old middle steps steps_middle p m bytes ends → GivesOneBlock middle new steps_middle steps_new m q own
@@ -177,15 +167,6 @@ one_block_more {I} {n} {old} {middle} {new} {steps} {steps_middle} {steps_new} {
             subst (λ k. StoodBehind (suc k) old steps p more (slice_index_or (set ends n end) k 0)) here last
       ];
     }
-
--- one block
-pub one_block : {I : Type 0} {old new : Reader I} {steps steps_new : ℕ} {p q : DecoderState} {bytes : List ℕ} (ends : List ℕ) (end : ℕ) → p.run ≡ 0
-    → GivesOneBlock old new steps steps_new p q bytes → AreCounted steps steps_new old.taken new.taken → end ≡ new.taken - old.taken → 0 < length ends
-    → GivesBlocks 1 old new steps steps_new p q bytes (set ends 0 end)
-one_block {old} {new} {steps} {steps_new} {p} {q} {bytes} ends end none one counted end_is room =
-    let nothing : width p.setting * p.setting.block * 0 ≡ 0 = omega arith in
-    one_block_more end (no_blocks old steps p bytes ends none) one
-    (record { forward = omega arith; limit = omega (arith, counted.forward, counted.limit); least = omega arith; most = omega arith }) counted refl (ap (λ t. drop t bytes) nothing) end_is room
 
 -- ---- places of blocks
 

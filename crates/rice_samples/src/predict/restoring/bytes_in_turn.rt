@@ -1,6 +1,6 @@
 //! Sixteen samples of at most 8 bits from their residuals, one after another. It is made for samples of which many are far from the one
 //! before.
-ghost use Rattle.std.specs.Prelude.{◌≡◌, ◌+◌, ◌-◌, ◌/◌, ◌^◌, ◌<◌, ◌≤◌, All, IfSome, length, map, nat_lt, if◌then◌else◌};
+ghost use Rattle.std.specs.Prelude.{◌≡◌, ◌+◌, ◌-◌, ◌/◌, ◌^◌, ◌<◌, ◌≤◌, All, IfSome, drop, length, map, nat_lt, replicate, true, if◌then◌else◌};
 ghost use Rattle.rice_samples.specs.Parameters.{value_count};
 ghost use Rattle.rice_samples.specs.predict.Residuals.{rank_below, ranks_below};
 ghost use Rattle.rice_samples.specs.predict.LevelsOfParts.{AreLevelsOfParts};
@@ -10,6 +10,8 @@ use crate::Setting;
 use crate::predict::restoring::byte_lanes::{
     LevelLanes, both_are_zeros, excess_over, join_parts, near_ways,
 };
+use crate::predict::restoring::half_lanes::last_eight_widened;
+use crate::predict::restoring::near_in_16_bits;
 use std::simd::prelude::*;
 
 /// What sixteen numbers are selected from, by their ranks: the rank, the way to a number that is near, half the rank, and how far the
@@ -41,8 +43,9 @@ pub fn levels_in_turn(setting: &Setting, before: u32, residuals: u8x16) -> Level
         half_ranks: half_ranks(residuals).to_array(),
         highs: distances_below_greatest(greatest, residuals).to_array(),
     };
+    let eight = last_eight_are_zeros(residuals);
     let mut levels = [0; 16];
-    write_numbers_in_turn(greatest as u32, before, &turns, &mut levels);
+    write_numbers_in_turn(greatest as u32, before, &turns, eight, &mut levels);
     LevelLanes {
         levels: u8x16::from_array(levels),
     }
@@ -96,10 +99,20 @@ fn distances_below_greatest(greatest: u8, ranks: u8x16) -> u8x16
     u8x16::splat(greatest) - ranks
 }
 
-/// Writes the numbers up to `greatest` with these ranks: the first from `p`, and each other from the one before it. It is never inlined:
-/// in a loop, branches would be made of its selections.
+/// Returns whether the last eight numbers are zeros, as they are behind a block of eight.
+#[inline(always)]
+fn last_eight_are_zeros(numbers: u8x16) -> bool
+    requires { length numbers ≡ 16 }
+    ensures { result ≡ true → drop 8 numbers ≡ replicate 8 0 }
+{
+    let last = last_eight_widened(numbers);
+    near_in_16_bits::both_are_zeros(last, last)
+}
+
+/// Writes the numbers up to `greatest` with these ranks: the first from `p`, and each other from the one before it. `eight` says that
+/// the last eight are all as the one before them. It is never inlined: in a loop, branches would be made of its selections.
 #[inline(never)]
-fn write_numbers_in_turn(greatest: u32, p: u32, turns: &Turns, numbers: &mut [u8])
+fn write_numbers_in_turn(greatest: u32, p: u32, turns: &Turns, eight: bool, numbers: &mut [u8])
     requires before { p ≤ greatest }
     requires narrow { greatest < 2 ^ 8 }
     requires ranks { All (λ d. d ≤ greatest) turns.now.ranks }
@@ -107,6 +120,7 @@ fn write_numbers_in_turn(greatest: u32, p: u32, turns: &Turns, numbers: &mut [u8
     requires ways { turns.now.ways ≡ map (way_of (2 ^ 8)) turns.now.ranks }
     requires half_ranks { turns.now.half_ranks ≡ map (λ d. (d + 1) / 2) turns.now.ranks }
     requires highs { turns.now.highs ≡ map (λ d. greatest - d) turns.now.ranks }
+    requires eight { eight ≡ true → drop 8 turns.now.ranks ≡ replicate 8 0 }
     requires len { length numbers.old ≡ 16 }
     ensures len { length numbers.new ≡ 16 }
     ensures fit { All (λ x. x ≤ greatest) numbers.new }
@@ -114,6 +128,10 @@ fn write_numbers_in_turn(greatest: u32, p: u32, turns: &Turns, numbers: &mut [u8
 {
     let mut number = p;
     for i in 0..16 {
+        if i == 8 && eight {
+            numbers[8..].fill(number as u8);
+            return;
+        }
         number = next_number(
             greatest,
             number,

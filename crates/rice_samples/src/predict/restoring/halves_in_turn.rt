@@ -104,6 +104,11 @@ fn write_eight_in_turn(greatest: u16, p: u32, ranks: u16x8, numbers: &mut [u16])
     ensures last { result ≡ last_number p numbers.new }
     ensures within { result ≤ greatest }
 {
+    // So it is behind a block of eight.
+    if both_are_zeros(ranks, ranks) {
+        numbers.fill(p as u16);
+        return p;
+    }
     let turns = Turns {
         ranks: ranks.to_array(),
         ways: near_ways(ranks).to_array(),

@@ -1,5 +1,5 @@
 //! Levels of samples in a row, from their residuals or their patterns.
-ghost use Rattle.std.specs.Prelude.{◌≡◌, ◌+◌, ◌%◌, ◌<◌, ◌≤◌, All, length, map, sum};
+ghost use Rattle.std.specs.Prelude.{◌≡◌, ◌+◌, ◌%◌, ◌<◌, ◌≤◌, ◌↔◌, All, IsTrue, length, map, sum};
 ghost use Rattle.rice_samples.specs.Parameters.{value_count, values_at, value_at};
 ghost use Rattle.rice_samples.specs.predict.Residuals.{pattern as pattern_of};
 ghost use Rattle.rice_samples.specs.predict.RestoredLevels.{CanRestore, Restores};
@@ -14,6 +14,14 @@ use std::simd::prelude::*;
 /// The least level that so many others are near to that near ones are expected after it.
 const FEW_BELOW: u32 = 8;
 
+/// Returns whether few others are near to a level, since fewer than 8 are below it.
+#[inline(always)]
+pub fn has_few_near(level: u32) -> bool
+    ensures { IsTrue result ↔ (level < 8) }
+{
+    level < FEW_BELOW
+}
+
 /// Writes the levels of the samples with these residuals: the first after a sample at level `before`, and each other after the
 /// one before it.
 #[inline(always)]
@@ -21,10 +29,12 @@ pub fn restore_near_first(setting: &Setting, before: u32, residuals: &[u32], lev
     requires can { CanRestore setting.now before residuals.now levels.old }
     ensures { Restores setting.now before residuals.now levels.new }
 {
-    // It is laid out for blocks of 8, and of 16 after a level to which few are near.
+    // It is laid out for blocks of 8, and of 16 after a level to which few are near. Of at most 4 bits there are few other levels.
     match levels.len() {
         8 => restore_eight(setting, before, residuals, levels),
-        16 if before < FEW_BELOW => restore_sixteen_far(setting, before, residuals, levels),
+        16 if has_few_near(before) && setting.bits() > 4 => {
+            restore_sixteen_far(setting, before, residuals, levels)
+        }
         len if len % 8 == 0 => restore_by_eights(setting, before, residuals, levels),
         _ => restore_any_number_in_turn(setting, before, residuals, levels),
     }

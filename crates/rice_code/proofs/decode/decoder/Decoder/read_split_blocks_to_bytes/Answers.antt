@@ -7,7 +7,7 @@ use Rattle.rice_code.specs.decode.BlocksInRow.{GivesBlocks}
 use Rattle.rice_code.specs.decode.DecoderState.{DecoderState}
 use Rattle.rice_code.proofs.lemmas.decode.BlocksInRow.{block_room, kept_before, narrow_width, one_block_more, width_is, written_behind}
 use borrow.Rule.Slice.PartMut.{put_mid}
-use Rattle.rice_code.proofs.decode.decoder.Decoder.read_near_blocks_to_bytes.Goals as goal
+use Rattle.rice_code.proofs.decode.decoder.Decoder.read_split_blocks_to_bytes.Goals as goal
 
 pub read_split_to_bytes-requires-clause-bytes : goal.read_split_to_bytes-requires-clause-bytes
 read_split_to_bytes-requires-clause-bytes g c =

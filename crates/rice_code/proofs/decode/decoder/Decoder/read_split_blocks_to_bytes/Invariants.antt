@@ -1,7 +1,7 @@
 use Rattle.std.proofs.Common.{◌≡◌, None, length}
 use Rattle.rice_code.specs.decode.BlocksInRow.{GivesBlocks}
 use Rattle.rice_code.specs.decode.RowsOfFields.{AreCounted}
-use Rattle.rice_code.proofs.decode.decoder.Decoder.read_near_blocks_to_bytes.Given as goal
+use Rattle.rice_code.proofs.decode.decoder.Decoder.read_split_blocks_to_bytes.Given as goal
 
 abbrev pub invariant-loop-i : goal.invariant-loop-i
 invariant-loop-i g l = record {
