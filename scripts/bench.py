@@ -386,13 +386,17 @@ def main():
 def options():
     parser = argparse.ArgumentParser(description="Compares two programs aec, and both libraries.")
     parser.add_argument("--mispredictions", action="store_true", help="count the jumps that a simple predictor misses")
-    parser.add_argument("--more", action="store_true", help="measure settings and data that are in no row of the table")
+    parser.add_argument("--more", action="store_true", help="measure settings and data that are in no row of the table, by the programs alone")
     parser.add_argument("--only", metavar="TEXT", default="", help="measure only the rows whose titles contain TEXT")
     parser.add_argument("--library", metavar="PROGRAM", help="what bench_library.c is compiled to, to measure both libraries")
     parser.add_argument("ours")
     parser.add_argument("theirs")
     parser.add_argument("mebibytes", nargs="?", type=int, default=32)
-    return parser.parse_intermixed_args()
+    words = parser.parse_intermixed_args()
+    if words.more:
+        # What bench_library.c is compiled to knows neither the order of bytes nor padding.
+        words.library = None
+    return words
 
 
 if __name__ == "__main__":
