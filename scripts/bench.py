@@ -5,7 +5,7 @@ Prints a table in Markdown: for each row the CPU time of each program (user and 
 where valgrind is there, the instructions for each byte of the samples; and where the program of bench_library.c is given, the speeds of both
 libraries, from memory to memory. Under it stand the least and the geometric mean of the ratios, with the means of the rounds.
 
-usage: bench.py [--mispredictions] [--more] [--only TEXT] [--library PROGRAM] OURS THEIRS [MEBIBYTES]
+usage: bench.py [--mispredictions] [--more | --real] [--only TEXT] [--library PROGRAM] OURS THEIRS [MEBIBYTES]
 """
 import argparse
 import concurrent.futures
@@ -204,6 +204,19 @@ MORE = [
 ]
 
 
+def real_rows():
+    """Rows of the real samples that bench_others.py compares, which wants /usr/bin/python3 and the Python package."""
+    import bench_others
+
+    rows = []
+    for name, kind in bench_others.KINDS.items():
+        samples = kind()
+        bits, data = bench_others.bits_of(samples), bench_others.copies(samples).tobytes()
+        for words in ("-j 8 -r 2", "-j 16 -r 128", "-j 32 -r 128", "-j 64 -r 128"):
+            rows.append((f"{bits}-bit {name}", lambda size, width, generator, data=data: data[:size], samples.itemsize, ["-n", str(bits), *words.split()]))
+    return rows
+
+
 @dataclasses.dataclass
 class Row:
     """A row of samples with options, in files of a folder, and what is measured of it by direction."""
@@ -361,7 +374,8 @@ def print_summaries(rows):
 def main():
     size = OPTIONS.mebibytes << 20
     with tempfile.TemporaryDirectory() as folder:
-        rows = [Row(*words, os.path.join(folder, str(i))) for i, words in enumerate(MORE if OPTIONS.more else ROWS)]
+        found = real_rows() if OPTIONS.real else MORE if OPTIONS.more else ROWS
+        rows = [Row(*words, os.path.join(folder, str(i))) for i, words in enumerate(found)]
         rows = [row for row in rows if OPTIONS.only in row.title]
         if not rows:
             sys.exit("bench: no row has that in its title")
@@ -386,14 +400,16 @@ def main():
 def options():
     parser = argparse.ArgumentParser(description="Compares two programs aec, and both libraries.")
     parser.add_argument("--mispredictions", action="store_true", help="count the jumps that a simple predictor misses")
-    parser.add_argument("--more", action="store_true", help="measure settings and data that are in no row of the table, by the programs alone")
+    others = parser.add_mutually_exclusive_group()
+    others.add_argument("--more", action="store_true", help="measure settings and data that are in no row of the table, by the programs alone")
+    others.add_argument("--real", action="store_true", help="measure the real samples of bench_others.py, by the programs alone")
     parser.add_argument("--only", metavar="TEXT", default="", help="measure only the rows whose titles contain TEXT")
     parser.add_argument("--library", metavar="PROGRAM", help="what bench_library.c is compiled to, to measure both libraries")
     parser.add_argument("ours")
     parser.add_argument("theirs")
     parser.add_argument("mebibytes", nargs="?", type=int, default=32)
     words = parser.parse_intermixed_args()
-    if words.more:
+    if words.more or words.real:
         # What bench_library.c is compiled to knows neither the order of bytes nor padding.
         words.library = None
     return words

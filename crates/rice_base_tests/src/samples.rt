@@ -793,7 +793,8 @@ fn levels_of_samples_of_a_byte() -> Result<(), Fail> {
     cases.check(levels.front(2).len() == 2);
     cases.check(levels.front(0).is_empty());
     cases.check(Levels::of_bytes(&[1, 2]).last_or(0) == 2);
-    cases.check(Levels::of_words(&[1, 300]).last_or(0) == 300);
+    cases.check(Levels::of_halves(&[1, 300]).last_or(0) == 300);
+    cases.check(Levels::of_words(&[1, 70_000]).last_or(0) == 70_000);
     cases.end()
 }
 

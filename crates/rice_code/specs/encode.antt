@@ -9,3 +9,4 @@ pub mod SentParts
 pub mod PreparedSettings
 pub mod ShortLowParts
 pub mod SequencesByProducts
+pub mod SequencesByPlaces

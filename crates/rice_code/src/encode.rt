@@ -16,6 +16,7 @@ mod open_segment;
 mod options;
 mod pairs;
 mod prepared_setting;
+mod sequences_by_places;
 mod sequences_by_products;
 mod short_low_parts;
 

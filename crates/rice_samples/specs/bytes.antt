@@ -1,5 +1,6 @@
 -- Samples in bytes.
 pub mod Levels
+pub mod LevelRow
 pub mod PatternLanes
 pub mod SampleReader
 pub mod UnusedBits

@@ -13,5 +13,6 @@ pub mod SegmentBlocksInTurn
 pub mod SeveralSamplesHeld
 pub mod ShortLowParts
 pub mod SequencesByProducts
+pub mod SequencesByPlaces
 pub mod HighParts
 pub mod PushedSamples

@@ -1,11 +1,6 @@
--- Fundamental sequences that are gathered at the front of a word.
-use Rattle.std.specs.Prelude.{◌≡◌, ℕ, ◌+◌, ◌-◌, ◌*◌, ◌^◌, ◌<◌, ◌≤◌, ◌==◌, if◌then◌else◌, Bool, List, [], ◌++◌, length}
+-- Fundamental sequences that are gathered in a number.
+use Rattle.std.specs.Prelude.{◌≡◌, ℕ, ◌*◌, ◌^◌, ◌<◌, ◌==◌, if◌then◌else◌, Bool, List, [], ◌++◌, length}
 use Rattle.rice_bits.specs.Bits.{word, number_of, fundamental_sequence}
-
--- The word begins with these bits, if there are at most 64, and has zeros after them. What is left counts down from 2^40 by their number, however many they are.
-pub record Gathers (word left : ℕ) (bits : List Bool) : Type 0 where
-  pub count : left + length bits ≡ 2 ^ 40
-  pub front : length bits ≤ 64 → word ≡ number_of bits * 2 ^ (64 - length bits)
 
 -- A number begins with these bits, and `left` zeros follow them.
 pub record HasFront (value left : ℕ) (bits : List Bool) : Type 0 where

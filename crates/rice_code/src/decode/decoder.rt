@@ -1,7 +1,7 @@
 //! Decodes coded data sets, a block a call or several.
 ghost use Rattle.std.specs.Prelude.{◌≡◌, ◌≢◌, ℕ, ◌+◌, ◌-◌, ◌*◌, ◌%◌, ◌^◌, ◌<◌, ◌≤◌, ◌↔◌, IsTrue, true, false, All, [], length, take, None, Option, Some, IfSome, IfNone, Ok, pos};
 ghost use Rattle.rice_bits.specs.Limits.{step_limit, most_bits_read};
-ghost use Rattle.rice_samples.specs.Parameters.{id_len, value_at, value_count, values_at};
+ghost use Rattle.rice_samples.specs.Parameters.{id_len, k_max, value_at, value_count, values_at};
 ghost use Rattle.rice_samples.specs.Places.{blocks_left};
 ghost use Rattle.rice_bits.specs.Bits.{word};
 ghost use Rattle.rice_code.specs.Limits.{most_samples_of_bit};
@@ -684,7 +684,7 @@ impl Decoder {
         }
     }
 
-    /// Reads the block by split `k` that waits outside a run, of predicted samples of more than 16 bits, if its fundamental sequences are
+    /// Reads the block by split `k` that waits outside a run, of predicted samples, in lanes of 32 bits, if its fundamental sequences are
     /// short and all samples are near to those before them. Returns whether it did; otherwise nothing has happened, but for the levels,
     /// which are unspecified.
     #[inline(never)]
@@ -695,9 +695,8 @@ impl Decoder {
         meter: &mut Meter,
         levels: &mut ArrayVec<u32, 64>,
     ) -> bool
-        requires wide { 16 < self.old.setting.bits }
         requires preprocess { self.old.setting.preprocess ≡ true }
-        requires split { (1 ≤ k) × (k ≤ 24) }
+        requires split { (1 ≤ k) × (k ≤ 24) × (k ≤ k_max self.old.setting) }
         requires there { 101 ≤ length reader.old.waiting }
         requires id { word (id_len self.old.setting) (k + 1)
             ≡ take (id_len self.old.setting) reader.old.waiting }

@@ -1,7 +1,8 @@
-//! Blocks of samples of 17 to 32 bits, predicted and by a split, in one pass from bits to levels, in lanes of 32 bits.
+//! Blocks of predicted samples, by a split, in one pass from bits to levels, in lanes of 32 bits: of samples of 17 to 32 bits, and of 9
+//! to 16 bits where more than 8 low bits are sent.
 ghost use Rattle.std.specs.Prelude.{◌≡◌, ◌+◌, ◌-◌, ◌*◌, ◌%◌, ◌^◌, ◌<◌, ◌≤◌, ◌++◌, All, IfSome, drop, length, replicate, slice_index_or, take, true};
 ghost use Rattle.rice_bits.specs.Bits.{word};
-ghost use Rattle.rice_samples.specs.Parameters.{id_len, value_at, value_count};
+ghost use Rattle.rice_samples.specs.Parameters.{id_len, k_max, value_at, value_count};
 ghost use Rattle.rice_samples.specs.predict.Residuals.{last_number};
 ghost use Rattle.rice_code.specs.decode.BlocksInOnePass.{BlockAhead};
 ghost use Rattle.rice_code.specs.decode.WideAhead.{EightLevels, LevelsAhead, RestoredAhead};
@@ -12,9 +13,6 @@ use rice_bits::{BitReader, Intake};
 use rice_samples::{Setting, near_words_of_parts};
 use std::simd::prelude::*;
 
-/// The bits of an identifier.
-const ID_LEN: usize = 5;
-
 /// The bits of identifier and reference sample, at most.
 const HEAD: u64 = 37;
 
@@ -24,25 +22,38 @@ const LOOK: u64 = 64;
 /// The number of bytes in which the fundamental sequences of a block of eight samples have to end.
 const EIGHT_BYTES: usize = 5;
 
-/// Returns the split of the block that waits, if its samples have more than 16 bits and are predicted, it is a split of 1 to 24, and so many
-/// bits wait that the first sequences may be looked at.
+/// Returns the split of the block that waits, if samples are predicted, it is one of 1 to 24 of samples of more than 16 bits or one above 8
+/// of samples of 9 to 16 bits, and so many bits wait that the first sequences may be looked at.
 #[inline(always)]
 pub fn wide_split_ahead<I: Intake>(setting: &Setting, reader: &BitReader<I>) -> Option<u32>
-    ensures setting { IfSome result (λ k. (16 < setting.now.bits) ×
-        (setting.now.preprocess ≡ true)) }
-    ensures split { IfSome result (λ k. (1 ≤ k) × (k ≤ 24)) }
+    ensures preprocess { IfSome result (λ k. setting.now.preprocess ≡ true) }
+    ensures split { IfSome result (λ k. (1 ≤ k) × (k ≤ 24) × (k ≤ k_max setting.now)) }
     ensures there { IfSome result (λ k. 101 ≤ length reader.now.waiting) }
     ensures id { IfSome result (λ k. word (id_len setting.now) (k + 1)
         ≡ take (id_len setting.now) reader.now.waiting) }
 {
-    if setting.bits() <= 16 || !setting.preprocess() || reader.waiting() < HEAD + LOOK {
+    if setting.bits() <= 8 || !setting.preprocess() || reader.waiting() < HEAD + LOOK {
         return None;
     }
-    let id = reader.number_ahead(0, ID_LEN as u32);
-    if id < 2 || id > 25 {
+    let (least, greatest) = identifiers(setting);
+    let id = reader.number_ahead(0, setting.id_len());
+    if id < least || id > greatest {
         return None;
     }
     Some(id - 1)
+}
+
+/// Returns the least and the greatest identifier of the splits of which blocks are decoded so.
+#[inline(always)]
+fn identifiers(setting: &Setting) -> (u32, u32)
+    requires { 8 < setting.now.bits }
+    ensures { (2 ≤ result.0) × (result.1 ≤ 25) × (result.1 ≤ k_max setting.now + 1) }
+{
+    // Of samples of at most 16 bits, blocks by the other splits are decoded to bytes in one pass.
+    if setting.bits() <= 16 {
+        return (10, 14);
+    }
+    (2, 25)
 }
 
 /// Returns the first eight numbers behind zeros for those that are omitted, one or none.
@@ -222,13 +233,12 @@ pub fn restore_wide_ahead<I: Intake>(
     reader: &BitReader<I>,
     levels: &mut [u32],
 ) -> Option<SpelledBlock>
-    requires wide { 16 < setting.now.bits }
     requires preprocess { setting.now.preprocess ≡ true }
     requires size { length levels.old ≡ setting.now.block }
     requires place { block < setting.now.interval }
     requires before { before < value_count setting.now }
     requires there { 101 ≤ length reader.now.waiting }
-    requires split { (1 ≤ k) × (k ≤ 24) }
+    requires split { (1 ≤ k) × (k ≤ 24) × (k ≤ k_max setting.now) }
     requires id { word (id_len setting.now) (k + 1) ≡ take (id_len setting.now) reader.now.waiting }
     ensures len { length levels.new ≡ setting.now.block }
     ensures some { IfSome result (λ r. BlockAhead reader.now.waiting setting.now block
@@ -236,7 +246,8 @@ pub fn restore_wide_ahead<I: Intake>(
         (r.last ≡ slice_index_or levels.new (setting.now.block - 1) 0)) }
 {
     let _block = setting.block();
-    let head = head_ahead(setting, block, before, ID_LEN, reader);
+    let id = setting.id_len() as usize;
+    let head = head_ahead(setting, block, before, id, reader);
     let size = levels.len();
     if size == 8 {
         return restore_eight_ahead(

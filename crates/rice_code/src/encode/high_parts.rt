@@ -1,20 +1,19 @@
 //! Writing the high parts of residuals as fundamental sequences, of 8 or 16 at once where they fit one put: those of 16 by products
-//! where all are at most 6, and else by bits that are set.
-ghost use Rattle.std.specs.Prelude.{◌≡◌, ◌+◌, ◌-◌, ◌/◌, ◌%◌, ◌^◌, ◌<◌, ◌≤◌, ◌++◌, Bool, List, length, drop, flat_map, map, slice_index, slice_range, sum_by};
+//! where all are at most 6, and else by the places of their ones.
+ghost use Rattle.std.specs.Prelude.{◌≡◌, ◌+◌, ◌-◌, ◌/◌, ◌%◌, ◌^◌, ◌<◌, ◌≤◌, ◌++◌, length, drop, flat_map, map, slice_index, slice_range, sum_by};
 ghost use Rattle.rice_bits.specs.Limits.{step_limit};
 ghost use Rattle.rice_bits.specs.Bits.{fundamental_sequence};
-ghost use Rattle.rice_code.specs.encode.BitBuffer.{HasRoomFor, HasRoomForBits, AddsBits};
-ghost use Rattle.rice_code.specs.encode.GatheredSequences.{Gathers, four_sequences, sequences_from};
+ghost use Rattle.rice_code.specs.encode.BitBuffer.{HasRoomForBits, AddsBits};
+ghost use Rattle.rice_code.specs.encode.GatheredSequences.{four_sequences, sequences_from};
 ghost use Rattle.rice_code.specs.encode.SentParts.{HasRoomForOnes, AddsOnes, HasRoomForSequences, AddsSequences};
 
 use crate::encode::SegmentSink;
 use crate::encode::bit_buffer::BitBuffer;
-use crate::encode::gathered_sequences::{
-    Ones, are_short, begin_ones_with_four, begin_sequences_with_four, digits_with_four_sequences,
-    number_and_len_of_ones, ones_with_four_sequences,
-};
+use crate::encode::gathered_sequences::{begin_sequences_with_four, digits_with_four_sequences};
+use crate::encode::sequences_by_places::joined_by_places;
 use crate::encode::sequences_by_products::{
-    are_at_most_six, joined_sequences_from, len_of_sequences_from, numbers_in_bytes,
+    are_at_most_fourteen, are_at_most_six, joined_sequences_from, len_of_sequences_from,
+    numbers_in_bytes,
 };
 use rice_bits::Meter;
 use rice_samples::Block;
@@ -277,6 +276,11 @@ fn put_sixteen_numbers_with_total(
         fields.add(value, total as u32, sink, meter);
         return;
     }
+    if from == 0 {
+        let value = joined_by_places(small, total as u32);
+        fields.add(value, total as u32, sink, meter);
+        return;
+    }
     put_any_sixteen(numbers, from, fields, sink, meter);
 }
 
@@ -302,6 +306,13 @@ fn put_sixteen_numbers(
         if total <= 56 {
             let value = joined_sequences_from(small, from, total);
             fields.add(value, total, sink, meter);
+            return;
+        }
+    }
+    if from == 0 && are_at_most_fourteen(small) {
+        let total = len_of_sequences_from(small, from);
+        if total <= 56 {
+            fields.add(joined_by_places(small, total), total, sink, meter);
             return;
         }
     }
@@ -331,12 +342,12 @@ fn put_any_sixteen(
     meter.tick(steps.steps());
 }
 
-/// Adds them by bits that are set, all at once where they are short and else by fours, and returns the buffer.
+/// Adds them by fours, and returns the buffer.
 #[inline(never)]
 fn put_any_sixteen_in_a_call(
     numbers: &[u32; 16],
     from: usize,
-    mut fields: BitBuffer,
+    fields: BitBuffer,
     sink: &mut SegmentSink,
     meter: &mut Meter,
 ) -> BitBuffer
@@ -350,8 +361,7 @@ fn put_any_sixteen_in_a_call(
     let b = (numbers[4], numbers[5], numbers[6], numbers[7]);
     let c = (numbers[8], numbers[9], numbers[10], numbers[11]);
     let d = (numbers[12], numbers[13], numbers[14], numbers[15]);
-    put_sixteen_sequences(a, b, c, d, from, &mut fields, sink, meter);
-    fields
+    put_sixteen_by_fours(a, b, c, d, from, fields, sink, meter)
 }
 
 /// Adds the fundamental sequences of eight numbers, from number `from` on: `total` bits.
@@ -386,57 +396,29 @@ fn put_eight_sequences(
     meter.tick(steps.steps());
 }
 
-/// Adds the fundamental sequences of 16 numbers, from number `from` on.
+/// Adds the fundamental sequences of 16 numbers, from number `from` on, and returns the buffer.
 #[inline(always)]
-fn put_sixteen_sequences(
+fn put_sixteen_by_fours(
     a: (u32, u32, u32, u32),
     b: (u32, u32, u32, u32),
     c: (u32, u32, u32, u32),
     d: (u32, u32, u32, u32),
     from: usize,
-    fields: &mut BitBuffer,
+    fields: BitBuffer,
     sink: &mut SegmentSink,
     meter: &mut Meter,
-)
+) -> BitBuffer
     requires from { from ≤ 1 }
     requires room { HasRoomForBits (sequences_from from a.0 a.1 a.2 a.3 ++
         four_sequences b.0 b.1 b.2 b.3 ++ four_sequences c.0 c.1 c.2 c.3 ++
         four_sequences d.0 d.1 d.2 d.3)
-        (length sink.old + length fields.old) (meter.old + length fields.old) }
+        (length sink.old + length fields) (meter.old + length fields) }
     ensures { AddsBits (sequences_from from a.0 a.1 a.2 a.3 ++ four_sequences b.0 b.1 b.2 b.3 ++
         four_sequences c.0 c.1 c.2 c.3 ++ four_sequences d.0 d.1 d.2 d.3)
-        sink.old fields.old sink.new fields.new meter.old meter.new }
+        sink.old fields sink.new result meter.old meter.new }
 {
-    let ones = ones_with_four_sequences(
-        ones_with_four_sequences(
-            ones_with_four_sequences(begin_ones_with_four(a, from), b),
-            c,
-        ),
-        d,
-    );
-    if are_short(ones) {
-        add_ones(ones, fields, sink, meter);
-        return;
-    }
-    let held = std::mem::replace(fields, BitBuffer::new());
-    let mut steps = Meter::new();
-    let held = put_four_from(a, from, held, sink, &mut steps);
-    *fields = put_twelve_sequences(b, c, d, held, sink, &mut steps);
-    meter.tick(steps.steps());
-}
-
-/// Adds the sequences that are gathered.
-#[inline(always)]
-fn add_ones(ones: Ones, fields: &mut BitBuffer, sink: &mut SegmentSink, meter: &mut Meter)
-    requires short { 2 ^ 40 - 56 ≤ ones.left }
-    requires some { ones.left < 2 ^ 40 }
-    requires room { HasRoomFor 0 0 (length sink.old + length fields.old) (meter.old +
-        length fields.old) }
-    ensures { (bits : List Bool) → Gathers ones.word ones.left bits →
-        AddsBits bits sink.old fields.old sink.new fields.new meter.old meter.new }
-{
-    let (value, width) = number_and_len_of_ones(ones);
-    fields.add(value, width, sink, meter);
+    let held = put_four_from(a, from, fields, sink, meter);
+    put_twelve_sequences(b, c, d, held, sink, meter)
 }
 
 /// Adds the fundamental sequences of four numbers, from number `from` on, and returns the buffer. It takes no reference to

@@ -9,13 +9,13 @@ use std::simd::prelude::*;
 /// For each number up to 6, the weight of its fundamental sequence: 2 to the number of its bits. That of 7 would not fit a byte.
 static WEIGHTS: [u8; 16] = [2, 4, 8, 16, 32, 64, 128, 0, 0, 0, 0, 0, 0, 0, 0, 0];
 
-/// Returns the numbers in lanes of a byte, 15 in place of those above, which may not fit a byte.
+/// Returns the numbers in lanes of a byte, 63 in place of those above, which may not fit a byte.
 #[inline(always)]
 pub fn numbers_in_bytes(numbers: u32x16) -> u8x16
     requires { length numbers ≡ 16 }
-    ensures { result ≡ map (λ m. min m 15) numbers }
+    ensures { result ≡ map (λ m. min m 63) numbers }
 {
-    numbers.simd_min(u32x16::splat(15)).cast::<u8>()
+    numbers.simd_min(u32x16::splat(63)).cast::<u8>()
 }
 
 /// Returns whether each number is at most 6.
@@ -27,12 +27,21 @@ pub fn are_at_most_six(numbers: u8x16) -> bool
     numbers.saturating_sub(u8x16::splat(6)).reduce_or() == 0
 }
 
-/// Returns the number of bits of the fundamental sequences of 16 numbers of at most 6 from number `from` on, which is one of the
+/// Returns whether each number is at most 14.
+#[inline(always)]
+pub fn are_at_most_fourteen(numbers: u8x16) -> bool
+    requires { length numbers ≡ 16 }
+    ensures { IsTrue result ↔ All (λ m. m ≤ 14) numbers }
+{
+    numbers.saturating_sub(u8x16::splat(14)).reduce_or() == 0
+}
+
+/// Returns the number of bits of the fundamental sequences of 16 numbers of at most 14 from number `from` on, which is one of the
 /// first two.
 #[inline(always)]
 pub fn len_of_sequences_from(numbers: u8x16, from: usize) -> u32
     requires len { length numbers ≡ 16 }
-    requires small { All (λ m. m ≤ 6) numbers }
+    requires small { All (λ m. m ≤ 14) numbers }
     requires from { from ≤ 1 }
     ensures { result ≡ length (flat_map fundamental_sequence (drop from numbers)) }
 {

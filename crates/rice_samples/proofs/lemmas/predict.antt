@@ -6,7 +6,6 @@ pub mod NearVectors
 pub mod JoinedPartsInLanes
 pub mod LaneRanks
 pub mod ByteRanks
-pub mod SumsOfWays
 pub mod NumbersThatFit16Bits
 pub mod NearEights
 pub mod DistinctPatternsAndResiduals

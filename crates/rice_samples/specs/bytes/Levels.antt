@@ -1,9 +1,10 @@
--- Levels of samples, in bytes or in words.
+-- Levels of samples, in bytes, in halves of words or in words.
 use Rattle.std.specs.Prelude.{ℕ, List}
 use Rattle.rice_samples.specs.declared.bytes.levels.LevelSlice.{LevelSlice}
-use Rattle.rice_samples.specs.declared.bytes.levels.LevelSlice.TheVariants.{Bytes, Words}
+use Rattle.rice_samples.specs.declared.bytes.levels.LevelSlice.TheVariants.{Bytes, Halves, Words}
 
 -- the list of them
 abbrev pub numbers : LevelSlice → List ℕ
 numbers (Bytes levels) = levels.now
+numbers (Halves levels) = levels.now
 numbers (Words levels) = levels.now

@@ -1,6 +1,5 @@
 -- Numbers that are so near to the ones before them that the range reaches as far to both sides.
-use Rattle.std.specs.Prelude.{ℕ, ◌+◌, ◌-◌, ◌/◌, ◌%◌, ◌==◌, min, if◌then◌else◌, List, [], ◌∷◌, ◌++◌, replicate}
-use Rattle.std.specs.Simd.Lanes.{zip2}
+use Rattle.std.specs.Prelude.{ℕ, ◌+◌, ◌-◌, ◌/◌, ◌%◌, ◌==◌, min, if◌then◌else◌, List, [], ◌∷◌}
 
 -- how far it is from a number to the near one with rank d: upwards for an even rank, else downwards, which wraps at `count`
 abbrev pub way : ℕ → ℕ → ℕ
@@ -10,10 +9,6 @@ way count d = if d % 2 == 0 then d / 2 else count - 1 - d / 2
 abbrev pub near_numbers : ℕ → ℕ → List ℕ → List ℕ
 near_numbers count p [] = []
 near_numbers count p (d ∷ ds) = (p + way count d) % count ∷ near_numbers count ((p + way count d) % count) ds
-
--- each number with the one k places before it
-abbrev pub sums_behind : ℕ → ℕ → List ℕ → List ℕ
-sums_behind count k xs = zip2 (λ x y. (x + y) % count) xs (replicate k 0 ++ xs)
 
 -- how far the range up to `greatest` reaches to both sides of x, which wraps at `count` if it does not
 abbrev pub reach : ℕ → ℕ → ℕ → ℕ

@@ -1,39 +1,55 @@
 //! Room for the levels of several samples.
-ghost use Rattle.std.specs.Prelude.{◌≡◌, true, ◌+◌, ◌*◌, ◌<◌, ◌≤◌, All, length, take, drop};
+ghost use Rattle.std.specs.Prelude.{◌≡◌, true, ◌+◌, ◌*◌, ◌<◌, ◌≤◌, All, IfSome, length, take, drop};
 ghost use Rattle.rice_samples.specs.Parameters.{value_count, values_at, width as width_of};
+ghost use Rattle.rice_samples.specs.bytes.LevelRow.{IsRowRead};
 ghost use Rattle.rice_samples.specs.bytes.Spelling.{Reads, IsNoSpelling};
 
 use crate::Setting;
 use crate::bytes::levels::Levels;
-use crate::bytes::reading::{read_legal_levels, read_levels_in_bytes};
+use crate::bytes::reading::{read_legal_levels, read_levels_in_bytes, read_levels_in_halves};
 use std::marker::Model;
 
 /// The number of samples of a row.
 const SAMPLES: usize = 512;
 
-/// Room for the levels of 512 samples: in bytes, where those of at most 8 bits are read by sixteens, or in words.
+/// The number of bytes that keep the stack of callees away from 4 KiB below a segment's residuals. There loads of these would wait for
+/// stores to that stack, since processors compare twelve bits of an address first.
+const APART: usize = 512;
+
+/// Room for the levels of 512 samples: in bytes, where those of at most 8 bits are read by sixteens, in halves of words, where samples
+/// have at most 16 bits, or in words.
 ///
 /// In contracts its value is the list of the levels.
 #[derive(Drop)]
 pub struct LevelRow {
     bytes: [u8; SAMPLES],
+    halves: [u16; SAMPLES],
     words: [u32; SAMPLES],
-    /// Whether the levels are in bytes.
-    in_bytes: bool,
+    held: Held,
+    apart: [u8; APART],
+}
+
+/// In which of them the levels are.
+#[derive(Clone, Copy, Drop)]
+pub(crate) enum Held {
+    Bytes,
+    Halves,
+    Words,
 }
 
 impl Model for LevelRow {
-    ghost use Rattle.std.specs.Prelude.{◌≡◌, ℕ, List, length, if◌then◌else◌};
+    ghost use Rattle.std.specs.Prelude.{◌≡◌, ℕ, List, length};
+    ghost use Rattle.rice_samples.specs.bytes.LevelRow.{held_levels};
 
     ghost Value = { List ℕ };
 
-    ghost view = { λ r. if r.in_bytes then r.bytes else r.words };
+    ghost view = { λ r. held_levels r.held r.bytes r.halves r.words };
 
-    ghost invariant = { λ r. (length r.bytes ≡ 512) × (length r.words ≡ 512) };
+    ghost invariant = { λ r. (length r.bytes ≡ 512) × (length r.halves ≡ 512) × (length r.words ≡ 512) };
 }
 
 /// Returns whether levels are to be read in bytes, in which samples of at most 8 bits have room. Where intervals are not whole sixteens,
-/// what is left behind these goes faster from words.
+/// what is left behind these goes faster from halves of words.
 fn is_read_in_bytes(setting: &Setting) -> bool
     ensures { result ≡ true → setting.now.bits ≤ 8 }
 {
@@ -47,8 +63,10 @@ impl LevelRow {
     {
         LevelRow {
             bytes: [0; SAMPLES],
+            halves: [0; SAMPLES],
             words: [0; SAMPLES],
-            in_bytes: false,
+            held: Held::Words,
+            apart: [0; APART],
         }
     }
 
@@ -69,18 +87,61 @@ impl LevelRow {
             IsNoSpelling setting.now (drop (width_of setting.now * result) bytes.now) }
         ensures none { result ≡ 0 → IsNoSpelling setting.now bytes.now }
     {
-        if is_read_in_bytes(setting) {
-            let count = self.bytes.len().min(bytes.len());
-            if read_levels_in_bytes(setting, &bytes[..count], &mut self.bytes[..count]) {
-                self.in_bytes = true;
-                return count;
-            }
+        if let Some(count) = self.read_narrow(setting, bytes) {
+            return count;
         }
-        // Where the levels were read in bytes, a sample is out of range, which this way finds.
-        self.in_bytes = false;
+        // Where samples have at most 16 bits, one is out of range, which this way finds.
+        self.held = Held::Words;
         let width = setting.width() as usize;
         let count = self.words.len().min(bytes.len() / width);
         read_legal_levels(setting, &bytes[..width * count], &mut self.words[..count])
+    }
+
+    /// Reads the levels into bytes or halves of words, and returns their number. `None` if samples have more than 16 bits, or one of them
+    /// is out of range.
+    fn read_narrow(&mut self, setting: &Setting, bytes: &[u8]) -> Option<usize>
+        requires some { width_of setting.now ≤ length bytes.now }
+        ensures some { IfSome result (λ n. IsRowRead setting.now bytes.now n self.new) }
+        ensures len { length self.new ≡ length self.old }
+    {
+        if is_read_in_bytes(setting) {
+            return self.read_in_bytes(setting, bytes);
+        }
+        if setting.bits() <= 16 {
+            return self.read_in_halves(setting, bytes);
+        }
+        None
+    }
+
+    /// As `read_narrow`, into bytes.
+    fn read_in_bytes(&mut self, setting: &Setting, bytes: &[u8]) -> Option<usize>
+        requires narrow { setting.now.bits ≤ 8 }
+        requires some { width_of setting.now ≤ length bytes.now }
+        ensures some { IfSome result (λ n. IsRowRead setting.now bytes.now n self.new) }
+        ensures len { length self.new ≡ length self.old }
+    {
+        let count = self.bytes.len().min(bytes.len());
+        if !read_levels_in_bytes(setting, &bytes[..count], &mut self.bytes[..count]) {
+            return None;
+        }
+        self.held = Held::Bytes;
+        Some(count)
+    }
+
+    /// As `read_narrow`, into halves of words.
+    fn read_in_halves(&mut self, setting: &Setting, bytes: &[u8]) -> Option<usize>
+        requires narrow { setting.now.bits ≤ 16 }
+        requires some { width_of setting.now ≤ length bytes.now }
+        ensures some { IfSome result (λ n. IsRowRead setting.now bytes.now n self.new) }
+        ensures len { length self.new ≡ length self.old }
+    {
+        let width = setting.width() as usize;
+        let count = self.halves.len().min(bytes.len() / width);
+        if !read_levels_in_halves(setting, &bytes[..width * count], &mut self.halves[..count]) {
+            return None;
+        }
+        self.held = Held::Halves;
+        Some(count)
     }
 
     /// Returns the first `count` levels.
@@ -89,10 +150,10 @@ impl LevelRow {
         requires { count ≤ length self.now }
         ensures { result ≡ take count self.now }
     {
-        if self.in_bytes {
-            Levels::of_bytes(&self.bytes[..count])
-        } else {
-            Levels::of_words(&self.words[..count])
+        match self.held {
+            Held::Bytes => Levels::of_bytes(&self.bytes[..count]),
+            Held::Halves => Levels::of_halves(&self.halves[..count]),
+            Held::Words => Levels::of_words(&self.words[..count]),
         }
     }
 }

@@ -5,7 +5,7 @@ ghost use Rattle.rice_samples.specs.predict.Residuals.{last_number};
 use std::marker::Model;
 use std::simd::prelude::*;
 
-/// The levels of several samples, each in a byte, or each in a word of 32 bits.
+/// The levels of several samples, each in a byte, in half a word of 32 bits or in a whole one.
 ///
 /// In contracts its value is their list.
 #[derive(Drop)]
@@ -18,6 +18,8 @@ pub struct Levels<'a> {
 pub(crate) enum LevelSlice<'a> {
     /// In a byte each.
     Bytes(&'a [u8]),
+    /// In half a word each.
+    Halves(&'a [u16]),
     /// In a word of 32 bits each.
     Words(&'a [u32]),
 }
@@ -42,6 +44,16 @@ impl<'a> Levels<'a> {
         }
     }
 
+    /// Returns these levels, which stand in half a word each.
+    #[inline(always)]
+    pub fn of_halves(levels: &'a [u16]) -> Self
+        ensures { result ≡ levels.now }
+    {
+        Levels {
+            slice: LevelSlice::Halves(levels),
+        }
+    }
+
     /// Returns these levels, which stand in a word each.
     #[inline(always)]
     pub fn of_words(levels: &'a [u32]) -> Self
@@ -59,6 +71,7 @@ impl<'a> Levels<'a> {
     {
         match self.slice {
             LevelSlice::Bytes(bytes) => bytes.len(),
+            LevelSlice::Halves(halves) => halves.len(),
             LevelSlice::Words(words) => words.len(),
         }
     }
@@ -70,6 +83,7 @@ impl<'a> Levels<'a> {
     {
         match self.slice {
             LevelSlice::Bytes(bytes) => bytes.is_empty(),
+            LevelSlice::Halves(halves) => halves.is_empty(),
             LevelSlice::Words(words) => words.is_empty(),
         }
     }
@@ -81,6 +95,10 @@ impl<'a> Levels<'a> {
     {
         match self.slice {
             LevelSlice::Bytes(bytes) => match bytes.first() {
+                Some(level) => *level as u32,
+                None => default,
+            },
+            LevelSlice::Halves(halves) => match halves.first() {
                 Some(level) => *level as u32,
                 None => default,
             },
@@ -101,6 +119,10 @@ impl<'a> Levels<'a> {
                 Some(level) => *level as u32,
                 None => default,
             },
+            LevelSlice::Halves(halves) => match halves.last() {
+                Some(level) => *level as u32,
+                None => default,
+            },
             LevelSlice::Words(words) => match words.last() {
                 Some(level) => *level,
                 None => default,
@@ -116,6 +138,7 @@ impl<'a> Levels<'a> {
     {
         match self.slice {
             LevelSlice::Bytes(bytes) => Levels::of_bytes(bytes.split_at(count).0),
+            LevelSlice::Halves(halves) => Levels::of_halves(halves.split_at(count).0),
             LevelSlice::Words(words) => Levels::of_words(words.split_at(count).0),
         }
     }
@@ -128,6 +151,7 @@ impl<'a> Levels<'a> {
     {
         match self.slice {
             LevelSlice::Bytes(bytes) => Levels::of_bytes(bytes.split_at(count).1),
+            LevelSlice::Halves(halves) => Levels::of_halves(halves.split_at(count).1),
             LevelSlice::Words(words) => Levels::of_words(words.split_at(count).1),
         }
     }
@@ -140,6 +164,7 @@ impl<'a> Levels<'a> {
     {
         match self.slice {
             LevelSlice::Bytes(bytes) => widen_row(bytes, words),
+            LevelSlice::Halves(halves) => widen_halves(halves, words),
             LevelSlice::Words(levels) => copy_words(levels, words),
         }
     }
@@ -195,6 +220,17 @@ fn widen_by_sixteens(bytes: &[u8], words: &mut [u32])
         sixteen_lanes(&bytes[16 * i..16 * i + 16])
             .cast::<u32>()
             .copy_to_slice(&mut words[16 * i..]);
+    }
+}
+
+/// Copies halves of words into a row of as many words.
+#[inline(always)]
+pub(crate) fn widen_halves(halves: &[u16], words: &mut [u32])
+    requires { length words.old ≡ length halves.now }
+    ensures { words.new ≡ halves.now }
+{
+    for i in 0..halves.len() {
+        words[i] = halves[i] as u32;
     }
 }
 

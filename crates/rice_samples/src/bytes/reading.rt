@@ -44,6 +44,76 @@ pub(crate) fn read_levels_in_bytes(setting: &Setting, bytes: &[u8], levels: &mut
     setting.bits() == 8 || are_bytes_in_range(setting, levels)
 }
 
+/// Reads the levels of the values that `width()` bytes each spell, and returns whether they are all of samples.
+pub(crate) fn read_levels_in_halves(setting: &Setting, bytes: &[u8], levels: &mut [u16]) -> bool
+    requires narrow { setting.now.bits ≤ 16 }
+    requires len { length bytes.now ≡ width_of setting.now * length levels.old }
+    ensures len { length levels.new ≡ length levels.old }
+    ensures legal { result ≡ true → All (λ l. l < value_count setting.now) levels.new }
+    ensures all { All (λ l. l < value_count setting.now) levels.new → result ≡ true }
+    ensures spelled { bytes.now ≡ spellings setting.now (values_at setting.now levels.new) }
+{
+    read_halves_of(setting, bytes, levels);
+    setting.bits() == 16 || are_halves_in_range(setting, levels)
+}
+
+/// Reads the levels of the values that `width()` bytes each spell, one or two, of which not all need be samples.
+fn read_halves_of(setting: &Setting, bytes: &[u8], levels: &mut [u16])
+    requires narrow { setting.now.bits ≤ 16 }
+    requires len { length bytes.now ≡ width_of setting.now * length levels.old }
+    ensures len { length levels.new ≡ length levels.old }
+    ensures spelled { bytes.now ≡ spellings setting.now (values_at setting.now levels.new) }
+{
+    // The loop is laid out for each of these: with a known width and order it reads several samples at one stroke.
+    match (setting.width(), setting.msb(), setting.signed()) {
+        (2, false, false) => read_halves_laid_out(setting, 2, false, false, bytes, levels),
+        (2, true, false) => read_halves_laid_out(setting, 2, true, false, bytes, levels),
+        (2, msb, signed) => read_halves_laid_out(setting, 2, msb, signed, bytes, levels),
+        (_, msb, signed) => read_halves_laid_out(setting, 1, msb, signed, bytes, levels),
+    }
+}
+
+/// Reads the levels, as `read_halves_of` does. It is laid out for a width, an order of bytes and a sign that the compiler knows,
+/// which are those of the setting.
+#[inline(always)]
+fn read_halves_laid_out(
+    setting: &Setting,
+    width: usize,
+    msb: bool,
+    signed: bool,
+    bytes: &[u8],
+    levels: &mut [u16],
+)
+    requires narrow { setting.now.bits ≤ 16 }
+    requires width { width ≡ width_of setting.now }
+    requires order { msb ≡ setting.now.msb }
+    requires signed { signed ≡ setting.now.signed }
+    requires len { length bytes.now ≡ width * length levels.old }
+    ensures len { length levels.new ≡ length levels.old }
+    ensures spelled { bytes.now ≡ spellings setting.now (values_at setting.now levels.new) }
+{
+    let _width = setting.width();
+    let offset = offset_with(setting, signed);
+    for i in 0..levels.len() {
+        let word = number_of_bytes(&bytes[width * i..width * i + width], msb);
+        levels[i] = low_digits(word.wrapping_add(offset), 8 * width as u32) as u16;
+    }
+}
+
+/// Returns whether all of these are levels of samples of at most 16 bits.
+fn are_halves_in_range(setting: &Setting, levels: &[u16]) -> bool
+    requires { setting.now.bits ≤ 16 }
+    ensures legal { result ≡ true → All (λ l. l < value_count setting.now) levels.now }
+    ensures all { All (λ l. l < value_count setting.now) levels.now → result ≡ true }
+{
+    let most = (setting.number_of_values() - 1) as u16;
+    let mut all = true;
+    for i in 0..levels.len() {
+        all = all & (levels[i] <= most);
+    }
+    all
+}
+
 /// Returns whether all of these are levels of samples of at most 8 bits.
 fn are_bytes_in_range(setting: &Setting, levels: &[u8]) -> bool
     requires { setting.now.bits ≤ 8 }
@@ -99,9 +169,6 @@ fn read_levels_of(setting: &Setting, bytes: &[u8], levels: &mut [u32])
 {
     // The loop is laid out for each of these: with a known width and order it reads a sample at one stroke.
     match (setting.width(), setting.msb(), setting.signed()) {
-        (2, false, false) => read_levels_laid_out(setting, 2, false, false, bytes, levels),
-        (2, true, false) => read_levels_laid_out(setting, 2, true, false, bytes, levels),
-        (2, msb, signed) => read_levels_laid_out(setting, 2, msb, signed, bytes, levels),
         (3, false, signed) => read_levels_laid_out(setting, 3, false, signed, bytes, levels),
         (width, msb, signed) => read_levels_laid_out(
             setting,

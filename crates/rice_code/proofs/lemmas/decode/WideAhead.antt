@@ -1,4 +1,4 @@
--- A block by a split that waits, of samples of 17 to 32 bits, in eights.
+-- A block by a split that waits, in eights, in lanes of 32 bits.
 use Rattle.std.proofs.Common.{◌≡◌, ℕ, zero, suc, ◌+◌, ◌-◌, ◌*◌, ◌/◌, ◌^◌, ◌<◌, ◌≤◌, Bool, true, List, ◌∷◌, ◌++◌}
 use Rattle.std.proofs.Common.{length, take, drop, take-take, replicate, refl, sym, ◌∙◌, ap, subst, arith, length-append, Option, None, Some}
 use Rattle.std.specs.Prelude.{All, flat_map, IfSome, slice_index_or}
@@ -22,14 +22,6 @@ use Rattle.rice_code.specs.decode.ReadSets.{reference_place}
 use Rattle.rice_code.specs.decode.WideAhead.{EightLevels, LevelsAhead, RestoredAhead}
 use Rattle.rice_code.proofs.lemmas.decode.SplitAhead.{LowWords, split_ahead}
 use Rattle.rice_code.proofs.lemmas.decode.SplitInSixteens.{last-append, lows-row, rows_near, zeros-joined}
-
--- identifiers of samples of more than 16 bits
-pub wide_id : (s : Parameters) → 16 < s.bits → id_len s ≡ 5
-wide_id s wide = grind (arith, nat_tests)
-
--- and their splits by up to 24 digits are lawful
-pub wide_splits : (s : Parameters) (k : ℕ) → 16 < s.bits → k ≤ 24 → k ≤ k_max s
-wide_splits s k wide few = let all : 2 ^ id_len s ≡ 32 = ap (λ n. 2 ^ n) (wide_id s wide) in omega (arith, all, few)
 
 -- the first of numbers behind those that are omitted
 pub eight-behind : (o : ℕ) (numbers row : List ℕ) → o ≤ 1 → 8 ≤ length numbers → row ≡ take 8 (replicate o 0 ++ numbers)

@@ -5,8 +5,13 @@ use Rattle.std.proofs.lemmas.Nat.{pow-add, pow_pos, or_shifted, one_shl, div-mul
 use Rattle.std.proofs.Math.Nat.{pow-le-pow_right}
 use Rattle.rice_bits.specs.Bits.{word, number_of, fundamental_sequence}
 use Rattle.rice_bits.proofs.lemmas.bits.WordsAndNumbers.{word-cat, word-fs, word-number_of, number_of-word, number_of-lt, join_below, length-fundamental_sequence}
-use Rattle.rice_code.specs.encode.GatheredSequences.{HasFront, Gathers, HasDigits}
+use Rattle.rice_code.specs.encode.GatheredSequences.{HasFront, HasDigits}
 use Rattle.rice_code.proofs.lemmas.encode.JoinedWords.{one_fits}
+
+-- the word begins with these bits, if there are at most 64, and has zeros after them. What is left counts down from 2^40 by their number, however many they are.
+pub record Gathers (word left : ℕ) (bits : List Bool) : Type 0 where
+  pub count : left + length bits ≡ 2 ^ 40
+  pub front : length bits ≤ 64 → word ≡ number_of bits * 2 ^ (64 - length bits)
 
 -- the number that is spelled with one sequence more
 number_more : (bits : List Bool) (m : ℕ) → number_of (bits ++ fundamental_sequence m) ≡ number_of bits * 2 ^ (m + 1) + 1

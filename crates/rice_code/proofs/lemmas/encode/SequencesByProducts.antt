@@ -273,39 +273,39 @@ each_of P xs h = Each1-from_get_or P xs 0 (λ i lt. h i 0 lt)
 pub all_of : (P : ℕ → Type 0) (xs : List ℕ) → Each1 P xs → All P xs
 all_of P xs h = λ i d lt. Each1-get_or P xs i d lt h
 
--- the least of each number and 15
+-- the least of each number and 63
 pub least_of_each : (xs : List ℕ) (n : ℕ) → length xs ≡ n
-    → sel_l (map (top (hbits w32)) (zip2 (λ a b. cond (nat_lt a b) (2 ^ 32 - 1) 0) xs (replicate n 15))) xs (replicate n 15) ≡ map (λ m. min m 15) xs
+    → sel_l (map (top (hbits w32)) (zip2 (λ a b. cond (nat_lt a b) (2 ^ 32 - 1) 0) xs (replicate n 63))) xs (replicate n 63) ≡ map (λ m. min m 63) xs
 least_of_each xs n len =
-    let ys = replicate n 15 in
-    ap (λ ms. sel_l ms xs ys) (tops_compared w32 nat_lt xs ys) ∙ (select_min xs ys ∙ zip2_splat min xs n 15 len)
+    let ys = replicate n 63 in
+    ap (λ ms. sel_l ms xs ys) (tops_compared w32 nat_lt xs ys) ∙ (select_min xs ys ∙ zip2_splat min xs n 63 len)
 
 -- which fits a byte
-pub least_fit : (xs : List ℕ) → Each1 (Fits w8) (map (λ m. min m 15) xs)
+pub least_fit : (xs : List ℕ) → Each1 (Fits w8) (map (λ m. min m 63) xs)
 least_fit [] = tt
 least_fit (x ∷ xs) = (record { fits = omega arith }, least_fit xs)
 
--- where nothing exceeds 6, all numbers are at most 6
-pub none_above_six : (ms over : List ℕ) → over ≡ zip2 (λ d b. d - b) ms (replicate 16 6) → length ms ≡ 16 → (fold_l bit_or 0 over == 0) ≡ true → Each1 (λ m. m ≤ 6) ms
-none_above_six ms over are len test =
+-- where nothing exceeds `most`, all numbers are at most that
+pub none_above : (most : ℕ) (ms over : List ℕ) → over ≡ zip2 (λ d b. d - b) ms (replicate 16 most) → length ms ≡ 16 → (fold_l bit_or 0 over == 0) ≡ true → Each1 (λ m. m ≤ most) ms
+none_above most ms over are len test =
     let none : fold_l bit_or 0 over ≡ 0 = grind (arith, nat_tests) in
     each 16 ms len (subst (Each1 (λ x. x ≤ 0)) are (subst (λ (m : ℕ). Each1 (λ x. x ≤ m) over) none (lanes_below_digits over)))
   where
-    each : (n : ℕ) (ms : List ℕ) → length ms ≡ n → Each1 (λ x. x ≤ 0) (zip2 (λ d b. d - b) ms (replicate n 6)) → Each1 (λ m. m ≤ 6) ms
+    each : (n : ℕ) (ms : List ℕ) → length ms ≡ n → Each1 (λ x. x ≤ 0) (zip2 (λ d b. d - b) ms (replicate n most)) → Each1 (λ m. m ≤ most) ms
     each n [] e h = tt
     each zero (m ∷ ms) e h = absurd (omega arith)
     each (suc n) (m ∷ ms) e h = (omega (arith, h.0), each n ms (omega arith) h.1)
 
 -- and where they are, nothing does
-pub none_found_above_six : (ms over : List ℕ) → over ≡ zip2 (λ d b. d - b) ms (replicate 16 6) → Each1 (λ m. m ≤ 6) ms → (fold_l bit_or 0 over == 0) ≡ true
-none_found_above_six ms over are h = eq-eqb _ _ (no_digits over (ap (list_all (λ d. d == 0)) are ∙ each 16 ms h))
+pub none_found_above : (most : ℕ) (ms over : List ℕ) → over ≡ zip2 (λ d b. d - b) ms (replicate 16 most) → Each1 (λ m. m ≤ most) ms → (fold_l bit_or 0 over == 0) ≡ true
+none_found_above most ms over are h = eq-eqb _ _ (no_digits over (ap (list_all (λ d. d == 0)) are ∙ each 16 ms h))
   where
-    each : (n : ℕ) (ms : List ℕ) → Each1 (λ m. m ≤ 6) ms → list_all (λ d. d == 0) (zip2 (λ d b. d - b) ms (replicate n 6)) ≡ true
+    each : (n : ℕ) (ms : List ℕ) → Each1 (λ m. m ≤ most) ms → list_all (λ d. d == 0) (zip2 (λ d b. d - b) ms (replicate n most)) ≡ true
     each n [] h = refl
     each zero (m ∷ ms) h = refl
     each (suc n) (m ∷ ms) h =
-        let none : m - 6 ≡ 0 = omega (arith, h.0) in
-        ap (λ d. (d == 0) && list_all (λ d. d == 0) (zip2 (λ d b. d - b) ms (replicate n 6))) none ∙ each n ms h.1
+        let none : m - most ≡ 0 = omega (arith, h.0) in
+        ap (λ d. (d == 0) && list_all (λ d. d == 0) (zip2 (λ d b. d - b) ms (replicate n most))) none ∙ each n ms h.1
 
 -- what the last product makes fits 64 bits
 pub row_fits : (bits : List Bool) (v : ℕ) → length bits ≤ 63 → v ≡ number_of bits → v < 2 ^ 63
@@ -352,8 +352,8 @@ all_but_first_of_row (m ∷ ms) {v} {from} {total} one sixteen len few e =
     let mask : 1 * 2 ^ total % 2 ^ 64 ≡ 2 ^ length bits = one_shl total 64 (omega (arith, few)) ∙ ap (λ n. 2 ^ n) len in
     digits_spelled bits (sym len) ((λ i. same i % mask i) ∙ mod-mul-add 1 (2 ^ length bits) (number_of bits) (number_of-lt bits))
 
--- numbers of at most 6 are summed in a byte, and tell how long their sequences are
-summed : (a : ℕ) (ms : List ℕ) → Each1 (λ m. m ≤ 6) ms → a + 6 * length ms < 256 → fold_l (λ x y. (x + y) % 256) a ms + length ms ≡ a + length (flat_map fundamental_sequence ms)
+-- numbers of at most 14 are summed in a byte, and tell how long their sequences are
+summed : (a : ℕ) (ms : List ℕ) → Each1 (λ m. m ≤ 14) ms → a + 14 * length ms < 256 → fold_l (λ x y. (x + y) % 256) a ms + length ms ≡ a + length (flat_map fundamental_sequence ms)
 summed a [] h few = omega arith
 summed a (m ∷ ms) h few =
     let rest = flat_map fundamental_sequence ms in
@@ -363,7 +363,7 @@ summed a (m ∷ ms) h few =
     ap (λ x. fold_l (λ x y. (x + y) % 256) x ms + suc (length ms)) here ∙ omega (arith, more, len)
 
 -- 16 and the sum of the lanes is how many bits sixteen sequences have
-pub len_of_row : (ms : List ℕ) → length ms ≡ 16 → Each1 (λ m. m ≤ 6) ms → fold_l (λ x y. (x + y) % 256) 0 ms + 16 ≡ length (flat_map fundamental_sequence ms)
+pub len_of_row : (ms : List ℕ) → length ms ≡ 16 → Each1 (λ m. m ≤ 14) ms → fold_l (λ x y. (x + y) % 256) 0 ms + 16 ≡ length (flat_map fundamental_sequence ms)
 len_of_row ms len h = let all = summed 0 ms h (omega (arith, len)) in omega (arith, all, len)
 
 -- and those without the first

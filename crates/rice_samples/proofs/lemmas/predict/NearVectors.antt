@@ -15,10 +15,11 @@ use Rattle.std.proofs.lemmas.Simd.{tops_compared, Each1-get_or, pick_l-range_wit
 use Rattle.std.proofs.Math.Nat.{mod-eq_of_lt, add-mod_right}
 use Rattle.std.proofs.Math.Seq.{take-append-add}
 use Rattle.rice_samples.specs.predict.Residuals.{ranks_below}
+use Rattle.rice_bits.specs.lanes.RunningSums.{running_sums}
 use Rattle.rice_bits.specs.read.JoinedParts.{joined_parts}
 use Rattle.rice_samples.specs.Parameters.{Parameters, value_count}
 use Rattle.rice_samples.specs.predict.LevelsOfParts.{AreLevelsOfParts}
-use Rattle.rice_samples.specs.predict.NearNumbers.{way, near_numbers, sums_behind, reach, bound}
+use Rattle.rice_samples.specs.predict.NearNumbers.{way, near_numbers, reach, bound}
 use Rattle.rice_samples.proofs.lemmas.blocks.EightsInLanes.{lanes_below_digits, length-map, parts_below}
 use Rattle.rice_samples.proofs.lemmas.predict.NearEights.{select_max, select_min, length-near_numbers, near_ranks, way_lane}
 
@@ -33,22 +34,10 @@ vector_of_ways w (suc n) (d ∷ ds) e fits =
     let rest = vector_of_ways w n ds (omega arith) fits.1 in
     λ j. way_lane (bits w) d fits.0.fits j ∷ rest j
 
--- sums
-
-zip2-take : (f : ℕ → ℕ → ℕ) (n : ℕ) (xs ys : List ℕ) → length xs ≤ n → zip2 f xs (take n ys) ≡ zip2 f xs ys
-zip2-take f n [] ys h = refl
-zip2-take f zero (x ∷ xs) ys h = absurd (omega (arith, h))
-zip2-take f (suc n) (x ∷ xs) [] h = refl
-zip2-take f (suc n) (x ∷ xs) (y ∷ ys) h = ap (λ z. f x y ∷ z) (zip2-take f n xs ys (omega (arith, h)))
-
--- each number with the one k places before it, where the lanes of a vector are moved k places on
-pub sums_are_behind : (m n k : ℕ) (xs : List ℕ) → length xs ≡ k + n → zip2 (λ x y. (x + y) % m) xs (replicate k 0 ++ pick_l 0 xs (range_with_len 0 n)) ≡ sums_behind m k xs
-sums_are_behind m n k xs e =
-    let front : List ℕ = replicate k 0 in
-    let len : length front + n ≡ length xs = omega (arith, e, length-replicate {A = ℕ} k 0) in
-    let moved : front ++ pick_l 0 xs (range_with_len 0 n) ≡ take (length xs) (front ++ xs) =
-    ap (λ z. front ++ z) (pick_l-range_with_len 0 xs 0 n (omega (arith, e))) ∙ (sym (take-append-add front xs n) ∙ ap (λ c. take c (front ++ xs)) len) in
-    ap (λ z. zip2 (λ x y. (x + y) % m) xs z) moved ∙ zip2-take (λ x y. (x + y) % m) (length xs) xs (front ++ xs) (omega arith)
+-- near numbers are running sums of ways
+pub sums_of_ways : (m p : ℕ) (ds : List ℕ) → running_sums m p (map (way m) ds) ≡ near_numbers m p ds
+sums_of_ways m p [] = refl
+sums_of_ways m p (d ∷ ds) = ap (λ xs. (p + way m d) % m ∷ xs) (sums_of_ways m ((p + way m d) % m) ds)
 
 -- a number before all, and all but the last
 pub before_are : (p n : ℕ) (xs : List ℕ) → length xs ≡ suc n → p ∷ pick_l 0 xs (range_with_len 0 n) ≡ take (suc n) (p ∷ xs)

@@ -4,7 +4,7 @@ ghost use Rattle.rice_samples.specs.Parameters.{value_at, value_count, values_at
 ghost use Rattle.rice_samples.specs.predict.Residuals.{pattern as pattern_of, ranks_below};
 
 use crate::Setting;
-use crate::bytes::levels::{LevelSlice, Levels, widen};
+use crate::bytes::levels::{LevelSlice, Levels, widen, widen_halves};
 use crate::predict::preprocessor::rank_of;
 use crate::predict::residuals::byte_ranks::write_ranks_by_sixteens;
 use crate::predict::residuals::rank_lanes::write_ranks_by_eights;
@@ -22,8 +22,8 @@ pub(crate) fn write_residuals(setting: &Setting, p: u32, levels: &Levels<'_>, re
         LevelSlice::Bytes(bytes) if setting.bits() <= 8 => {
             write_residuals_by_sixteens(setting, p, bytes, residuals)
         }
-        LevelSlice::Words(words) if setting.bits() <= 16 => {
-            write_residuals_by_eights(setting, p, words, residuals)
+        LevelSlice::Halves(halves) if setting.bits() <= 16 => {
+            write_residuals_by_eights(setting, p, halves, residuals)
         }
         _ => {
             levels.copy_to_words(residuals);
@@ -32,7 +32,7 @@ pub(crate) fn write_residuals(setting: &Setting, p: u32, levels: &Levels<'_>, re
     }
 }
 
-/// Writes the residuals of samples of at most 8 bits, sixteen at a time, and of the last ones eight or one at a time.
+/// Writes the residuals of samples of at most 8 bits, sixteen at a time, and of the last ones one at a time.
 ///
 /// It is a call, to which the levels are passed in registers.
 #[inline(never)]
@@ -51,27 +51,23 @@ fn write_residuals_by_sixteens(setting: &Setting, p: u32, levels: &[u8], residua
     }
 }
 
-/// Writes the residuals of fewer than sixteen samples of at most 8 bits.
+/// Writes the residuals of samples of at most 8 bits one at a time.
 ///
 /// It is never inlined, so that what calls it only at the end of a row saves no registers for it.
 #[inline(never)]
 fn write_last_residuals(setting: &Setting, p: u32, levels: &[u8], residuals: &mut [u32])
-    requires few { length levels.now < 16 }
-    requires narrow { setting.now.bits ≤ 8 }
     requires before { p < value_count setting.now }
     requires legal { All (λ l. l < value_count setting.now) levels.now }
     requires len { length residuals.old ≡ length levels.now }
     ensures { residuals.new ≡ ranks_below (value_count setting.now) p levels.now }
 {
-    let mut words = [0u32; 15];
-    let words = &mut words[..levels.len()];
-    widen(levels, words);
-    write_residuals_by_eights(setting, p, words, residuals);
+    widen(levels, residuals);
+    replace_by_residuals(setting, p, residuals);
 }
 
 /// Writes the residuals of samples of at most 16 bits, eight at a time, and of the last ones one at a time. It is a call too.
 #[inline(never)]
-fn write_residuals_by_eights(setting: &Setting, p: u32, levels: &[u32], residuals: &mut [u32])
+fn write_residuals_by_eights(setting: &Setting, p: u32, levels: &[u16], residuals: &mut [u32])
     requires narrow { setting.now.bits ≤ 16 }
     requires before { p < value_count setting.now }
     requires legal { All (λ l. l < value_count setting.now) levels.now }
@@ -81,9 +77,9 @@ fn write_residuals_by_eights(setting: &Setting, p: u32, levels: &[u32], residual
     write_ranks_by_eights(setting, p, levels, residuals);
     let end = 8 * (levels.len() / 8);
     if end < levels.len() {
-        let last = Levels::of_words(&levels[..end]).last_or(p);
+        let last = Levels::of_halves(&levels[..end]).last_or(p);
         let rest = &mut residuals[end..];
-        rest.copy_from_slice(&levels[end..]);
+        widen_halves(&levels[end..], rest);
         replace_by_residuals(setting, last, rest);
     }
 }

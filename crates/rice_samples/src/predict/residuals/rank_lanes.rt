@@ -1,5 +1,5 @@
 //! Residuals of samples of at most 16 bits, eight at a time.
-ghost use Rattle.std.specs.Prelude.{◌≡◌, ◌+◌, ◌-◌, ◌*◌, ◌/◌, ◌^◌, ◌<◌, ◌≤◌, ◌∷◌, All, get_or, min, length, take};
+ghost use Rattle.std.specs.Prelude.{◌≡◌, ◌+◌, ◌-◌, ◌*◌, ◌/◌, ◌<◌, ◌≤◌, ◌∷◌, All, get_or, min, length, take};
 ghost use Rattle.std.specs.Simd.Lanes.{zip2, Each1};
 ghost use Rattle.rice_samples.specs.Parameters.{value_count};
 ghost use Rattle.rice_samples.specs.predict.Residuals.{rank_below, ranks_below};
@@ -12,7 +12,7 @@ use std::simd::prelude::*;
 pub(crate) fn write_ranks_by_eights(
     setting: &Setting,
     p: u32,
-    levels: &[u32],
+    levels: &[u16],
     residuals: &mut [u32],
 )
     requires narrow { setting.now.bits ≤ 16 }
@@ -26,7 +26,7 @@ pub(crate) fn write_ranks_by_eights(
     let greatest = (setting.number_of_values() - 1) as u16;
     let mut before = u16x8::splat(p as u16);
     for i in 0..levels.len() / 8 {
-        let eight = eight_narrowed(&levels[8 * i..8 * i + 8]);
+        let eight = eight_lanes(&levels[8 * i..8 * i + 8]);
         eight_ranks(greatest, numbers_before_each(before, eight), eight)
             .cast::<u32>()
             .copy_to_slice(&mut residuals[8 * i..]);
@@ -34,14 +34,13 @@ pub(crate) fn write_ranks_by_eights(
     }
 }
 
-/// Returns eight numbers below 2^16 in narrow lanes.
+/// Returns eight numbers in lanes.
 #[inline(always)]
-fn eight_narrowed(numbers: &[u32]) -> u16x8
-    requires narrow { All (λ x. x < 2 ^ 16) numbers.now }
-    requires eight { length numbers.now ≡ 8 }
+fn eight_lanes(numbers: &[u16]) -> u16x8
+    requires { length numbers.now ≡ 8 }
     ensures { result ≡ numbers.now }
 {
-    u32x8::from_slice(numbers).cast::<u16>()
+    u16x8::from_slice(numbers)
 }
 
 /// Returns the last of the numbers `before`, and all but the last of `numbers`.

@@ -5,9 +5,10 @@ ghost use Rattle.rice_samples.specs.Parameters.{value_count, values_at};
 ghost use Rattle.rice_samples.specs.bytes.Spelling.{spellings};
 ghost use Rattle.rice_samples.specs.predict.Residuals.{ranks_below};
 ghost use Rattle.rice_samples.specs.predict.LevelsOfParts.{AreLevelsOfParts};
-ghost use Rattle.rice_samples.specs.predict.NearNumbers.{near_numbers as near_numbers_of, way, bound, sums_behind};
+ghost use Rattle.rice_samples.specs.predict.NearNumbers.{near_numbers as near_numbers_of, way, bound};
 
 use crate::Setting;
+use rice_bits::running_sums;
 use std::simd::prelude::*;
 
 /// The levels of sixteen samples of at most 8 bits.
@@ -89,8 +90,7 @@ fn near_numbers(p: u8, ranks: u8x16) -> u8x16
     requires { length ranks ≡ 16 }
     ensures { result ≡ near_numbers_of (2 ^ 8) p ranks }
 {
-    plus_eight_before(plus_four_before(plus_two_before(plus_one_before(near_ways(ranks)))))
-        + u8x16::splat(p)
+    running_sums(p, near_ways(ranks))
 }
 
 /// Returns the way to each number, if it is near. The ways wrap, as their sums do.
@@ -101,64 +101,6 @@ pub(crate) fn near_ways(ranks: u8x16) -> u8x16
 {
     let one = u8x16::splat(1);
     (ranks >> one) ^ (u8x16::splat(0) - (ranks & one))
-}
-
-/// Returns the sum of each number and the one before it.
-#[inline(always)]
-fn plus_one_before(numbers: u8x16) -> u8x16
-    requires { length numbers ≡ 16 }
-    ensures { result ≡ sums_behind (2 ^ 8) 1 numbers }
-{
-    let behind = u8x16::splat(0).shuffle(
-        numbers,
-        [
-            15, 16, 17, 18, 19, 20, 21, 22, 23, 24, 25, 26, 27, 28, 29, 30,
-        ],
-    );
-    numbers + behind
-}
-
-/// Returns the sum of each number and the one two places before it.
-#[inline(always)]
-fn plus_two_before(numbers: u8x16) -> u8x16
-    requires { length numbers ≡ 16 }
-    ensures { result ≡ sums_behind (2 ^ 8) 2 numbers }
-{
-    let behind = u8x16::splat(0).shuffle(
-        numbers,
-        [
-            14, 15, 16, 17, 18, 19, 20, 21, 22, 23, 24, 25, 26, 27, 28, 29,
-        ],
-    );
-    numbers + behind
-}
-
-/// Returns the sum of each number and the one four places before it.
-#[inline(always)]
-fn plus_four_before(numbers: u8x16) -> u8x16
-    requires { length numbers ≡ 16 }
-    ensures { result ≡ sums_behind (2 ^ 8) 4 numbers }
-{
-    let behind = u8x16::splat(0).shuffle(
-        numbers,
-        [
-            12, 13, 14, 15, 16, 17, 18, 19, 20, 21, 22, 23, 24, 25, 26, 27,
-        ],
-    );
-    numbers + behind
-}
-
-/// Returns the sum of each number and the one eight places before it.
-#[inline(always)]
-fn plus_eight_before(numbers: u8x16) -> u8x16
-    requires { length numbers ≡ 16 }
-    ensures { result ≡ sums_behind (2 ^ 8) 8 numbers }
-{
-    let behind = u8x16::splat(0).shuffle(
-        numbers,
-        [8, 9, 10, 11, 12, 13, 14, 15, 16, 17, 18, 19, 20, 21, 22, 23],
-    );
-    numbers + behind
 }
 
 /// Returns by how much each rank is above those that are near. Where none is, the numbers have these ranks.

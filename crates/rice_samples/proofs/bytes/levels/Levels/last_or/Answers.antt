@@ -11,5 +11,10 @@ returns-in-Some c =
 
 pub returns-in-Some-last : goal.returns-in-Some-last
 returns-in-Some-last c =
-    last_number_got c.args.default c.in-Some-last.level.now c.in-Words.words.now (sym c.in-Some-last.ensures.value)
+    last_number_got c.args.default c.in-Some-last.level.now c.in-Halves.halves.now (sym c.in-Some-last.ensures.value)
+    ∙ ap (last_number c.args.default) (ap numbers (sym c.in-Halves.is) ∙ c.self.view_is)
+
+pub returns-in-Some-last-2 : goal.returns-in-Some-last-2
+returns-in-Some-last-2 c =
+    last_number_got c.args.default c.in-Some-last-2.level.now c.in-Words.words.now (sym c.in-Some-last-2.ensures.value)
     ∙ ap (last_number c.args.default) (ap numbers (sym c.in-Words.is) ∙ c.self.view_is)

@@ -2,7 +2,6 @@ use Rattle.std.proofs.Common.{arith, ◌≡◌, ◌+◌, ◌-◌, ◌*◌, ◌^�
 use Rattle.std.specs.Prelude.{slice_range}
 use Rattle.std.specs.Simd.Lanes.{zip2, Each1}
 use Rattle.std.proofs.lemmas.Simd.{take_more_put_chunk, length-put_chunk}
-use Rattle.std.proofs.Math.Nat.{pow-le-pow_right}
 use Rattle.rice_samples.specs.Parameters.{value_count}
 use Rattle.rice_samples.specs.predict.Residuals.{rank_below, ranks_below, last_number}
 use Rattle.rice_samples.proofs.lemmas.blocks.EightsInLanes.{map_same}
@@ -12,21 +11,13 @@ use Rattle.rice_samples.proofs.lemmas.predict.RankedLevels.{legal_row}
 use Rattle.rice_samples.proofs.lemmas.predict.RestoredLevels.{ranks_below-append}
 use Rattle.rice_samples.proofs.predict.residuals.rank_lanes.write_ranks_by_eights.Goals as goal
 
-pub eight_narrowed-eight-requires-clause-narrow : goal.eight_narrowed-eight-requires-clause-narrow
-eight_narrowed-eight-requires-clause-narrow c =
-    let s = c.args.setting.now in
-    let i = c.loop-i.i in
-    let fits : value_count s ≤ 2 ^ 16 = pow-le-pow_right {n = 2} (omega arith) {i = s.bits} {j = 16} c.requires.narrow in
-    let legal = legal_row (value_count s) (8 * i) (8 * i + 8) c.args.levels.now c.requires.legal in
-    λ k d lt. let small = legal k d lt in omega arith
-
 pub eight_ranks-requires-clause-before : goal.eight_ranks-requires-clause-before
 eight_ranks-requires-clause-before c =
     let l = c.loop-i in
     let count = value_count c.args.setting.now in
     let row = slice_range c.args.levels.now (8 * l.i) (8 * l.i + 8) in
     let legal = each_of_all (λ x. x < count) row (legal_row count (8 * l.i) (8 * l.i + 8) c.args.levels.now c.requires.legal) in
-    rw (c.numbers_before_each.ensures, c.eight_narrowed-eight.ensures)
+    rw (c.numbers_before_each.ensures, c.eight_lanes-eight.ensures)
     (shifted_below 7 count (c.number_of_values.result - 1) l.before row (omega (arith, c.number_of_values.ensures.value, c.number_of_values.ensures.range.0)) l.invariant.lanes l.invariant.fit legal)
 
 pub eight_ranks-requires-clause-numbers : goal.eight_ranks-requires-clause-numbers
@@ -35,7 +26,7 @@ eight_ranks-requires-clause-numbers c =
     let count = value_count c.args.setting.now in
     let row = slice_range c.args.levels.now (8 * l.i) (8 * l.i + 8) in
     let legal = each_of_all (λ x. x < count) row (legal_row count (8 * l.i) (8 * l.i + 8) c.args.levels.now c.requires.legal) in
-    rw c.eight_narrowed-eight.ensures (each_below count (c.number_of_values.result - 1) row (omega (arith, c.number_of_values.ensures.value, c.number_of_values.ensures.range.0)) legal)
+    rw c.eight_lanes-eight.ensures (each_below count (c.number_of_values.result - 1) row (omega (arith, c.number_of_values.ensures.value, c.number_of_values.ensures.range.0)) legal)
 
 pub loop-i-preserved : goal.loop-i-preserved
 loop-i-preserved c =
@@ -49,7 +40,7 @@ loop-i-preserved c =
     let long = row_long 8 (8 * i) (8 * i + 8) levels refl (omega arith) in
     let more : 8 * (i + 1) ≡ 8 * i + 8 = omega arith in
     let cut = ap (λ k. take k levels) more ∙ next_row 8 (8 * i) (8 * i + 8) levels refl in
-    let read = c.eight_narrowed-eight.ensures in
+    let read = c.eight_lanes-eight.ensures in
     let legal = each_of_all (λ x. x < count) row (legal_row count (8 * i) (8 * i + 8) levels c.requires.legal) in
     let q = last_number p (take (8 * i) levels) in
     let ranked : c.eight_ranks.result ≡ ranks_below count q row =
