@@ -8,7 +8,7 @@ use rice_samples::{
     Block, LevelRow, Levels, SampleFault, SampleReader, Segment, Setting, SettingFault,
     bytes_of as bytes_of_sample, from_pattern, level_of_pattern, levels_of_patterns, pattern,
     pattern_of_level, read_legal_levels, residual, restore, restore_near_first, sample_of,
-    set_unused_bits, write_spellings, write_spellings_laid_out,
+    set_unused_bits, write_spellings, write_spellings_by_eights, write_spellings_laid_out,
 };
 use std::alloc::Global;
 use std::process::Abort;
@@ -762,6 +762,43 @@ fn row_is_written_as_laid_out(setting: &Setting, bytes: &[u8], levels: &[u32]) -
     let (width, msb) = (setting.width() as usize, setting.msb());
     write_spellings_laid_out(setting, width, msb, levels, &mut written[..end]);
     &written[..end] == bytes
+}
+
+/// Returns whether eight samples of four bytes with these levels are spelled by these bytes.
+fn eight_are_written(setting: &Setting, bytes: &[u8; 32], levels: &[u32; 8]) -> bool {
+    let mut written = [0; 40];
+    if setting.width() != 4 || !are_below(setting.number_of_values(), levels) {
+        return false;
+    }
+    write_spellings_by_eights::<4>(setting, levels, &mut written);
+    &written[..32] == bytes.as_slice()
+}
+
+/// Of a sign, level 0 is the least sample: 80000000.
+#[test]
+fn eight_samples_of_four_bytes() -> Result<(), Fail> {
+    let mut cases = Cases::new();
+    let levels = [
+        0,
+        1,
+        0x1234_5678,
+        0x7FFF_FFFF,
+        0x8000_0000,
+        3,
+        4,
+        0xFFFF_FFFF,
+    ];
+    let little = [
+        0, 0, 0, 0x80, 1, 0, 0, 0x80, 0x78, 0x56, 0x34, 0x92, 0xFF, 0xFF, 0xFF, 0xFF, 0, 0, 0, 0,
+        3, 0, 0, 0x80, 4, 0, 0, 0x80, 0xFF, 0xFF, 0xFF, 0x7F,
+    ];
+    let big = [
+        0, 0, 0, 0, 0, 0, 0, 1, 0x12, 0x34, 0x56, 0x78, 0x7F, 0xFF, 0xFF, 0xFF, 0x80, 0, 0, 0, 0,
+        0, 0, 3, 0, 0, 0, 4, 0xFF, 0xFF, 0xFF, 0xFF,
+    ];
+    cases.check(eight_are_written(&of_bits(32, true)?, &little, &levels));
+    cases.check(eight_are_written(&spelled(32, false, true)?, &big, &levels));
+    cases.end()
 }
 
 /// Of 10 bits 1,024 is no sample, and a byte alone is none.

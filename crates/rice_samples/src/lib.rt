@@ -21,7 +21,7 @@ pub use bytes::sample_reader::{MOST_INPUT, SampleReader};
 pub use bytes::spelling::{bytes_of, sample_of};
 pub use bytes::three_bytes::write_threes;
 pub use bytes::unused_bits::set_unused_bits;
-pub use bytes::writing::{write_spellings, write_spellings_laid_out};
+pub use bytes::writing::{write_spellings, write_spellings_by_eights, write_spellings_laid_out};
 pub use predict::preprocessor::{from_pattern, pattern, residual, restore};
 pub use predict::residuals::from_levels::pattern_of_level;
 pub use predict::restoring::byte_lanes::{LevelLanes, near_levels_of_parts, spelled_in_one_byte};

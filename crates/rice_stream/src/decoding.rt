@@ -1,8 +1,8 @@
 //! Decodes a code to its samples.
-ghost use Rattle.std.specs.Prelude.{◌≡◌, ◌⊎◌, ◌+◌, ◌-◌, ◌*◌, ◌^◌, ◌<◌, ◌≤◌, IfErr, IfSome, OnOk, Option, None, Some, length, take, true};
+ghost use Rattle.std.specs.Prelude.{◌≡◌, ◌+◌, ◌-◌, ◌*◌, ◌^◌, ◌<◌, ◌≤◌, IfErr, IfSome, OnOk, Option, None, Some, length, take, true};
 ghost use Rattle.rice_bits.specs.device.OutletRoom.{Appends};
 ghost use Rattle.rice_bits.specs.Limits.{step_limit, most_bits_read};
-ghost use Rattle.rice_code.specs.decode.BlocksInOnePass.{HasLanes};
+ghost use Rattle.rice_code.specs.decode.BlocksInOnePass.{ArePredicted};
 ghost use Rattle.rice_code.specs.decode.BlocksInRow.{GivesBlocks};
 ghost use Rattle.rice_code.specs.decode.RowsOfFields.{AreCounted};
 ghost use Rattle.rice_stream.specs.DevicesInCalls.{Fails};
@@ -101,11 +101,17 @@ pub fn decode<I: Intake, O: Outlet>(
 {
     // Each of these loops is laid out for what is known of its blocks. They are calls, so that only one of them takes room on the
     // stack.
-    if has_lanes::<1>(setting) {
+    if has_passes::<1>(setting) {
         return decode_sizes::<I, O, 1>(setting, asked, intake, outlet);
     }
-    if has_lanes::<2>(setting) {
+    if has_passes::<2>(setting) {
         return decode_sizes::<I, O, 2>(setting, asked, intake, outlet);
+    }
+    if has_passes::<3>(setting) {
+        return decode_laid_out::<I, O, 0, 3>(setting, asked, intake, outlet);
+    }
+    if has_passes::<4>(setting) {
+        return decode_laid_out::<I, O, 0, 4>(setting, asked, intake, outlet);
     }
     if is_plain::<1>(setting) {
         return decode_plain::<I, O, 1>(setting, asked, intake, outlet);
@@ -116,55 +122,15 @@ pub fn decode<I: Intake, O: Outlet>(
     if is_plain::<4>(setting) {
         return decode_plain::<I, O, 4>(setting, asked, intake, outlet);
     }
-    match asked {
-        None => decode_all::<I, O>(setting, intake, outlet),
-        Some(count) => decode_counted::<I, O>(setting, count, intake, outlet),
-    }
-}
-
-/// Decodes blocks of any kind to the end.
-#[inline(never)]
-fn decode_all<I: Intake, O: Outlet>(setting: &Setting, intake: I, outlet: &mut O) -> (Outcome, I)
-    requires reads { I.failed intake + 1 < 2 ^ 64 }
-    requires writes { O.failed outlet.old + 1 < 2 ^ 64 }
-    ensures call { DecodesBetween setting.now None (I.left intake) (I.left result.1)
-        (O.taken outlet.old) (O.taken outlet.new) result.0.report result.0.fault }
-    ensures failures { Fails result.0.fault (I.failed intake) (I.failed result.1)
-        (O.failed outlet.old) (O.failed outlet.new) }
-    ensures bounds { DecodesWithin None result.0.report }
-{
-    decode_blocks::<I, O, 0, 0>(setting, None, intake, outlet)
-}
-
-/// Decodes blocks of any kind up to a count of samples.
-#[inline(never)]
-fn decode_counted<I: Intake, O: Outlet>(
-    setting: &Setting,
-    count: u64,
-    intake: I,
-    outlet: &mut O,
-) -> (Outcome, I)
-    requires reads { I.failed intake + 1 < 2 ^ 64 }
-    requires writes { O.failed outlet.old + 1 < 2 ^ 64 }
-    ensures call { DecodesBetween setting.now (Some count) (I.left intake) (I.left result.1)
-        (O.taken outlet.old) (O.taken outlet.new) result.0.report result.0.fault }
-    ensures failures { Fails result.0.fault (I.failed intake) (I.failed result.1)
-        (O.failed outlet.old) (O.failed outlet.new) }
-    ensures bounds { DecodesWithin (Some count) result.0.report }
-    ensures idle { count ≡ 0 → result.1 ≡ intake }
-{
-    decode_blocks::<I, O, 0, 0>(setting, Some(count), intake, outlet)
+    decode_laid_out::<I, O, 0, 0>(setting, asked, intake, outlet)
 }
 
 /// Returns whether samples have `WIDTH` bytes, and the decoder may give the bytes of a block of them at one stroke. Where they have few
 /// bits, most blocks are in runs or coded in pairs, and it would look in vain.
-pub(crate) fn has_lanes<const WIDTH: usize>(setting: &Setting) -> bool
-    requires widths { (WIDTH ≡ 1) ⊎ (WIDTH ≡ 2) }
-    ensures { result ≡ true → HasLanes setting.now setting.now.block WIDTH }
+pub(crate) fn has_passes<const WIDTH: usize>(setting: &Setting) -> bool
+    ensures { result ≡ true → ArePredicted setting.now WIDTH }
 {
-    let bits = setting.bits() as usize;
-    let wide = 8 * (WIDTH - 1) < bits && bits <= 8 * WIDTH;
-    wide && bits > 4 && setting.preprocess()
+    setting.width() as usize == WIDTH && setting.bits() > 4 && setting.preprocess()
 }
 
 /// Decodes blocks of samples of `WIDTH` bytes that may be decoded at one stroke, by the loop for their size.
@@ -175,7 +141,7 @@ fn decode_sizes<I: Intake, O: Outlet, const WIDTH: usize>(
     intake: I,
     outlet: &mut O,
 ) -> (Outcome, I)
-    requires lanes { HasLanes setting.now setting.now.block WIDTH }
+    requires samples { ArePredicted setting.now WIDTH }
     requires reads { I.failed intake + 1 < 2 ^ 64 }
     requires writes { O.failed outlet.old + 1 < 2 ^ 64 }
     ensures call { DecodesBetween setting.now asked (I.left intake) (I.left result.1)
@@ -186,24 +152,24 @@ fn decode_sizes<I: Intake, O: Outlet, const WIDTH: usize>(
     ensures idle { asked ≡ Some 0 → result.1 ≡ intake }
 {
     match setting.block() {
-        8 => decode_in_lanes::<I, O, 8, WIDTH>(setting, asked, intake, outlet),
-        16 => decode_in_lanes::<I, O, 16, WIDTH>(setting, asked, intake, outlet),
-        32 => decode_in_lanes::<I, O, 32, WIDTH>(setting, asked, intake, outlet),
-        64 => decode_in_lanes::<I, O, 64, WIDTH>(setting, asked, intake, outlet),
-        _ => decode_in_lanes::<I, O, 0, WIDTH>(setting, asked, intake, outlet),
+        8 => decode_laid_out::<I, O, 8, WIDTH>(setting, asked, intake, outlet),
+        16 => decode_laid_out::<I, O, 16, WIDTH>(setting, asked, intake, outlet),
+        32 => decode_laid_out::<I, O, 32, WIDTH>(setting, asked, intake, outlet),
+        64 => decode_laid_out::<I, O, 64, WIDTH>(setting, asked, intake, outlet),
+        _ => decode_laid_out::<I, O, 0, WIDTH>(setting, asked, intake, outlet),
     }
 }
 
-/// Decodes blocks of `SIZE` samples, unless that is 0, of `WIDTH` bytes that may be decoded at one stroke.
+/// Decodes blocks of `SIZE` samples, unless that is 0, of `WIDTH` bytes that may be decoded at one stroke, or of any kind where that is 0.
 #[inline(never)]
-fn decode_in_lanes<I: Intake, O: Outlet, const SIZE: usize, const WIDTH: usize>(
+fn decode_laid_out<I: Intake, O: Outlet, const SIZE: usize, const WIDTH: usize>(
     setting: &Setting,
     asked: Option<u64>,
     intake: I,
     outlet: &mut O,
 ) -> (Outcome, I)
     requires size { 0 < SIZE → SIZE ≡ setting.now.block }
-    requires lanes { HasLanes setting.now setting.now.block WIDTH }
+    requires samples { 0 < WIDTH → ArePredicted setting.now WIDTH }
     requires reads { I.failed intake + 1 < 2 ^ 64 }
     requires writes { O.failed outlet.old + 1 < 2 ^ 64 }
     ensures call { DecodesBetween setting.now asked (I.left intake) (I.left result.1)
@@ -219,11 +185,11 @@ fn decode_in_lanes<I: Intake, O: Outlet, const SIZE: usize, const WIDTH: usize>(
 /// The blocks of a row, at most.
 const MOST: usize = 64;
 
-/// Returns the number of blocks in lanes that a row has room for.
+/// Returns the number of blocks that a row has room for.
 #[inline(always)]
-pub(crate) fn blocks_in_lanes<const SIZE: usize, const WIDTH: usize>(setting: &Setting) -> usize
+pub(crate) fn blocks_in_pass<const SIZE: usize, const WIDTH: usize>(setting: &Setting) -> usize
     requires size { 0 < SIZE → SIZE ≡ setting.now.block }
-    requires lanes { HasLanes setting.now setting.now.block WIDTH }
+    requires samples { ArePredicted setting.now WIDTH }
     ensures few { (1 ≤ result) × (result ≤ 64) }
     ensures room { WIDTH * setting.now.block * result ≤ 480 }
 {
@@ -248,14 +214,14 @@ fn next_bytes_at_one_stroke<I: Intake, const SIZE: usize, const WIDTH: usize>(
 ) -> usize
     requires setting { decoder.old.setting ≡ setting.now }
     requires size { 0 < SIZE → SIZE ≡ setting.now.block }
-    requires lanes { 0 < WIDTH → HasLanes setting.now setting.now.block WIDTH }
+    requires samples { 0 < WIDTH → ArePredicted setting.now WIDTH }
     requires few { (1 ≤ fit) × (fit ≤ 64) }
     requires fit { WIDTH * setting.now.block * fit ≤ 480 }
     requires whole { whole ≡ true → wanted_of asked written setting.now.block ≡ setting.now.block }
     requires stopped { decoder.old.stopped ≡ None }
     requires going { reader.old.refusal ≡ None }
     requires room { meter.old + 2 * (most_bits_read - reader.old.taken) + 64 < step_limit }
-    ensures lanes { 0 < result → 0 < WIDTH }
+    ensures samples { 0 < result → 0 < WIDTH }
     ensures few { result ≤ 64 }
     ensures room { WIDTH * setting.now.block * result ≤ 480 }
     ensures wanted { 0 < result → IfSome asked (λ n. written + setting.now.block * result ≤ n) }
@@ -350,7 +316,7 @@ fn decode_blocks<I: Intake, O: Outlet, const SIZE: usize, const WIDTH: usize>(
     outlet: &mut O,
 ) -> (Outcome, I)
     requires size { 0 < SIZE → SIZE ≡ setting.now.block }
-    requires lanes { 0 < WIDTH → HasLanes setting.now setting.now.block WIDTH }
+    requires samples { 0 < WIDTH → ArePredicted setting.now WIDTH }
     requires reads { I.failed intake + 1 < 2 ^ 64 }
     requires writes { O.failed outlet.old + 1 < 2 ^ 64 }
     ensures call { DecodesBetween setting.now asked (I.left intake) (I.left result.1)
@@ -372,7 +338,7 @@ fn decode_blocks<I: Intake, O: Outlet, const SIZE: usize, const WIDTH: usize>(
     let fit = if WIDTH == 0 {
         1
     } else {
-        blocks_in_lanes::<SIZE, WIDTH>(&own)
+        blocks_in_pass::<SIZE, WIDTH>(&own)
     };
     // Declared here, and not where they are filled, so that they are not cleared for each block.
     let mut bytes = [0; 512];

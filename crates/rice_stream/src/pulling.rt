@@ -5,11 +5,11 @@ ghost use Rattle.rice_bits.specs.Bits.{bits_of};
 ghost use Rattle.rice_bits.specs.read.Reader.{new_reader};
 ghost use Rattle.rice_samples.specs.Parameters.{value_count, values_at, width as width_of};
 ghost use Rattle.rice_code.specs.declared.decode.call_results.CodeFault.TheVariants as faults;
-ghost use Rattle.rice_code.specs.decode.BlocksInOnePass.{HasLanes};
+ghost use Rattle.rice_code.specs.decode.BlocksInOnePass.{ArePredicted};
 ghost use Rattle.rice_code.specs.decode.PlainBlocks.{IsPlain};
 ghost use Rattle.rice_stream.specs.Pulling.{Origin, IsStand, IsSomeStand, DecodesOn, GoesOnAt, HasComeTo, TakesNext, ahead, pause_for, spelled_at};
 
-use crate::decoding::{blocks_in_lanes, has_lanes};
+use crate::decoding::{blocks_in_pass, has_passes};
 use crate::patience::Patience;
 use crate::plain::{blocks_of_row, is_plain};
 use crate::stand::{Pause, Stand};
@@ -40,11 +40,17 @@ pub fn decode_more(
         return (*stand, Pause::TooLong);
     }
     // As `decode`, it has a loop for each shape of blocks.
-    if has_lanes::<1>(setting) {
+    if has_passes::<1>(setting) {
         return decode_piece_of_sizes::<1>(setting, stand, piece, samples);
     }
-    if has_lanes::<2>(setting) {
+    if has_passes::<2>(setting) {
         return decode_piece_of_sizes::<2>(setting, stand, piece, samples);
+    }
+    if has_passes::<3>(setting) {
+        return decode_piece::<0, 3, false>(setting, stand, piece, samples);
+    }
+    if has_passes::<4>(setting) {
+        return decode_piece::<0, 4, false>(setting, stand, piece, samples);
     }
     if is_plain::<1>(setting) {
         return decode_piece::<0, 1, true>(setting, stand, piece, samples);
@@ -67,7 +73,7 @@ fn decode_piece_of_sizes<const WIDTH: usize>(
     piece: &[u8],
     samples: &mut [u8],
 ) -> (Stand, Pause)
-    requires lanes { HasLanes setting.now setting.now.block WIDTH }
+    requires samples { ArePredicted setting.now WIDTH }
     requires fits { stand.now.bits + 8 * length piece.now ≤ most_bits_read }
     requires stand { IsSomeStand setting.now stand.now }
     ensures { DecodesOn setting.now stand.now piece.now samples.old samples.new result.0 result.1 }
@@ -91,7 +97,7 @@ fn decode_piece<const SIZE: usize, const WIDTH: usize, const PLAIN: bool>(
     samples: &mut [u8],
 ) -> (Stand, Pause)
     requires size { 0 < SIZE → SIZE ≡ setting.now.block }
-    requires lanes { PLAIN ≡ false → 0 < WIDTH → HasLanes setting.now setting.now.block WIDTH }
+    requires samples { PLAIN ≡ false → 0 < WIDTH → ArePredicted setting.now WIDTH }
     requires plain { PLAIN ≡ true → IsPlain setting.now WIDTH }
     requires fits { stand.now.bits + 8 * length piece.now ≤ most_bits_read }
     requires stand { IsSomeStand setting.now stand.now }
@@ -109,7 +115,7 @@ fn decode_piece<const SIZE: usize, const WIDTH: usize, const PLAIN: bool>(
     let most = if PLAIN {
         blocks_of_row::<WIDTH>(&own)
     } else if WIDTH > 0 {
-        blocks_in_lanes::<SIZE, WIDTH>(&own)
+        blocks_in_pass::<SIZE, WIDTH>(&own)
     } else {
         1
     };

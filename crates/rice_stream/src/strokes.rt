@@ -2,7 +2,7 @@
 ghost use Rattle.std.specs.Prelude.{◌≡◌, ◌+◌, ◌-◌, ◌*◌, ◌^◌, ◌<◌, ◌≤◌, true, false, ◌++◌, drop, length, replicate, take};
 ghost use Rattle.rice_samples.specs.Parameters.{IsSample, width as width_of};
 ghost use Rattle.rice_samples.specs.bytes.Spelling.{spellings};
-ghost use Rattle.rice_code.specs.decode.BlocksInOnePass.{HasLanes};
+ghost use Rattle.rice_code.specs.decode.BlocksInOnePass.{ArePredicted};
 ghost use Rattle.rice_code.specs.decode.DecoderState.{IsDecoderState};
 ghost use Rattle.rice_code.specs.decode.PlainBlocks.{IsPlain};
 ghost use Rattle.rice_stream.specs.Pulling.{HasComeTo, TakesStroke, WritesStroke, stand_at};
@@ -113,9 +113,9 @@ fn write_next_of_run(
     Stroke { stand, len }
 }
 
-/// Writes the samples of the next blocks at this place, at most `most`, if they can be decoded in lanes. Otherwise nothing has happened.
+/// Writes the samples of the next blocks at this place, at most `most`, if they can be decoded in one pass. Otherwise nothing has happened.
 #[inline(always)]
-fn write_next_in_lanes<const SIZE: usize, const WIDTH: usize>(
+fn write_next_in_pass<const SIZE: usize, const WIDTH: usize>(
     setting: &Setting,
     stand: &Stand,
     most: usize,
@@ -127,7 +127,7 @@ fn write_next_in_lanes<const SIZE: usize, const WIDTH: usize>(
     samples: &mut [u8],
 ) -> Option<Stroke>
     requires size { 0 < SIZE → SIZE ≡ setting.now.block }
-    requires lanes { HasLanes setting.now setting.now.block WIDTH }
+    requires samples { ArePredicted setting.now WIDTH }
     requires some { (1 ≤ most) × (most ≤ 64) }
     requires few { WIDTH * setting.now.block * most ≤ 480 }
     requires come { HasComeTo setting.now stand.now decoder.old reader.old }
@@ -216,7 +216,7 @@ pub(crate) fn next_stroke<const SIZE: usize, const WIDTH: usize, const PLAIN: bo
     samples: &mut [u8],
 ) -> Option<Stroke>
     requires size { 0 < SIZE → SIZE ≡ setting.now.block }
-    requires lanes { PLAIN ≡ false → 0 < WIDTH → HasLanes setting.now setting.now.block WIDTH }
+    requires samples { PLAIN ≡ false → 0 < WIDTH → ArePredicted setting.now WIDTH }
     requires plain { PLAIN ≡ true → IsPlain setting.now WIDTH }
     requires some { PLAIN ≡ false → (1 ≤ most) × (most ≤ 64) }
     requires few { (most ≤ 480) × (WIDTH * setting.now.block * most ≤ 480) }
@@ -237,7 +237,7 @@ pub(crate) fn next_stroke<const SIZE: usize, const WIDTH: usize, const PLAIN: bo
     if WIDTH == 0 || !patience.is_due() {
         return None;
     }
-    let found = write_next_in_lanes::<SIZE, WIDTH>(
+    let found = write_next_in_pass::<SIZE, WIDTH>(
         setting, stand, most, decoder, reader, bytes, ends, at, samples,
     );
     patience.note(found.is_some());

@@ -1,5 +1,5 @@
 ghost use Rattle.std.specs.Prelude.{◌≡◌, ◌+◌, ◌*◌, ◌^◌, ◌<◌, ◌≤◌, true, None};
-ghost use Rattle.rice_code.specs.decode.BlocksInOnePass.{HasLanes};
+ghost use Rattle.rice_code.specs.decode.BlocksInOnePass.{ArePredicted};
 
 use arrayvec::ArrayVec;
 use rice_base_tests::case_table::{Columns, bytes_of, number_of, samples_of, setting_of};
@@ -199,7 +199,7 @@ fn repeated_samples() -> Result<(), Fail> {
 /// Returns whether blocks are of 8 samples that may be given as bytes.
 fn has_eights(setting: &Setting) -> bool
     ensures size { result ≡ true → 8 ≡ setting.now.block }
-    ensures lanes { result ≡ true → HasLanes setting.now setting.now.block 1 }
+    ensures samples { result ≡ true → ArePredicted setting.now 1 }
 {
     setting.bits() <= 8 && setting.preprocess() && setting.block() == 8
 }

@@ -11,6 +11,11 @@ use Rattle.rice_code.specs.decode.Decoder.{Answers, GivesBlock, with_mark}
 use Rattle.rice_code.specs.decode.DecoderState.{DecoderState}
 use Rattle.rice_code.specs.declared.decode.call_results.NextBlock.TheVariants.{Block}
 
+-- Samples of so many bytes that are predicted, of which blocks may be decoded in one pass.
+pub record ArePredicted (s : Parameters) (bytes_of_one : ℕ) : Type 0 where
+  pub preprocess : s.preprocess ≡ true
+  pub width_is : bytes_of_one ≡ width s
+
 -- Samples of `width` bytes that may be decoded in the lanes of vectors: of at most 16 bits.
 pub record HasWidth (s : Parameters) (width : ℕ) : Type 0 where
   pub widths : (width ≡ 1) ⊎ (width ≡ 2)

@@ -6,7 +6,7 @@ ghost use Rattle.rice_samples.specs.Places.{blocks_left};
 ghost use Rattle.rice_bits.specs.Bits.{word};
 ghost use Rattle.rice_code.specs.Limits.{most_samples_of_bit};
 ghost use Rattle.rice_code.specs.code.Forms.{RunIsSound, blocks_in, zero_blocks};
-ghost use Rattle.rice_code.specs.decode.BlocksInOnePass.{HasLanes, lanes_of};
+ghost use Rattle.rice_code.specs.decode.BlocksInOnePass.{ArePredicted, HasLanes, lanes_of};
 ghost use Rattle.rice_code.specs.decode.BlocksInRow.{GivesBlocks, GivesOneBlock};
 ghost use Rattle.rice_code.specs.decode.RowsOfFields.{AreCounted};
 ghost use Rattle.rice_code.specs.decode.PlainBlocks.{GivesRow, IsPlain, PlainRow};
@@ -26,7 +26,7 @@ use crate::decode::wide_ahead::{restore_wide_ahead, wide_split_ahead};
 use crate::known_len::known_or;
 use arrayvec::ArrayVec;
 use rice_bits::{BitFault, BitReader, Intake, Meter};
-use rice_samples::{Setting, has_few_near};
+use rice_samples::{Setting, has_few_near, write_spellings_by_eights};
 use std::marker::Model;
 
 /// The most blocks in a row that are read without a look whether their samples are near to those before them.
@@ -315,11 +315,11 @@ impl Decoder {
         answer
     }
 
-    /// Reads coded data sets and writes the bytes of their blocks, of samples of `WIDTH` bytes, to the front of `bytes`. `SIZE`, if it
-    /// is not 0, is the number of samples of a block. Each has to be coded by a split of at most 5, or of at most 8 where samples have two
-    /// bytes, with short fundamental sequences, or not to be compressed where they have one; and 208 bits, or 148 and eight for each sample,
-    /// have to wait. Returns how many it read, at most `most`, and writes to `ends` how many bits it had taken behind each. If it is 0,
-    /// nothing has happened, and [`next_levels`](Self::next_levels) gives the block.
+    /// Reads coded data sets and writes the bytes of their blocks, of predicted samples of `WIDTH` bytes, to the front of `bytes`. `SIZE`,
+    /// if it is not 0, is the number of samples of a block. Each has to be coded by a split, with short fundamental sequences, or, where
+    /// samples have one byte, not to be compressed, and enough bits have to wait. Where samples have more than two bytes, or the split is above
+    /// 8, all of them have to be near to those before them, too. Returns how many it read, at most `most`, and writes to `ends` how many bits
+    /// it had taken behind each. If it is 0, nothing has happened, and [`next_levels`](Self::next_levels) gives the block.
     #[inline(always)]
     pub fn next_bytes<I: Intake, const SIZE: usize, const WIDTH: usize>(
         &mut self,
@@ -330,7 +330,7 @@ impl Decoder {
         ends: &mut [u32; 64],
     ) -> usize
         requires size { 0 < SIZE → SIZE ≡ self.old.setting.block }
-        requires lanes { HasLanes self.old.setting self.old.setting.block WIDTH }
+        requires samples { ArePredicted self.old.setting WIDTH }
         requires stopped { self.old.stopped ≡ None }
         requires going { reader.old.refusal ≡ None }
         requires room { meter.old + 2 * (most_bits_read - reader.old.taken) + 64 < step_limit }
@@ -353,6 +353,46 @@ impl Decoder {
         if self.run > 0 {
             return 0;
         }
+        if WIDTH > 2 {
+            return self.read_wide_blocks_to_bytes::<I, WIDTH>(most, reader, meter, bytes, ends);
+        }
+        let blocks = self.next_bytes_in_lanes::<I, SIZE, WIDTH>(most, reader, meter, bytes, ends);
+        if blocks > 0 || WIDTH == 1 || wide_split_ahead(&self.setting, reader).is_none() {
+            return blocks;
+        }
+        self.read_wide_blocks_to_bytes::<I, WIDTH>(most, reader, meter, bytes, ends)
+    }
+
+    /// As `next_bytes`, outside a run, of samples of one byte or two, of which the bytes are made in lanes.
+    #[inline(always)]
+    fn next_bytes_in_lanes<I: Intake, const SIZE: usize, const WIDTH: usize>(
+        &mut self,
+        most: usize,
+        reader: &mut BitReader<I>,
+        meter: &mut Meter,
+        bytes: &mut [u8],
+        ends: &mut [u32; 64],
+    ) -> usize
+        requires size { 0 < SIZE → SIZE ≡ self.old.setting.block }
+        requires lanes { HasLanes self.old.setting self.old.setting.block WIDTH }
+        requires stopped { self.old.stopped ≡ None }
+        requires run { self.old.run ≡ 0 }
+        requires going { reader.old.refusal ≡ None }
+        requires room { meter.old + 2 * (most_bits_read - reader.old.taken) + 64 < step_limit }
+        requires few { (1 ≤ most) × (most ≤ 64) }
+        requires bytes { WIDTH * self.old.setting.block * most + 32 ≤ length bytes.old }
+        ensures most { result ≤ most }
+        ensures some { 0 < result →
+            GivesBlocks result reader.old reader.new meter.old meter.new self.old self.new bytes.new
+            ends.new }
+        ensures none { result ≡ 0 → (self.new ≡ self.old) × (reader.new ≡ reader.old) ×
+            (meter.new ≡ meter.old) × (bytes.new ≡ bytes.old) }
+        ensures going { reader.new.refusal ≡ None }
+        ensures stopped { self.new.stopped ≡ None }
+        ensures setting { self.new.setting ≡ self.old.setting }
+        ensures steps { AreCounted meter.old meter.new reader.old.taken reader.new.taken }
+    {
+        let _taken = reader.taken();
         if split_of_block_ahead::<I, WIDTH>(&self.setting, reader).is_some() {
             if has_few_near(self.before) {
                 let few = most.min(MOST_IN_TURN as usize);
@@ -567,6 +607,97 @@ impl Decoder {
         let _answer = self.go_to_next_block(spelled.last, 0, reader, meter);
     }
 
+    /// As `next_bytes`, outside a run, of blocks by a split that are restored in lanes of 32 bits.
+    #[inline(never)]
+    fn read_wide_blocks_to_bytes<I: Intake, const WIDTH: usize>(
+        &mut self,
+        most: usize,
+        reader: &mut BitReader<I>,
+        meter: &mut Meter,
+        bytes: &mut [u8],
+        ends: &mut [u32; 64],
+    ) -> usize
+        requires samples { ArePredicted self.old.setting WIDTH }
+        requires stopped { self.old.stopped ≡ None }
+        requires run { self.old.run ≡ 0 }
+        requires going { reader.old.refusal ≡ None }
+        requires room { meter.old + 2 * (most_bits_read - reader.old.taken) + 64 < step_limit }
+        requires few { most ≤ 64 }
+        requires bytes { WIDTH * self.old.setting.block * most + 32 ≤ length bytes.old }
+        ensures most { result ≤ most }
+        ensures some { 0 < result →
+            GivesBlocks result reader.old reader.new meter.old meter.new self.old self.new bytes.new
+            ends.new }
+        ensures none { result ≡ 0 → (self.new ≡ self.old) × (reader.new ≡ reader.old) ×
+            (meter.new ≡ meter.old) × (bytes.new ≡ bytes.old) }
+        ensures going { reader.new.refusal ≡ None }
+        ensures stopped { self.new.stopped ≡ None }
+        ensures setting { self.new.setting ≡ self.old.setting }
+        ensures steps { AreCounted meter.old meter.new reader.old.taken reader.new.taken }
+    {
+        let _taken = reader.taken();
+        let before = meter.steps();
+        let len = WIDTH * self.setting.block() as usize;
+        let mut levels = [0; 64];
+        for i in 0..most {
+            let k = match wide_split_ahead(&self.setting, reader) {
+                Some(k) => k,
+                None => return i,
+            };
+            let rest = &mut bytes[len * i..];
+            if !self.read_wide_split_to_bytes::<I, WIDTH>(k, reader, meter, &mut levels, rest) {
+                return i;
+            }
+            ends[i] = (meter.steps() - before) as u32;
+        }
+        most
+    }
+
+    /// Reads the block by split `k` that waits outside a run, in lanes of 32 bits, and writes its bytes, if its fundamental sequences are
+    /// short and all samples are near to those before them. Returns whether it did; otherwise nothing has happened, but for the levels,
+    /// which are unspecified.
+    #[inline(always)]
+    fn read_wide_split_to_bytes<I: Intake, const WIDTH: usize>(
+        &mut self,
+        k: u32,
+        reader: &mut BitReader<I>,
+        meter: &mut Meter,
+        levels: &mut [u32; 64],
+        bytes: &mut [u8],
+    ) -> bool
+        requires samples { ArePredicted self.old.setting WIDTH }
+        requires split { (1 ≤ k) × (k ≤ 24) × (k ≤ k_max self.old.setting) }
+        requires there { 101 ≤ length reader.old.waiting }
+        requires id { word (id_len self.old.setting) (k + 1)
+            ≡ take (id_len self.old.setting) reader.old.waiting }
+        requires stopped { self.old.stopped ≡ None }
+        requires run { self.old.run ≡ 0 }
+        requires going { reader.old.refusal ≡ None }
+        requires room { meter.old + 2 * (most_bits_read - reader.old.taken) + 64 < step_limit }
+        requires bytes { WIDTH * self.old.setting.block + 8 ≤ length bytes.old }
+        ensures some { result ≡ true →
+            GivesOneBlock reader.old reader.new meter.old meter.new self.old self.new bytes.new }
+        ensures none { result ≡ false → (self.new ≡ self.old) × (reader.new ≡ reader.old) ×
+            (meter.new ≡ meter.old) × (bytes.new ≡ bytes.old) }
+        ensures going { reader.new.refusal ≡ None }
+        ensures stopped { self.new.stopped ≡ None }
+        ensures setting { self.new.setting ≡ self.old.setting }
+        ensures steps { AreCounted meter.old meter.new reader.old.taken reader.new.taken }
+    {
+        let _taken = reader.taken();
+        // A copy stays in registers.
+        let setting = self.setting;
+        let own = &mut levels[..setting.block() as usize];
+        let restored = match restore_wide_ahead(&setting, self.block, self.before, k, reader, own) {
+            Some(restored) => restored,
+            None => return false,
+        };
+        write_spellings_by_eights::<WIDTH>(&setting, own, bytes);
+        take_ahead(reader, restored.len, meter);
+        let _answer = self.go_to_next_block(restored.last, 0, reader, meter);
+        true
+    }
+
     /// Returns how many of the next coded data sets, at most `most`, are blocks without compression and wait one behind another, where
     /// samples are not predicted and use all bits of `WIDTH` bytes. Writes the bytes of these blocks. It takes nothing:
     /// [`pass_plain_blocks`](Self::pass_plain_blocks) does.
@@ -669,11 +800,6 @@ impl Decoder {
             self.block = next_place(&self.setting, self.block);
             return Ok(NextBlock::Block);
         }
-        if let Some(k) = wide_split_ahead(&self.setting, reader) {
-            if self.read_wide_split_to_levels(k, reader, meter, levels) {
-                return Ok(NextBlock::Block);
-            }
-        }
         // It is laid out for each size of blocks.
         match self.setting.block() {
             8 => self.read_set_and_restore_block::<I, 8>(reader, meter, levels),
@@ -682,58 +808,6 @@ impl Decoder {
             size if size < 64 => self.read_set_and_restore_block::<I, 0>(reader, meter, levels),
             _ => self.read_set_and_restore_block::<I, 64>(reader, meter, levels),
         }
-    }
-
-    /// Reads the block by split `k` that waits outside a run, of predicted samples, in lanes of 32 bits, if its fundamental sequences are
-    /// short and all samples are near to those before them. Returns whether it did; otherwise nothing has happened, but for the levels,
-    /// which are unspecified.
-    #[inline(never)]
-    fn read_wide_split_to_levels<I: Intake>(
-        &mut self,
-        k: u32,
-        reader: &mut BitReader<I>,
-        meter: &mut Meter,
-        levels: &mut ArrayVec<u32, 64>,
-    ) -> bool
-        requires preprocess { self.old.setting.preprocess ≡ true }
-        requires split { (1 ≤ k) × (k ≤ 24) × (k ≤ k_max self.old.setting) }
-        requires there { 101 ≤ length reader.old.waiting }
-        requires id { word (id_len self.old.setting) (k + 1)
-            ≡ take (id_len self.old.setting) reader.old.waiting }
-        requires stopped { self.old.stopped ≡ None }
-        requires run { self.old.run ≡ 0 }
-        requires going { reader.old.refusal ≡ None }
-        requires room { meter.old + 2 * (most_bits_read - reader.old.taken) + 64 < step_limit }
-        ensures some { result ≡ true → Answers (with_mark reader.old) reader.new meter.old meter.new
-            self.old self.new (values_at self.old.setting levels.new.items) (Ok Block) ×
-            (length levels.new.items + self.new.run * self.new.setting.block
-            ≤ most_samples_of_bit * (reader.new.taken - reader.old.taken)) }
-        ensures legal { result ≡ true → All (λ l. l < value_count self.old.setting) levels.new.items }
-        ensures none { result ≡ false → (self.new ≡ self.old) × (reader.new ≡ reader.old) ×
-            (meter.new ≡ meter.old) }
-        ensures going { reader.new.refusal ≡ None }
-        ensures stopped { self.new.stopped ≡ None }
-        ensures setting { self.new.setting ≡ self.old.setting }
-        ensures steps { AreCounted meter.old meter.new reader.old.taken reader.new.taken }
-    {
-        let _taken = reader.taken();
-        // A copy stays in registers.
-        let setting = self.setting;
-        set_len_of_levels(levels, setting.block() as usize);
-        let restored = match restore_wide_ahead(
-            &setting,
-            self.block,
-            self.before,
-            k,
-            reader,
-            levels.as_mut_slice(),
-        ) {
-            Some(restored) => restored,
-            None => return false,
-        };
-        take_ahead(reader, restored.len, meter);
-        let _answer = self.go_to_next_block(restored.last, 0, reader, meter);
-        true
     }
 
     /// Reads a coded data set, and restores the samples of its first block, which are `SIZE` unless that is 0, by their levels.

@@ -35,25 +35,32 @@ pub fn wide_split_ahead<I: Intake>(setting: &Setting, reader: &BitReader<I>) -> 
     if setting.bits() <= 8 || !setting.preprocess() || reader.waiting() < HEAD + LOOK {
         return None;
     }
-    let (least, greatest) = identifiers(setting);
-    let id = reader.number_ahead(0, setting.id_len());
-    if id < least || id > greatest {
-        return None;
+    if setting.bits() > 16 {
+        return split_of_identifier(2, 25, 5, reader);
     }
-    Some(id - 1)
+    // Of samples of at most 16 bits, blocks by the other splits are decoded to bytes in one pass.
+    split_of_identifier(10, 14, 4, reader)
 }
 
-/// Returns the least and the greatest identifier of the splits of which blocks are decoded so.
+/// Returns the split whose identifier, of `len` bits, waits, if it is from `least` to `greatest`.
 #[inline(always)]
-fn identifiers(setting: &Setting) -> (u32, u32)
-    requires { 8 < setting.now.bits }
-    ensures { (2 ≤ result.0) × (result.1 ≤ 25) × (result.1 ≤ k_max setting.now + 1) }
+fn split_of_identifier<I: Intake>(
+    least: u32,
+    greatest: u32,
+    len: u32,
+    reader: &BitReader<I>,
+) -> Option<u32>
+    requires least { 1 ≤ least }
+    requires len { len ≤ 5 }
+    requires there { 101 ≤ length reader.now.waiting }
+    ensures { IfSome result (λ k. (least ≤ k + 1) × (k + 1 ≤ greatest)
+        × (word len (k + 1) ≡ take len reader.now.waiting)) }
 {
-    // Of samples of at most 16 bits, blocks by the other splits are decoded to bytes in one pass.
-    if setting.bits() <= 16 {
-        return (10, 14);
+    let identifier = reader.first_number_ahead(len);
+    if identifier < least || identifier > greatest {
+        return None;
     }
-    (2, 25)
+    Some(identifier - 1)
 }
 
 /// Returns the first eight numbers behind zeros for those that are omitted, one or none.
@@ -244,6 +251,7 @@ pub fn restore_wide_ahead<I: Intake>(
     ensures some { IfSome result (λ r. BlockAhead reader.now.waiting setting.now block
         (value_at setting.now before) levels.new r.len ×
         (r.last ≡ slice_index_or levels.new (setting.now.block - 1) 0)) }
+    ensures eights { IfSome result (λ r. setting.now.block % 8 ≡ 0) }
 {
     let _block = setting.block();
     let id = setting.id_len() as usize;

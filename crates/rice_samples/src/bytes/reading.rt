@@ -170,6 +170,7 @@ fn read_levels_of(setting: &Setting, bytes: &[u8], levels: &mut [u32])
     // The loop is laid out for each of these: with a known width and order it reads a sample at one stroke.
     match (setting.width(), setting.msb(), setting.signed()) {
         (3, false, signed) => read_levels_laid_out(setting, 3, false, signed, bytes, levels),
+        (4, msb, signed) => read_levels_laid_out(setting, 4, msb, signed, bytes, levels),
         (width, msb, signed) => read_levels_laid_out(
             setting,
             width as usize,

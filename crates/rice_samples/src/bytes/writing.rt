@@ -1,9 +1,10 @@
 //! The bytes of several samples.
-ghost use Rattle.std.specs.Prelude.{◌≡◌, ◌*◌, ◌<◌, All, length};
+ghost use Rattle.std.specs.Prelude.{◌≡◌, ◌+◌, ◌*◌, ◌%◌, ◌<◌, ◌≤◌, All, length, take};
 ghost use Rattle.rice_samples.specs.Parameters.{value_count, values_at, width as width_of};
 ghost use Rattle.rice_samples.specs.bytes.Spelling.{spellings};
 
 use crate::Setting;
+use crate::bytes::three_bytes::write_threes;
 use crate::patterns::store_word;
 use rice_bits::low_digits;
 
@@ -58,4 +59,49 @@ pub fn write_spellings_laid_out(
         let word = low_digits(levels[i].wrapping_sub(offset), 8 * width as u32) as u32;
         store_word(word, msb, &mut bytes[width * i..width * i + width]);
     }
+}
+
+/// Writes the spellings of whole eights of samples with these levels, `WIDTH` bytes each, one after another. It may write up to 8 bytes
+/// behind them.
+#[inline(always)]
+pub fn write_spellings_by_eights<const WIDTH: usize>(
+    setting: &Setting,
+    levels: &[u32],
+    bytes: &mut [u8],
+)
+    requires legal { All (λ l. l < value_count setting.now) levels.now }
+    requires width { WIDTH ≡ width_of setting.now }
+    requires eights { length levels.now % 8 ≡ 0 }
+    requires few { length levels.now ≤ 64 }
+    requires room { WIDTH * length levels.now + 8 ≤ length bytes.old }
+    ensures spelled { take (WIDTH * length levels.now) bytes.new
+        ≡ spellings setting.now (values_at setting.now levels.now) }
+    ensures len { length bytes.new ≡ length bytes.old }
+{
+    if WIDTH == 3 {
+        write_threes(setting, levels, bytes);
+        return;
+    }
+    // A copy stays in registers.
+    let setting = *setting;
+    for i in 0..levels.len() / 8 {
+        let own = &mut bytes[8 * WIDTH * i..8 * WIDTH * i + 8 * WIDTH];
+        write_eight::<WIDTH>(&setting, &levels[8 * i..8 * i + 8], own);
+    }
+}
+
+/// Writes the spellings of eight samples, as `write_spellings` does. It is laid out for either order of bytes.
+#[inline(always)]
+fn write_eight<const WIDTH: usize>(setting: &Setting, levels: &[u32], bytes: &mut [u8])
+    requires legal { All (λ l. l < value_count setting.now) levels.now }
+    requires width { WIDTH ≡ width_of setting.now }
+    requires eight { length levels.now ≡ 8 }
+    requires len { length bytes.old ≡ WIDTH * length levels.now }
+    ensures { bytes.new ≡ spellings setting.now (values_at setting.now levels.now) }
+{
+    if setting.msb() {
+        write_spellings_laid_out(setting, WIDTH, true, levels, bytes);
+        return;
+    }
+    write_spellings_laid_out(setting, WIDTH, false, levels, bytes);
 }

@@ -1,6 +1,6 @@
 -- Blocks in a row that are written at once.
 use Rattle.std.proofs.Common.{◌≡◌, ℕ, zero, suc, ◌+◌, ◌-◌, ◌*◌, ◌/◌, ◌%◌, ◌^◌, ◌<◌, ◌≤◌, List, ◌++◌, length, take}
-use Rattle.std.proofs.Common.{drop, refl, sym, ◌∙◌, ap, subst, arith, length-drop, take-take, Option, Some, None, ℤ, inl, inr}
+use Rattle.std.proofs.Common.{drop, refl, sym, ◌∙◌, ap, subst, arith, length-drop, take-take, Option, Some, None, ℤ}
 use Rattle.std.specs.Prelude.{IfSome, slice_index_or}
 use Rattle.std.proofs.Math.Nat.{div-add-mod, lt_of_mul-lt-mul_left, mod-lt, mul-le-mul_left, mul-le-mul_right, mul-pos}
 use Rattle.std.proofs.Math.Seq.{take-add}
@@ -9,9 +9,9 @@ use Rattle.rice_bits.specs.read.Reader.{Reader}
 use Rattle.rice_bits.specs.device.OutletRoom.{Room, Appends}
 use Rattle.rice_samples.specs.Parameters.{Parameters, IsLegal, width}
 use Rattle.rice_samples.specs.bytes.Spelling.{spellings}
-use Rattle.rice_code.specs.decode.BlocksInOnePass.{GivesBytes, HasLanes}
+use Rattle.rice_code.specs.decode.BlocksInOnePass.{ArePredicted, GivesBytes}
 use Rattle.rice_code.specs.decode.BlocksInRow.{GivesBlocks, StoodBehind, TakesWaiting}
-use Rattle.rice_code.proofs.lemmas.decode.BlocksInRow.{width_is}
+use Rattle.rice_samples.proofs.lemmas.bytes.SpellingLengths.{some_width}
 use Rattle.rice_code.specs.decode.Decoder.{GivesSet}
 use Rattle.rice_code.specs.decode.DecoderState.{DecoderState}
 use Rattle.rice_code.specs.decode.RowsOfFields.{AreCounted}
@@ -382,7 +382,16 @@ told_behind samples count b waits few limit told left_is failed_is =
       limit = omega (arith, bits, limit);
     }
 
--- The bytes of a row of blocks in lanes.
+-- The bytes of a sample, and that a block has samples.
+pub record BlocksOfBytes (s : Parameters) (w : ℕ) : Type 0 where
+  pub width_is : w ≡ width s
+  pub some : 1 ≤ s.block
+
+-- blocks of predicted samples
+pub blocks_of_bytes : {s : Parameters} {w b : ℕ} → ArePredicted s w → b ≡ s.block → 2 ≤ b → BlocksOfBytes s w
+blocks_of_bytes predicted is some = record { width_is = predicted.width_is; some = omega (arith, is, some) }
+
+-- The bytes of a row of blocks.
 pub record LanesRow (s : Parameters) (size all : ℕ) (bytes : List ℕ) : Type 0 where
   pub wide : size ≡ width s * s.block
   pub some : 1 ≤ size
@@ -390,16 +399,16 @@ pub record LanesRow (s : Parameters) (size all : ℕ) (bytes : List ℕ) : Type 
   pub there : row_bytes s all ≤ length bytes
   pub long : length (take (size * all) bytes) ≡ size * all
 
--- blocks in lanes whose samples take at most 480 bytes are a row that stands whole among 512 bytes
-pub lanes_row : (s : Parameters) (w block all : ℕ) (bytes : List ℕ) → HasLanes s s.block w → block ≡ s.block → w * s.block * all ≤ 480 → length bytes ≡ 512 → LanesRow s (w * block) all bytes
+-- blocks whose samples take at most 480 bytes are a row that stands whole among 512 bytes
+pub lanes_row : (s : Parameters) (w block all : ℕ) (bytes : List ℕ) → BlocksOfBytes s w → block ≡ s.block → w * s.block * all ≤ 480 → length bytes ≡ 512 → LanesRow s (w * block) all bytes
 lanes_row s w block all bytes has same few long =
-    let wide : w * block ≡ width s * s.block = λ j. width_is s s.block w has j * same j in
+    let wide : w * block ≡ width s * s.block = λ j. has.width_is j * same j in
     let own : w * block * all ≡ w * s.block * all = ap (λ n. w * n * all) same in
     let bytes_of : w * block * all ≡ row_bytes s all = ap (λ n. n * all) wide in
-    let j : 2 ≤ s.block = has.some in
+    let one = some_width s in
     record {
       wide = wide;
-      some = mul-pos (elim has.samples.widths [ inl e ↦ omega (arith, e) | inr e ↦ omega (arith, e) ]) (omega (arith, same, j));
+      some = mul-pos (omega (arith, has.width_is, one)) (omega (arith, same, has.some));
       is = ap (λ n. take n bytes) bytes_of;
       there = omega (arith, bytes_of, own, few, long);
       long = length-take-le (w * block * all) bytes (omega (arith, own, few, long));
@@ -437,7 +446,7 @@ pub record PartAppended (all taken w size : ℕ) (bytes : List ℕ) (out out_new
 
 -- An outlet that took only a part of the bytes of a row failed behind the whole blocks in this part, as the report says.
 pub fails_behind : {I : Type 0} {s : Parameters} {all taken w size block written begin begun : ℕ} {old new : Reader I} {steps steps_new : ℕ} {p q : DecoderState} {bytes ends : List ℕ}
-    {out out_new : Option Room} {rep : Report} {f : Option Fault} {left : Option (List ℕ)} {failed : ℕ} → HasLanes s s.block w → BytesOfBlocks s all w size block bytes
+    {out out_new : Option Room} {rep : Report} {f : Option Fault} {left : Option (List ℕ)} {failed : ℕ} → BlocksOfBytes s w → BytesOfBlocks s all w size block bytes
     → GivesBlocks all old new steps steps_new p q bytes ends → BeganAt begin begun old steps
     → PartAppended all taken w size bytes out out_new
     → (rep.samples ≡ written + block * (taken / (w * size))) × (rep.bits ≡ begin + slice_index_or ends (taken / (w * size)) 0)
@@ -463,7 +472,7 @@ fails_behind {s} {all} {taken} {w} {size} {block} {written} {old} {bytes} {ends}
 
 -- all of it is written
 pub lanes_written : {I : Type 0} {s : Parameters} {all w size count : ℕ} {old new : Reader I} {steps steps_new : ℕ} {p q : DecoderState} {bytes ends : List ℕ} (out out_new : Option Room)
-    → HasLanes s s.block w → size ≡ s.block → w * s.block * all ≤ 480 → length bytes ≡ 512 → count ≡ s.block * all
+    → BlocksOfBytes s w → size ≡ s.block → w * s.block * all ≤ 480 → length bytes ≡ 512 → count ≡ s.block * all
     → GivesBlocks all old new steps steps_new p q bytes ends → Appends out out_new (take (w * size * all) bytes) → WritesRow s all old new steps steps_new p q bytes out out_new count
 lanes_written {s} {all} {w} {size} {bytes} out out_new has same few long many given put =
     let row = lanes_row s w size all bytes has same few long in

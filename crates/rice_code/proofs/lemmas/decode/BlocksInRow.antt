@@ -2,21 +2,24 @@
 use Rattle.std.proofs.Common.{◌≡◌, ℕ, zero, suc, ◌+◌, ◌-◌, ◌*◌, ◌<◌, ◌≤◌, Bool, List, [], ◌∷◌, ◌++◌, length, take, drop, refl, sym, ◌∙◌, ap, subst, arith, length-append, take-take, inl, inr}
 use Rattle.std.specs.Prelude.{slice_index_or, set}
 use Rattle.std.proofs.lemmas.Bool.{cases_lt}
+use Rattle.std.proofs.lemmas.Bool.Decides.{nat_tests}
 use Rattle.std.proofs.Math.Nat.{mul-le-mul_left, mul-le-mul_right}
 use Rattle.std.proofs.lemmas.Slice.{take-put_mid_below}
 use borrow.Rule.Slice.PartMut.{put_mid}
 use Rattle.rice_code.proofs.lemmas.decode.PlainBlocksRead.{written_from}
+use Rattle.rice_code.proofs.lemmas.decode.SplitAhead.{TakesBlock, bytes_given}
 use Rattle.std.proofs.lemmas.List.{drop-drop, drop-take, drop_at, length-take-le, get_or-set_same, get_or-set_other}
 use Rattle.rice_bits.specs.Bits.{bits_of}
 use Rattle.rice_bits.proofs.lemmas.bits.BytesAndBits.{bits_of-nil}
 use Rattle.rice_bits.specs.read.Reader.{Reader, Takes}
-use Rattle.rice_samples.specs.Parameters.{Parameters, width}
+use Rattle.rice_samples.specs.Parameters.{IsLegal, Parameters, value_at, values_at, width}
+use Rattle.rice_samples.specs.bytes.Spelling.{spellings}
 use Rattle.rice_samples.proofs.lemmas.bytes.LevelsSpelledInByteLanes.{one_byte}
 use Rattle.rice_samples.proofs.lemmas.predict.HalfLanes.{two_bytes}
-use Rattle.rice_code.specs.decode.BlocksInOnePass.{GivesBytes, HasLanes, lanes_of}
+use Rattle.rice_code.specs.decode.BlocksInOnePass.{ArePredicted, BlockAhead, GivesBytes, HasLanes, lanes_of}
 use Rattle.rice_code.specs.decode.BlocksInRow.{GivesBlocks, GivesOneBlock, StoodBehind, TakesWaiting}
 use Rattle.rice_code.specs.decode.Decoder.{Skips, with_mark}
-use Rattle.rice_code.specs.decode.DecoderState.{DecoderState}
+use Rattle.rice_code.specs.decode.DecoderState.{DecoderState, next_block_place}
 use Rattle.rice_code.specs.decode.PlainBlocks.{GivesRow}
 use Rattle.rice_code.specs.decode.RowsOfFields.{AreCounted}
 
@@ -168,24 +171,46 @@ one_block_more {I} {n} {old} {middle} {new} {steps} {steps_middle} {steps_new} {
       ];
     }
 
+-- a block that was looked at, taken and spelled
+pub one_block_given : {I : Type 0} {start middle new : Reader I} {first steps last : ℕ} {p q : DecoderState} {lanes : List ℕ} {len l size : ℕ} {bytes : List ℕ}
+    → IsLegal p.setting → 1 ≤ size → p.setting.block ≡ size → BlockAhead start.waiting p.setting p.block p.before lanes len
+    → TakesBlock start (with_mark start) middle new first steps last len p → middle.left ≡ start.left
+    → l ≡ slice_index_or lanes (size - 1) 0 → q ≡ record p { block = next_block_place p.setting p.block; before = value_at p.setting l; run = 0 }
+    → take (width p.setting * size) bytes ≡ spellings p.setting (values_at p.setting (take size lanes))
+    → GivesOneBlock start new first last p q bytes
+one_block_given {start = start} {middle = middle} {new = new} {len = len} legal some size_is ahead takes left last_is moves spelled =
+    let all : length (take len start.waiting) ≡ len = length-take-le len start.waiting ahead.within in
+    record {
+      gives = bytes_given legal some size_is ahead takes last_is moves spelled;
+      run = ap (λ (d : DecoderState). d.run) moves;
+      waited = takes_waiting start middle new len _ takes.bits ahead.within left takes.filled;
+      ticked = omega (arith, takes.bits.taken, all, takes.steps_are, takes.counted);
+    }
+
 -- ---- places of blocks
 
 -- the width of samples whose blocks go in lanes
 pub width_is : (s : Parameters) (size bytes_of_one : ℕ) → HasLanes s size bytes_of_one → bytes_of_one ≡ width s
 width_is s size bytes_of_one has = elim has.samples.widths [ inl e ↦ e ∙ sym (one_byte s (has.samples.narrow e)) | inr e ↦ (let wide = has.samples.wide e in e ∙ sym (two_bytes s wide.0 wide.1)) ]
 
--- the block at each place has room, with the lanes behind it
+-- the block at each place has room, and 32 bytes behind it
+pub room_behind : (c i most total : ℕ) → i < most → c * most + 32 ≤ total → c * i + c + 32 ≤ total
+room_behind c i most total lt room =
+    let m : suc i * c ≤ most * c = mul-le-mul_right c lt in
+    let x : suc i * c ≡ c * i + c = omega arith in
+    let y : most * c ≡ c * most = omega arith in
+    omega (arith, m, x, y, room)
+
+-- and so do the lanes of one that goes in lanes
 pub block_room : (w size i most total : ℕ) → w ≤ 2 → i < most → w * size * most + 32 ≤ total
     → (w * size * i ≤ total) × (32 ≤ total - w * size * i) × (w * lanes_of size ≤ total - w * size * i)
 block_room w size i most total narrow lt room =
     let c = w * size in
-    let m : suc i * c ≤ most * c = mul-le-mul_right c lt in
-    let x : suc i * c ≡ c * i + c = omega arith in
-    let y : most * c ≡ c * most = omega arith in
+    let behind = room_behind c i most total lt room in
     let few : lanes_of size ≤ size + 15 = omega arith in
     let lanes : w * lanes_of size ≤ w * (size + 15) = mul-le-mul_left w few in
     let parts : w * (size + 15) ≡ c + 15 * w = omega arith in
-    (omega (arith, m, x, y, room), omega (arith, m, x, y, room), omega (arith, m, x, y, room, lanes, parts, narrow))
+    (omega (arith, behind), omega (arith, behind), omega (arith, behind, lanes, parts, narrow))
 
 -- a sample of blocks that go in lanes has at most two bytes
 pub narrow_width : (s : Parameters) (size w : ℕ) → HasLanes s size w → w ≤ 2
@@ -198,3 +223,17 @@ kept_before a k xs ys h = take-put_mid_below a k xs ys a (omega arith) h
 -- and if it is as long as the rest, it is all that stands from that place on
 pub written_behind : (a k : ℕ) (xs ys : List ℕ) → a ≤ length xs → k ≡ length xs - a → length ys ≡ k → drop a (put_mid a k xs ys) ≡ ys
 written_behind a k xs ys h e len = ap (drop a) (written_from a k xs ys h e len) ∙ drop_at (take a xs) ys a (length-take-le a xs h)
+
+-- predicted samples of one byte or two go in lanes
+pub lanes_of_predicted : (s : Parameters) (w : ℕ) → IsLegal s → ArePredicted s w → w ≤ 2 → HasLanes s s.block w
+lanes_of_predicted s w legal has narrow = record {
+  preprocess = has.preprocess;
+  size_is = refl;
+  some = omega (arith, legal.block);
+  few = omega (arith, legal.block);
+  samples = record {
+    widths = (let e = has.width_is in grind (arith, nat_tests));
+    narrow = λ one. (let e = has.width_is in grind (arith, nat_tests));
+    wide = λ two. (let e = has.width_is in grind (arith, nat_tests));
+  };
+}

@@ -404,7 +404,7 @@ pub record TakesBlock {I : Type 0} (start marked middle new : Reader I) (first s
   pub further : middle.taken ≤ new.taken
 
 -- the levels of a block that was looked at and taken
-pub levels_given : {I : Type 0} {start marked middle new : Reader I} {first steps last : ℕ} {p q : DecoderState} {levels : List ℕ} {len l : ℕ} → IsLegal p.setting → 1 ≤ p.setting.block
+levels_given : {I : Type 0} {start marked middle new : Reader I} {first steps last : ℕ} {p q : DecoderState} {levels : List ℕ} {len l : ℕ} → IsLegal p.setting → 1 ≤ p.setting.block
     → BlockAhead start.waiting p.setting p.block p.before levels len → TakesBlock start marked middle new first steps last len p → length levels ≡ p.setting.block
     → l ≡ slice_index_or levels (p.setting.block - 1) 0 → q ≡ record p { block = next_block_place p.setting p.block; before = value_at p.setting l; run = 0 }
     → Answers (with_mark start) new first last p q (values_at p.setting levels) (Ok Block) × (length levels + q.run * q.setting.block ≤ most_samples_of_bit * (new.taken - start.taken))
@@ -435,20 +435,19 @@ levels_given {start} {marked} {middle} {new} {first} {steps} {last} {p} {q} {lev
     (answers_block start last p from_start takes.filled takes.counted value moves, rw none (omega (arith, bound, many, takes.further)))
 
 -- the bytes of a block that was looked at, taken and spelled
-pub bytes_given : {I : Type 0} {start marked middle new : Reader I} {first steps last : ℕ} {p q : DecoderState} {lanes : List ℕ} {len l size bytes_of_one : ℕ} {bytes : List ℕ}
-    → IsLegal p.setting → HasLanes p.setting size bytes_of_one → BlockAhead start.waiting p.setting p.block p.before lanes len → TakesBlock start marked middle new first steps last len p
+pub bytes_given : {I : Type 0} {start marked middle new : Reader I} {first steps last : ℕ} {p q : DecoderState} {lanes : List ℕ} {len l size : ℕ} {bytes : List ℕ}
+    → IsLegal p.setting → 1 ≤ size → p.setting.block ≡ size → BlockAhead start.waiting p.setting p.block p.before lanes len → TakesBlock start marked middle new first steps last len p
     → l ≡ slice_index_or lanes (size - 1) 0 → q ≡ record p { block = next_block_place p.setting p.block; before = value_at p.setting l; run = 0 }
     → take (width p.setting * size) bytes ≡ spellings p.setting (values_at p.setting (take size lanes))
     → GivesBytes start new first last p q bytes
-bytes_given {start} {marked} {middle} {new} {first} {steps} {last} {p} {q} {lanes} {len} {l} {size} {bytes} legal has ahead takes last_is moves spelled =
+bytes_given {start} {marked} {middle} {new} {first} {steps} {last} {p} {q} {lanes} {len} {l} {size} {bytes} legal some size_is ahead takes last_is moves spelled =
     let s = p.setting in
-    let some : 1 ≤ size = omega (arith, has.some) in
     let levels = take s.block lanes in
-    let long : length levels ≡ size = length-take-le s.block lanes ahead.enough ∙ has.size_is in
+    let long : length levels ≡ size = length-take-le s.block lanes ahead.enough ∙ size_is in
     let many : length (values_at s levels) ≡ size = length-values s levels ∙ long in
-    let whole : take s.block levels ≡ levels = take_all s.block levels (omega (arith, long, has.size_is)) in
-    let inside : size - 1 < s.block = omega (arith, some, has.size_is) in
-    let end : size - 1 ≡ s.block - 1 = omega (arith, has.size_is) in
+    let whole : take s.block levels ≡ levels = take_all s.block levels (omega (arith, long, size_is)) in
+    let inside : size - 1 < s.block = omega (arith, some, size_is) in
+    let end : size - 1 ≡ s.block - 1 = omega (arith, size_is) in
     let first_ahead : BlockAhead start.waiting s p.block p.before levels len = record {
       set = ahead.set;
       form = ahead.form;
@@ -457,16 +456,16 @@ bytes_given {start} {marked} {middle} {new} {first} {steps} {last} {p} {q} {lane
       within = ahead.within;
       bits = ahead.bits;
       no_turns = ahead.no_turns;
-      enough = omega (arith, long, has.size_is);
+      enough = omega (arith, long, size_is);
       legal = All-take (λ l. l < value_count s) s.block lanes ahead.legal;
       gives = subst (λ ls. GivesBlock s p.block p.before (values_at s ls) 0 (blocks_in s p.block ahead.set)) (sym whole) ahead.gives;
     } in
-    let given = levels_given legal (omega (arith, some, has.size_is)) first_ahead takes
-    (omega (arith, long, has.size_is)) (last_is ∙ (sym (get_or-take s.block lanes (size - 1) 0 inside) ∙ ap (λ n. slice_index_or levels n 0) end)) moves in
+    let given = levels_given legal (omega (arith, some, size_is)) first_ahead takes
+    (omega (arith, long, size_is)) (last_is ∙ (sym (get_or-take s.block lanes (size - 1) 0 inside) ∙ ap (λ n. slice_index_or levels n 0) end)) moves in
     record {
       samples = values_at s levels;
       answers = given.0;
-      spelled = ap (λ n. take (width s * n) bytes) many ∙ (spelled ∙ ap (λ n. spellings s (values_at s (take n lanes))) (sym has.size_is));
+      spelled = ap (λ n. take (width s * n) bytes) many ∙ (spelled ∙ ap (λ n. spellings s (values_at s (take n lanes))) (sym size_is));
       by_bits = subst (λ n. n + q.run * q.setting.block ≤ most_samples_of_bit * (new.taken - start.taken)) (sym (length-values s levels)) given.1;
     }
 

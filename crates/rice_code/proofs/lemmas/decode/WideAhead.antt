@@ -4,9 +4,8 @@ use Rattle.std.proofs.Common.{length, take, drop, take-take, replicate, refl, sy
 use Rattle.std.specs.Prelude.{All, flat_map, IfSome, slice_index_or}
 use Rattle.std.proofs.Math.Seq.{take-add}
 use Rattle.std.proofs.Math.Nat.{add-mul, mul-le-mul_right}
-use Rattle.std.proofs.lemmas.Bool.Decides.{nat_tests}
 use Rattle.std.proofs.lemmas.Nat.{pow_pos}
-use Rattle.std.proofs.lemmas.List.{length-drop, length-take-le, take_all, take_at}
+use Rattle.std.proofs.lemmas.List.{length-drop, length-take-le, take_all}
 use Rattle.std.proofs.lemmas.List.Elements.{All-append, All-drop, All-replicate, All-take}
 use Rattle.rice_bits.specs.Bits.{word, fundamental_sequence}
 use Rattle.rice_bits.specs.lanes.Sequences.{BeginWithSequences}
@@ -161,10 +160,6 @@ eight_inside skip {e} {o} k n most some few inside there =
 pub if_some : {A : Type 0} (P Q : A → Type 0) (x : Option A) → ((a : A) → P a → Q a) → IfSome x P → IfSome x Q
 if_some P Q None f h = tt
 if_some P Q (Some a) f h = f a h
-
--- all levels, in the place of others
-pub places_written : (n : ℕ) (xs ys : List ℕ) → length xs ≡ n → length ys ≡ n → take (length ys) (xs ++ drop (length xs) ys) ≡ xs
-places_written n xs ys e f = take_at xs (drop (length xs) ys) (length ys) (e ∙ sym f)
 
 -- the block that waits
 pub wide_block : {waiting : List Bool} {s : Parameters} {b before k from omitted head last len : ℕ} {levels : List ℕ} → s.preprocess ≡ true → 1 ≤ s.block

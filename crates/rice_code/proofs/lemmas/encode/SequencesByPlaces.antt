@@ -1,20 +1,14 @@
 -- Fundamental sequences whose ones are set at places that are summed in lanes. What joins 16 rests on `all_gathered`: the place of a one is, modulo 64, what is left.
-use Rattle.std.proofs.Common.{◌≡◌, ℕ, zero, suc, ◌+◌, ◌-◌, ◌*◌, ◌/◌, ◌%◌, ◌^◌, ◌<◌, ◌≤◌, ◌==◌, Bool, true, ◌&&◌, cond, List, [], ◌∷◌, ◌++◌}
-use Rattle.std.proofs.Common.{length, take, drop, map, min, replicate, refl, ap, arith, sym, subst, ◌∙◌, append_assoc, append-nil, length-append, mod-eq_of_lt, eq-eqb, nat_lt, Fits, w8, w32}
+use Rattle.std.proofs.Common.{◌≡◌, ℕ, zero, suc, ◌+◌, ◌-◌, ◌*◌, ◌/◌, ◌%◌, ◌^◌, ◌<◌, ◌≤◌, Bool, List, [], ◌∷◌, ◌++◌}
+use Rattle.std.proofs.Common.{length, take, drop, map, min, replicate, refl, ap, arith, sym, subst, ◌∙◌, append_assoc, append-nil, length-append, Fits, w8}
 use Rattle.std.specs.Prelude.{All, flat_map, bit_or}
-use Rattle.std.specs.List.{list_all}
-use Rattle.std.specs.Simd.Lanes.{zip2, Each1, fold_l, number_l, sel_l, top}
+use Rattle.std.specs.Simd.Lanes.{zip2, Each1, number_l}
 use Rattle.std.proofs.lemmas.Nat.{mod_below, one_shl}
 use Rattle.std.proofs.lemmas.List.{take-append-drop}
-use Rattle.std.proofs.lemmas.Simd.{Each1-get_or, Each1-from_get_or, tops_compared, zip2_splat}
-use Rattle.std.proofs.lemmas.Bool.Decides.{nat_tests}
-use mir.Val.{hbits}
-use Rattle.rice_samples.proofs.lemmas.blocks.EightsInLanes.{lanes_below_digits, no_digits}
 use Rattle.rice_bits.specs.Bits.{fundamental_sequence}
 use Rattle.rice_bits.specs.lanes.RunningSums.{running_sums}
 use Rattle.rice_bits.proofs.lemmas.lanes.RunningSums.{sixteen_lanes}
 use Rattle.rice_bits.proofs.lemmas.bits.WordsAndNumbers.{length-fundamental_sequence}
-use Rattle.rice_samples.proofs.lemmas.predict.NearEights.{select_min}
 use Rattle.rice_code.specs.encode.GatheredSequences.{HasDigits}
 use Rattle.rice_code.specs.encode.SequencesByPlaces.{ones_at}
 use Rattle.rice_code.proofs.lemmas.encode.SequencesByProducts.{each_of}

@@ -155,26 +155,32 @@ pub record RoomForEight (i : ℕ) (levels bytes spelled : List ℕ) : Type 0 whe
   pub eight : length spelled ≡ 32
   pub bytes_left : 24 * i + 32 ≤ length bytes
 
--- eight samples more
-pub eight_more : (s : Parameters) (i : ℕ) (levels bytes spelled : List ℕ) {new : List ℕ} → RoomForEight i levels bytes spelled → take (24 * i) bytes ≡ spellings s (values_at s (take (8 * i) levels))
-    → take 24 spelled ≡ spellings s (values_at s (take 8 (drop (8 * i) levels))) → new ≡ put_chunk (24 * i) bytes spelled
-    → take (24 * (i + 1)) new ≡ spellings s (values_at s (take (8 * (i + 1)) levels))
-eight_more s i levels bytes spelled {new} room before next is =
-    let at : 24 * (i + 1) ≡ 24 * i + 24 = omega arith in
+-- the spellings of eight samples behind those of others
+pub next_eight : (s : Parameters) (i : ℕ) (levels : List ℕ) {front back : List ℕ} → front ≡ spellings s (values_at s (take (8 * i) levels))
+    → back ≡ spellings s (values_at s (take 8 (drop (8 * i) levels))) → front ++ back ≡ spellings s (values_at s (take (8 * (i + 1)) levels))
+next_eight s i levels before next =
     let count : 8 * i + 8 ≡ 8 * (i + 1) = omega arith in
-    let all : take (24 * i + 32) new ≡ take (24 * i) bytes ++ spelled = ap (take (24 * i + 32)) is ∙ take_more_put_chunk (24 * i) bytes spelled (24 * i + 32) (omega (arith, room.eight))
-    room.bytes_left in
-    let front : length (take (24 * i) bytes) ≡ 24 * i = length-take-le (24 * i) bytes (omega (arith, room.bytes_left)) in
-    let both : take (24 * i + 24) new ≡ take (24 * i) bytes ++ take 24 spelled =
-    sym (take-take (24 * i + 24) (24 * i + 32) new (omega arith)) ∙ (ap (take (24 * i + 24)) all ∙ take_in_second (24 * i) 24 (take (24 * i) bytes) spelled front) in
-    ap (λ n. take n new) at
-    ∙ (both ∙ ((λ j. before j ++ next j) ∙ (spelled_with s (take (8 * i) levels) (take 8 (drop (8 * i) levels))
-    ∙ ap (λ ls. spellings s (values_at s ls)) (sym (take-add (8 * i) 8 levels) ∙ ap (λ n. take n levels) count))))
+    (λ j. before j ++ next j) ∙ (spelled_with s (take (8 * i) levels) (take 8 (drop (8 * i) levels))
+    ∙ ap (λ ls. spellings s (values_at s ls)) (sym (take-add (8 * i) 8 levels) ∙ ap (λ n. take n levels) count))
   where
     spelled_with : (s : Parameters) (xs ys : List ℕ) → spellings s (values_at s xs) ++ spellings s (values_at s ys) ≡ spellings s (values_at s (xs ++ ys))
     spelled_with s [] ys = refl
     spelled_with s (x ∷ xs) ys = append_assoc (spelling s (value_at s x)) (spellings s (values_at s xs)) (spellings s (values_at s ys))
         ∙ ap (λ l. spelling s (value_at s x) ++ l) (spelled_with s xs ys)
 
+-- eight samples more
+pub eight_more : (s : Parameters) (i : ℕ) (levels bytes spelled : List ℕ) {new : List ℕ} → RoomForEight i levels bytes spelled → take (24 * i) bytes ≡ spellings s (values_at s (take (8 * i) levels))
+    → take 24 spelled ≡ spellings s (values_at s (take 8 (drop (8 * i) levels))) → new ≡ put_chunk (24 * i) bytes spelled
+    → take (24 * (i + 1)) new ≡ spellings s (values_at s (take (8 * (i + 1)) levels))
+eight_more s i levels bytes spelled {new} room before next is =
+    let at : 24 * (i + 1) ≡ 24 * i + 24 = omega arith in
+    let all : take (24 * i + 32) new ≡ take (24 * i) bytes ++ spelled = ap (take (24 * i + 32)) is ∙ take_more_put_chunk (24 * i) bytes spelled (24 * i + 32) (omega (arith, room.eight))
+    room.bytes_left in
+    let front : length (take (24 * i) bytes) ≡ 24 * i = length-take-le (24 * i) bytes (omega (arith, room.bytes_left)) in
+    let both : take (24 * i + 24) new ≡ take (24 * i) bytes ++ take 24 spelled =
+    sym (take-take (24 * i + 24) (24 * i + 32) new (omega arith)) ∙ (ap (take (24 * i + 24)) all ∙ take_in_second (24 * i) 24 (take (24 * i) bytes) spelled front) in
+    ap (λ n. take n new) at
+    ∙ (both ∙ next_eight s i levels before next)
+  where
     take_in_second : (m k : ℕ) (xs ys : List ℕ) → length xs ≡ m → take (m + k) (xs ++ ys) ≡ xs ++ take k ys
     take_in_second m k xs ys e = take-add m k (xs ++ ys) ∙ (λ j. take_at xs ys m e j ++ take k (drop_at xs ys m e j))

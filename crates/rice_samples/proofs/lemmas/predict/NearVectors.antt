@@ -1,6 +1,6 @@
 -- Near numbers, as many at a time as a vector has lanes.
 use Rattle.std.proofs.Common.{◌≡◌, inl, inr, ℕ, zero, suc, ◌+◌, ◌-◌, ◌/◌, ◌%◌, ◌^◌, ◌<◌, ◌≤◌, min, max, cond, Bool, true, List}
-use Rattle.std.proofs.Common.{[], ◌∷◌, ◌++◌, map, length, take, drop, get_or, replicate, refl, sym, ◌∙◌, ap, subst, arith, Fits, nat_lt, ◌==◌}
+use Rattle.std.proofs.Common.{[], ◌∷◌, map, length, take, drop, get_or, replicate, refl, sym, ◌∙◌, ap, subst, arith, Fits, nat_lt, ◌==◌}
 use Rattle.std.specs.Prelude.{All, bit_and, bit_or}
 use Rattle.std.specs.Int.{Width}
 use mir.Val.{bits, hbits}
@@ -13,7 +13,6 @@ use Rattle.std.proofs.lemmas.Nat.{mod_below, pow_pos}
 use Rattle.std.proofs.lemmas.List.{length-replicate, length-take-le}
 use Rattle.std.proofs.lemmas.Simd.{tops_compared, Each1-get_or, pick_l-range_with_len}
 use Rattle.std.proofs.Math.Nat.{mod-eq_of_lt, add-mod_right}
-use Rattle.std.proofs.Math.Seq.{take-append-add}
 use Rattle.rice_samples.specs.predict.Residuals.{ranks_below}
 use Rattle.rice_bits.specs.lanes.RunningSums.{running_sums}
 use Rattle.rice_bits.specs.read.JoinedParts.{joined_parts}

@@ -7,7 +7,7 @@ use Rattle.rice_stream.proofs.lemmas.DecodingLemmas.{decoder_advances, decoding_
 use Rattle.rice_stream.proofs.lemmas.DecodingEnds.{reports_as, block_is_wanted, progress_at_start, refusal_ends, refusal_fails, ended_ends, done_fails, write_ends, reached_ends, progress_with_block}
 use Rattle.rice_code.specs.decode.DecoderState.{DecoderState}
 use Rattle.rice_stream.proofs.lemmas.SpelledBlocks.{progress_unchanged}
-use Rattle.rice_stream.proofs.lemmas.RowsWritten.{fails_behind, in_block, lanes_row, lanes_written, progress_with_row, row_fails, row_fails_so, row_fails_within, row_takes}
+use Rattle.rice_stream.proofs.lemmas.RowsWritten.{blocks_of_bytes, fails_behind, in_block, lanes_row, lanes_written, progress_with_row, row_fails, row_fails_so, row_fails_within, row_takes}
 use Rattle.rice_samples.proofs.lemmas.setting.ValuesAtLevels.{length-values}
 use Rattle.rice_stream.proofs.lemmas.SamplesByLevels.{few_legal, few_spelled}
 use Rattle.rice_stream.proofs.lemmas.RunsWritten.{progress_with_run, run_fails, run_shrinks}
@@ -183,7 +183,8 @@ bounds-ends-some g c =
     let given = row.some some in
     let all = c.next_bytes_at_one_stroke-blocks.result in
     let same : c.known_or-size.result ≡ s.block = c.known_or-size.ensures ∙ c.block-block.ensures.value in
-    let bytes = lanes_row s g.row.WIDTH c.known_or-size.result all new.bytes (c.requires.lanes (row.lanes some)) same row.room c.next_bytes_at_one_stroke-blocks.array_long in
+    let bytes = lanes_row s g.row.WIDTH c.known_or-size.result all new.bytes (blocks_of_bytes (c.requires.samples (row.samples some)) c.block-block.ensures.value c.block-block.ensures.range.0)
+    same row.room c.next_bytes_at_one_stroke-blocks.array_long in
     let inside = in_block all c.in-Err-write_blocks.taken (g.row.WIDTH * c.known_or-size.result) bytes.some (omega (arith, c.in-Err-write_blocks.ensures.err.0, bytes.long)) in
     omega (arith, inside, row.few)
 
@@ -199,7 +200,7 @@ returns-in-Err-write_blocks-clause-call g c =
     let all = c.next_bytes_at_one_stroke-blocks.result in
     let same : c.known_or-size.result ≡ s.block = c.known_or-size.ensures ∙ c.block-block.ensures.value in
     let err = c.in-Err-write_blocks.ensures.err in
-    let fails = fails_behind (c.requires.lanes (row.lanes some)) (record {
+    let fails = fails_behind (blocks_of_bytes (c.requires.samples (row.samples some)) c.block-block.ensures.value c.block-block.ensures.range.0) (record {
       size_is = same;
       block_is = c.block-block.ensures.value;
       few = row.room;
@@ -224,7 +225,7 @@ returns-in-Err-write_blocks-clause-failures g c =
     let all = c.next_bytes_at_one_stroke-blocks.result in
     let same : c.known_or-size.result ≡ s.block = c.known_or-size.ensures ∙ c.block-block.ensures.value in
     let err = c.in-Err-write_blocks.ensures.err in
-    let fails = fails_behind (c.requires.lanes (row.lanes some)) (record {
+    let fails = fails_behind (blocks_of_bytes (c.requires.samples (row.samples some)) c.block-block.ensures.value c.block-block.ensures.range.0) (record {
       size_is = same;
       block_is = c.block-block.ensures.value;
       few = row.room;
@@ -249,7 +250,7 @@ returns-in-Err-write_blocks-clause-bounds g c =
     let all = c.next_bytes_at_one_stroke-blocks.result in
     let same : c.known_or-size.result ≡ s.block = c.known_or-size.ensures ∙ c.block-block.ensures.value in
     let err = c.in-Err-write_blocks.ensures.err in
-    let fails = fails_behind (c.requires.lanes (row.lanes some)) (record {
+    let fails = fails_behind (blocks_of_bytes (c.requires.samples (row.samples some)) c.block-block.ensures.value c.block-block.ensures.range.0) (record {
       size_is = same;
       block_is = c.block-block.ensures.value;
       few = row.room;
@@ -275,7 +276,8 @@ decode_all-preserved-then-blocks-gt0 g c =
     let same : c.known_or-size.result ≡ s.block = c.known_or-size.ensures ∙ c.block-block.ensures.value in
     let ok = c.in-Ok-write_blocks.ensures.ok in
     let wrote = lanes_written
-    (g.O.Outlet.taken old.outlet) (g.O.Outlet.taken c.write_blocks.new.outlet) (c.requires.lanes (row.lanes some)) same row.room c.next_bytes_at_one_stroke-blocks.array_long
+    (g.O.Outlet.taken old.outlet) (g.O.Outlet.taken c.write_blocks.new.outlet) (blocks_of_bytes (c.requires.samples (row.samples some)) c.block-block.ensures.value c.block-block.ensures.range.0)
+    same row.room c.next_bytes_at_one_stroke-blocks.array_long
     (ap (λ k. k * all) c.block-block.ensures.value) given.1 ok.0 in
     record {
       runs = progress_with_row c.block-block.ensures.legal i.runs given.0 wrote (row.wanted some) c.tick-then-blocks-gt0.ensures;
@@ -295,7 +297,8 @@ decode_all-smaller-then-blocks-gt0 g c =
     let same : c.known_or-size.result ≡ s.block = c.known_or-size.ensures ∙ c.block-block.ensures.value in
     let ok = c.in-Ok-write_blocks.ensures.ok in
     let wrote = lanes_written
-    (g.O.Outlet.taken old.outlet) (g.O.Outlet.taken c.write_blocks.new.outlet) (c.requires.lanes (row.lanes some)) same row.room c.next_bytes_at_one_stroke-blocks.array_long
+    (g.O.Outlet.taken old.outlet) (g.O.Outlet.taken c.write_blocks.new.outlet) (blocks_of_bytes (c.requires.samples (row.samples some)) c.block-block.ensures.value c.block-block.ensures.range.0)
+    same row.room c.next_bytes_at_one_stroke-blocks.array_long
     (ap (λ k. k * all) c.block-block.ensures.value) given.1 ok.0 in
     let more = row_takes c.block-block.ensures.legal i.runs given.0 some wrote in
     let none : new.decoder.run * new.decoder.setting.block ≡ 0 = ap (λ n. n * new.decoder.setting.block) given.1.run ∙ omega arith in

@@ -1,4 +1,4 @@
-use Rattle.std.proofs.Common.{arith, ◌++◌, ◌∙◌, ap, length}
+use Rattle.std.proofs.Common.{arith, ◌++◌, ◌∙◌, ap}
 use Rattle.rice_code.specs.encode.GatheredSequences.{four_sequences, sequences_from}
 use Rattle.rice_code.proofs.lemmas.encode.HighParts.{length-first_part, four_behind}
 use Rattle.rice_code.proofs.encode.high_parts.put_sixteen_by_fours.Goals as goal

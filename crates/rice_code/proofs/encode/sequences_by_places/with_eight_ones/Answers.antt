@@ -1,4 +1,4 @@
-use Rattle.std.proofs.Common.{◌<◌, ◌∙◌}
+use Rattle.std.proofs.Common.{◌<◌}
 use Rattle.rice_code.proofs.lemmas.encode.SequencesByProducts.{each_of}
 use Rattle.rice_code.proofs.lemmas.encode.SequencesByPlaces.{eight_ones}
 use Rattle.rice_code.proofs.encode.sequences_by_places.with_eight_ones.Goals as goal

@@ -1,15 +1,10 @@
-use Rattle.std.proofs.Common.{arith}
-use Rattle.std.proofs.lemmas.Grind.{common_steps}
+use Rattle.std.proofs.Common.{arith, subst}
+use Rattle.rice_samples.specs.Parameters.{IsLegal}
+use Rattle.rice_code.specs.decode.DecoderState.{DecoderState}
+use Rattle.rice_code.proofs.lemmas.decode.BlocksInRow.{lanes_of_predicted}
 use Rattle.rice_code.proofs.decode.decoder.Decoder.next_bytes.Goals as goal
 
-pub returns-then-is_uncompressed_ahead-clause-some : goal.returns-then-is_uncompressed_ahead-clause-some
-returns-then-is_uncompressed_ahead-clause-some g c = grind (arith, common_steps)
-
-pub returns-then-blocks-gt0-clause-some : goal.returns-then-blocks-gt0-clause-some
-returns-then-blocks-gt0-clause-some g c = grind (arith, common_steps)
-
-pub returns-then-blocks-gt0-clause-none : goal.returns-then-blocks-gt0-clause-none
-returns-then-blocks-gt0-clause-none g c = grind (arith, common_steps)
-
-pub returns-then-is_uncompressed_ahead-clause-most : goal.returns-then-is_uncompressed_ahead-clause-most
-returns-then-is_uncompressed_ahead-clause-most g c = grind (arith, common_steps)
+pub next_bytes_in_lanes-blocks-requires-clause-lanes : goal.next_bytes_in_lanes-blocks-requires-clause-lanes
+next_bytes_in_lanes-blocks-requires-clause-lanes g c =
+    let legal = subst (λ (p : DecoderState). IsLegal p.setting) c.self.view_is c.self.invariant.1.legal in
+    lanes_of_predicted c.args.self.now.setting g.row.WIDTH legal c.requires.samples (omega (arith, c.if-this-gt2.false))

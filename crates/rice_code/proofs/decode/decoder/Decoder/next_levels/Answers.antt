@@ -1,5 +1,4 @@
 use Rattle.std.proofs.Common.{arith, ◌-◌, ◌∙◌, refl}
-use Rattle.std.proofs.lemmas.Grind.{common_steps}
 use Rattle.rice_samples.specs.Parameters.{value_at}
 use Rattle.rice_samples.proofs.lemmas.setting.ValuesAboveLeast.{sample_at}
 use Rattle.rice_samples.proofs.lemmas.setting.ValuesAtLevels.{legal_values, length-values}
@@ -33,6 +32,3 @@ returns-then-self-gt0-clause-in_run g c none pos =
       refl,
       refl,
     )
-
-pub returns-then-read_wide_split_to_levels-clause-reads : goal.returns-then-read_wide_split_to_levels-clause-reads
-returns-then-read_wide_split_to_levels-clause-reads g c = grind (arith, common_steps)

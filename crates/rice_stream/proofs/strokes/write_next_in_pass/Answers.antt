@@ -1,9 +1,9 @@
-use Rattle.std.proofs.Common.{length, ◌≡◌, ◌+◌, ◌-◌, ◌*◌, ◌/◌, ◌∙◌, ◌≤◌, ap, arith, inl, inr, subst, sym}
+use Rattle.std.proofs.Common.{length, ◌≡◌, ◌+◌, ◌-◌, ◌*◌, ◌/◌, ◌∙◌, ◌≤◌, ap, arith, subst, sym}
 use Rattle.std.proofs.Math.Nat.{mul-le-mul_left}
-use Rattle.rice_code.proofs.lemmas.decode.BlocksInRow.{width_is}
+use Rattle.rice_samples.proofs.lemmas.bytes.SpellingLengths.{some_width}
 use Rattle.rice_stream.specs.Pulling.{stand_at}
 use Rattle.rice_stream.proofs.lemmas.Strokes.{row_has_room, row_stroke, stroke_written}
-use Rattle.rice_stream.proofs.strokes.write_next_in_lanes.Goals as goal
+use Rattle.rice_stream.proofs.strokes.write_next_in_pass.Goals as goal
 
 pub returns-clause-did : goal.returns-clause-did
 returns-clause-did g c =
@@ -27,9 +27,9 @@ returns-clause-did g c =
     subst (λ b. 0 + b * c.blocks_wanted-most.result ≤ (length c.args.samples.now - c.args.at) / w) (sym c.block.ensures.value) c.blocks_wanted-most.ensures.wanted in
     let inside : c.args.at ≤ length c.args.samples.now = omega (arith, c.requires.room) in
     let k = row_stroke new.meter know.3 c.requires.come.reads c.requires.come.aligned (record { state_is = c.requires.come.state; steps_are = steps }) says.0 says.1.row (record {
-      width_is = width_is s s.block w c.requires.lanes;
+      width_is = c.requires.samples.width_is;
       block_is = c.block.ensures.value;
-      width_some = elim c.requires.lanes.samples.widths [ inl e ↦ omega (arith, e) | inr e ↦ omega (arith, e) ];
+      width_some = (let one = some_width s in omega (arith, c.requires.samples.width_is, one));
       block_some = omega (arith, c.block.ensures.range);
       some = some;
     }) (c.stand_behind-behind.ensures.numbers ∙ (λ i. stand_at (stand.samples + n) (stand.bits + taken i) (new.meter + n) new.self)) in (
