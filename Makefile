@@ -13,7 +13,7 @@ PYTHON_CODES ?= 1000000
 LIBRARY_CODES ?= 1000000
 
 .DEFAULT_GOAL := help
-.PHONY: help library compat python install install-command install-library install-compat uninstall check clean dist release deb released two-builds test test-each rows hostile interop exhaustive any-block refused-memory installed recipes documents options guesses vectors pictures imports lemmas progress bench-others bench examples stack header axioms hostile-library hostile-pulls clients hostile-compat python-tests aarch64 bench-compat wrappers clauses trusted plant
+.PHONY: help library compat python install install-command install-library install-compat uninstall check clean dist release deb released two-builds test edit rows hostile interop exhaustive any-block refused-memory installed recipes documents options guesses vectors pictures imports lemmas progress bench-others bench examples stack header axioms hostile-library hostile-pulls clients hostile-compat python-tests aarch64 bench-compat wrappers trusted plant
 
 help:
 	@echo 'make aec                    prove and build the program, as ./aec (some fifteen minutes the first time)'
@@ -32,8 +32,8 @@ help:
 	@echo 'make released               try these in a clean Debian (as root, by debootstrap)'
 	@echo 'make two-builds             build and pack all once more in another folder, and compare'
 	@echo 'make clean                  remove what was built, and what was kept of proofs'
-	@echo 'make test                   prove everything from nothing, try the edits that must fail, and run all tests (forty minutes)'
-	@echo 'make test-each              the same by the toolchain alone, each edit by a check of its own'
+	@echo 'make test                   prove everything, try the edits that must fail, and run all tests: what passed here before is kept'
+	@echo 'make edit NAME=CRATE/EDIT   try one of crates/CRATE/must-fail'
 	@echo 'make rows                   run the cases of scripts/rows.txt with ./aec and the library'
 	@echo 'make hostile                run ./aec on damaged and random codes, and on files and streams that fail'
 	@echo "make interop                exchange codes between ./aec and Debian's aec (libaec-tools)"
@@ -62,11 +62,10 @@ help:
 	@echo "make aarch64                build the library for aarch64, and run the examples on it (qemu-user, gcc-aarch64-linux-gnu)"
 	@echo 'make bench-compat           compare the speed of ./compat/out and of Debian'"'"'s libaec and szlib (libaec-dev)'
 	@echo 'make wrappers               turn the wrappers of readers, writers and the runtime into wrong ones, which the tests refuse'
-	@echo 'make clauses                compare the clauses of public calls with the edits that must fail'
 	@echo 'make imports                look for imports of definitions that no clause uses'
 	@echo 'make lemmas                 look for public lemmas without a line that says what they state, and for long lines'
 	@echo 'make trusted                compare docs/TRUSTED.md with the definitions that the promises rest on'
-	@echo 'make plant                  plant wrong bodies under all contracts, and compare what is proved with docs/PLANTS.md (hours)'
+	@echo 'make plant                  plant wrong bodies under all contracts, and list those that are proved (hours)'
 	@scripts/toolchain
 
 # Another processor than that of x86-64 Linux, as `rt lib --target` names it. What is built for it stands in a folder of its own.
@@ -232,10 +231,10 @@ clean:
 	rm -rf crates/*/out compat/out python/build python/*.egg-info out dist aec librice.a librice.so
 
 test:
-	scripts/gate.py
-
-test-each:
 	rt ci
+
+edit:
+	scripts/edit $(NAME)
 
 rows: aec library
 	scripts/rows.py ./aec scripts/rows.txt librice.so
@@ -323,9 +322,6 @@ bench-compat: compat
 wrappers:
 	scripts/wrong_wrappers.py
 
-clauses:
-	scripts/clauses.py
-
 trusted:
 	scripts/trusted.py
 
@@ -336,4 +332,4 @@ lemmas:
 	scripts/lemma_lines.py
 
 plant:
-	scripts/plant_wrong_bodies.py
+	for crate in $(LIBRARIES) rice_c aec_command aec_tool; do (cd crates/$$crate && rt plant --max 1000000 --minutes 10000) || exit 1; done

@@ -1,6 +1,6 @@
 #!/usr/bin/env python3
-"""Tries what the documents and the manual page say: links, paths, targets of make, commands, messages, edits and
-toolchains. (Options: scripts/options.py.)
+"""Tries what the documents and the manual page say: links, paths, targets of make, commands, messages and toolchains.
+(Options: scripts/options.py.)
 
 Commands that begin with `$` are run with the program, and what they print is compared; of others the first word is looked up.
 
@@ -115,18 +115,6 @@ def wrong_messages():
             yield f"{MANUAL}: the message {message!r} is not explained"
 
 
-def wrong_edits():
-    """The edits that docs/PROOFS.md names and that are none, and those that it does not name."""
-    tables = re.findall(r"(?m)^\|.*\| edits that must fail \|\n((?:\|.*\n)*)", read("docs/PROOFS.md"))
-    cells = [row.rpartition("|")[0].rpartition("|")[2] for table in tables for row in table.splitlines()]
-    named = {name for cell in cells if cell.startswith(" `") for name in re.findall(r"`([\w-]+)`", cell)}
-    edits = {os.path.basename(path).removesuffix(".edit") for path in glob.glob("crates/*/must-fail/*.edit")}
-    for name in sorted(named - edits):
-        yield f"docs/PROOFS.md: no edit {name}"
-    for edit in sorted(edits - named):
-        yield f"docs/PROOFS.md: the edit {edit} is not named"
-
-
 def wrong_toolchains():
     """The pages that name other versions of the toolchain than those that are known to pass."""
     known = read("docs/toolchains.txt").split()
@@ -143,7 +131,7 @@ def main():
     targets = re.findall(r"(?m)^([a-z0-9-]+):", read("Makefile"))
     help_text = subprocess.run([program, "--help"], capture_output=True, text=True, check=True).stdout
     wrong = [text for page in pages for text in (*wrong_links(page), *wrong_names(page, targets), *wrong_commands(page))]
-    wrong += [*wrong_messages(), *wrong_edits(), *wrong_toolchains()]
+    wrong += [*wrong_messages(), *wrong_toolchains()]
     with tempfile.TemporaryDirectory() as folder:
         os.symlink(program, os.path.join(folder, "aec"))
         os.environ["PATH"] = folder + ":" + os.environ["PATH"]

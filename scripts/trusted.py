@@ -10,8 +10,6 @@ import os
 import re
 import sys
 
-import edit_places
-
 PAGE = "docs/TRUSTED.md"
 PROMISES = [("encode", "rice_stream", "src/encoding.rt"), ("decode", "rice_stream", "src/decoding.rt")]
 HEAD = re.compile(r"( *)(?:(?:pub|abbrev|unfoldable|opaque|data|record) )*([^\s:(){}]+)(?: .*)? : ")
@@ -63,9 +61,8 @@ def definitions(text):
 
 def contract(crate, file, name):
     """The head of a function, with its clauses."""
-    text = read(f"crates/{crate}/{file}")
-    function = next(it for it in edit_places.functions_in(crate, file, text) if it.name.endswith(f"::{name}"))
-    return re.sub(r"//.*", "", text[function.start : function.body])
+    head = re.search(rf"(?ms)^pub fn {name}\b.*?^{{$", read(f"crates/{crate}/{file}"))[0]
+    return re.sub(r"//.*", "", head)
 
 
 def trusted(name, crate, file):

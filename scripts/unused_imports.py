@@ -9,19 +9,14 @@ import re
 import subprocess
 import sys
 
-import edit_places
-
 USE = re.compile(r"(?m)^ghost use ([\w.+]+)\.\{(.*?)\};\n", re.S)
+BODY_BEHIND_CLAUSES = re.compile(r"(?ms)^( *)\{$.*?^\1\}$")
+WITHOUT_CLAUSES = re.compile(r"(?ms)^( *)(?:pub(?:\(\w+\))? )?(?:const |unsafe )?fn (?:(?!\brequires\b|\bensures\b)[^{;])*\{$.*?^\1\}$")
 
 
-def clauses(crate, file, text):
-    """The text outside of functions' bodies, comments and imports."""
-    parts, at = [], 0
-    for function in sorted(edit_places.functions_in(crate, file, text), key=lambda it: it.start):
-        if function.body >= at:
-            parts.append(text[at : function.body])
-            at = function.end
-    return re.sub(r"//.*", "", USE.sub("", "".join([*parts, text[at:]])))
+def clauses(text):
+    """The text outside of functions' bodies, comments and imports, as `rt fmt` lays it out."""
+    return re.sub(r"//.*", "", USE.sub("", WITHOUT_CLAUSES.sub("", BODY_BEHIND_CLAUSES.sub("", text))))
 
 
 def is_used(name, text):
@@ -31,9 +26,9 @@ def is_used(name, text):
                for part in word.split("◌") if part)
 
 
-def without_unused(crate, file, text):
+def without_unused(text):
     """The text without the names that nothing uses, and these."""
-    found, known = [], clauses(crate, file, text)
+    found, known = [], clauses(text)
 
     def kept(use):
         names = [name.strip() for name in use[2].split(",")]
@@ -50,10 +45,9 @@ def main(words):
     listed = subprocess.run(["git", "ls-files", "crates/*.rt"], capture_output=True, text=True, check=True).stdout.split()
     count = 0
     for path in listed:
-        crate, file = re.match(r"crates/(\w+)/(.*)", path).groups()
         with open(path, encoding="utf-8") as source:
             text = source.read()
-        new, unused = without_unused(crate, file, text)
+        new, unused = without_unused(text)
         count += len(unused)
         if unused and words == ["--fix"]:
             with open(path, "w", encoding="utf-8") as source:

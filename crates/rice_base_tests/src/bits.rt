@@ -1,35 +1,17 @@
+//! Tests of sinks, readers and devices.
 ghost use Rattle.std.specs.Prelude.{◌<◌};
 
-use crate::case_table::{Columns, bytes_of};
 use crate::cases::Cases;
 use crate::devices::{MemoryIn, MemoryOut, ZeroIn};
 use rice_bits::{
     BitFault, BitReader, BitSink, FromBufWriter, FromReader, FromWriter, Intake, Meter, Outlet,
-    ReadFault, SliceIn, SliceOut, WriteFault, join, low_digits,
+    ReadFault, SliceIn, SliceOut, WriteFault,
 };
-use std::alloc::Global;
 use std::io::{self, BufWriter, ErrorKind, Read, Write};
 use std::test::Fail;
 
 /// The sizes of pieces that each reading is tried with.
 const PIECES: [usize; 4] = [1, 3, 7, 4096];
-
-#[test]
-fn digits_are_joined() -> Result<(), Fail> {
-    let mut cases = Cases::new();
-    cases.check(join(0b101, 4, 0b0011) == 0b101_0011);
-    cases.check(join(0, 8, 7) == 7);
-    cases.end()
-}
-
-#[test]
-fn digits_are_taken() -> Result<(), Fail> {
-    let mut cases = Cases::new();
-    cases.check(low_digits(0b1011_0110, 5) == 0b1_0110);
-    cases.check(low_digits(0xFFFF_FFFF, 32) == 0xFFFF_FFFF);
-    cases.check(low_digits(7, 0) == 0);
-    cases.end()
-}
 
 #[test]
 fn put_and_pad() -> Result<(), Fail> {
@@ -51,110 +33,6 @@ fn put_and_pad() -> Result<(), Fail> {
     sink.drop_whole();
     cases.check(sink.len() == 0);
     cases.end()
-}
-
-#[test]
-fn put_long_words() -> Result<(), Fail> {
-    let mut cases = Cases::new();
-    let mut sink = BitSink::<8>::new();
-    let mut meter = Meter::new();
-    sink.put(0xA, 4, &mut meter);
-    sink.put_up_to_56_digits(0x12_3456_789A_BCDE, 56, &mut meter);
-    cases.check(sink.len() == 60);
-    cases.check(meter.steps() == 60);
-    sink.pad();
-    let expected = [0xA1, 0x23, 0x45, 0x67, 0x89, 0xAB, 0xCD, 0xE0];
-    cases.check(sink.whole() == expected.as_slice());
-
-    let mut sink = BitSink::<8>::new();
-    let mut meter = Meter::new();
-    sink.put(0x55, 7, &mut meter);
-    sink.put_up_to_56_digits(0x80_0000_0000_0001, 56, &mut meter);
-    sink.pad();
-    let expected = [0xAB, 0, 0, 0, 0, 0, 0, 2];
-    cases.check(sink.whole() == expected.as_slice());
-    cases.end()
-}
-
-/// How many of the lowest digits of three words are put after 1010, and the bytes of all.
-const WORDS: &str = "0  | A0
-    3  | A1F8
-    8  | A78EF0F0
-    28 | A23456789ABCDEFF0F0F0F
-    32 | A1234567889ABCDEF0F0F0F0F0";
-
-#[test]
-fn put_all_words(rt: HostRuntime) -> Result<(), Fail> {
-    let mut cases = Cases::new();
-    let words = [0x1234_5678, 0x89AB_CDEF, 0x0F0F_0F0F];
-    for line in WORDS.lines() {
-        cases.of_line(line);
-        let mut columns = Columns::of(line);
-        let width = columns.next_u32()?;
-        let expected = bytes_of(columns.next(), rt.alloc())?;
-        assert!(rt; width <= 32);
-        let mut sink = BitSink::<16>::new();
-        let mut meter = Meter::new();
-        sink.put(0b1010, 4, &mut meter);
-        sink.put_words(&words, width, &mut meter);
-        cases.check(sink.len() == 4 + 3 * width as u64);
-        cases.check(meter.steps() == 4 + 3 * width as u64);
-        sink.pad();
-        cases.check(sink.whole() == expected.as_slice());
-    }
-    cases.end()
-}
-
-/// How many of the lowest digits of eight words are put after 1010 and 101, and the bytes of all.
-const WHOLE_WORDS: &str = "8  | AAF1DE1E01FFBFC002
-    16 | AAACF19BDE1E1E0001FFFF37BF59C00002
-    32 | AA2468ACF113579BDE1E1E1E1E00000001FFFFFFFE26AF37BE48D159C100000002";
-
-#[test]
-fn put_eight_whole_words(rt: HostRuntime) -> Result<(), Fail> {
-    let mut cases = Cases::new();
-    let words = [
-        0x1234_5678,
-        0x89AB_CDEF,
-        0x0F0F_0F0F,
-        0,
-        0xFFFF_FFFF,
-        0x1357_9BDF,
-        0x2468_ACE0,
-        0x8000_0001,
-    ];
-    for line in WHOLE_WORDS.lines() {
-        cases.of_line(line);
-        whole_words_of_line(&mut cases, rt.alloc(), &words, line)?;
-    }
-    cases.end()
-}
-
-fn whole_words_of_line(
-    cases: &mut Cases<'_>,
-    alloc: Global,
-    words: &[u32; 8],
-    line: &str,
-) -> Result<(), Fail> {
-    let mut columns = Columns::of(line);
-    let width = columns.next_u32()?;
-    let expected = bytes_of(columns.next(), alloc)?;
-    put_whole_words(cases, words, width, expected.as_slice());
-    Ok(())
-}
-
-fn put_whole_words(cases: &mut Cases<'_>, words: &[u32; 8], width: u32, expected: &[u8]) {
-    if width != 8 && width != 16 && width != 32 {
-        return cases.check(false);
-    }
-    let mut sink = BitSink::<40>::new();
-    let mut meter = Meter::new();
-    sink.put(0b1010, 4, &mut meter);
-    sink.put_number_and_whole_words(0b101, 3, words, width, &mut meter);
-    let bits = 7 + 8 * width as u64;
-    cases.check((sink.len(), meter.steps()) == (bits, bits));
-    sink.pad();
-    cases.check(sink.whole() == expected);
 }
 
 #[test]
@@ -268,54 +146,6 @@ fn read_to_the_end_of_a_byte(cases: &mut Cases<'_>, piece: usize)
     reader.align(&mut meter);
     cases.check(reader.taken() == 72);
     cases.check(reader.take(1, &mut meter) == Err(BitFault::End { blank: true }));
-}
-
-#[test]
-fn take_words_that_wait(rt: HostRuntime) -> Result<(), Fail> {
-    let mut cases = Cases::new();
-    let bytes = [0x12, 0x34, 0x56, 0x78, 0x9A, 0xBC, 0xDE, 0xF0, 0x12, 0x34];
-    let mut meter = Meter::new();
-    let mut reader = BitReader::new(MemoryIn::new(&bytes, 4096, None));
-    let mut words = [77; 3];
-    cases.check(reader.take_waiting(4, &mut words, &mut meter) == 0);
-    assert_eq!(rt; reader.take(8, &mut meter), Ok(0x12));
-    cases.check(reader.take_waiting(4, &mut words, &mut meter) == 3);
-    cases.check(words == [3, 4, 5]);
-    cases.check((reader.taken(), meter.steps()) == (20, 20));
-    cases.end()
-}
-
-#[test]
-fn take_sequences_that_wait(rt: HostRuntime) -> Result<(), Fail> {
-    let mut cases = Cases::new();
-    // 0x18 is 00011, 000 and then zeros.
-    let bytes = [0x80, 0x18, 0, 0, 0, 0, 0, 0, 0, 1];
-    let mut meter = Meter::new();
-    let mut reader = BitReader::new(MemoryIn::new(&bytes, 4096, None));
-    let mut zeros = [77; 4];
-    cases.check(reader.take_waiting_fs(&mut zeros, &mut meter) == 0);
-    assert_eq!(rt; reader.take_fs(&mut meter), Ok(0));
-    cases.check(reader.take_waiting_fs(&mut zeros, &mut meter) == 2);
-    cases.check(zeros == [10, 0, 77, 77]);
-    cases.check((reader.taken(), meter.steps()) == (13, 13));
-    cases.check(reader.take_fs(&mut meter) == Ok(66));
-    cases.end()
-}
-
-#[test]
-fn take_parts_that_wait(rt: HostRuntime) -> Result<(), Fail> {
-    let mut cases = Cases::new();
-    // After 1001, the sequences 1 01 1 001 1 1 01 1, and then words of three digits.
-    let bytes = [0x9B, 0x3B, 0xAB, 0x83, 0x9C];
-    let mut meter = Meter::new();
-    let mut reader = BitReader::new(MemoryIn::new(&bytes, 4096, None));
-    let mut numbers = [77; 8];
-    cases.check(!reader.take_waiting_parts(3, &mut numbers, &mut meter));
-    assert_eq!(rt; reader.take(4, &mut meter), Ok(9));
-    cases.check(reader.take_waiting_parts(3, &mut numbers, &mut meter));
-    cases.check(numbers == [5, 10, 7, 16, 1, 6, 11, 4]);
-    cases.check((reader.taken(), meter.steps()) == (40, 40));
-    cases.end()
 }
 
 #[test]

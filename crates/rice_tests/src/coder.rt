@@ -1,3 +1,4 @@
+//! Tests of the coder: codes, bits and steps.
 ghost use Rattle.std.specs.Prelude.{◌≡◌, ◌<◌, ◌≤◌, true, All, length};
 ghost use Rattle.rice_samples.specs.Parameters.{value_count};
 

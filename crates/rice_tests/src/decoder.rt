@@ -1,3 +1,4 @@
+//! Tests of the decoder: samples, bits, steps and refusals.
 ghost use Rattle.std.specs.Prelude.{◌≡◌, ◌+◌, ◌*◌, ◌^◌, ◌<◌, ◌≤◌, true, None};
 ghost use Rattle.rice_code.specs.decode.BlocksInOnePass.{ArePredicted};
 
