@@ -33,7 +33,7 @@ help:
 	@echo 'make two-builds             build and pack all once more in another folder, and compare'
 	@echo 'make clean                  remove what was built, and what was kept of proofs'
 	@echo 'make test                   prove everything, try the edits that must fail, and run all tests: what passed here before is kept'
-	@echo 'make edit NAME=CRATE/EDIT   try one of crates/CRATE/must-fail'
+	@echo 'make edit NAME=CRATE/EDIT   try one of the edits that must fail, must-fail/CRATE/EDIT.edit'
 	@echo 'make rows                   run the cases of scripts/rows.txt with ./aec and the library'
 	@echo 'make hostile                run ./aec on damaged and random codes, and on files and streams that fail'
 	@echo "make interop                exchange codes between ./aec and Debian's aec (libaec-tools)"
@@ -232,9 +232,10 @@ clean:
 
 test:
 	rt ci
+	scripts/edits.py
 
 edit:
-	scripts/edit $(NAME)
+	scripts/edits.py $(NAME)
 
 rows: aec library
 	scripts/rows.py ./aec scripts/rows.txt librice.so

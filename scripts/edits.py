@@ -1,0 +1,194 @@
+#!/usr/bin/env python3
+"""Tries the edits that must fail, must-fail/CRATE/NAME.edit: wrong bodies, of which the prover has to refuse each.
+
+What is shown of a function comes from its own body and from the contracts that it names, and from no other body. So edits of different
+functions stand in one copy of the crate, and one check of these functions judges them, over the work that the crate's own check has kept.
+An edit is refused where a function that it changes is not proved. Where that function only calls one that is not proved, the edit is
+tried again in the next check.
+
+usage: edits.py [CRATE | CRATE/NAME] ..   all of them, where none is named
+"""
+import concurrent.futures
+import contextlib
+import dataclasses
+import os
+import re
+import shutil
+import subprocess
+import sys
+import tempfile
+import threading
+
+FUNCTION = re.compile(r'( *)(?:pub(?:\([^)]*\))? )?(?:const |unsafe |extern "C" )*fn (\w+)')
+OWNER = re.compile(r"(?:pub )?trait (\w+)()()|impl(?:<.*?>)? (?:(\w+)(?:<.*>)? for )?&?(?:'\w+ )?(?:mut )?(\w+)(?:<(\d+)>)?")
+CALLS_UNPROVED = re.compile(r"\b(it calls|it passes|a call of)\b")
+# A check of a crate as it stands waits for another in the same folders.
+ONE_CHECK = threading.Lock()
+
+
+@dataclasses.dataclass
+class Edit:
+    """Texts of files and what stands in their place, and the functions that they change."""
+
+    name: str
+    pairs: list
+    functions: set
+
+
+def read(path):
+    with open(path, encoding="utf-8") as file:
+        return file.read()
+
+
+def edit_of(crate, name):
+    """Reads an edit, or says why it can't be applied."""
+    file, old, pairs, texts, functions = None, None, [], {}, set()
+    for line in read(f"must-fail/{crate}/{name}.edit").split("\n"):
+        kind, _, rest = line.partition(" ")
+        if kind == "file:":
+            file = rest
+            texts.setdefault(file, read(f"crates/{crate}/{file}"))
+        elif kind == "old:":
+            old = rest
+        elif kind == "new:":
+            if texts[file].count(old) != 1:
+                raise ValueError(f"its text is in {file} {texts[file].count(old)} times")
+            functions |= {function_at(crate, file, texts[file], texts[file].index(old))}
+            texts[file] = texts[file].replace(old, rest)
+            pairs.append((file, old, rest))
+    if not pairs or None in functions:
+        raise ValueError("it changes no function")
+    return Edit(f"{crate}/{name}", pairs, functions)
+
+
+def function_at(crate, file, text, place):
+    """Returns the name, as a check tells it, of the function at a place of a source that `rt fmt` has laid out."""
+    lines = text.split("\n")
+    number = text.count("\n", 0, place)
+    for at in range(number, -1, -1):
+        head = FUNCTION.match(lines[at])
+        if head and head[1] + "}" not in lines[at:number]:
+            break
+    else:
+        return None
+    module = [it for it in file.removeprefix("src/").removesuffix(".rt").split("/") if it not in ("lib", "main")]
+    return "::".join([crate, *module, *owner_of(lines[:at] if head[1] else []), head[2]])
+
+
+def owner_of(lines):
+    """Returns the type, with the trait that it meets behind it, of the last impl that these lines begin."""
+    for line in reversed(lines):
+        found = OWNER.match(line)
+        if found:
+            of_trait, _, _, met, of_type, number = found.groups()
+            return [of_trait or of_type + (met or "") + (f"+{number}" if number else "")]
+    return []
+
+
+@contextlib.contextmanager
+def copy_of_crates():
+    """Gives a copy of the crates, of files with second names: a check replaces files, and changes none."""
+    room = tempfile.mkdtemp(prefix="edits-")
+    try:
+        if subprocess.run(["cp", "-al", "crates", room], stderr=subprocess.DEVNULL).returncode:
+            shutil.rmtree(f"{room}/crates")
+            subprocess.run(["cp", "-a", "crates", room], check=True)
+        for file in ("crates.txt", "HANDLES"):
+            shutil.copy(file, room)
+        subprocess.run(["git", "init", "-q", room], check=True)
+        yield room
+    finally:
+        shutil.rmtree(room)
+
+
+def write(path, text):
+    """Writes a file anew, so that the file that it was a second name of stays."""
+    with open(f"{path}.new", "w", encoding="utf-8") as file:
+        file.write(text)
+    os.replace(f"{path}.new", path)
+
+
+def check(room, crate, edits):
+    """Returns what a check of the functions that these edits change says of each."""
+    texts = {file: read(f"crates/{crate}/{file}") for edit in edits for file, _, _ in edit.pairs}
+    for file, old, new in (pair for edit in edits for pair in edit.pairs):
+        texts[file] = texts[file].replace(old, new)
+    for file, text in texts.items():
+        write(f"{room}/crates/{crate}/{file}", text)
+    only = [word for edit in edits for name in sorted(edit.functions) for word in ("--only", name.partition("::")[2])]
+    ran = subprocess.run(["rt", "check", "--jobs", "1", *only], cwd=f"{room}/crates/{crate}", capture_output=True, text=True)
+    for file in texts:
+        write(f"{room}/crates/{crate}/{file}", read(f"crates/{crate}/{file}"))
+    return dict(re.findall(r"(?m)^fn (\S+): (.*)", ran.stdout)), ran.stdout
+
+
+def verdicts(room, crate, edits):
+    """Returns of each of these edits, of different functions, whether it is refused and what is said, or None where it can't be told."""
+    told, said = check(room, crate, edits)
+    if not all(name in told for edit in edits for name in edit.functions):
+        if len(edits) == 1:
+            return {edits[0].name: (False, f"BAD EDIT: {said[-300:]}")}
+        half = len(edits) // 2
+        return verdicts(room, crate, edits[:half]) | verdicts(room, crate, edits[half:])
+    return {edit.name: verdict(edit, told) for edit in edits}
+
+
+def verdict(edit, told):
+    open_ones = [name for name in sorted(edit.functions) if told[name] != "proved"]
+    refused = [name for name in open_ones if not CALLS_UNPROVED.search(told[name])]
+    if refused:
+        return True, f"refused: {refused[0]}: {told[refused[0]][:160]}"
+    return None if open_ones else (False, "NOT REFUSED: it is proved")
+
+
+def tried(crate, names):
+    """Yields each edit of a crate with its verdict."""
+    left = []
+    for name in names:
+        try:
+            left.append(edit_of(crate, name))
+        except (OSError, ValueError) as why:
+            yield f"{crate}/{name}", (False, f"BAD EDIT: {why}")
+    with ONE_CHECK:
+        ran = subprocess.run(["rt", "check"], cwd=f"crates/{crate}", capture_output=True)
+    if ran.returncode:
+        yield crate, (False, "it is not proved as it stands")
+        return
+    with copy_of_crates() as room:
+        while left:
+            now = of_different_functions(left)
+            found = judged(room, crate, now) or judged(room, crate, now[:1])
+            yield from (found or {now[0].name: (False, "NOT JUDGED: its function calls one that is not proved")}).items()
+            left = [edit for edit in left if edit.name not in found and (found or edit is not now[0])]
+
+
+def of_different_functions(edits):
+    found, taken = [], set()
+    for edit in edits:
+        if not taken & edit.functions:
+            found.append(edit)
+            taken |= edit.functions
+    return found
+
+
+def judged(room, crate, edits):
+    return {name: it for name, it in verdicts(room, crate, edits).items() if it}
+
+
+def main(words):
+    os.chdir(os.path.join(os.path.dirname(os.path.realpath(__file__)), ".."))
+    names = {crate: [it.removesuffix(".edit") for it in sorted(os.listdir(f"must-fail/{crate}"))] for crate in os.listdir("must-fail")}
+    chosen = {crate: [it for it in all_of if not words or {crate, f"{crate}/{it}"} & {*words}] for crate, all_of in names.items()}
+    passed = failed = 0
+    with concurrent.futures.ThreadPoolExecutor(os.cpu_count()) as pool:
+        crates = sorted((crate for crate in chosen if chosen[crate]), key=lambda crate: -len(chosen[crate]))
+        for found in pool.map(lambda crate: [*tried(crate, chosen[crate])], crates):
+            for name, (is_refused, said) in found:
+                print(f"{name}: {said}", flush=True)
+                passed, failed = passed + is_refused, failed + (not is_refused)
+    print(f"{passed} passed, {failed} failed")
+    return 1 if failed or not passed else 0
+
+
+if __name__ == "__main__":
+    sys.exit(main(sys.argv[1:]))
