@@ -13,7 +13,7 @@ PYTHON_CODES ?= 1000000
 LIBRARY_CODES ?= 1000000
 
 .DEFAULT_GOAL := help
-.PHONY: help library compat python install install-command install-library install-compat uninstall check clean dist release deb released two-builds test edit rows hostile interop exhaustive any-block refused-memory installed recipes documents options guesses vectors pictures imports lemmas progress bench-others bench examples stack header axioms hostile-library hostile-pulls clients hostile-compat python-tests aarch64 bench-compat wrappers trusted plant
+.PHONY: help library compat python install install-command install-library install-documents install-compat uninstall check clean dist release deb released two-builds test edit rows hostile interop exhaustive any-block refused-memory installed recipes documents options guesses vectors pictures imports lemmas progress bench-others bench examples stack header axioms hostile-library hostile-pulls clients hostile-compat python-tests aarch64 bench-compat wrappers trusted plant
 
 help:
 	@echo 'make aec                    prove and build the program, as ./aec (some fifteen minutes the first time)'
@@ -21,8 +21,8 @@ help:
 	@echo 'make library TARGET=aarch64-unknown-linux-gnu   the same for another processor, in out/TARGET'
 	@echo 'make compat                 build the interfaces of libaec and szlib over the library, in ./compat/out'
 	@echo 'make python                 build the Python package over ./librice.a, as a wheel and unpacked, in ./out/python'
-	@echo 'make install PREFIX=DIR     install both in DIR (/usr/local), with manual page, completions, header and rice.pc'
-	@echo 'make install-command, make install-library   install one of them'
+	@echo 'make install PREFIX=DIR     install both in DIR (/usr/local), with manual page, completions, header, rice.pc and documents'
+	@echo 'make install-command, make install-library, make install-documents   install one of them'
 	@echo 'make install-compat         install the interfaces of libaec and szlib in DIR/lib/rice-compat'
 	@echo 'make uninstall PREFIX=DIR   remove what these installed'
 	@echo 'make check                  run what is built through the cases of scripts/rows.txt and through damaged codes, without the toolchain'
@@ -145,11 +145,12 @@ out/python/rice121: librice.a include/rice.h scripts/wheel $(wildcard python/*.*
 	scripts/wheel $(PYTHON)
 
 # What stands here is installed, and nothing is proved or built for it.
-paths_are_whole = $(foreach it,PREFIX BINDIR LIBDIR INCLUDEDIR DATADIR MANDIR,$(if $(filter /%,$($(it))),,$(error $(it) has to begin with /, unlike $($(it)))))
+paths_are_whole = $(foreach it,PREFIX BINDIR LIBDIR INCLUDEDIR DATADIR MANDIR,$(if $(filter /%,$($(it))),,$(error $(it) has to begin with /, unlike $($(it)))))\
+	$(foreach it,DESTDIR PREFIX BINDIR LIBDIR INCLUDEDIR DATADIR MANDIR,$(if $(word 2,$($(it))),$(error $(it) has a blank in it: $($(it)))))
 are_built = @for it in $(1); do [ -e $$it ] || { echo "there is no $$it: it is built by make $(2)" >&2; exit 1; }; done
 to_paths = sed -e 's|@PREFIX@|$(PREFIX)|' -e 's|@LIBDIR@|$(LIBDIR)|' -e 's|@INCLUDEDIR@|$(INCLUDEDIR)|' -e 's|@VERSION@|$(VERSION)|' -e 's|@SHARED@|$(SHARED)|'
 
-install: install-command install-library
+install: install-command install-library install-documents
 
 install-command:
 	$(paths_are_whole)
@@ -173,6 +174,18 @@ install-library:
 	$(to_paths) include/rice-config.cmake.in > $(DESTDIR)$(LIBDIR)/cmake/rice/rice-config.cmake
 	$(to_paths) include/rice-config-version.cmake.in > $(DESTDIR)$(LIBDIR)/cmake/rice/rice-config-version.cmake
 
+DOCUMENTS := README.md LICENSE.md NOTICE docs examples recipes vectors
+DOCDIR = $(DESTDIR)$(DATADIR)/doc/$(PROGRAM)
+
+# A link to another file of the repository becomes plain text.
+install-documents:
+	$(paths_are_whole)
+	install -d $(DOCDIR)
+	cp -r $(DOCUMENTS) $(DOCDIR)
+	rm -rf $(DOCDIR)/recipes/__pycache__
+	chmod -R a+rX $(DOCDIR)
+	sed -Ei 's;\[([^]]*)\]\((\.\./)?(compat|crates|include|python|scripts)[^)]*\);\1;g' $(addprefix $(DOCDIR)/,README.md docs/*.md)
+
 # In a folder of their own, so that they stand in for libaec only where a program is told to look there.
 COMPAT_DIR = $(DESTDIR)$(LIBDIR)/rice-compat
 
@@ -194,6 +207,7 @@ uninstall:
 	rm -f $(addprefix $(DESTDIR)$(LIBDIR)/,librice.a librice.so $(SHARED) $(SHARED).$(VERSION) pkgconfig/rice.pc)
 	rm -f $(addprefix $(DESTDIR)$(LIBDIR)/cmake/rice/,rice-config.cmake rice-config-version.cmake)
 	rm -f $(DESTDIR)$(INCLUDEDIR)/rice.h
+	rm -rf $(addprefix $(DOCDIR)/,$(DOCUMENTS))
 	rm -f $(DESTDIR)$(BINDIR)/$(PROGRAM)
 	rm -f $(DESTDIR)$(MANDIR)/man1/$(PROGRAM).1
 	rm -f $(DESTDIR)$(DATADIR)/bash-completion/completions/$(PROGRAM)
