@@ -5,6 +5,7 @@
  * or a drain of the caller's holds, calls nothing but memcpy, memmove and memset, and writes nowhere but in the memory that it is
  * given, whatever the bytes are.
  * Calls may run in several threads at once, each with an output, a report and a feed of its own.
+ * This header is for C99, C++98 and later, on machines with pointers of eight bytes and the least significant byte first.
  *
  * What a caller has to keep, and nothing checks:
  *   - a pointer to a setting, a feed, a drain or a report points to one, and each bool of a setting is true or false;
@@ -56,6 +57,12 @@ struct rice_setting {
     bool pad;          /* the code of each reference interval is filled to a byte */
     bool any_block;    /* any even number of samples from 2 to 64 makes a block */
 };
+
+/* Returns the setting that suits most samples of so many bits: predicted, in blocks of 32 and intervals of 128. The rest is false. */
+static inline struct rice_setting rice_setting_for(uint32_t bits) {
+    struct rice_setting setting = {bits, 32, 128, false, false, false, true, false, false};
+    return setting;
+}
 
 /* How a call ended. Where one is named by a number, the number stands in `place` of the report, and counts from 0. */
 enum rice_status {
@@ -291,32 +298,26 @@ static inline uint32_t rice_pull_here(struct rice_drain *drain, const uint8_t *c
 #define rice_finish rice_finish_here
 #define rice_pull rice_pull_here
 
-/* The structs lie in memory as the library has them: on machines with pointers of eight bytes. */
-#if defined(__cplusplus) && __cplusplus >= 201103L
-#define RICE_LAYOUT(is_so) static_assert(is_so, "rice.h: not as the library has it")
-#elif defined(__STDC_VERSION__) && __STDC_VERSION__ >= 201112L
-#define RICE_LAYOUT(is_so) _Static_assert(is_so, "rice.h: not as the library has it")
-#else
-#define RICE_LAYOUT(is_so) struct rice_feed
+/* What the library was built for, and how it has the structs in memory. */
+#if __BYTE_ORDER__ != __ORDER_LITTLE_ENDIAN__
+#error "rice.h: the library is for machines with the least significant byte first"
 #endif
-RICE_LAYOUT(sizeof(struct rice_setting) == 20 && sizeof(struct rice_report) == 40 && sizeof(struct rice_feed) == RICE_FEED_SIZE);
-RICE_LAYOUT(offsetof(struct rice_setting, bits) == 0 && offsetof(struct rice_setting, block) == 4);
-RICE_LAYOUT(offsetof(struct rice_setting, interval) == 8 && offsetof(struct rice_setting, is_signed) == 12);
-RICE_LAYOUT(offsetof(struct rice_setting, msb) == 13 && offsetof(struct rice_setting, three) == 14);
-RICE_LAYOUT(offsetof(struct rice_setting, preprocess) == 15 && offsetof(struct rice_setting, pad) == 16);
-RICE_LAYOUT(offsetof(struct rice_setting, any_block) == 17);
-RICE_LAYOUT(offsetof(struct rice_report, samples) == 0 && offsetof(struct rice_report, bits) == 8);
-RICE_LAYOUT(offsetof(struct rice_report, steps) == 16 && offsetof(struct rice_report, written) == 24);
-RICE_LAYOUT(offsetof(struct rice_report, place) == 32);
-RICE_LAYOUT(offsetof(struct rice_feed, setting) == 0 && offsetof(struct rice_feed, samples) == 24);
-RICE_LAYOUT(offsetof(struct rice_feed, bits) == 32 && offsetof(struct rice_feed, steps) == 40);
-RICE_LAYOUT(offsetof(struct rice_feed, previous) == 48 && offsetof(struct rice_feed, start) == 56);
-RICE_LAYOUT(offsetof(struct rice_feed, waiting) == 60 && offsetof(struct rice_feed, waiting_bits) == 64);
-RICE_LAYOUT(sizeof(struct rice_drain) == RICE_DRAIN_SIZE && offsetof(struct rice_drain, setting) == 0);
-RICE_LAYOUT(offsetof(struct rice_drain, samples) == 24 && offsetof(struct rice_drain, bits) == 32);
-RICE_LAYOUT(offsetof(struct rice_drain, steps) == 40 && offsetof(struct rice_drain, previous) == 48);
-RICE_LAYOUT(offsetof(struct rice_drain, block) == 56 && offsetof(struct rice_drain, run) == 60);
-#undef RICE_LAYOUT
+#define RICE_WANTS(what, is_so) extern const char rice_h_wants_##what[(is_so) ? 1 : -1]
+#define RICE_AT(type, field, place) (offsetof(struct rice_##type, field) == (place))
+RICE_WANTS(pointers_of_eight_bytes, sizeof(void *) == 8);
+RICE_WANTS(the_setting_of_the_library, sizeof(struct rice_setting) == 20 && RICE_AT(setting, bits, 0) && RICE_AT(setting, block, 4) &&
+    RICE_AT(setting, interval, 8) && RICE_AT(setting, is_signed, 12) && RICE_AT(setting, msb, 13) && RICE_AT(setting, three, 14) &&
+    RICE_AT(setting, preprocess, 15) && RICE_AT(setting, pad, 16) && RICE_AT(setting, any_block, 17));
+RICE_WANTS(the_report_of_the_library, sizeof(struct rice_report) == 40 && RICE_AT(report, samples, 0) && RICE_AT(report, bits, 8) &&
+    RICE_AT(report, steps, 16) && RICE_AT(report, written, 24) && RICE_AT(report, place, 32));
+RICE_WANTS(the_feed_of_the_library, sizeof(struct rice_feed) == RICE_FEED_SIZE && RICE_AT(feed, setting, 0) && RICE_AT(feed, samples, 24) &&
+    RICE_AT(feed, bits, 32) && RICE_AT(feed, steps, 40) && RICE_AT(feed, previous, 48) && RICE_AT(feed, start, 56) &&
+    RICE_AT(feed, waiting, 60) && RICE_AT(feed, waiting_bits, 64));
+RICE_WANTS(the_drain_of_the_library, sizeof(struct rice_drain) == RICE_DRAIN_SIZE && RICE_AT(drain, setting, 0) &&
+    RICE_AT(drain, samples, 24) && RICE_AT(drain, bits, 32) && RICE_AT(drain, steps, 40) && RICE_AT(drain, previous, 48) &&
+    RICE_AT(drain, block, 56) && RICE_AT(drain, run, 60));
+#undef RICE_AT
+#undef RICE_WANTS
 
 /* Returns what a status means, in words. */
 static inline const char *rice_status_text(uint32_t status) {

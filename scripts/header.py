@@ -3,7 +3,7 @@
 
 The object of the library calls what the header says and nothing else, and holds no memory that changes. The header declares the
 functions that it exports, and their parameters, the fields of the structs and the numbers of the statuses are those of the
-crate. The header is one for C and C++, of old standards and new.
+crate. The header is one for C and C++, of old standards and new, and refuses machines for which the library is not built.
 
 usage: header.py LIBRARY
 """
@@ -16,6 +16,12 @@ import sys
 CALLED = {"memcpy", "memmove", "memset"}
 STRUCTS = {"rice_setting": ["RiceSetting"], "rice_report": ["RiceReport"], "rice_feed": ["RiceFeed", "Seam"], "rice_drain": ["RiceDrain", "Stand"]}
 LANGUAGES = [("cc", "c", standard) for standard in ("c99", "c11", "c17")] + [("c++", "c++", standard) for standard in ("c++98", "c++11", "c++17")]
+# What the header wants, and flags of a compiler without it.
+WANTED = {
+    "pointers_of_eight_bytes": ["-m32", "-ffreestanding"],
+    "the least significant byte first": ["-U__BYTE_ORDER__", "-D__BYTE_ORDER__=__ORDER_BIG_ENDIAN__"],
+    "the_setting_of_the_library": ["-fpack-struct"],
+}
 NUMBERS = {"u32": "uint32_t", "u64": "uint64_t", "i64": "int64_t", "bool": "bool"}
 
 
@@ -114,14 +120,21 @@ def wrong_version(header, texts, changelog):
         yield "the texts of the version are others"
 
 
+def errors(command, language, standard, flags=()):
+    """What a compiler says of the header."""
+    compiler = os.environ.get("CC", command) if command == "cc" else command
+    words = [compiler, f"-std={standard}", *flags, "-pedantic", "-Wall", "-Wextra", "-Werror", "-Iinclude", "-fsyntax-only", "-x", language, "-"]
+    return subprocess.run(words, input="#include <rice.h>\n", capture_output=True, text=True).stderr.strip()
+
+
 def wrong_languages():
-    """The standards by which the header is refused, where there is a compiler."""
+    """The standards by which the header is refused, and those by which it is taken without what it wants."""
     for command, language, standard in LANGUAGES:
-        compiler = os.environ.get("CC", command) if command == "cc" else command
-        words = [compiler, f"-std={standard}", "-pedantic", "-Wall", "-Wextra", "-Werror", "-Iinclude", "-fsyntax-only", "-x", language, "-"]
-        done = subprocess.run(words, input="#include <rice.h>\n", capture_output=True, text=True)
-        if done.returncode != 0:
-            yield f"{standard}: {done.stderr.strip()}"
+        if said := errors(command, language, standard):
+            yield f"{standard}: {said}"
+        for wanted, flags in WANTED.items():
+            if wanted not in errors(command, language, standard, flags):
+                yield f"{standard}: the header does not ask for {wanted}"
 
 
 def main():
