@@ -6,7 +6,8 @@ from typing import TYPE_CHECKING, Any, Optional
 import numpy
 
 from ._errors import RiceError, Status
-from ._memory import SAMPLES_OF_A_BIT, Array, Octets, new_report, new_samples, octets_of, pointer, read_report, samples_of, shape_of
+from ._memory import (SAMPLES_OF_A_BIT, Array, Octets, count_of, new_report, new_samples, octets_of, pointer, read_report, samples_of,
+                      shape_of)
 from ._options import Options, options_for, whole
 from ._rice import lib
 
@@ -54,11 +55,11 @@ def decode(code: Octets, count: int, dtype: DTypeLike, *, out: Optional[Array] =
     >>> decode(b"", 10**12, "i2")
     Traceback (most recent call last):
     ...
-    ValueError: the number of samples: 1000000000000 is no whole number from 0 to 0
+    ValueError: 0 bytes of code have at most 0 samples, and not 1000000000000
     """
     chosen = options_for(dtype, **options)
     octets = octets_of(code)
-    count = whole(count, 8 * SAMPLES_OF_A_BIT * octets.size, "the number of samples")
+    count = count_of(count, octets)
     if out is None:
         return _decoded(octets, count, new_samples(count, dtype, chosen), chosen)
     _check_out(out, count, dtype, chosen)
@@ -73,8 +74,8 @@ def decode(code: Octets, count: int, dtype: DTypeLike, *, out: Optional[Array] =
 
 def _check_out(out: Array, count: int, dtype: DTypeLike, options: Options) -> None:
     """Raises what is wrong with an array that is to take samples."""
-    if not isinstance(out, numpy.ndarray) or out.dtype != numpy.dtype(dtype):
-        raise TypeError(f"out is no array of {numpy.dtype(dtype)}")
+    if not isinstance(out, numpy.ndarray) or isinstance(out, numpy.ma.MaskedArray) or out.dtype != numpy.dtype(dtype):
+        raise TypeError(f"out is no array of {numpy.dtype(dtype)} without a mask")
     if out.size != numpy.prod(shape_of(count, dtype, options), dtype=object):
         raise ValueError(f"out has {out.size} elements, which is not the size of {count} samples")
 

@@ -6,7 +6,7 @@ from typing import TYPE_CHECKING, Any, List, NamedTuple, Optional, Tuple
 import numpy
 
 from ._errors import Report, RiceError, Status
-from ._memory import SAMPLES_OF_A_BIT, Array, Octets, joined, new_report, new_samples, octets_of, pointer, read_report
+from ._memory import Array, Octets, count_of, joined, new_report, new_samples, octets_of, pointer, read_report
 from ._options import options_for, whole
 from ._rice import ffi, lib
 
@@ -146,8 +146,7 @@ def offsets(code: Octets, dtype: DTypeLike, *, count: Optional[int] = None, **op
     """
     chosen = options_for(dtype, **options)
     octets = octets_of(code)
-    most = 8 * SAMPLES_OF_A_BIT * octets.size
-    wanted = most if count is None else whole(count, most, "the number of samples")
+    wanted = 2**64 - 1 if count is None else count_of(count, octets)
     drain, report = _opened(chosen.setting(), Place()), new_report()
     interval = new_samples(chosen.interval * chosen.block, dtype, chosen)
     places: List[Place] = []

@@ -70,9 +70,7 @@ class Encoder:
 
     def _pushed(self, array: Array) -> Tuple[bytes, Any, Array]:
         """Returns the bytes that more samples complete, and the feed and the bytes of samples that wait then."""
-        samples = samples_of(array)
-        if samples.dtype != self.dtype:
-            raise TypeError(f"an array of {samples.dtype}, where this encodes {self.dtype}")
+        samples = samples_of(array, self.dtype)
         if self._is_finished:
             raise ValueError("the code is finished")
         octets, feed = samples.reshape(-1).view("u1"), ffi.new("struct rice_feed *", self._feed[0])

@@ -59,7 +59,7 @@ class RiceError(ValueError):
     ...     rice121.decode(b"", 8, "u1")
     ... except ValueError as error:
     ...     print(error)
-    the number of samples: 8 is no whole number from 0 to 0
+    0 bytes of code have at most 0 samples, and not 8
     >>> try:
     ...     rice121.decode(b"\\0\\x58", 16, "u1", block=8)
     ... except RiceError as error:

@@ -6,7 +6,7 @@ from typing import Any, List, Tuple, Union
 import numpy
 
 from ._errors import Report
-from ._options import Options
+from ._options import Options, whole
 from ._rice import ffi
 
 # A bit of a code gives at most so many samples: 64 blocks of 64 zeros take nine bits.
@@ -17,11 +17,29 @@ Array = Any
 Octets = Any
 
 
-def samples_of(data: Array) -> Array:
-    """Returns an array whose elements stand one after another: the array itself, where they do."""
+def check_array(array: Array, dtype: Any = None) -> None:
+    """Raises a TypeError where an array has a mask, or elements of another type than the one that is given."""
+    if isinstance(array, numpy.ma.MaskedArray):
+        raise TypeError("a code keeps no mask: take array.filled(value), and keep array.mask beside the code")
+    if dtype is not None and array.dtype != dtype:
+        raise TypeError(f"an array of {array.dtype}, where this encodes {dtype}: take array.astype({dtype.str!r}), if all values fit")
+
+
+def samples_of(data: Array, dtype: Any = None) -> Array:
+    """Returns an array whose elements stand one after another: the array itself, where they do, after `check_array`."""
     if isinstance(data, (bytes, bytearray)):
         data = memoryview(data)
-    return numpy.ascontiguousarray(data)
+    samples = numpy.asanyarray(data)
+    check_array(samples, dtype)
+    return numpy.ascontiguousarray(samples)
+
+
+def count_of(number: Any, code: Array) -> int:
+    """Returns a number of samples, where a code of so many bytes may have them."""
+    most, count = 8 * SAMPLES_OF_A_BIT * code.size, whole(number, 2**64 - 1, "the number of samples")
+    if count > most:
+        raise ValueError(f"{code.size} bytes of code have at most {most} samples, and not {count}")
+    return count
 
 
 def octets_of(data: Octets) -> Array:

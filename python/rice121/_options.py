@@ -3,7 +3,7 @@ from __future__ import annotations
 
 import dataclasses
 import numbers
-from typing import TYPE_CHECKING, Any, NamedTuple, Optional, TypedDict
+from typing import TYPE_CHECKING, Any, NamedTuple, NoReturn, Optional, TypedDict
 
 import numpy
 
@@ -82,8 +82,10 @@ class Options:
 
 def whole(number: Any, most: int, name: str) -> int:
     """Returns `number` as an int, where it is a whole one from 0 to `most`. True and False are none."""
-    if not isinstance(number, numbers.Integral) or isinstance(number, bool) or not 0 <= int(number) <= most:
-        raise ValueError(f"{name}: {number!r} is no whole number from 0 to {most}")
+    if not isinstance(number, numbers.Integral) or isinstance(number, bool):
+        raise ValueError(f"{name}: {number!r} is no whole number")
+    if not 0 <= int(number) <= most:
+        raise ValueError(f"{name}: {number} is not from 0 to {most}")
     return int(number)
 
 
@@ -130,14 +132,14 @@ def _agreed(kind: numpy.dtype[Any], name: str, given: Any, told: Any, default: A
 
 def options_for(dtype: DTypeLike, *, bits: Optional[int] = None, block: int = 16, interval: int = 128,
                 is_signed: Optional[bool] = None, msb: Optional[bool] = None, three: Optional[bool] = None,
-                preprocess: bool = True, pad: bool = False, any_block: bool = False) -> Options:
+                preprocess: bool = True, pad: bool = False, any_block: bool = False, **others: NoReturn) -> Options:
     """Returns the options for arrays of a type, which may be u1, u2, u4, i1, i2, i4 in either order of bytes, or V3.
 
     The type gives sign, width and order of the samples, and their bits where these aren't fewer. Samples of three bytes are V3, whose sign
     and order have to be told, or with `three` the bytes of arrays of u1.
 
-    Raises a TypeError where the type has no samples, a ValueError where an option is not what the type says or no number can be, and a
-    RiceError where one is out of its range.
+    Raises a TypeError where the type has no samples or there is no such option, a ValueError where an option is not what the type says or
+    no number can be, and a RiceError where one is out of its range.
 
     >>> options_for(">i2", bits=12)
     Options(bits=12, block=16, interval=128, is_signed=True, msb=True, three=False, preprocess=True, pad=False, any_block=False)
@@ -151,7 +153,14 @@ def options_for(dtype: DTypeLike, *, bits: Optional[int] = None, block: int = 16
     Traceback (most recent call last):
     ...
     TypeError: float32 has no samples of one to four bytes: scale and round the values, and take .astype("i4"), for example
+    >>> options_for("u2", level=9)
+    Traceback (most recent call last):
+    ...
+    TypeError: there is no option level; there are bits, block, interval, is_signed, msb, three, preprocess, pad and any_block
     """
+    if others:
+        *names, last = Keywords.__annotations__
+        raise TypeError(f"there is no option {', '.join(others)}; there are {', '.join(names)} and {last}")
     kind = numpy.dtype(dtype)
     form = _form(kind, three)
     options = Options(

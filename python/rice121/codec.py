@@ -8,6 +8,7 @@ from numcodecs.abc import Codec
 from numcodecs.compat import ensure_contiguous_ndarray
 
 from . import _coding
+from ._memory import check_array
 from ._options import options_for
 
 # The bytes before a code: the number of its samples, least significant first.
@@ -51,6 +52,8 @@ class RiceCodec(Codec):  # type: ignore[misc]
         self._options = {name: getattr(chosen, name) for name in options}
 
     def encode(self, buf: Any) -> bytes:
+        if isinstance(buf, numpy.ndarray):
+            check_array(buf, numpy.dtype(self.dtype))
         samples = ensure_contiguous_ndarray(buf).view("u1")
         if samples.size % numpy.dtype(self.dtype).itemsize:
             raise ValueError(f"{samples.size} bytes are no elements of {self.dtype}")

@@ -44,6 +44,8 @@ class Codec(unittest.TestCase):
         for dtype in ("f4", "u8"):
             self.assertRaises(TypeError, RiceCodec, dtype)
         self.assertRaises(ValueError, RiceCodec("u2").encode, bytes(3))
+        for dtype in (">u2", "<i2", "u1", "<u4"):
+            self.assertRaises(TypeError, RiceCodec("<u2").encode, numpy.zeros(4, dtype))
 
     def test_a_fresh_process_opens_such_an_array(self):
         try:

@@ -6,6 +6,7 @@ import numpy
 
 import rice121
 from rice121 import RiceError, Status
+from rice121.codec import RiceCodec
 
 # No number of samples, of bits or of blocks.
 NUMBERS = (-1, -(2**63), 2**63, None, True, 1.5, 10**12, "8", numpy.True_, numpy.int64(-1), numpy.float64(5))
@@ -26,7 +27,8 @@ class Refusals(unittest.TestCase):
             if number not in (None, 10**12):
                 self.assertRaises(ValueError, rice121.Decoder("<u2").pull, CODE, number)
                 self.assertRaises(ValueError, rice121.decode_all, CODE, "<u2", limit=number if number != 2**63 else -2)
-        self.assertRaises(ValueError, rice121.decode, bytes(1), 8 * 456 + 1, "u1")
+        with self.assertRaisesRegex(ValueError, "1 bytes of code have at most 3648 samples"):
+            rice121.decode(bytes(1), 8 * 456 + 1, "u1")
         with self.assertRaises(RiceError) as raised:
             rice121.decode(bytes(1), 8 * 456, "u1")
         self.assertEqual(raised.exception.status, Status.CODE_ENDS)
@@ -63,6 +65,11 @@ class Refusals(unittest.TestCase):
                 rice121.options_for(dtype)
         self.assertRaises(TypeError, rice121.encode, numpy.zeros(5))
         self.assertRaises(TypeError, rice121.encode, None)
+        masked = numpy.ma.masked_equal(SAMPLES, 3)
+        for call in (rice121.encode, rice121.Encoder("<u2").push, RiceCodec("<u2").encode):
+            with self.assertRaisesRegex(TypeError, "filled"):
+                call(masked)
+        self.assertRaises(TypeError, rice121.decode, CODE, masked.size, "<u2", out=masked)
         self.assertRaises(TypeError, rice121.decode, "code", 1, "u1")
 
     def test_out(self):
