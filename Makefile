@@ -141,7 +141,7 @@ endif
 
 python: out/python/rice121
 
-out/python/rice121: librice.a include/rice.h scripts/wheel $(wildcard python/*.* python/rice121/*.*)
+out/python/rice121: librice.a include/rice.h scripts/wheel $(wildcard LICENSE* NOTICE* python/*.* python/rice121/*.*)
 	scripts/wheel $(PYTHON)
 
 # What stands here is installed, and nothing is proved or built for it.
