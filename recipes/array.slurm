@@ -5,6 +5,7 @@
 #SBATCH --mem=64M
 # Compresses one file in each task: that in the line of `names` which the task's number counts from 0.
 set -euo pipefail
+: "${SLURM_ARRAY_TASK_ID:?usage: sbatch array.slurm}"
 name=$(sed -n "$((SLURM_ARRAY_TASK_ID + 1))p" names)
 aec -n 16 -m -s -j 16 -r 128 "$name" "$name.part"
 mv "$name.part" "$name.aec"

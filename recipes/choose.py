@@ -1,4 +1,4 @@
-#!/usr/bin/python3
+#!/usr/bin/env python3
 """Compresses a file with several block sizes, intervals and bits per sample, and compares sizes and speeds.
 
 Prints a table, the shortest code first, and draws a picture. Of the bits per sample it tries the fewest that take all
@@ -12,6 +12,8 @@ import resource
 import subprocess
 import sys
 import tempfile
+
+from start import usage
 
 BLOCKS = [8, 16, 32, 64]
 INTERVALS = [2, 128, 4096]
@@ -91,7 +93,14 @@ def main():
 
 
 if __name__ == "__main__":
+    if sys.argv[4:5] not in (["1"], ["2"], ["3"], ["4"]):
+        usage()
     PROGRAM, FILE, PICTURE = sys.argv[1:4]
     WIDTH, OPTIONS = int(sys.argv[4]), sys.argv[5:] + (["-3"] if sys.argv[4] == "3" else [])
-    SIZE = os.path.getsize(FILE)
-    main()
+    try:
+        SIZE = os.path.getsize(FILE)
+        main()
+    except OSError as error:
+        sys.exit(f"{error.filename}: {error.strerror}")
+    except subprocess.CalledProcessError as error:
+        sys.exit(f"{' '.join(error.cmd)}: status {error.returncode}")

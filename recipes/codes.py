@@ -2,9 +2,11 @@
 from typing import NamedTuple, Optional
 
 import numpy
-
-import package
 import rice121
+
+# The first bytes of kinds of files.
+MAGIC = {b"GRIB": "GRIB", b"\x89HDF\r\n\x1a\n": "HDF5", b"SIMPLE  =": "FITS", b"\x1f\x8b": "gzip", b"\x28\xb5\x2f\xfd": "zstd",
+         b"\xfd7zXZ": "xz", b"BZh": "bzip2", **{b"CDF" + version: "classic netCDF" for version in (b"\1", b"\2", b"\5")}}
 
 
 class Damage(ValueError):
@@ -36,12 +38,24 @@ class Unserved(ValueError):
         return f"not served: {super().__str__()}"
 
 
+def read(path):
+    with open(path, "rb") as file:
+        return file.read()
+
+
+def kind_of(path):
+    """The kind of a file by its first bytes, or None."""
+    with open(path, "rb") as file:
+        front = file.read(16)
+    return next((kind for magic, kind in MAGIC.items() if front.startswith(magic)), None)
+
+
 def fault_of(part, error, start):
     """What an exception says of a part of a file whose code begins at a byte."""
-    bit = getattr(error, "bit", None)
+    block, bit = getattr(error, "block", None), getattr(error, "bit", None)
     if bit is None:
-        return Fault(part, str(error), getattr(error, "block", None))
-    return Fault(part, str(error), error.block, start + bit // 8, bit % 8)
+        return Fault(part, str(error), block, start)
+    return Fault(part, str(error), block, start + bit // 8, bit % 8)
 
 
 def damage_of(error, decoder):

@@ -6,6 +6,8 @@ usage: frame.py FILE
 import random
 import sys
 
+from start import usage
+
 SIDE = 512
 BLOCK = 2880  # bytes of a block of a FITS file
 
@@ -31,6 +33,8 @@ def shades():
             yield 1000 + (x + 2 * y) // 8 + noise + stars.get((x, y), 0)
 
 
+if len(sys.argv) != 2:
+    usage()
 header = "".join(card.ljust(80) for card in CARDS).encode().ljust(BLOCK)
 data = b"".join((shade - 32768).to_bytes(2, "big", signed=True) for shade in shades())
 with open(sys.argv[1], "wb") as file:

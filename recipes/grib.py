@@ -1,8 +1,8 @@
-#!/usr/bin/python3
+#!/usr/bin/env python3
 """GRIB2 messages with CCSDS packing: checked, decoded and encoded in process. All messages of a file are taken, with bit maps and constant
-fields; what isn't served is named.
+fields; what isn't served is named, and so are bytes that belong to no message.
 
-usage: grib.py check FILE..         say of each field what it is, and whether its code is whole
+usage: grib.py check FILE..         say of each field what it is, and whether it is whole
        grib.py decode FILE FOLDER   write the values of each field as FOLDER/N.npy, with NaN where the bit map has none
        grib.py encode FILE OUT      give fields of simple packing CCSDS packing, with the very same numbers
 """
@@ -10,15 +10,19 @@ import os
 import sys
 from typing import NamedTuple
 
+from start import usage
+
 import numpy
-
-from codes import Damage, Fault, Unserved, decoded, fault_of, unsigned, words_of
-
 import rice121
+
+from codes import Damage, Fault, Unserved, decoded, fault_of, read, unsigned, words_of
 
 SIMPLE, CCSDS = 0, 42
 SIGNED, THREE_BYTES, MOST_SIGNIFICANT_FIRST, PREPROCESS, RESTRICTED, PAD, NOT_ENFORCE = (1 << i for i in range(7))
 NO_BITMAP, LAST_BITMAP = 255, 254
+# The fewest bytes of each section, and the sections that may follow it.
+LEAST = {1: 21, 2: 5, 3: 14, 4: 9, 5: 11, 6: 6, 7: 5}
+NEXT = {0: (1,), 1: (2, 3), 2: (3,), 3: (4,), 4: (5,), 5: (6,), 6: (7,), 7: (2, 3, 4, 8)}
 
 
 class Field(NamedTuple):
@@ -63,35 +67,57 @@ class Field(NamedTuple):
         return values
 
 
-def messages(data):
-    """Where each message of a file begins, and where it ends. What stands between them is passed over."""
-    at = data.find(b"GRIB")
-    while at >= 0:
-        if at + 16 > len(data):
-            raise Damage("the file ends inside a message", None, 8 * at)
-        if data[at + 7] != 2:
-            raise Unserved(f"edition {data[at + 7]} of GRIB")
-        end = at + int.from_bytes(data[at + 8 : at + 16], "big")
-        if end > len(data) or data[end - 4 : end] != b"7777":
-            raise Damage("a message has no end where its length says", None, 8 * at)
-        yield at, end
-        at = data.find(b"GRIB", end)
+def end_of(data, at):
+    """Where a message ends, as its section 0 says."""
+    return at + int.from_bytes(data[at + 8 : at + 16], "big")
+
+
+def why_none(data, at):
+    """Why no message of GRIB2 stands at a byte, or None where one does."""
+    if data[at : at + 4] != b"GRIB":
+        return "they don't begin with GRIB"
+    if data[at + 7 : at + 8] not in (b"", b"\2"):
+        return f"edition {data[at + 7]} of GRIB isn't served"
+    end = end_of(data, at)
+    if end < at + 20 or data[end - 4 : end] != b"7777":
+        return "there is no end where its length says"
+    return None
+
+
+def next_message(data, at):
+    """Where the next message begins from a byte on, or the file ends."""
+    at = data.find(b"GRIB", at)
+    while at >= 0 and why_none(data, at):
+        at = data.find(b"GRIB", at + 1)
+    return at if at >= 0 else len(data)
+
+
+def pieces(data):
+    """The messages of a file, and what stands between them: of each where it begins, where it ends, and why it is no message."""
+    at = 0
+    while at < len(data):
+        why = why_none(data, at)
+        end = next_message(data, at + 1) if why else end_of(data, at)
+        yield at, end, why
+        at = end
 
 
 def sections(data, start, end):
     """The sections of a message: of each its number, where it begins and where it ends."""
-    at = start + 16
+    at, before = start + 16, 0
     while at < end - 4:
-        length = int.from_bytes(data[at : at + 4], "big")
-        if not 5 <= length <= end - 4 - at:
-            raise Damage(f"a section at byte {at} has a length of {length}")
-        yield data[at + 4], at, at + length
-        at += length
+        length, number = int.from_bytes(data[at : at + 4], "big"), data[at + 4]
+        if number not in NEXT[before] or not LEAST[number] <= length <= end - 4 - at:
+            raise Damage(f"behind section {before} stands a section {number} of {length} bytes", None, 8 * (at - start))
+        yield number, at, at + length
+        at, before = at + length, number
+    if before != 7:
+        raise Damage(f"the message ends behind section {before}", None, 8 * (at - start))
 
 
 def fields(data, start, end):
     """The fields of a message. A message may have several, which share sections."""
-    points, packing, bitmap = 0, None, b""
+    points, packing, bitmap = 0, b"", b""
     for number, at, after in sections(data, start, end):
         section = data[at:after]
         if number == 3:
@@ -105,8 +131,6 @@ def fields(data, start, end):
         elif number == 6 and section[5] != LAST_BITMAP:
             raise Unserved(f"the predefined bit map {section[5]}")
         elif number == 7:
-            if packing is None or len(packing) < 21:
-                raise Damage("section 7 has no section 5 before it")
             yield Field(points, packing, bitmap, section[5:], at + 5)
 
 
@@ -144,66 +168,88 @@ def numbers_of(field):
 def unpacked(field):
     """The whole numbers of simple packing: their bits one after the other."""
     bits = numpy.unpackbits(numpy.frombuffer(field.code, "u1"))
-    if not 1 <= field.bits <= 32 or len(bits) < field.bits * field.count:
-        raise Damage(f"section 7 has no {field.count} numbers of {field.bits} bits")
     weights = 1 << numpy.arange(field.bits - 1, -1, -1, dtype="u8")
     return (bits[: field.bits * field.count].reshape(-1, field.bits) * weights).sum(axis=1).astype("u4")
 
 
-def read(path):
-    with open(path, "rb") as file:
-        return file.read()
+def verify(field):
+    """Raises what is wrong with a field of simple or CCSDS packing. Of another nothing is known but its sections."""
+    if field.template not in (SIMPLE, CCSDS):
+        return
+    points = int(numpy.unpackbits(numpy.frombuffer(field.bitmap, "u1"))[: field.points].sum()) if field.bitmap else field.points
+    if points != field.count or field.bits > 32:
+        raise Damage(f"section 5 has {field.count} values of {field.bits} bits for {points} points")
+    if field.template == CCSDS and field.bits:
+        numbers_of(field)
+    elif len(field.code) != -(-field.bits * field.count // 8):
+        raise Damage(f"section 7 has {len(field.code)} bytes for {field.count} values of {field.bits} bits")
+
+
+def message_parts(data, start, end, name):
+    """The fields of a message with their names, and in place of one that isn't whole what is wrong with it."""
+    try:
+        for i, field in enumerate(fields(data, start, end)):
+            part = name if i == 0 else f"{name}, field {i}"
+            try:
+                verify(field)
+                yield part, field
+            except ValueError as error:
+                yield part, fault_of(part, error, field.start)
+    except (Damage, Unserved) as error:
+        yield name, fault_of(name, error, start)
 
 
 def parts(data):
-    """All fields of a file, with their names, and at the end what is wrong with a message."""
-    number, start, name = 0, 0, "message 0"
-    try:
-        for number, (start, end) in enumerate(messages(data)):
-            name = f"message {number}"
-            for i, field in enumerate(fields(data, start, end)):
-                yield name if i == 0 else f"{name}, field {i}", field
-            name = f"behind message {number}"
-    except (Damage, Unserved) as error:
-        bit = getattr(error, "bit", None)
-        yield name, Fault(name, str(error), None, start if bit is None else bit // 8)
+    """The fields of a file with their names, and in place of what is no message or no whole field what is wrong with it."""
+    if not data:
+        yield "the file", Fault("the file", "it is empty")
+    number, name = 0, "before all messages"
+    for start, end, why in pieces(data):
+        if why:
+            yield name, Fault(name, f"{end - start} bytes belong to no GRIB2 message: {why}", None, start)
+        else:
+            yield from message_parts(data, start, end, f"message {number}")
+            number, name = number + 1, f"behind message {number}"
 
 
 def faults(path):
-    """What is wrong with the codes of a file. Fields of other packings have none."""
-    for name, field in parts(read(path)):
-        if isinstance(field, Fault):
-            yield field
-        elif field.template == CCSDS and field.bits:
-            try:
-                numbers_of(field)
-            except ValueError as error:
-                yield fault_of(name, error, field.start)
+    """What is wrong with a file."""
+    return (field for _, field in parts(read(path)) if isinstance(field, Fault))
+
+
+def described(field):
+    """What a whole field is."""
+    if field.template not in (SIMPLE, CCSDS):
+        return f"{field.count} values, template {field.template}, of which the sections alone are checked"
+    if field.bits == 0:
+        return f"{field.count} values, all the same"
+    if field.template == SIMPLE:
+        return f"{field.count} values of {field.bits} bits, template {field.template}, which has no code"
+    return f"{field.count} values, aec {words(field)}, {len(field.code)} bytes of code, whole"
 
 
 def check(paths):
     """Says of each field what it is. Answers whether all are whole."""
     is_whole = True
     for path in paths:
-        found = {fault.part: fault for fault in faults(path)}
-        is_whole &= not found
         for name, field in parts(read(path)):
-            if name in found:
-                print(f"{path}: {found[name]}")
-            elif field.bits == 0:
-                print(f"{path}: {name}: {field.count} values, all the same")
-            elif field.template == CCSDS:
-                print(f"{path}: {name}: {field.count} values, aec {words(field)}, {len(field.code)} bytes of code, whole")
-            else:
-                print(f"{path}: {name}: {field.count} values of {field.bits} bits, template {field.template}, which has no code")
+            is_fault = isinstance(field, Fault)
+            is_whole &= not is_fault
+            print(f"{path}: {field}" if is_fault else f"{path}: {name}: {described(field)}")
     return is_whole
+
+
+def whole_fields(data, path):
+    """The fields of a file. One that isn't whole ends the program."""
+    for _, field in parts(data):
+        if isinstance(field, Fault):
+            sys.exit(f"{path}: {field}")
+        yield field
 
 
 def decode(path, folder):
     os.makedirs(folder, exist_ok=True)
-    for number, (name, field) in enumerate(parts(read(path))):
-        if isinstance(field, Fault):
-            raise SystemExit(f"{path}: {field}")
+    for number, field in enumerate(whole_fields(read(path), path)):
         values = field.values(numbers_of(field))
         numpy.save(os.path.join(folder, f"{number}.npy"), values)
         print(f"{folder}/{number}.npy: {len(values)} values, from {numpy.nanmin(values):g} to {numpy.nanmax(values):g}")
@@ -219,7 +265,7 @@ def packed(field):
 
 
 def repacked(data, start, end):
-    """A message whose fields, all of simple packing, have CCSDS packing; or as it was."""
+    """A whole message whose fields, all of simple packing, have CCSDS packing; or as it was."""
     found, out, at_field = list(fields(data, start, end)), [], 0
     if not all(field.template == SIMPLE and 1 <= field.bits <= 32 for field in found):
         return data[start:end]
@@ -233,8 +279,9 @@ def repacked(data, start, end):
 
 def encode(path, out):
     data = read(path)
+    list(whole_fields(data, path))
     with open(out, "wb") as file:
-        for number, (start, end) in enumerate(messages(data)):
+        for number, (start, end, _) in enumerate(pieces(data)):
             message = repacked(data, start, end)
             file.write(message)
             is_same = message == data[start:end]
@@ -245,7 +292,7 @@ def main():
     command, *paths = sys.argv[1:] or [""]
     is_check = command == "check" and paths
     if not is_check and (command not in ("decode", "encode") or len(paths) != 2):
-        sys.exit(__doc__.partition("\n\n")[2])
+        usage()
     try:
         if is_check:
             sys.exit(not check(paths))

@@ -1,4 +1,4 @@
-#!/usr/bin/python3
+#!/usr/bin/env python3
 """Finds the options of a code that nobody knows any more: tries settings, and prints those that decode it to its end, the likeliest
 first.
 
@@ -17,10 +17,12 @@ import itertools
 import sys
 from typing import Any, List, NamedTuple, Optional
 
-import numpy
+import start
 
-import package
+import numpy
 import rice121
+
+from codes import kind_of, read
 
 BLOCKS = [8, 16, 32, 64]
 # The likely ones of them first.
@@ -41,8 +43,6 @@ ROUGH = 2
 FEW = 8
 # How many more references have to misfit before a guess is less likely than another.
 SURE = 3
-MAGIC = {b"\x1f\x8b": "gzip", b"\x28\xb5\x2f\xfd": "zstd", b"\xfd7zXZ": "xz", b"BZh": "bzip2", b"GRIB": "a GRIB message: recipes/grib.py",
-         b"\x89HDF": "an HDF5 file: recipes/hdf5.py", b"SIMPLE": "a FITS file: recipes/fits.py", b"CDF": "a netCDF file"}
 
 
 class Setting(NamedTuple):
@@ -297,13 +297,11 @@ def main():
     parser.add_argument("--all", action="store_true", help="try every interval, 1 to 4096")
     given = parser.parse_args()
     try:
-        with open(given.code, "rb") as file:
-            code = file.read()
+        code, kind = read(given.code), kind_of(given.code)
     except OSError as error:
         sys.exit(f"{error.filename}: {error.strerror}")
-    kind = next((kind for magic, kind in MAGIC.items() if code.startswith(magic)), None)
     if kind:
-        print(f"{given.code} begins as {kind}")
+        print(f"{given.code} begins as {kind}{f', which recipes/{kind.lower()}.py reads' if kind in ('GRIB', 'HDF5', 'FITS') else ''}")
     intervals = USUAL + [r for r in range(1, 4097) if r not in USUAL] if given.all else USUAL
     found, furthest = guesses(code, given.size, given.count, intervals)
     if found:

@@ -1,14 +1,17 @@
-#!/usr/bin/python3
+#!/usr/bin/env python3
 """Chunks of HDF5's SZIP filter, in files of HDF5 or netCDF 4: checked and decoded in process. All types of one, two, four and eight bytes
 are taken, pixels of 32 and 64 bits in planes of bytes, scanlines that are filled to whole blocks, every even block size; and beside SZIP
-the filters shuffle and fletcher32.
+the filters shuffle and fletcher32. Other datasets are read by HDF5.
 
-usage: hdf5.py check FILE [DATASET]..        say of each dataset whether the codes of its chunks are whole
+usage: hdf5.py check FILE [DATASET]..        say of each dataset whether its chunks are whole
        hdf5.py decode FILE DATASET OUT.npy   write its values
 """
 import math
+import os
 import sys
 from typing import NamedTuple
+
+from start import usage
 
 import h5py
 import numpy
@@ -72,19 +75,18 @@ def layout_of(dataset):
     return Layout(*next(values for number, values in found if number == SZIP)[:4])
 
 
-def unzipped(layout, chunk):
-    """The bytes of a chunk. Its first four are their number, the least significant first."""
+def unzipped(layout, chunk, most):
+    """The bytes of a chunk, which are at most so many. Its first four are their number, the least significant first."""
     size = int.from_bytes(chunk[:4], "little")
-    pixel = layout.kind.itemsize
+    options, pixel = layout.options(), layout.kind.itemsize
     count = size // pixel
     if size % (pixel * layout.planes) or len(chunk) < 4:
         raise Damage(f"{size} bytes are no whole pixels")
-    if size > 456 * 8 * 8 * len(chunk):
-        raise Damage(f"{len(chunk)} bytes of code have no {size} bytes of pixels")
+    if size > most:
+        raise Damage(f"a code of {size} bytes, where a chunk has {most}")
     lines = -(-count // layout.line)
-    needed = count + (lines - 1) * (layout.filled - layout.line) if count else 0
     # (what fills the last scanline is written too)
-    samples = decoded(chunk[4:], lines * layout.filled if needed else 0, layout.kind, **layout.options())
+    samples = decoded(chunk[4:], lines * layout.filled, layout.kind, **options)
     pixels = samples.reshape(lines, layout.filled)[:, : layout.line].reshape(-1)[:count]
     octets = numpy.ascontiguousarray(pixels).view("u1")
     return octets.reshape(layout.planes, -1).T.tobytes() if layout.planes > 1 else octets.tobytes()
@@ -101,6 +103,7 @@ def fletcher32(data):
 def chunk_bytes(dataset, layout, place):
     """The bytes of a chunk, after its filters are undone. One that a chunk's mask names was not applied to it."""
     mask, data = dataset.id.read_direct_chunk(place)
+    wanted = dataset.dtype.itemsize * math.prod(dataset.chunks)
     for i, (number, _) in reversed(list(enumerate(filters_of(dataset)))):
         if mask >> i & 1:
             continue
@@ -109,11 +112,12 @@ def chunk_bytes(dataset, layout, place):
             if fletcher32(data) != stored:
                 raise Damage("the check sum of the chunk is another")
         elif number == SZIP:
-            data = unzipped(layout, data)
+            # (with the check sum, where that came first)
+            data = unzipped(layout, data, wanted + 4)
         elif number == SHUFFLE:
             data = numpy.frombuffer(data, "u1").reshape(dataset.dtype.itemsize, -1).T.tobytes()
-    if len(data) != dataset.dtype.itemsize * math.prod(dataset.chunks):
-        raise Damage(f"a chunk of {len(data)} bytes, where the dataset has {dataset.dtype.itemsize * math.prod(dataset.chunks)}")
+    if len(data) != wanted:
+        raise Damage(f"a chunk of {len(data)} bytes, where the dataset has {wanted}")
     return data
 
 
@@ -135,15 +139,13 @@ def places(dataset):
         yield info.chunk_offset, info.byte_offset
 
 
-def dataset_faults(dataset):
-    """What is wrong with the chunks of a dataset."""
-    try:
-        layout = layout_of(dataset)
-    except Unserved as error:
-        yield Fault(dataset.name, str(error))
-        return
-    if layout is None:
-        return
+def fault_by(part, error):
+    """What an exception says. (A damaged header may lead h5py to any.)"""
+    return Fault(part, str(error) if isinstance(error, (Damage, Unserved)) else f"HDF5 says: {error}")
+
+
+def chunk_faults(dataset, layout):
+    """What is wrong with the codes of a dataset."""
     for place, byte in places(dataset):
         try:
             chunk_bytes(dataset, layout, place)
@@ -152,30 +154,70 @@ def dataset_faults(dataset):
             yield fault_of(f"{dataset.name} chunk {place}", error, byte + 4)
 
 
-def faults(path):
-    """What is wrong with the codes of a file. Datasets without them have nothing."""
+def dataset_faults(dataset):
+    """What is wrong with the chunks of a dataset. Those that have no code are read by HDF5."""
+    try:
+        layout = layout_of(dataset)
+        if layout:
+            yield from chunk_faults(dataset, layout)
+        elif dataset.chunks and dataset.size:
+            for part in dataset.iter_chunks():
+                dataset[part]
+    except Exception as error:
+        yield fault_by(dataset.name, error)
+
+
+def stated_size(file):
+    """The size of a file by its superblock, which stands behind the user block."""
+    with open(file.filename, "rb") as raw:
+        raw.seek(file.userblock_size)
+        front = raw.read(96)
+    version = front[8]
+    size = front[13 if version < 2 else 9]
+    start = (24, 28, 12, 12)[version] + 2 * size
+    return int.from_bytes(front[start : start + size], "little")
+
+
+def size_faults(file):
+    """What stands behind the end that a file states. (HDF5 refuses one that ends before it.)"""
+    stated, size = stated_size(file), os.path.getsize(file.filename)
+    if size > stated:
+        yield Fault("behind the end", f"{size - stated} bytes belong to nothing in the file", None, stated)
+
+
+def checked(path, names=()):
+    """The datasets of a file, or those that are named, each with what is wrong with it; and what is wrong with the file."""
     try:
         with h5py.File(path) as file:
-            for dataset in datasets(file):
-                yield from dataset_faults(dataset)
-    except (OSError, RuntimeError, KeyError, ValueError) as error:
-        yield Fault("the file", f"HDF5 says: {error}")
+            for dataset in datasets(file, names):
+                yield dataset, list(dataset_faults(dataset))
+            yield None, list(size_faults(file))
+    except Exception as error:
+        yield None, [fault_by("the file", error)]
+
+
+def faults(path):
+    """What is wrong with a file."""
+    return [fault for _, found in checked(path) for fault in found]
+
+
+def described(dataset):
+    """What a whole dataset is."""
+    layout = layout_of(dataset)
+    what = "no SZIP filter" if layout is None else f"{dataset.id.get_num_chunks()} chunks, aec {layout.words()}, whole"
+    planes = f", {layout.planes} planes of bytes" if layout and layout.planes > 1 else ""
+    return f"{dataset.name}: {dataset.dtype.str} {dataset.shape}: {what}{planes}"
 
 
 def check(path, names):
     """Says of each dataset what it is. Answers whether all are whole."""
     is_whole = True
-    with h5py.File(path) as file:
-        for dataset in datasets(file, names):
-            found = list(dataset_faults(dataset))
-            is_whole &= not found
-            for fault in found:
-                print(f"{path}: {fault}")
-            if not found:
-                layout = layout_of(dataset)
-                what = "no SZIP filter" if layout is None else f"{dataset.id.get_num_chunks()} chunks, aec {layout.words()}, whole"
-                planes = f", {layout.planes} planes of bytes" if layout and layout.planes > 1 else ""
-                print(f"{path}: {dataset.name}: {dataset.dtype.str} {dataset.shape}: {what}{planes}")
+    for dataset, found in checked(path, names):
+        is_whole &= not found
+        for fault in found:
+            print(f"{path}: {fault}")
+        if dataset is not None and not found:
+            print(f"{path}: {described(dataset)}")
     return is_whole
 
 
@@ -198,14 +240,12 @@ def decode(path, name, out):
 
 def main():
     command, *words = sys.argv[1:] or [""]
+    if not (command == "check" and words) and not (command == "decode" and len(words) == 3):
+        usage()
     try:
-        if command == "check" and words:
-            sys.exit(not check(words[0], words[1:]))
-        if command == "decode" and len(words) == 3:
-            sys.exit(decode(*words))
-    except (Damage, Unserved, OSError) as error:
+        sys.exit(not check(words[0], words[1:]) if command == "check" else decode(*words))
+    except (OSError, RuntimeError, KeyError, ValueError) as error:
         sys.exit(f"{words[0]}: {error}")
-    sys.exit(__doc__.partition("\n\n")[2])
 
 
 if __name__ == "__main__":

@@ -1,4 +1,4 @@
-#!/usr/bin/python3
+#!/usr/bin/env python3
 """Codes an array of numpy in process, through the Python package, to the bytes that aec writes.
 
 usage: in_process.py PROGRAM
@@ -6,10 +6,13 @@ usage: in_process.py PROGRAM
 import subprocess
 import sys
 
-import numpy
+from start import usage
 
-import package
+import numpy
 import rice121
+
+if len(sys.argv) != 2:
+    usage()
 
 steps = numpy.arange(131072)
 samples = (2000 + 900 * numpy.sin(steps / 500) + steps * 7919 % 13).astype("<u2")

@@ -1,19 +1,19 @@
-#!/usr/bin/python3
+#!/usr/bin/env python3
 """Computes over a zarr array of codes that is larger than a worker's memory, on three worker processes, of which one is killed.
 
-usage: killed_worker.py PROGRAM
+usage: killed_worker.py
 """
 import logging
 import os
 import signal
+import sys
 import tempfile
 import time
 
-import numpy
-
-import package
+from start import usage
 
 import dask.array
+import numpy
 import zarr
 from dask.distributed import Client, LocalCluster, futures_of
 from rice121.codec import RiceCodec
@@ -58,6 +58,8 @@ def main():
 
 
 if __name__ == "__main__":
+    if len(sys.argv) != 1:
+        usage()
     with tempfile.TemporaryDirectory() as folder:
         os.chdir(folder)
         main()

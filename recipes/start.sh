@@ -1,6 +1,10 @@
 # The beginning of each recipe: a new folder, which is removed at the end, with the program that was given as `aec`.
 set -euo pipefail
-program=$(realpath "$1")
+command -v "${1:-}" > /dev/null || {
+    sed -n 's/^# usage/usage/p' "$0" >&2
+    exit 2
+}
+program=$(realpath "$(command -v "$1")")
 recipes=$(realpath "$(dirname "$0")")
 folder=$(mktemp -d)
 trap 'rm -rf "$folder"' EXIT

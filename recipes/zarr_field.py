@@ -1,19 +1,19 @@
-#!/usr/bin/python3
+#!/usr/bin/env python3
 """Writes a field as a zarr array, each chunk a code, reads it on two worker processes, and writes it by xarray.
 
-usage: zarr_field.py PROGRAM
+usage: zarr_field.py
 """
 import itertools
 import logging
 import os
+import sys
 import tempfile
 import time
 
-import numpy
-
-import package
+from start import usage
 
 import dask.array
+import numpy
 import xarray
 import zarr
 from dask.distributed import Client, LocalCluster
@@ -99,6 +99,8 @@ def main():
 
 
 if __name__ == "__main__":
+    if len(sys.argv) != 1:
+        usage()
     with tempfile.TemporaryDirectory() as folder:
         os.chdir(folder)
         main()
