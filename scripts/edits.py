@@ -11,6 +11,7 @@ usage: edits.py [CRATE | CRATE/NAME] ..   all of them, where none is named
 import concurrent.futures
 import contextlib
 import dataclasses
+import functools
 import os
 import re
 import shutil
@@ -24,6 +25,8 @@ OWNER = re.compile(r"(?:pub )?trait (\w+)()()|impl(?:<.*?>)? (?:(\w+)(?:<.*>)? f
 CALLS_UNPROVED = re.compile(r"\b(it calls|it passes|a call of)\b")
 # A check of a crate as it stands waits for another in the same folders.
 ONE_CHECK = threading.Lock()
+# The most edits that are tried one check after the other.
+MOST = 12
 
 
 @dataclasses.dataclass
@@ -141,6 +144,16 @@ def verdict(edit, told):
     return None if open_ones else (False, "NOT REFUSED: it is proved")
 
 
+@functools.lru_cache
+def status_of(crate):
+    return subprocess.run(["rt", "check"], cwd=f"crates/{crate}", capture_output=True).returncode
+
+
+def is_proved(crate):
+    with ONE_CHECK:
+        return status_of(crate) == 0
+
+
 def tried(crate, names):
     """Yields each edit of a crate with its verdict."""
     left = []
@@ -149,9 +162,7 @@ def tried(crate, names):
             left.append(edit_of(crate, name))
         except (OSError, ValueError) as why:
             yield f"{crate}/{name}", (False, f"BAD EDIT: {why}")
-    with ONE_CHECK:
-        ran = subprocess.run(["rt", "check"], cwd=f"crates/{crate}", capture_output=True)
-    if ran.returncode:
+    if not is_proved(crate):
         yield crate, (False, "it is not proved as it stands")
         return
     with copy_of_crates() as room:
@@ -175,17 +186,30 @@ def judged(room, crate, edits):
     return {name: it for name, it in verdicts(room, crate, edits).items() if it}
 
 
+def in_parts(names):
+    count = -(-len(names) // MOST)
+    return [names[it::count] for it in range(count)]
+
+
+def count_refused(found):
+    """Prints the verdicts as they come, and returns how many edits are refused and how many are not."""
+    counts = [0, 0]
+    for name, (is_refused, said) in found:
+        print(f"{name}: {said}", flush=True)
+        counts[not is_refused] += 1
+    return counts
+
+
 def main(words):
     os.chdir(os.path.join(os.path.dirname(os.path.realpath(__file__)), ".."))
     names = {crate: [it.removesuffix(".edit") for it in sorted(os.listdir(f"must-fail/{crate}"))] for crate in os.listdir("must-fail")}
     chosen = {crate: [it for it in all_of if not words or {crate, f"{crate}/{it}"} & {*words}] for crate, all_of in names.items()}
-    passed = failed = 0
+    # (the crates that stand on most others take longest)
+    order = [line.partition(":")[0].split()[0] for line in read("crates.txt").splitlines()]
+    parts = [(crate, part) for crate in reversed(order) for part in in_parts(chosen.get(crate, []))]
     with concurrent.futures.ThreadPoolExecutor(os.cpu_count()) as pool:
-        crates = sorted((crate for crate in chosen if chosen[crate]), key=lambda crate: -len(chosen[crate]))
-        for found in pool.map(lambda crate: [*tried(crate, chosen[crate])], crates):
-            for name, (is_refused, said) in found:
-                print(f"{name}: {said}", flush=True)
-                passed, failed = passed + is_refused, failed + (not is_refused)
+        counts = [*pool.map(lambda part: count_refused(tried(*part)), parts)]
+    passed, failed = (sum(it) for it in zip(*counts, (0, 0)))
     print(f"{passed} passed, {failed} failed")
     return 1 if failed or not passed else 0
 
