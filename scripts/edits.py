@@ -4,7 +4,7 @@
 What is shown of a function comes from its own body and from the contracts that it names, and from no other body. So edits of different
 functions stand in one copy of the crate, and one check of these functions judges them, over the work that the crate's own check has kept.
 An edit is refused where a function that it changes is not proved. Where that function only calls one that is not proved, the edit is
-tried again in the next check.
+tried again in the next check. What was refused once is kept by a sum of all that its check read, for every copy of the repository here.
 
 usage: edits.py [CRATE | CRATE/NAME] ..   all of them, where none is named
 """
@@ -12,6 +12,7 @@ import concurrent.futures
 import contextlib
 import dataclasses
 import functools
+import hashlib
 import os
 import re
 import shutil
@@ -27,6 +28,7 @@ CALLS_UNPROVED = re.compile(r"\b(it calls|it passes|a call of)\b")
 ONE_CHECK = threading.Lock()
 # The most edits that are tried one check after the other.
 MOST = 12
+KEPT = os.path.join(os.environ.get("XDG_CACHE_HOME") or os.path.expanduser("~/.cache"), "aec-edits")
 
 
 @dataclasses.dataclass
@@ -36,6 +38,8 @@ class Edit:
     name: str
     pairs: list
     functions: set
+    # The file that stands where it was refused once.
+    kept: str
 
 
 def read(path):
@@ -46,7 +50,8 @@ def read(path):
 def edit_of(crate, name):
     """Reads an edit, or says why it can't be applied."""
     file, old, pairs, texts, functions = None, None, [], {}, set()
-    for line in read(f"must-fail/{crate}/{name}.edit").split("\n"):
+    text = read(f"must-fail/{crate}/{name}.edit")
+    for line in text.split("\n"):
         kind, _, rest = line.partition(" ")
         if kind == "file:":
             file = rest
@@ -61,7 +66,28 @@ def edit_of(crate, name):
             pairs.append((file, old, rest))
     if not pairs or None in functions:
         raise ValueError("it changes no function")
-    return Edit(f"{crate}/{name}", pairs, functions)
+    return Edit(f"{crate}/{name}", pairs, functions, f"{KEPT}/{hashlib.sha256((sum_of(crate) + text).encode()).hexdigest()}")
+
+
+@functools.lru_cache
+def uses():
+    """Returns the libraries that each crate names, by crates.txt."""
+    rows = (line.partition(":") for line in read("crates.txt").splitlines())
+    return {head.split()[0]: below.split() for head, _, below in rows}
+
+
+@functools.lru_cache
+def sum_of(crate):
+    """Returns a sum of what a check of a crate reads: the toolchain, and the files of the crate and of those below it."""
+    found = hashlib.sha256(subprocess.run(["rt", "version"], capture_output=True, check=True).stdout + read(__file__).encode())
+    for part in ("src", "specs", "proofs"):
+        for folder, folders, files in os.walk(f"crates/{crate}/{part}"):
+            folders.sort()
+            for path in (os.path.join(folder, it) for it in sorted(files)):
+                found.update(f"{path}\n{read(path)}".encode())
+    for below in uses()[crate]:
+        found.update(sum_of(below).encode() if below in uses() else below.encode())
+    return found.hexdigest()
 
 
 def function_at(crate, file, text, place):
@@ -162,10 +188,12 @@ def tried(crate, names):
             left.append(edit_of(crate, name))
         except (OSError, ValueError) as why:
             yield f"{crate}/{name}", (False, f"BAD EDIT: {why}")
-    if not is_proved(crate):
+    yield from ((edit.name, (True, "refused before, and nothing has changed")) for edit in left if os.path.exists(edit.kept))
+    left = [edit for edit in left if not os.path.exists(edit.kept)]
+    if left and not is_proved(crate):
         yield crate, (False, "it is not proved as it stands")
         return
-    with copy_of_crates() as room:
+    with copy_of_crates() if left else contextlib.nullcontext() as room:
         while left:
             now = of_different_functions(left)
             found = judged(room, crate, now) or judged(room, crate, now[:1])
@@ -183,7 +211,12 @@ def of_different_functions(edits):
 
 
 def judged(room, crate, edits):
-    return {name: it for name, it in verdicts(room, crate, edits).items() if it}
+    found = {name: it for name, it in verdicts(room, crate, edits).items() if it}
+    os.makedirs(KEPT, exist_ok=True)
+    for edit in edits:
+        if found.get(edit.name, (False,))[0]:
+            write(edit.kept, "")
+    return found
 
 
 def in_parts(names):
@@ -205,8 +238,7 @@ def main(words):
     names = {crate: [it.removesuffix(".edit") for it in sorted(os.listdir(f"must-fail/{crate}"))] for crate in os.listdir("must-fail")}
     chosen = {crate: [it for it in all_of if not words or {crate, f"{crate}/{it}"} & {*words}] for crate, all_of in names.items()}
     # (the crates that stand on most others take longest)
-    order = [line.partition(":")[0].split()[0] for line in read("crates.txt").splitlines()]
-    parts = [(crate, part) for crate in reversed(order) for part in in_parts(chosen.get(crate, []))]
+    parts = [(crate, part) for crate in reversed(uses()) for part in in_parts(chosen.get(crate, []))]
     with concurrent.futures.ThreadPoolExecutor(os.cpu_count()) as pool:
         counts = [*pool.map(lambda part: count_refused(tried(*part)), parts)]
     passed, failed = (sum(it) for it in zip(*counts, (0, 0)))
