@@ -29,4 +29,9 @@ class Wheel(Distribution().get_command_class("bdist_wheel")):
 
 
 # One wheel for all versions of Python: the extension keeps to the interface that they share.
-setup(version=version, cffi_modules=["rice_build.py:ffi"], cmdclass={"bdist_wheel": Wheel}, options={"bdist_wheel": {"py_limited_api": "cp38"}})
+setup(
+    version=version,
+    cffi_modules=["rice_build.py:ffi"],
+    cmdclass={"bdist_wheel": Wheel},
+    options={"bdist_wheel": {"py_limited_api": "cp38"}},
+)

@@ -143,7 +143,7 @@ def folder_faults(path):
 
 
 def fill_faults(file, path):
-    """What does not fill the last block of a header or of data as it has to, and what stands behind all."""
+    """Where the last block of a header or of data is filled wrongly, and what follows all of them."""
     with open(path, "rb") as raw, mmap.mmap(raw.fileno(), 0, access=mmap.ACCESS_READ) as data:
         for number, unit in enumerate(file):
             place = unit.fileinfo()
@@ -151,12 +151,12 @@ def fill_faults(file, path):
             start, end = place["datLoc"], place["datLoc"] + place["datSpan"]
             header = data[place["hdrLoc"] : start].rstrip(b" ")
             if not header.endswith(b"END"):
-                yield Fault(f"header {number}", "what follows its END is not blank", None, place["hdrLoc"] + len(header) - 1)
+                yield Fault(f"header {number}", "what follows END is not blank", None, place["hdrLoc"] + len(header) - 1)
             rest = data[start + unit.size : end].lstrip(fill)
             if rest:
-                yield Fault(f"data {number}", f"what fills their last block is not {name}", None, end - len(rest))
+                yield Fault(f"data {number}", f"what fills the last block is not {name}", None, end - len(rest))
         if len(data) > end:
-            yield Fault("behind all", f"{len(data) - end} bytes belong to no header and no data", None, end)
+            yield Fault("after all data", f"{len(data) - end} bytes belong to no header and no data", None, end)
 
 
 def faults(path):

@@ -73,14 +73,14 @@ def end_of(data, at):
 
 
 def why_none(data, at):
-    """Why no message of GRIB2 stands at a byte, or None where one does."""
+    """Why no message of GRIB2 begins at a byte, or None where one does."""
     if data[at : at + 4] != b"GRIB":
-        return "they don't begin with GRIB"
+        return "they do not begin with GRIB"
     if data[at + 7 : at + 8] not in (b"", b"\2"):
         return f"edition {data[at + 7]} of GRIB isn't served"
     end = end_of(data, at)
     if end < at + 20 or data[end - 4 : end] != b"7777":
-        return "there is no end where its length says"
+        return "there is no 7777 at the end that the length gives"
     return None
 
 
@@ -93,7 +93,7 @@ def next_message(data, at):
 
 
 def pieces(data):
-    """The messages of a file, and what stands between them: of each where it begins, where it ends, and why it is no message."""
+    """The messages of a file, and the bytes between them: of each where it begins, where it ends, and why it is no message."""
     at = 0
     while at < len(data):
         why = why_none(data, at)
@@ -108,11 +108,11 @@ def sections(data, start, end):
     while at < end - 4:
         length, number = int.from_bytes(data[at : at + 4], "big"), data[at + 4]
         if number not in NEXT[before] or not LEAST[number] <= length <= end - 4 - at:
-            raise Damage(f"behind section {before} stands a section {number} of {length} bytes", None, 8 * (at - start))
+            raise Damage(f"section {number} of {length} bytes follows section {before}", None, 8 * (at - start))
         yield number, at, at + length
         at, before = at + length, number
     if before != 7:
-        raise Damage(f"the message ends behind section {before}", None, 8 * (at - start))
+        raise Damage(f"the message ends after section {before}", None, 8 * (at - start))
 
 
 def fields(data, start, end):
@@ -203,13 +203,13 @@ def parts(data):
     """The fields of a file with their names, and in place of what is no message or no whole field what is wrong with it."""
     if not data:
         yield "the file", Fault("the file", "it is empty")
-    number, name = 0, "before all messages"
+    number, name = 0, "before message 0"
     for start, end, why in pieces(data):
         if why:
             yield name, Fault(name, f"{end - start} bytes belong to no GRIB2 message: {why}", None, start)
         else:
             yield from message_parts(data, start, end, f"message {number}")
-            number, name = number + 1, f"behind message {number}"
+            number, name = number + 1, f"after message {number}"
 
 
 def faults(path):

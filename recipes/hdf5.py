@@ -168,7 +168,7 @@ def dataset_faults(dataset):
 
 
 def stated_size(file):
-    """The size of a file by its superblock, which stands behind the user block."""
+    """The size of a file by its superblock, which follows the user block."""
     with open(file.filename, "rb") as raw:
         raw.seek(file.userblock_size)
         front = raw.read(96)
@@ -179,10 +179,10 @@ def stated_size(file):
 
 
 def size_faults(file):
-    """What stands behind the end that a file states. (HDF5 refuses one that ends before it.)"""
+    """What follows the end that a superblock gives. (HDF5 refuses a file that ends before it.)"""
     stated, size = stated_size(file), os.path.getsize(file.filename)
     if size > stated:
-        yield Fault("behind the end", f"{size - stated} bytes belong to nothing in the file", None, stated)
+        yield Fault("after the end", f"{size - stated} bytes follow the end that the superblock gives", None, stated)
 
 
 def checked(path, names=()):

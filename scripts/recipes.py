@@ -61,8 +61,8 @@ def prepare(folder, program):
     subprocess.run(["scripts/recipe_files", folder], check=True)
     python = os.path.join(folder, "venv", "bin")
     venv.create(os.path.dirname(python), system_site_packages=True, symlinks=True)
-    install = ["pip", "--python", os.path.join(python, "python"), "install", "-q", "--no-index", "--no-deps", *glob.glob("out/python/*.whl")]
-    subprocess.run([sys.executable, "-m", *install], check=True)
+    pip = [sys.executable, "-m", "pip", "--python", os.path.join(python, "python")]
+    subprocess.run([*pip, "install", "-q", "--no-index", "--no-deps", *glob.glob("out/python/*.whl")], check=True)
     os.environ.pop("RICE_PYTHON", None)
     os.environ.update(PATH=f"{python}:{os.environ['PATH']}", RICE_COMPAT=os.path.abspath("compat/out"))
     os.chdir(folder)
@@ -94,6 +94,8 @@ def read(path):
         return file.read()
 
 
+# Flipped bytes: the kind of place, the byte, the bits of it that are flipped, and whether the format lets one see it. The second byte of a
+# code of 16-bit samples lies in its reference sample, which may be any number: it is sound by another code.
 def grib_flips(data):
     """Octets of the first message and of its sections, counted from 1, as WMO's manual on codes numbers them."""
     begins, at = {0: 0}, 16
@@ -147,7 +149,7 @@ def netcdf_flips(header, chunk):
 
 
 def fits_flips(data, is_summed):
-    """Characters of cards and of what fills blocks, and of samples, as the FITS standard has them. Check sums tell of all."""
+    """Characters of cards, samples, and what fills blocks, as the FITS standard has them. Check sums cover all of them."""
     extension = data.index(b"XTENSION")
     end = data.index(b"END" + b" " * 77, extension)
     return [
@@ -156,14 +158,14 @@ def fits_flips(data, is_summed):
         ("header: BITPIX, none of the standard's", data.index(b"BITPIX", extension) + 28, 1, True),
         ("header: a comment", data.index(b" / ", extension) + 3, 1, is_summed),
         ("header: END", end, 1, True),
-        ("header: blanks behind END", end + 90, 1, True),
+        ("header: blanks after END", end + 90, 1, True),
         ("code: a sample", -(-(end + 80) // 2880) * 2880 + 101, 1, is_summed),
         ("end: zeros that fill the last block", len(data) - 1, 1, True),
     ]
 
 
-def untold_flips():
-    """The flipped bytes of which archive_check tells otherwise than the format lets it."""
+def wrong_flips():
+    """The flipped bytes that archive_check doesn't report, where the format lets it, or the other way round."""
     every = {
         "three.grib2": grib_flips(read("three.grib2")),
         "fields.h5": hdf5_flips(*hdf5_places("fields.h5")),
@@ -174,19 +176,19 @@ def untold_flips():
     os.mkdir("flipped")
     wanted = {}
     for name, flips in every.items():
-        for number, (place, at, bits, is_told) in enumerate(flips):
+        for number, (place, at, bits, is_seen) in enumerate(flips):
             data, path = bytearray(read(name)), f"flipped/{number}.{name}"
             data[at] ^= bits
             with open(path, "wb") as file:
                 file.write(data)
-            wanted[path] = is_told, f"{name}: {place}, byte {at}"
+            wanted[path] = is_seen, f"{name}: {place}, byte {at}"
     subprocess.run([f"{FOLDER}/archive_check", "flipped", "flipped.csv"], capture_output=True)
     with open("flipped.csv", newline="") as file:
-        told = {row["file"]: row["message"] for row in csv.DictReader(file)}
-    for path, (is_told, what) in wanted.items():
-        print(f"recipes: {what}: {told.get(path, 'sound')}")
-        if (path in told) != is_told:
-            yield f"{what}: {'nothing is told' if is_told else 'is told of'}"
+        reported = {row["file"]: row["message"] for row in csv.DictReader(file)}
+    for path, (is_seen, what) in wanted.items():
+        print(f"recipes: {what}: {reported.get(path, 'sound, by another code or value')}")
+        if (path in reported) != is_seen:
+            yield f"{what}: {'is not reported' if is_seen else 'is reported, where the format lets nobody see it'}"
 
 
 def main():
@@ -202,7 +204,7 @@ def main():
             for command, shown in runs_of(block):
                 count += 1
                 wrong += run(command, shown)
-        wrong += [*wrong_uses(), *untold_flips()]
+        wrong += [*wrong_uses(), *wrong_flips()]
     for text in wrong:
         print(f"recipes: {text}")
     print(f"recipes: {count} commands, {len(wrong)} wrong")

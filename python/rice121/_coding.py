@@ -1,7 +1,7 @@
 """Arrays and codes all at once."""
 from __future__ import annotations
 
-from typing import TYPE_CHECKING, Any, Optional
+from typing import TYPE_CHECKING, Optional
 
 import numpy
 
