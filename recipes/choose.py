@@ -99,6 +99,8 @@ if __name__ == "__main__":
     WIDTH, OPTIONS = int(sys.argv[4]), sys.argv[5:] + (["-3"] if sys.argv[4] == "3" else [])
     try:
         SIZE = os.path.getsize(FILE)
+        if not SIZE:
+            sys.exit(f"{FILE}: it is empty")
         main()
     except OSError as error:
         sys.exit(f"{error.filename}: {error.strerror}")

@@ -75,7 +75,7 @@ def decoded(code, count, dtype, **options):
         raise Damage(f"code ends after {len(samples)} samples, of {count}", len(samples) // decoder.options.block, decoder.bits)
     byte, bit = divmod(decoder.bits, 8)
     if byte < len(code) and (code[byte] & (255 >> bit) or any(code[byte + 1 :])):
-        raise Damage(f"more code behind {count} samples", None, decoder.bits)
+        raise Damage(f"{8 * len(code) - decoder.bits} bits follow the code of {count} samples", None, decoder.bits)
     return samples
 
 

@@ -298,7 +298,7 @@ def main():
             sys.exit(not check(paths))
         {"decode": decode, "encode": encode}[command](*paths)
     except OSError as error:
-        sys.exit(f"{error.filename}: {error.strerror}")
+        sys.exit(f"{error.filename or 'output'}: {error.strerror}")
     except (Damage, Unserved) as error:
         sys.exit(f"{paths[0]}: {error}")
 
