@@ -79,9 +79,14 @@ def run(script):
     generator = random.Random(1)
     with tempfile.TemporaryDirectory() as folder:
         os.symlink(shutil.which("aec"), os.path.join(folder, "aec"))
-        for name, size in (("frame.raw", 131072), ("sensor.raw", 90000), ("samples.bin", 10000)):
+        for name, data in (
+            ("frame.raw", generator.randbytes(131072)),
+            ("sensor.raw", generator.randbytes(90000)),
+            ("samples.bin", generator.randbytes(10000)),
+            ("camera.raw", bytes(10000)),
+        ):
             with open(os.path.join(folder, name), "wb") as file:
-                file.write(generator.randbytes(size))
+                file.write(data)
         return subprocess.run(["bash", "-e", "-o", "pipefail", "-c", script], cwd=folder, capture_output=True, text=True)
 
 

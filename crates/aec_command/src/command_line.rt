@@ -13,7 +13,7 @@ const ABOUT: &str =
     "Compresses samples without loss, by the adaptive Rice coder of CCSDS 121.0-B-3";
 
 const NOTES: &str =
-    "Decompress with the options that compressed. A code does not tell how many samples{n}it has: without --samples, those that fill its last block or run are written too.{n}{n}Examples:{n}  aec -n 16 -r 128 samples.bin code.aec{n}  aec -d -n 16 -r 128 --samples 5000 code.aec samples.bin{n}  aec --test -n 16 -r 128 --samples 5000 code.aec";
+    "Decompress with the options that compressed. A code does not tell how many samples{n}it has: without --samples, those that fill its last block or run are written too.{n}{n}Examples:{n}  aec -n 8 -j 32 -r 128 frame.raw code.aec     # a byte a sample{n}  aec -n 12 -j 32 -r 128 camera.raw code.aec   # two bytes a sample, the upper four bits 0{n}  aec -n 16 -j 32 -r 128 samples.bin code.aec{n}  aec -d -n 16 -j 32 -r 128 --samples 5000 code.aec samples.bin{n}  aec --test -n 16 -j 32 -r 128 --samples 5000 code.aec";
 
 fn flag<'a>(alloc: Global, id: &'a str, letter: char, long: &'a str, help: &'a str) -> Arg<'a>
     ensures rule { rule_of result ≡ flag_rule id.entry.now letter long.entry.now }

@@ -63,6 +63,8 @@ fn matches_of_test<'a>(
         }
         Err(refused) => match refused.kind() {
             ErrorKind::OutOfMemory => Err(refused),
+            // Without a name each word is an option or its value, and no value begins with a dash.
+            ErrorKind::MissingRequiredArgument if words.contains(&"--test") => Err(refused),
             _ => Err(error),
         },
     }
