@@ -108,7 +108,7 @@ def wrong_examples(help_text):
 
 def wrong_messages():
     """The messages of docs/COMMAND.md and of the sources that the manual does not explain."""
-    numbered = lambda text: re.sub(r"\b\d+\b|\{\w+\}", "N", text.replace("{name}", "NAME").replace("{fault}", "FAULT"))
+    numbered = lambda text: re.sub(r"\b\d+\b|\{\w+\}", "N", re.sub(r"\{(name|fault|reason)\}", lambda found: found[1].upper(), text))
     explained = {numbered(text) for text in re.findall(r'(?m)^\.It "(.*)"$', read(MANUAL))}
     table = read("docs/COMMAND.md").partition("| status | when |")[2].partition("\n\n")[0]
     messages = {text for row in table.splitlines() for text in re.findall(r"`([^`]+)`", row.rpartition("|")[0].rpartition("|")[2])}

@@ -13,7 +13,7 @@ import sys
 import tempfile
 from typing import NamedTuple, Optional
 
-FIELDS = ("aec", "in", "out", "file", "prints", "says", "begins", "status", "bits", "steps")
+FIELDS = ("aec", "in", "was", "out", "file", "prints", "says", "begins", "status", "bits", "steps")
 ROOM = 1 << 16  # bytes that the library may write, more than any case has
 FLAGS = {"three-bytes": "3", "no-preprocess": "N", "decompress": "d", "big-endian": "m", "pad": "p", "signed": "s"}
 NUMBERS = {"block": "j", "bits": "n", "interval": "r"}
@@ -166,12 +166,14 @@ class Rows:
         self.runs = 0
         self.failures = 0
 
-    def run(self, words, given, from_file=b""):
-        """Runs the program where only the file in.bin is."""
+    def run(self, words, given, from_file=b"", was=b""):
+        """Runs the program where only the file in.bin is, and out.bin if it held something before."""
         self.runs += 1
         source, dest = (os.path.join(self.folder, name) for name in ("in.bin", "out.bin"))
-        with open(source, "wb") as file:
-            file.write(from_file)
+        for path, held in ((source, from_file), (dest, was)):
+            if path == source or held:
+                with open(path, "wb") as file:
+                    file.write(held)
         done = subprocess.run([self.program, *words], input=given, capture_output=True, cwd=self.folder)
         written = None
         if os.path.exists(dest):
@@ -192,7 +194,7 @@ class Rows:
         given, begins = case.bytes_of("in"), case.text_of("begins")[:-1]
         for line in case.lines["aec"]:
             words, name = line.split(), f"{case.name}: aec {line}"
-            self.compare(name, self.run(words, given, given), case.wanted(), begins)
+            self.compare(name, self.run(words, given, given, case.bytes_of("was")), case.wanted(), begins)
             if words[-2:] != ["-", "-"] or words.count("-") > 2 or case.has("prints"):
                 continue
             files = self.run([*words[:-2], "in.bin", "out.bin"], b"", given)

@@ -36,7 +36,10 @@ impl<R: Clock + Eprint, T: Read> Read for Counted<'_, R, T> {
                 self.progress.count_read(self.rt, count);
                 Ok(count)
             }
-            Err(error) => Err(error),
+            Err(error) => {
+                self.progress.note(error);
+                Err(error)
+            }
         }
     }
 }
@@ -48,7 +51,10 @@ impl<R, T: Write> Write for Counted<'_, R, T> {
                 self.progress.count_written(count);
                 Ok(count)
             }
-            Err(error) => Err(error),
+            Err(error) => {
+                self.progress.note(error);
+                Err(error)
+            }
         }
     }
 

@@ -4,16 +4,19 @@ ghost use Rattle.std.specs.Prelude.{None};
 use crate::counted::Counted;
 use crate::destination::Sink;
 use crate::finding::Finding;
+use crate::help::{Help, Job};
 use crate::message::Message;
 use crate::progress::Progress;
 use crate::same_file::{FileId, known_id};
 use crate::source::Stream;
 use crate::system::{CreateFault, OpenFault, System};
+use aec_command::Plan;
 use clap::Error;
 use rice_bits::{FromBufWriter, FromReader, WriteFault};
 use std::alloc::AllocGlobal;
-use std::fs::{File, Metadata, OpenFile};
-use std::io::{BufWriter, Printer, Write};
+use std::cell::Cell;
+use std::fs::{File, Files, Metadata, OpenFile};
+use std::io::{BufWriter, Eprint, Printer, Write};
 use std::os::unix::fs::OpenOptionsExt;
 use std::rt::Runtime;
 use std::{fs, io};
@@ -30,6 +33,15 @@ const ANY_NEW_FILE: u32 = 0o666;
 /// The name of the file that standard input is.
 const STANDARD_INPUT: &str = "/dev/stdin";
 
+/// Opens a file to read. The system opens a directory too, which can't be read.
+fn open_to_read<R: Files>(rt: &R, name: &str) -> io::Result<R::File> {
+    let file = File::open(rt, name)?;
+    match file.metadata() {
+        Ok(found) if found.is_dir() => Err(io::Error::from(io::ErrorKind::IsADirectory)),
+        _ => Ok(file),
+    }
+}
+
 /// Returns the bytes of a regular file.
 fn size_of(found: io::Result<Metadata>) -> Option<u64> {
     match found {
@@ -40,19 +52,33 @@ fn size_of(found: io::Result<Metadata>) -> Option<u64> {
 
 /// The system that a runtime reaches. It tells nothing of its files: the runtime's own contracts don't.
 #[derive(Drop)]
-pub struct Host<'r, R> {
+pub struct Host<'a, 'r, R> {
     rt: &'r R,
     progress: &'r Progress,
+    /// What is done, where help is asked for and was not given yet.
+    job: Cell<Option<Job<'a>>>,
 }
 
-impl<'r, R> Host<'r, R> {
+impl<'a, 'r, R> Host<'a, 'r, R> {
     /// Returns the system of a runtime, which notes its progress.
     pub fn new(rt: &'r R, progress: &'r Progress) -> Self {
-        Host { rt, progress }
+        Host {
+            rt,
+            progress,
+            job: Cell::new(None),
+        }
     }
 }
 
-impl<'a, 'r, R: Runtime + AllocGlobal> System<'a> for Host<'r, R> {
+impl<'a, 'r, R: Eprint> Host<'a, 'r, R> {
+    fn write_help(&self, help: Option<Help<'a>>) {
+        if let Some(help) = help {
+            let _ = eprintln!(self.rt; "aec: {help}");
+        }
+    }
+}
+
+impl<'a, 'r, R: Runtime + AllocGlobal> System<'a> for Host<'a, 'r, R> {
     type Source = FromReader<Counted<'r, R, Stream<R::Reader, R::File>>>;
 
     type Dest = FromBufWriter<Counted<'r, R, Sink<Printer<'r, R>, R::File>>>;
@@ -69,7 +95,7 @@ impl<'a, 'r, R: Runtime + AllocGlobal> System<'a> for Host<'r, R> {
     }
 
     fn open(&self, name: &str) -> Result<(Self::Source, Option<FileId>), OpenFault> {
-        match File::open(self.rt, name) {
+        match open_to_read(self.rt, name) {
             Ok(file) => {
                 let id = known_id(file.metadata());
                 self.progress.expect(size_of(file.metadata()));
@@ -77,7 +103,10 @@ impl<'a, 'r, R: Runtime + AllocGlobal> System<'a> for Host<'r, R> {
                 let source = FromReader::new(Counted::new(self.rt, self.progress, stream));
                 Ok((source, id))
             }
-            Err(_) => Err(OpenFault),
+            Err(error) => {
+                self.progress.note(error);
+                Err(OpenFault)
+            }
         }
     }
 
@@ -114,7 +143,10 @@ impl<'a, 'r, R: Runtime + AllocGlobal> System<'a> for Host<'r, R> {
                 writer.get_mut().get_mut().set(file);
                 Ok(FromBufWriter::new(writer))
             }
-            Err(_) => Err(CreateFault::Refused),
+            Err(error) => {
+                self.progress.note(error);
+                Err(CreateFault::Refused)
+            }
         }
     }
 
@@ -127,20 +159,31 @@ impl<'a, 'r, R: Runtime + AllocGlobal> System<'a> for Host<'r, R> {
 
     fn tell(&mut self, message: Message<'a>) {
         let _ = eprintln!(self.rt; "aec: {message}");
+        if let Some(job) = self.job.take() {
+            self.write_help(job.help_behind(message, self.progress.reason()));
+        }
     }
 
-    fn watch(&self) {
+    fn watch(&self, plan: &Plan<'a>) {
+        self.job.set(Some(Job::new(plan)));
         self.progress.watch(self.rt);
     }
 
     fn write_closing_line(&mut self, decode: bool, samples: u64) {
         self.progress.write_closing_line(self.rt, decode, samples);
+        if let Some(job) = self.job.take() {
+            let (read, written) = self.progress.bytes();
+            self.write_help(job.help_at_end(samples, read, written));
+        }
     }
 
     fn report(&mut self, it: Finding) -> Result<(), WriteFault> {
         match println!(self.rt; "{it}") {
             Ok(()) => Ok(()),
-            Err(_) => Err(WriteFault),
+            Err(error) => {
+                self.progress.note(error);
+                Err(WriteFault)
+            }
         }
     }
 

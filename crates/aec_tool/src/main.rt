@@ -6,6 +6,7 @@ mod counted;
 mod destination;
 mod exit_status;
 mod finding;
+mod help;
 mod host;
 mod message;
 mod nowhere;

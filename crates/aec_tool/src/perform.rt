@@ -33,7 +33,7 @@ pub fn perform<'a, S: System<'a>>(system: &mut S, plan: &Plan<'a>) -> u8
         (plan_view plan.now) o after result }
 {
     if plan.verbose {
-        system.watch();
+        system.watch(plan);
     }
     match open(system, plan.source) {
         Ok((source, id)) => match plan.dest {

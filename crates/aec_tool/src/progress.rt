@@ -1,6 +1,7 @@
 //! How far the command has come, for people who wait.
 
 use std::cell::Cell;
+use std::io;
 use std::io::Eprint;
 use std::time::{Clock, Instant};
 
@@ -17,6 +18,8 @@ pub struct Progress {
     size: Cell<Option<u64>>,
     read: Cell<u64>,
     written: Cell<u64>,
+    /// Why the system's last call that failed did.
+    reason: Cell<Option<io::Error>>,
     /// The second in which a line was last shown.
     shown: Cell<u64>,
 }
@@ -31,6 +34,7 @@ impl Progress {
             size: Cell::new(None),
             read: Cell::new(0),
             written: Cell::new(0),
+            reason: Cell::new(None),
             shown: Cell::new(0),
         }
     }
@@ -69,6 +73,21 @@ impl Progress {
             .set(self.written.get().saturating_add(bytes as u64));
     }
 
+    /// Notes why a call of the system failed.
+    pub fn note(&self, reason: io::Error) {
+        self.reason.set(Some(reason));
+    }
+
+    /// Returns why the last call that failed did.
+    pub fn reason(&self) -> Option<io::Error> {
+        self.reason.get()
+    }
+
+    /// Returns the bytes that were read and written.
+    pub fn bytes(&self) -> (u64, u64) {
+        (self.read.get(), self.written.get())
+    }
+
     fn show<R: Clock + Eprint>(&self, rt: &R, begun: Instant, size: u64) {
         let Ok(elapsed) = begun.elapsed(rt) else {
             return;
@@ -82,7 +101,7 @@ impl Progress {
 
     /// Writes the closing line.
     pub fn write_closing_line<R: Clock + Eprint>(&self, rt: &R, decode: bool, samples: u64) {
-        let (read, written) = (self.read.get(), self.written.get());
+        let (read, written) = self.bytes();
         if self.shown.get() > 0 {
             let _ = eprint!(rt; "\r");
         }

@@ -88,5 +88,5 @@ pub fn start_with_arguments<R: Runtime + AllocGlobal>(rt: &R, terminal: bool) ->
             return fail(&mut host, Message::NoMemory);
         }
     }
-    start(&mut host, rt.alloc(), texts.as_slice())
+    start(&mut Host::new(rt, &progress), rt.alloc(), texts.as_slice())
 }

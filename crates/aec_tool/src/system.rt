@@ -6,6 +6,7 @@ ghost use Rattle.rice_bits.specs.device.OutletRoom.{Room};
 use crate::finding::Finding;
 use crate::message::Message;
 use crate::same_file::FileId;
+use aec_command::Plan;
 use clap::Error;
 use rice_bits::{Intake, Outlet, WriteFault};
 
@@ -82,8 +83,8 @@ pub trait System<'a> {
         ensures says { (o : Outside) → told self.old ≡ Some o →
             told self.new ≡ Some (saying o (said_of message.entry)) };
 
-    /// Lets the system show on a terminal how far it has come.
-    fn watch(&self);
+    /// Lets the system show how far it has come with a plan, on a terminal, and write a line that helps behind a message and at the end.
+    fn watch(&self, plan: &Plan<'a>);
 
     /// Writes the closing line to standard error: so many samples, the bytes in and out, their ratio, and the time. A failure is
     /// passed over.

@@ -89,7 +89,7 @@ fn reads_and_writes_files(rt: HostRuntime) -> Result<(), Fail> {
 const ONE_FILE: &str =
     r#"in.bin in.bin | equal | 100 | 1, 0 files, "", "", "aec: cannot create in.bin\n"
     in.bin ./in.bin | equal | 100 | 1, 0 files, "", "", "aec: cannot create ./in.bin\n"
-    / / | equal | 100 | 1, 1 files, "", "", "aec: read failed\n"
+    / / | equal | 100 | 1, 0 files, "", "", "aec: cannot open /\n"
     - in.bin | equal | 100 | 0, 1 files, "", "\0T", """#;
 
 #[test]

@@ -7,6 +7,7 @@ use crate::finding::Finding;
 use crate::message::Message;
 use crate::same_file::FileId;
 use crate::system::{CreateFault, OpenFault, System};
+use aec_command::Plan;
 use clap::Error;
 use clap::error::ErrorKind;
 use rice_bits::{Outlet, SliceIn, WriteFault};
@@ -163,7 +164,7 @@ impl<'a> System<'a> for Told<'a> {
         self.said = Some(message);
     }
 
-    fn watch(&self) {}
+    fn watch(&self, _plan: &Plan<'a>) {}
 
     fn write_closing_line(&mut self, _decode: bool, samples: u64) {
         self.closed = Some(samples);

@@ -1,0 +1,101 @@
+//! The lines that help, where more than a message is asked for.
+
+use crate::message::Message;
+use aec_command::Plan;
+use rice_samples::Setting;
+use rice_stream::Fault;
+use std::io;
+use thiserror::Error;
+
+/// A line that helps behind a message, or at the end.
+#[derive(Clone, Copy, Debug, Error)]
+pub enum Help<'a> {
+    #[error("{name}: {reason}")]
+    Reason { name: &'a str, reason: io::Error },
+    #[error("source and destination are the same file")]
+    SameFile,
+    #[error("other options than it was compressed with look the same: see --test, and recipes/guess.py")]
+    Options,
+    #[error("the code is larger than the samples: look at -n and -m")]
+    Larger,
+    #[error("up to {samples} of the samples are padding: give their number by --samples")]
+    Padding { samples: u64 },
+}
+
+/// What help has to know of a plan.
+#[derive(Clone, Copy, Debug)]
+pub struct Job<'a> {
+    source: &'a str,
+    dest: &'a str,
+    decode: bool,
+    /// The most samples that may be padding.
+    padding: u64,
+}
+
+/// Returns how many samples may fill the last segment: fewer than it has.
+fn most_padding(setting: &Setting) -> u64 {
+    let blocks = setting.interval().min(64) as u64;
+    blocks
+        .saturating_mul(setting.block() as u64)
+        .saturating_sub(1)
+}
+
+/// Returns the reason that the system gave for a name, if it gave one.
+fn reason_for<'a>(name: &'a str, reason: Option<io::Error>) -> Option<Help<'a>> {
+    match reason {
+        Some(reason) => Some(Help::Reason { name, reason }),
+        None => None,
+    }
+}
+
+impl<'a> Job<'a> {
+    /// Returns what help has to know of a plan.
+    pub fn new(plan: &Plan<'a>) -> Self {
+        let counted = !plan.decode || plan.samples.is_some();
+        Job {
+            source: plan.source,
+            dest: plan.dest.unwrap_or("-"),
+            decode: plan.decode,
+            padding: if counted {
+                0
+            } else {
+                most_padding(&plan.setting)
+            },
+        }
+    }
+
+    /// Returns what helps behind a message, whose reason the system may have given.
+    pub fn help_behind(self, message: Message<'a>, reason: Option<io::Error>) -> Option<Help<'a>> {
+        match message {
+            Message::NoSource { name } => reason_for(name, reason),
+            Message::NoDest { name } => reason_for(name, reason).or(Some(Help::SameFile)),
+            Message::Stopped(fault) => self.help_behind_fault(fault, reason),
+            Message::Faulty { fault, .. } => self.help_behind_fault(fault, reason),
+            Message::NoMemory | Message::NotUtf8 | Message::Refused(_) => None,
+        }
+    }
+
+    fn help_behind_fault(self, fault: Fault, reason: Option<io::Error>) -> Option<Help<'a>> {
+        match fault {
+            Fault::Read => reason_for(self.source, reason),
+            Fault::Write => reason_for(self.dest, reason),
+            Fault::CodeEnds { .. }
+            | Fault::RunPastSegment { .. }
+            | Fault::ResidualTooLarge { .. } => Some(Help::Options),
+            Fault::TooLong | Fault::SampleOutOfRange { .. } | Fault::SampleCut { .. } => None,
+        }
+    }
+
+    /// Returns what helps where all was done, with so many samples and bytes.
+    pub fn help_at_end(self, samples: u64, read: u64, written: u64) -> Option<Help<'a>> {
+        if !self.decode && written > read {
+            return Some(Help::Larger);
+        }
+        if samples > 0 && self.padding > 0 {
+            return Some(Help::Padding {
+                samples: self.padding.min(samples.saturating_sub(1)),
+            });
+        }
+        None
+    }
+}
