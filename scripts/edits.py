@@ -24,8 +24,8 @@ import threading
 FUNCTION = re.compile(r'( *)(?:pub(?:\([^)]*\))? )?(?:const |unsafe |extern "C" )*fn (\w+)')
 OWNER = re.compile(r"(?:pub )?trait (\w+)()()|impl(?:<.*?>)? (?:(\w+)(?:<.*>)? for )?&?(?:'\w+ )?(?:mut )?(\w+)(?:<(\d+)>)?")
 CALLS_UNPROVED = re.compile(r"\b(it calls|it passes|a call of)\b")
-# A check of a crate as it stands waits for another in the same folders.
-ONE_CHECK = threading.Lock()
+# Held where the crates' own folders are checked or copied.
+FOLDERS = threading.Lock()
 # The most edits that are tried one check after the other.
 MOST = 12
 KEPT = os.path.join(os.environ.get("XDG_CACHE_HOME") or os.path.expanduser("~/.cache"), "aec-edits")
@@ -119,9 +119,10 @@ def copy_of_crates():
     """Gives a copy of the crates, of files with second names: a check replaces files, and changes none."""
     room = tempfile.mkdtemp(prefix="edits-")
     try:
-        if subprocess.run(["cp", "-al", "crates", room], stderr=subprocess.DEVNULL).returncode:
-            shutil.rmtree(f"{room}/crates")
-            subprocess.run(["cp", "-a", "crates", room], check=True)
+        with FOLDERS:
+            if subprocess.run(["cp", "-al", "crates", room], stderr=subprocess.DEVNULL).returncode:
+                shutil.rmtree(f"{room}/crates")
+                subprocess.run(["cp", "-a", "crates", room], check=True)
         for file in ("crates.txt", "HANDLES"):
             shutil.copy(file, room)
         subprocess.run(["git", "init", "-q", room], check=True)
@@ -176,7 +177,7 @@ def status_of(crate):
 
 
 def is_proved(crate):
-    with ONE_CHECK:
+    with FOLDERS:
         return status_of(crate) == 0
 
 
