@@ -6,6 +6,8 @@ pub mod command_line;
 pub mod entries;
 pub mod matches;
 pub mod plan;
+#[cfg(test)]
+mod tests;
 
 pub use entries::plan_of;
 pub use matches::matches_of;

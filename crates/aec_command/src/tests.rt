@@ -1,5 +1,5 @@
 //! A worked example: from words to their plan.
-use aec_command::{matches_of, plan_of};
+use crate::{matches_of, plan_of};
 use std::test::Fail;
 
 #[test]
