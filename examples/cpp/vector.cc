@@ -28,11 +28,7 @@ static Bytes decode(const rice_setting &setting, const Bytes &code, size_t count
 }
 
 int main() {
-    rice_setting setting = rice_setting();
-    setting.bits = 8;
-    setting.block = 8;
-    setting.interval = 2;
-    setting.preprocess = true;
+    const rice_setting setting = rice_setting_for(8);
     for (size_t size = 0; size < 100; size++) {
         Bytes samples(size);
         for (size_t i = 0; i < size; i++) samples[i] = uint8_t(i * i / 7);
