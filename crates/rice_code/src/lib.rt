@@ -10,7 +10,7 @@ mod known_len;
 pub mod laws;
 
 pub use bounds::{added_bound, bit_bound, padded_bound, set_bound, step_bound};
-pub use decode::call_results::{CodeFault, NextBlock};
+pub use decode::call_results::{CodeFault, Step};
 pub use decode::decoder::Decoder;
 pub use encode::SegmentSink;
 pub use encode::coder::{Coder, Pushed, SizedCoder};

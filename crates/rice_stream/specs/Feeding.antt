@@ -15,7 +15,7 @@ use Rattle.rice_stream.specs.EncodingState.{Beginning, Follows, FollowsBetween}
 use Rattle.rice_stream.specs.declared.outcome.Fault.{Fault}
 use Rattle.rice_stream.specs.declared.outcome.Fault.TheVariants.{Write, TooLong, SampleOutOfRange, SampleCut}
 use Rattle.rice_stream.specs.declared.outcome.Report.{Report}
-use Rattle.rice_stream.specs.declared.encoding.Encoding.{Encoding}
+use Rattle.rice_stream.specs.EncodingState.{EncodingValue}
 use Rattle.rice_stream.specs.declared.seam.Seam.{Seam}
 
 -- The samples make whole segments, and the seam stands after their code: it counts them, and holds the bits of the byte that is not whole.
@@ -35,7 +35,7 @@ abbrev pub IsSomeSeam : Parameters → Seam → Type 0
 IsSomeSeam s seam = (xs : List ℤ) × IsSeam s seam xs
 
 -- an encoding stands there, but for these bits
-pub record StandsAt {N : ℕ} (s : Parameters) (seam : Seam) (e : Encoding N) : Type 0 where
+pub record StandsAt (s : Parameters) (seam : Seam) (e : EncodingValue) : Type 0 where
   pub coder : e.coder ≡ state_between s seam.start seam.previous
   pub sink : e.sink ≡ []
   pub steps : e.meter ≡ seam.steps

@@ -16,7 +16,9 @@ use crate::runs::write_run;
 use crate::write::{write_block, write_counted, write_in_calls};
 use arrayvec::ArrayVec;
 use rice_bits::{BitReader, Intake, Meter, Outlet};
-use rice_code::{CodeFault, Decoder, NextBlock, known_or};
+use crate::gives::{GivesLevels, GivesRows};
+use crate::plain_decoder::Plain;
+use rice_code::{CodeFault, Decoder, Step, known_or};
 use rice_samples::Setting;
 
 /// Returns how many samples of the next block are wanted after the first `written`.
@@ -108,10 +110,10 @@ pub fn decode<I: Intake, O: Outlet>(
         return decode_sizes::<I, O, 2>(setting, asked, intake, outlet);
     }
     if has_passes::<3>(setting) {
-        return decode_laid_out::<I, O, 0, 3>(setting, asked, intake, outlet);
+        return decode_laid_out::<Decoder, I, O, 0, 3>(setting, asked, intake, outlet);
     }
     if has_passes::<4>(setting) {
-        return decode_laid_out::<I, O, 0, 4>(setting, asked, intake, outlet);
+        return decode_laid_out::<Decoder, I, O, 0, 4>(setting, asked, intake, outlet);
     }
     if is_plain::<1>(setting) {
         return decode_plain::<I, O, 1>(setting, asked, intake, outlet);
@@ -122,7 +124,26 @@ pub fn decode<I: Intake, O: Outlet>(
     if is_plain::<4>(setting) {
         return decode_plain::<I, O, 4>(setting, asked, intake, outlet);
     }
-    decode_laid_out::<I, O, 0, 0>(setting, asked, intake, outlet)
+    decode_laid_out::<Decoder, I, O, 0, 0>(setting, asked, intake, outlet)
+}
+
+/// As `decode`, by the decoder that gives a block a call.
+pub fn decode_plainly<I: Intake, O: Outlet>(
+    setting: &Setting,
+    asked: Option<u64>,
+    intake: I,
+    outlet: &mut O,
+) -> (Outcome, I)
+    requires reads { I.failed intake + 1 < 2 ^ 64 }
+    requires writes { O.failed outlet.old + 1 < 2 ^ 64 }
+    ensures call { DecodesBetween setting.now asked (I.left intake) (I.left result.1)
+        (O.taken outlet.old) (O.taken outlet.new) result.0.report result.0.fault }
+    ensures failures { Fails result.0.fault (I.failed intake) (I.failed result.1)
+        (O.failed outlet.old) (O.failed outlet.new) }
+    ensures bounds { DecodesWithin asked result.0.report }
+    ensures idle { asked ≡ Some 0 → result.1 ≡ intake }
+{
+    decode_laid_out::<Plain, I, O, 0, 0>(setting, asked, intake, outlet)
 }
 
 /// Returns whether samples have `WIDTH` bytes, and the decoder may give the bytes of a block of them at one stroke. Where they have few
@@ -152,17 +173,17 @@ fn decode_sizes<I: Intake, O: Outlet, const WIDTH: usize>(
     ensures idle { asked ≡ Some 0 → result.1 ≡ intake }
 {
     match setting.block() {
-        8 => decode_laid_out::<I, O, 8, WIDTH>(setting, asked, intake, outlet),
-        16 => decode_laid_out::<I, O, 16, WIDTH>(setting, asked, intake, outlet),
-        32 => decode_laid_out::<I, O, 32, WIDTH>(setting, asked, intake, outlet),
-        64 => decode_laid_out::<I, O, 64, WIDTH>(setting, asked, intake, outlet),
-        _ => decode_laid_out::<I, O, 0, WIDTH>(setting, asked, intake, outlet),
+        8 => decode_laid_out::<Decoder, I, O, 8, WIDTH>(setting, asked, intake, outlet),
+        16 => decode_laid_out::<Decoder, I, O, 16, WIDTH>(setting, asked, intake, outlet),
+        32 => decode_laid_out::<Decoder, I, O, 32, WIDTH>(setting, asked, intake, outlet),
+        64 => decode_laid_out::<Decoder, I, O, 64, WIDTH>(setting, asked, intake, outlet),
+        _ => decode_laid_out::<Decoder, I, O, 0, WIDTH>(setting, asked, intake, outlet),
     }
 }
 
 /// Decodes blocks of `SIZE` samples, unless that is 0, of `WIDTH` bytes that may be decoded at one stroke, or of any kind where that is 0.
 #[inline(never)]
-fn decode_laid_out<I: Intake, O: Outlet, const SIZE: usize, const WIDTH: usize>(
+fn decode_laid_out<D: GivesRows<SIZE, WIDTH>, I: Intake, O: Outlet, const SIZE: usize, const WIDTH: usize>(
     setting: &Setting,
     asked: Option<u64>,
     intake: I,
@@ -179,7 +200,7 @@ fn decode_laid_out<I: Intake, O: Outlet, const SIZE: usize, const WIDTH: usize>(
     ensures bounds { DecodesWithin asked result.0.report }
     ensures idle { asked ≡ Some 0 → result.1 ≡ intake }
 {
-    decode_blocks::<I, O, SIZE, WIDTH>(setting, asked, intake, outlet)
+    decode_blocks::<D, I, O, SIZE, WIDTH>(setting, asked, intake, outlet)
 }
 
 /// The blocks of a row, at most.
@@ -199,40 +220,40 @@ pub(crate) fn blocks_in_pass<const SIZE: usize, const WIDTH: usize>(setting: &Se
 /// Gives the bytes of the next blocks, at most `fit`, if `whole` says that all of the next one is wanted, it is to be looked at, and they
 /// can be decoded at one stroke. Returns how many; if none, nothing has happened to the decoder, the reader, the meter and the bytes.
 #[inline(always)]
-fn next_bytes_at_one_stroke<I: Intake, const SIZE: usize, const WIDTH: usize>(
+fn next_bytes_at_one_stroke<D: GivesRows<SIZE, WIDTH>, I: Intake, const SIZE: usize, const WIDTH: usize>(
     setting: &Setting,
     asked: Option<u64>,
     written: u64,
     fit: usize,
     whole: bool,
     patience: &mut Patience,
-    decoder: &mut Decoder,
+    decoder: &mut D,
     reader: &mut BitReader<I>,
     meter: &mut Meter,
     bytes: &mut [u8; 512],
     ends: &mut [u32; 64],
 ) -> usize
-    requires setting { decoder.old.setting ≡ setting.now }
+    requires setting { (D.state decoder.old).setting ≡ setting.now }
     requires size { 0 < SIZE → SIZE ≡ setting.now.block }
     requires samples { 0 < WIDTH → ArePredicted setting.now WIDTH }
     requires few { (1 ≤ fit) × (fit ≤ 64) }
     requires fit { WIDTH * setting.now.block * fit ≤ 480 }
     requires whole { whole ≡ true → wanted_of asked written setting.now.block ≡ setting.now.block }
-    requires stopped { decoder.old.stopped ≡ None }
+    requires stopped { (D.state decoder.old).stopped ≡ None }
     requires going { reader.old.refusal ≡ None }
     requires room { meter.old + 2 * (most_bits_read - reader.old.taken) + 64 < step_limit }
     ensures samples { 0 < result → 0 < WIDTH }
     ensures few { result ≤ 64 }
     ensures room { WIDTH * setting.now.block * result ≤ 480 }
     ensures wanted { 0 < result → IfSome asked (λ n. written + setting.now.block * result ≤ n) }
-    ensures some { 0 < result → (decoder.old.run ≡ 0) ×
-        GivesBlocks result reader.old reader.new meter.old meter.new decoder.old decoder.new bytes.new
+    ensures some { 0 < result → ((D.state decoder.old).run ≡ 0) ×
+        GivesBlocks result reader.old reader.new meter.old meter.new (D.state decoder.old) (D.state decoder.new) bytes.new
         ends.new }
-    ensures none { result ≡ 0 → (decoder.new ≡ decoder.old) × (reader.new ≡ reader.old) ×
+    ensures none { result ≡ 0 → ((D.state decoder.new) ≡ (D.state decoder.old)) × (reader.new ≡ reader.old) ×
         (meter.new ≡ meter.old) × (bytes.new ≡ bytes.old) }
     ensures going { reader.new.refusal ≡ None }
-    ensures stopped { decoder.new.stopped ≡ None }
-    ensures setting { decoder.new.setting ≡ decoder.old.setting }
+    ensures stopped { (D.state decoder.new).stopped ≡ None }
+    ensures setting { (D.state decoder.new).setting ≡ (D.state decoder.old).setting }
     ensures steps { AreCounted meter.old meter.new reader.old.taken reader.new.taken }
 {
     let _taken = reader.taken();
@@ -240,7 +261,7 @@ fn next_bytes_at_one_stroke<I: Intake, const SIZE: usize, const WIDTH: usize>(
         return 0;
     }
     let most = blocks_wanted(setting, asked, written, fit);
-    let found = decoder.next_bytes::<I, SIZE, WIDTH>(most, reader, meter, bytes, ends);
+    let found = decoder.bytes_at_once(most, reader, meter, bytes, ends);
     patience.note(found > 0);
     found
 }
@@ -276,11 +297,11 @@ pub(crate) fn is_whole(count: usize, block: u32) -> bool
 }
 
 /// Returns whether all of the next block is wanted, and it is in a run that repeats the sample before.
-fn repeats(decoder: &Decoder, whole: bool) -> bool
-    ensures { result ≡ true → (whole ≡ true) × (0 < decoder.now.run) ×
-        (decoder.now.setting.preprocess ≡ true) }
+fn repeats<D: GivesLevels>(decoder: &D, whole: bool) -> bool
+    ensures { result ≡ true → (whole ≡ true) × (0 < (D.state decoder.now).run) ×
+        ((D.state decoder.now).setting.preprocess ≡ true) }
 {
-    whole && decoder.repeats()
+    whole && decoder.is_repeating()
 }
 
 /// Writes the bytes of `blocks` blocks, of `size` bytes each. If the outlet fails, an error has the number of those that it took.
@@ -309,7 +330,7 @@ fn write_blocks<O: Outlet>(
 /// Decodes, whatever is asked for. `WIDTH`, if it is not 0, is the number of bytes of each sample of blocks whose bytes may be decoded
 /// at one stroke, and `SIZE`, if it is not 0, that of the samples of each.
 #[inline(always)]
-fn decode_blocks<I: Intake, O: Outlet, const SIZE: usize, const WIDTH: usize>(
+fn decode_blocks<D: GivesRows<SIZE, WIDTH>, I: Intake, O: Outlet, const SIZE: usize, const WIDTH: usize>(
     setting: &Setting,
     asked: Option<u64>,
     intake: I,
@@ -330,7 +351,7 @@ fn decode_blocks<I: Intake, O: Outlet, const SIZE: usize, const WIDTH: usize>(
     // A copy stays in registers from block to block.
     let own = *setting;
     let block = own.block();
-    let mut decoder = Decoder::new(own);
+    let mut decoder = D::start(own);
     let mut reader = BitReader::new(intake);
     let mut meter = Meter::new();
     let mut levels = ArrayVec::new();
@@ -366,7 +387,7 @@ fn decode_blocks<I: Intake, O: Outlet, const SIZE: usize, const WIDTH: usize>(
         }
         let begin = reader.taken();
         let steps = meter.steps();
-        let blocks = next_bytes_at_one_stroke::<I, SIZE, WIDTH>(
+        let blocks = next_bytes_at_one_stroke::<D, I, SIZE, WIDTH>(
             &own,
             asked,
             written,
@@ -400,7 +421,7 @@ fn decode_blocks<I: Intake, O: Outlet, const SIZE: usize, const WIDTH: usize>(
             meter.tick(samples);
             continue 'decode_all;
         }
-        let step = match decoder.next_levels(&mut reader, &mut meter, &mut levels) {
+        let step = match decoder.levels_of_next(&mut reader, &mut meter, &mut levels) {
             Ok(step) => step,
             Err(fault) => {
                 let fault = fault_of(fault, written, block);
@@ -408,8 +429,8 @@ fn decode_blocks<I: Intake, O: Outlet, const SIZE: usize, const WIDTH: usize>(
             }
         };
         match step {
-            NextBlock::Block => {}
-            NextBlock::Done => return ended(end_of(asked, written), written, reader, &meter),
+            Step::Block => {}
+            Step::Done => return ended(end_of(asked, written), written, reader, &meter),
         }
         let block_levels = &levels.as_slice()[..count];
         match write_block(&own, block_levels, &mut bytes, outlet) {

@@ -6,7 +6,7 @@ ghost use Rattle.rice_samples.specs.Limits.{most_input, longest_segment};
 ghost use Rattle.rice_samples.specs.Parameters.{Parameters, values_at, width};
 ghost use Rattle.rice_stream.specs.DevicesInCalls.{Fails};
 ghost use Rattle.rice_stream.specs.Encodes.{EncodesBetween, EncodesWithin, ReportsTaken, ReportsAll, fault_at};
-ghost use Rattle.rice_stream.specs.EncodingState.{Beginning, afresh, whole_part, CanTake, CanTakeMore, CanTakeFrom, HoldsCode, TakesFirst, GoesOnInside, IsRowStart, StopsAt, seam_at, CountsSamples, IsEncodingOf, WritesFirst, FailsAmong, WritesRest, CanPush, PushesBytes, PushFails};
+ghost use Rattle.rice_stream.specs.EncodingState.{seen, Beginning, afresh, whole_part, CanTake, CanTakeMore, CanTakeFrom, HoldsCode, TakesFirst, GoesOnInside, IsRowStart, StopsAt, seam_at, CountsSamples, IsEncodingOf, WritesFirst, FailsAmong, WritesRest, CanPush, PushesBytes, PushFails};
 ghost use Rattle.rice_samples.specs.Places.{cut};
 ghost use Rattle.rice_stream.specs.Feeding.{IsSeam, IsSomeSeam, StandsAt, behind};
 ghost use Rattle.rice_code.specs.code.Code.{code, early_output};
@@ -15,6 +15,7 @@ ghost use Rattle.rice_code.specs.encode.OpenSegment.{HoldsAnySegment, HasRoomFor
 
 use crate::outcome::{Fault, Outcome, Report};
 use crate::seam::{Seam, take_waiting_number};
+use crate::takes::{OneByOne, TakesLevels};
 use crate::write::{write_counted, write_whole};
 use rice_bits::{BitSink, Intake, Meter, Outlet, WriteFault};
 use rice_code::{SegmentSink, SizedCoder};
@@ -33,25 +34,24 @@ const LEAST_ROOM_OF_ROW: u64 = 4096;
 
 /// A coder with room for `N` residuals, its sink, its meter, and what it has counted for the report.
 #[derive(Drop)]
-pub(crate) struct Encoding<const N: usize> {
+pub struct Encoding<C: TakesLevels> {
     /// It stands apart from `bits`: neighbours would be added to as a pair, which takes longer.
     samples: u64,
-    coder: SizedCoder<N>,
+    coder: C,
     sink: SegmentSink,
     meter: Meter,
     bits: u64,
 }
 
-impl<const N: usize> Encoding<N> {
+impl<C: TakesLevels> Encoding<C> {
     /// Returns an encoding that has taken no sample.
     fn new(setting: Setting) -> Self
-        requires size { N ≤ longest_segment }
-        requires room { HoldsAnySegment N setting }
-        ensures { (now : Option Room) → IsEncodingOf setting (afresh now) now result [] }
+        requires room { C.has_room setting }
+        ensures { (now : Option Room) → IsEncodingOf setting (afresh now) now (seen C.state result) [] }
     {
         Encoding {
             samples: 0,
-            coder: SizedCoder::begin(setting),
+            coder: C::begin(setting),
             sink: BitSink::new(),
             meter: Meter::new(),
             bits: 0,
@@ -63,16 +63,15 @@ impl<const N: usize> Encoding<N> {
     /// They are put by `put_bits_of_seam`, once it lies where it is kept: else it would be copied there, which takes longer than
     /// short pieces.
     pub(crate) fn resume(setting: Setting, seam: &Seam) -> Self
-        requires size { N ≤ longest_segment }
-        requires room { HoldsAnySegment N setting }
+        requires room { C.has_room setting }
         requires seam { IsSomeSeam setting seam.now }
-        ensures { StandsAt setting seam.now result }
+        ensures { StandsAt setting seam.now (seen C.state result) }
     {
         let mut meter = Meter::new();
         meter.tick(seam.steps);
         Encoding {
             samples: seam.samples,
-            coder: SizedCoder::resume(setting, seam.start, seam.previous),
+            coder: C::resume(setting, seam.start, seam.previous),
             sink: BitSink::new(),
             meter,
             bits: seam.bits,
@@ -82,10 +81,10 @@ impl<const N: usize> Encoding<N> {
     /// Puts the bits that wait.
     pub(crate) fn put_bits_of_seam(&mut self, seam: &Seam)
         requires { (s : Parameters) × (xs : List ℤ) × IsSeam s seam.now xs ×
-            StandsAt s seam.now self.old }
+            StandsAt s seam.now (seen C.state self.old) }
         ensures { (s : Parameters) (now : Option Room) (xs : List ℤ) →
-            StandsAt s seam.now self.old →
-            IsSeam s seam.now xs → IsEncodingOf s (behind s xs now) now self.new xs }
+            StandsAt s seam.now (seen C.state self.old) →
+            IsSeam s seam.now xs → IsEncodingOf s (behind s xs now) now (seen C.state self.new) xs }
     {
         let mut aside = Meter::new();
         self.sink.put(seam.waiting, seam.waiting_bits, &mut aside);
@@ -93,9 +92,9 @@ impl<const N: usize> Encoding<N> {
 
     /// Returns where the code ends, if the samples so far make whole segments. The bits that wait are then in the seam alone.
     pub(crate) fn seam(&mut self) -> Seam
-        requires { length self.old.sink < 8 }
+        requires { length (seen C.state self.old).sink < 8 }
         ensures { (s : Parameters) (old : Beginning) (now : Option Room) (xs : List ℤ) →
-            IsEncodingOf s old now self.old xs → cut s (length xs) ≡ length xs →
+            IsEncodingOf s old now (seen C.state self.old) xs → cut s (length xs) ≡ length xs →
             width s * length xs ≤ most_input → IsSeam s result xs }
     {
         let waiting_bits = self.sink.len() as u32;
@@ -106,7 +105,7 @@ impl<const N: usize> Encoding<N> {
     /// Returns what the encoding counts, where its coder stands, and these bits that wait.
     #[inline(always)]
     fn seam_with(&self, waiting: u32, waiting_bits: u32) -> Seam
-        ensures { result ≡ seam_at self.now waiting waiting_bits }
+        ensures { result ≡ seam_at (seen C.state self.now) waiting waiting_bits }
     {
         Seam {
             samples: self.samples,
@@ -121,7 +120,7 @@ impl<const N: usize> Encoding<N> {
 
     /// Returns the number of samples taken so far.
     pub(crate) fn taken(&self) -> u64
-        ensures { result ≡ self.now.samples }
+        ensures { result ≡ (seen C.state self.now).samples }
     {
         self.samples
     }
@@ -129,11 +128,12 @@ impl<const N: usize> Encoding<N> {
     /// Takes the samples with these levels up to the one that completes a segment, or all of them, and returns their number.
     #[inline(always)]
     fn push_to_coder(&mut self, levels: &Levels<'_>) -> usize
-        requires ready { CanTakeMore self.old levels.now }
-        requires room { HasRoomForSegment self.old.coder.setting self.old.sink }
+        requires ready { CanTakeMore (seen C.state self.old) levels.now }
+        requires some { 0 < length levels.now }
+        requires room { C.is_sink (seen C.state self.old).coder.setting (seen C.state self.old).sink }
         ensures count { result ≤ length levels.now }
         ensures some { 0 < length levels.now → 0 < result }
-        ensures took { TakesFirst self.old self.new result levels.now }
+        ensures took { TakesFirst (seen C.state self.old) (seen C.state self.new) result levels.now }
     {
         let pushed = self
             .coder
@@ -146,11 +146,12 @@ impl<const N: usize> Encoding<N> {
     /// Does what `push_to_coder` does, in a call of its own.
     #[inline(never)]
     fn push_to_coder_in_a_call(&mut self, levels: &Levels<'_>) -> usize
-        requires ready { CanTakeMore self.old levels.now }
-        requires room { HasRoomForSegment self.old.coder.setting self.old.sink }
+        requires ready { CanTakeMore (seen C.state self.old) levels.now }
+        requires some { 0 < length levels.now }
+        requires room { C.is_sink (seen C.state self.old).coder.setting (seen C.state self.old).sink }
         ensures count { result ≤ length levels.now }
         ensures some { 0 < length levels.now → 0 < result }
-        ensures took { TakesFirst self.old self.new result levels.now }
+        ensures took { TakesFirst (seen C.state self.old) (seen C.state self.new) result levels.now }
     {
         self.push_to_coder(levels)
     }
@@ -162,15 +163,15 @@ impl<const N: usize> Encoding<N> {
         levels: &Levels<'_>,
         outlet: &mut O,
     ) -> Result<usize, WriteFault>
-        requires ready { CanTake (O.taken outlet.old) self.old levels.now }
+        requires ready { CanTake (O.taken outlet.old) (seen C.state self.old) levels.now }
         requires some { 0 < length levels.now }
         requires writes { O.failed outlet.old + 1 < 2 ^ 64 }
         ensures count { IfOk result (λ n. (0 < n) × (n ≤ length levels.now)) }
         ensures ok { IfOk result (λ n. WritesFirst (O.taken outlet.old) (O.taken outlet.new)
-            self.old self.new n levels.now) }
+            (seen C.state self.old) (seen C.state self.new) n levels.now) }
         ensures calm { OnOk result (O.failed outlet.new ≡ O.failed outlet.old) }
         ensures err { OnErr result (FailsAmong (O.taken outlet.old) (O.taken outlet.new)
-            self.old self.new levels.now) }
+            (seen C.state self.old) (seen C.state self.new) levels.now) }
         ensures raised { OnErr result (O.failed outlet.new ≡ O.failed outlet.old + 1) }
     {
         if self.is_between_short_segments() {
@@ -182,10 +183,10 @@ impl<const N: usize> Encoding<N> {
     /// Returns whether the samples so far make whole segments, where segments are so short that several are written at once.
     #[inline(always)]
     fn is_between_short_segments(&self) -> bool
-        ensures { result ≡ true → (xs : List ℤ) → HasTaken self.now.coder xs →
-            cut self.now.coder.setting (length xs) ≡ length xs }
+        ensures { result ≡ true → (xs : List ℤ) → HasTaken (seen C.state self.now).coder xs →
+            cut (seen C.state self.now).coder.setting (length xs) ≡ length xs }
     {
-        if N > SHORT || self.coder.most_before() < LEAST_ROOM_OF_ROW {
+        if !self.coder.takes_rows() || self.coder.most_before() < LEAST_ROOM_OF_ROW {
             return false;
         }
         self.coder.pending() == 0
@@ -197,15 +198,15 @@ impl<const N: usize> Encoding<N> {
         levels: &Levels<'_>,
         outlet: &mut O,
     ) -> Result<usize, WriteFault>
-        requires ready { CanTake (O.taken outlet.old) self.old levels.now }
+        requires ready { CanTake (O.taken outlet.old) (seen C.state self.old) levels.now }
         requires some { 0 < length levels.now }
         requires writes { O.failed outlet.old + 1 < 2 ^ 64 }
         ensures count { IfOk result (λ n. (0 < n) × (n ≤ length levels.now)) }
         ensures ok { IfOk result (λ n. WritesFirst (O.taken outlet.old) (O.taken outlet.new)
-            self.old self.new n levels.now) }
+            (seen C.state self.old) (seen C.state self.new) n levels.now) }
         ensures calm { OnOk result (O.failed outlet.new ≡ O.failed outlet.old) }
         ensures err { OnErr result (FailsAmong (O.taken outlet.old) (O.taken outlet.new)
-            self.old self.new levels.now) }
+            (seen C.state self.old) (seen C.state self.new) levels.now) }
         ensures raised { OnErr result (O.failed outlet.new ≡ O.failed outlet.old + 1) }
     {
         let taken = self.push_to_coder_in_a_call(levels);
@@ -223,17 +224,17 @@ impl<const N: usize> Encoding<N> {
         levels: &Levels<'_>,
         outlet: &mut O,
     ) -> Result<usize, WriteFault>
-        requires between { (xs : List ℤ) → HasTaken self.old.coder xs →
-            cut self.old.coder.setting (length xs) ≡ length xs }
-        requires ready { CanTake (O.taken outlet.old) self.old levels.now }
+        requires between { (xs : List ℤ) → HasTaken (seen C.state self.old).coder xs →
+            cut (seen C.state self.old).coder.setting (length xs) ≡ length xs }
+        requires ready { CanTake (O.taken outlet.old) (seen C.state self.old) levels.now }
         requires some { 0 < length levels.now }
         requires writes { O.failed outlet.old + 1 < 2 ^ 64 }
         ensures count { IfOk result (λ n. (0 < n) × (n ≤ length levels.now)) }
         ensures ok { IfOk result (λ n. WritesFirst (O.taken outlet.old) (O.taken outlet.new)
-            self.old self.new n levels.now) }
+            (seen C.state self.old) (seen C.state self.new) n levels.now) }
         ensures calm { OnOk result (O.failed outlet.new ≡ O.failed outlet.old) }
         ensures err { OnErr result (FailsAmong (O.taken outlet.old) (O.taken outlet.new)
-            self.old self.new levels.now) }
+            (seen C.state self.old) (seen C.state self.new) levels.now) }
         ensures raised { OnErr result (O.failed outlet.new ≡ O.failed outlet.old + 1) }
     {
         let start = self.row_start();
@@ -254,12 +255,12 @@ impl<const N: usize> Encoding<N> {
     /// Takes samples segment after segment, as long as the sink has room for the code of one more, or all of them, and returns their
     /// number.
     fn take_row(&mut self, levels: &Levels<'_>) -> usize
-        requires { CanTakeFrom self.old levels.now }
+        requires { CanTakeFrom (seen C.state self.old) levels.now }
         ensures count { result ≤ length levels.now }
         ensures some { 0 < length levels.now → 0 < result }
-        ensures holds { (s : Parameters) (xs : List ℤ) → HoldsCode s self.old xs xs →
-            HoldsCode s self.new xs (xs ++ take result (values_at s levels.now)) }
-        ensures inside { (s : Parameters) (xs : List ℤ) → HoldsCode s self.old xs xs →
+        ensures holds { (s : Parameters) (xs : List ℤ) → HoldsCode s (seen C.state self.old) xs xs →
+            HoldsCode s (seen C.state self.new) xs (xs ++ take result (values_at s levels.now)) }
+        ensures inside { (s : Parameters) (xs : List ℤ) → HoldsCode s (seen C.state self.old) xs xs →
             GoesOnInside s xs (take result (values_at s levels.now)) }
     {
         let most = self.coder.most_before();
@@ -275,11 +276,11 @@ impl<const N: usize> Encoding<N> {
 
     /// Returns what the encoding counts, where its coder stands, and the bits that wait, which it keeps.
     fn row_start(&mut self) -> Seam
-        requires { length self.old.sink < 8 }
+        requires { length (seen C.state self.old).sink < 8 }
         ensures start { (s : Parameters) (old : Beginning) (now : Option Room) (xs : List ℤ) →
-            IsEncodingOf s old now self.old xs → cut s (length xs) ≡ length xs →
+            IsEncodingOf s old now (seen C.state self.old) xs → cut s (length xs) ≡ length xs →
             IsRowStart s result xs }
-        ensures same { self.new ≡ self.old }
+        ensures same { seen C.state self.new ≡ seen C.state self.old }
     {
         let waiting_bits = self.sink.len() as u32;
         let waiting = take_waiting_number(&mut self.sink);
@@ -291,10 +292,10 @@ impl<const N: usize> Encoding<N> {
     #[cold]
     #[inline(never)]
     fn go_back(&mut self, start: &Seam)
-        requires { (s : Parameters) × (xs : List ℤ) × (self.old.coder.setting ≡ s) ×
+        requires { (s : Parameters) × (xs : List ℤ) × ((seen C.state self.old).coder.setting ≡ s) ×
             IsRowStart s start.now xs × (length xs ≤ most_input) }
-        ensures { (s : Parameters) (xs : List ℤ) → self.old.coder.setting ≡ s →
-            IsRowStart s start.now xs → HoldsCode s self.new xs xs }
+        ensures { (s : Parameters) (xs : List ℤ) → (seen C.state self.old).coder.setting ≡ s →
+            IsRowStart s start.now xs → HoldsCode s (seen C.state self.new) xs xs }
     {
         self.coder.go_back(start.start, start.previous);
         self.meter = Meter::new();
@@ -308,10 +309,10 @@ impl<const N: usize> Encoding<N> {
     #[cold]
     #[inline(never)]
     fn take_until_past(&mut self, levels: &Levels<'_>, count: usize)
-        requires { CanTakeFrom self.old levels.now }
-        ensures { (s : Parameters) (xs : List ℤ) → HoldsCode s self.old xs xs →
+        requires { CanTakeFrom (seen C.state self.old) levels.now }
+        ensures { (s : Parameters) (xs : List ℤ) → HoldsCode s (seen C.state self.old) xs xs →
             length (early_output s xs) + count < length (early_output s (xs ++ values_at s levels.now)) →
-            StopsAt s self.new xs (values_at s levels.now) (length (early_output s xs) + count) }
+            StopsAt s (seen C.state self.new) xs (values_at s levels.now) (length (early_output s xs) + count) }
     {
         let mut at = 0;
         let mut left = count as u64;
@@ -332,14 +333,14 @@ impl<const N: usize> Encoding<N> {
         levels: &Levels<'_>,
         outlet: &mut O,
     ) -> Result<(), WriteFault>
-        requires ready { CanTake (O.taken outlet.old) self.old levels.now }
+        requires ready { CanTake (O.taken outlet.old) (seen C.state self.old) levels.now }
         requires writes { O.failed outlet.old + 1 < 2 ^ 64 }
         ensures ok { OnOk result ((s : Parameters) (old : Beginning) (xs : List ℤ) →
-            IsEncodingOf s old (O.taken outlet.old) self.old xs →
-            IsEncodingOf s old (O.taken outlet.new) self.new (xs ++ values_at s levels.now)) }
+            IsEncodingOf s old (O.taken outlet.old) (seen C.state self.old) xs →
+            IsEncodingOf s old (O.taken outlet.new) (seen C.state self.new) (xs ++ values_at s levels.now)) }
         ensures calm { OnOk result (O.failed outlet.new ≡ O.failed outlet.old) }
         ensures err { OnErr result (FailsAmong (O.taken outlet.old) (O.taken outlet.new)
-            self.old self.new levels.now) }
+            (seen C.state self.old) (seen C.state self.new) levels.now) }
         ensures raised { OnErr result (O.failed outlet.new ≡ O.failed outlet.old + 1) }
     {
         let mut at = 0;
@@ -358,10 +359,10 @@ impl<const N: usize> Encoding<N> {
         levels: &mut LevelRow,
         outlet: &mut O,
     ) -> Result<(), Fault>
-        requires ready { CanPush setting.now (O.taken outlet.old) self.old bytes.now }
+        requires ready { CanPush setting.now (O.taken outlet.old) (seen C.state self.old) bytes.now }
         requires writes { O.failed outlet.old + 1 < 2 ^ 64 }
         ensures did { PushesBytes setting.now (O.taken outlet.old) (O.taken outlet.new)
-            self.old self.new bytes.now result }
+            (seen C.state self.old) (seen C.state self.new) bytes.now result }
         ensures failures { PushFails (O.failed outlet.old) (O.failed outlet.new) result }
     {
         let width = setting.width() as usize;
@@ -384,11 +385,11 @@ impl<const N: usize> Encoding<N> {
     /// Codes the samples that wait, fills the last byte, and returns the report. The sink then holds the rest of the code.
     fn code_rest_and_fill(&mut self) -> Report
         requires { (s : Parameters) × (old : Beginning) × (now : Option Room) ×
-            (xs : List ℤ) × IsEncodingOf s old now self.old xs × (length xs ≤ most_input) }
+            (xs : List ℤ) × IsEncodingOf s old now (seen C.state self.old) xs × (length xs ≤ most_input) }
         ensures { (s : Parameters) (old : Beginning) (now : Option Room) (xs : List ℤ) →
-            IsEncodingOf s old now self.old xs →
+            IsEncodingOf s old now (seen C.state self.old) xs →
             ReportsAll s result xs × (padded_bits (code s xs) ≡ whole_part (complete_code s xs) ++
-            self.new.sink) }
+            (seen C.state self.new).sink) }
     {
         let bits = self.coder.finish_reset(&mut self.sink, &mut self.meter);
         let report = Report {
@@ -403,10 +404,10 @@ impl<const N: usize> Encoding<N> {
     /// Codes the samples that wait, fills the last byte, and writes the rest of the code.
     pub(crate) fn finish<O: Outlet>(&mut self, outlet: &mut O) -> Outcome
         requires ready { (s : Parameters) × (old : Beginning) × (xs : List ℤ) ×
-            IsEncodingOf s old (O.taken outlet.old) self.old xs × (length xs ≤ most_input) }
+            IsEncodingOf s old (O.taken outlet.old) (seen C.state self.old) xs × (length xs ≤ most_input) }
         requires writes { O.failed outlet.old + 1 < 2 ^ 64 }
         ensures did { (s : Parameters) (old : Beginning) (xs : List ℤ) →
-            IsEncodingOf s old (O.taken outlet.old) self.old xs →
+            IsEncodingOf s old (O.taken outlet.old) (seen C.state self.old) xs →
             ReportsAll s result.report xs × WritesRest s old (O.taken outlet.new) xs result.fault }
         ensures failures { Fails result.fault 0 0 (O.failed outlet.old) (O.failed outlet.new) }
     {
@@ -420,7 +421,7 @@ impl<const N: usize> Encoding<N> {
 
     /// Returns what was done up to a fault.
     pub(crate) fn stopped(&self, fault: Fault) -> Outcome
-        ensures told { (s : Parameters) (xs : List ℤ) → CountsSamples s self.now xs →
+        ensures told { (s : Parameters) (xs : List ℤ) → CountsSamples s (seen C.state self.now) xs →
             ReportsTaken s result.report xs }
         ensures fault { result.fault ≡ Some fault }
     {
@@ -476,13 +477,31 @@ pub fn encode<I: Intake, O: Outlet>(setting: &Setting, intake: &mut I, outlet: &
     ensures bounds { EncodesWithin setting.now result.report }
 {
     if has_short_intervals(setting) {
-        return encode_by_sized_coder::<SHORT, I, O>(setting, intake, outlet);
+        return encode_by_sized_coder::<SizedCoder<SHORT>, I, O>(setting, intake, outlet);
     }
-    encode_by_sized_coder::<LONGEST, I, O>(setting, intake, outlet)
+    encode_by_sized_coder::<SizedCoder<LONGEST>, I, O>(setting, intake, outlet)
+}
+
+/// As `encode`, by the coder that takes a sample a call.
+pub fn encode_plainly<I: Intake, O: Outlet>(
+    setting: &Setting,
+    intake: &mut I,
+    outlet: &mut O,
+) -> Outcome
+    requires reads { I.failed intake.old + 1 < 2 ^ 64 }
+    requires writes { O.failed outlet.old + 1 < 2 ^ 64 }
+    requires room { HoldsAnySegment longest_segment setting.now }
+    ensures call { EncodesBetween setting.now (I.left intake.old) (I.left intake.new)
+        (O.taken outlet.old) (O.taken outlet.new) result.report result.fault }
+    ensures failures { Fails result.fault (I.failed intake.old) (I.failed intake.new)
+        (O.failed outlet.old) (O.failed outlet.new) }
+    ensures bounds { EncodesWithin setting.now result.report }
+{
+    encode_by_sized_coder::<OneByOne<LONGEST>, I, O>(setting, intake, outlet)
 }
 
 /// Returns whether a short row holds the residuals of each segment.
-pub(crate) fn has_short_intervals(setting: &Setting) -> bool
+pub fn has_short_intervals(setting: &Setting) -> bool
     ensures short { result ≡ true → HoldsAnySegment 128 setting.now }
     ensures any { HoldsAnySegment longest_segment setting.now }
 {
@@ -493,13 +512,12 @@ pub(crate) fn has_short_intervals(setting: &Setting) -> bool
 ///
 /// It is never inlined, so that a call takes the stack of one row.
 #[inline(never)]
-fn encode_by_sized_coder<const N: usize, I: Intake, O: Outlet>(
+fn encode_by_sized_coder<C: TakesLevels, I: Intake, O: Outlet>(
     setting: &Setting,
     intake: &mut I,
     outlet: &mut O,
 ) -> Outcome
-    requires size { N ≤ longest_segment }
-    requires room { HoldsAnySegment N setting.now }
+    requires room { C.has_room setting.now }
     requires reads { I.failed intake.old + 1 < 2 ^ 64 }
     requires writes { O.failed outlet.old + 1 < 2 ^ 64 }
     ensures call { EncodesBetween setting.now (I.left intake.old) (I.left intake.new)
@@ -508,7 +526,7 @@ fn encode_by_sized_coder<const N: usize, I: Intake, O: Outlet>(
         (O.failed outlet.old) (O.failed outlet.new) }
     ensures bounds { EncodesWithin setting.now result.report }
 {
-    let mut encoding = Encoding::<N>::new(*setting);
+    let mut encoding = Encoding::<C>::new(*setting);
     let mut samples = SampleReader::new(*setting);
     let mut levels = LevelRow::new();
     'encode_all: loop {

@@ -11,6 +11,8 @@ ghost use Rattle.rice_stream.specs.Feeding.{IsSomeSeam, EncodesOn, EncodesToEnd}
 use crate::encoding::{Encoding, LONGEST, SHORT, has_short_intervals};
 use crate::outcome::{Fault, Outcome};
 use crate::seam::Seam;
+use crate::takes::TakesLevels;
+use rice_code::SizedCoder;
 use rice_bits::Outlet;
 use rice_samples::{LevelRow, MOST_INPUT, Setting};
 
@@ -31,21 +33,20 @@ pub fn encode_more<O: Outlet>(
     ensures failures { PushFails (O.failed outlet.old) (O.failed outlet.new) result }
 {
     if has_short_intervals(setting) {
-        return encode_more_by_sized_coder::<SHORT, O>(setting, seam, bytes, outlet);
+        return encode_more_by_sized_coder::<SizedCoder<SHORT>, O>(setting, seam, bytes, outlet);
     }
-    encode_more_by_sized_coder::<LONGEST, O>(setting, seam, bytes, outlet)
+    encode_more_by_sized_coder::<SizedCoder<LONGEST>, O>(setting, seam, bytes, outlet)
 }
 
 /// Encodes as `encode_more` does, where a row of `N` holds the residuals of each segment.
 #[inline(never)]
-fn encode_more_by_sized_coder<const N: usize, O: Outlet>(
+fn encode_more_by_sized_coder<C: TakesLevels, O: Outlet>(
     setting: &Setting,
     seam: &Seam,
     bytes: &[u8],
     outlet: &mut O,
 ) -> Result<Seam, Fault>
-    requires size { N ≤ longest_segment }
-    requires room { HoldsAnySegment N setting.now }
+    requires room { C.has_room setting.now }
     requires seam { IsSomeSeam setting.now seam.now }
     requires writes { O.failed outlet.old + 1 < 2 ^ 64 }
     ensures did { EncodesOn setting.now seam.now bytes.now
@@ -59,7 +60,7 @@ fn encode_more_by_sized_coder<const N: usize, O: Outlet>(
     let all = seam.samples + (bytes.len() / width) as u64;
     let count = in_whole_segments(setting, all) - seam.samples;
     let part = &bytes[..width * count as usize];
-    let mut encoding = Encoding::<N>::resume(*setting, seam);
+    let mut encoding = Encoding::<C>::resume(*setting, seam);
     encoding.put_bits_of_seam(seam);
     let mut levels = LevelRow::new();
     encoding.push_samples_of_bytes(setting, part, &mut levels, outlet)?;
@@ -81,21 +82,20 @@ pub fn encode_rest<O: Outlet>(
     ensures bounds { EncodesWithin setting.now result.report }
 {
     if has_short_intervals(setting) {
-        return encode_rest_by_sized_coder::<SHORT, O>(setting, seam, bytes, outlet);
+        return encode_rest_by_sized_coder::<SizedCoder<SHORT>, O>(setting, seam, bytes, outlet);
     }
-    encode_rest_by_sized_coder::<LONGEST, O>(setting, seam, bytes, outlet)
+    encode_rest_by_sized_coder::<SizedCoder<LONGEST>, O>(setting, seam, bytes, outlet)
 }
 
 /// Encodes as `encode_rest` does, where a row of `N` holds the residuals of each segment.
 #[inline(never)]
-fn encode_rest_by_sized_coder<const N: usize, O: Outlet>(
+fn encode_rest_by_sized_coder<C: TakesLevels, O: Outlet>(
     setting: &Setting,
     seam: &Seam,
     bytes: &[u8],
     outlet: &mut O,
 ) -> Outcome
-    requires size { N ≤ longest_segment }
-    requires room { HoldsAnySegment N setting.now }
+    requires room { C.has_room setting.now }
     requires seam { IsSomeSeam setting.now seam.now }
     requires writes { O.failed outlet.old + 1 < 2 ^ 64 }
     ensures did { EncodesToEnd setting.now seam.now bytes.now
@@ -104,7 +104,7 @@ fn encode_rest_by_sized_coder<const N: usize, O: Outlet>(
     ensures bounds { EncodesWithin setting.now result.report }
 {
     let width = setting.width() as usize;
-    let mut encoding = Encoding::<N>::resume(*setting, seam);
+    let mut encoding = Encoding::<C>::resume(*setting, seam);
     encoding.put_bits_of_seam(seam);
     if bytes.len() as u64 > bytes_left(width, encoding.taken()) {
         return encoding.stopped(Fault::TooLong);

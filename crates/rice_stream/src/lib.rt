@@ -5,19 +5,22 @@
 pub mod decoding;
 pub mod encoding;
 pub mod feeding;
+pub mod gives;
 pub mod laws;
 pub mod outcome;
 mod patience;
 mod plain;
+pub mod plain_decoder;
 pub mod pulling;
 mod runs;
 pub mod seam;
 pub mod stand;
 mod strokes;
+pub mod takes;
 mod write;
 
-pub use decoding::decode;
-pub use encoding::encode;
+pub use decoding::{decode, decode_plainly};
+pub use encoding::{encode, encode_plainly, has_short_intervals};
 pub use feeding::{encode_more, encode_rest};
 pub use outcome::{Fault, Outcome, Report};
 pub use pulling::decode_more;

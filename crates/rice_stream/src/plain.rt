@@ -12,7 +12,7 @@ use crate::outcome::{Fault, Outcome};
 use crate::write::{write_block, write_counted};
 use arrayvec::ArrayVec;
 use rice_bits::{BitReader, Intake, Meter, Outlet};
-use rice_code::{Decoder, NextBlock};
+use rice_code::{Decoder, Step};
 use rice_samples::Setting;
 
 /// Returns whether samples are not predicted, and use all bits of `WIDTH` bytes, and intervals are not padded.
@@ -215,8 +215,8 @@ pub(crate) fn decode_plain<I: Intake, O: Outlet, const WIDTH: usize>(
             }
         };
         match step {
-            NextBlock::Block => {}
-            NextBlock::Done => return ended(end_of(asked, written), written, reader, &meter),
+            Step::Block => {}
+            Step::Done => return ended(end_of(asked, written), written, reader, &meter),
         }
         let block_levels = &levels.as_slice()[..count];
         match write_block(&own, block_levels, &mut bytes, outlet) {

@@ -16,7 +16,7 @@ use crate::stand::{Pause, Stand};
 use crate::strokes::{copy_at, next_stroke, stand_behind};
 use arrayvec::ArrayVec;
 use rice_bits::{BitReader, Meter, SliceIn};
-use rice_code::{CodeFault, Decoder, NextBlock};
+use rice_code::{CodeFault, Decoder, Step};
 use rice_samples::{Setting, write_spellings, write_spellings_laid_out, write_threes};
 
 /// The most bits of a code.
@@ -222,8 +222,8 @@ fn restore_next_block(
     let mut meter = Meter::new();
     meter.tick(stand.steps);
     match decoder.next_levels(reader, &mut meter, levels)? {
-        NextBlock::Block => {}
-        NextBlock::Done => return Ok(None),
+        Step::Block => {}
+        Step::Done => return Ok(None),
     }
     let next = stand_behind(stand, size, before, decoder, reader, &meter);
     Ok(Some(next))

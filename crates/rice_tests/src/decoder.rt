@@ -7,7 +7,7 @@ use rice_base_tests::case_table::{Columns, bytes_of, number_of, samples_of, sett
 use rice_base_tests::cases::Cases;
 use rice_base_tests::devices::MemoryIn;
 use rice_bits::{BitReader, Intake, Meter};
-use rice_code::{CodeFault, Decoder, NextBlock};
+use rice_code::{CodeFault, Decoder, Step};
 use rice_samples::Setting;
 use std::alloc::Global;
 use std::test::Fail;
@@ -16,7 +16,7 @@ use std::test::Fail;
 #[derive(Drop)]
 struct Seen {
     samples: Vec<i64>,
-    answer: Result<NextBlock, CodeFault>,
+    answer: Result<Step, CodeFault>,
     bits: u64,
     steps: u64,
 }
@@ -27,7 +27,7 @@ fn next<I: Intake>(
     reader: &mut BitReader<I>,
     meter: &mut Meter,
     block: &mut ArrayVec<i64, 64>,
-) -> Result<NextBlock, CodeFault>
+) -> Result<Step, CodeFault>
     requires going { decoder.old.stopped ≡ None → reader.old.refusal ≡ None }
     requires room { meter.old ≤ 2 * reader.old.taken }
     ensures going { decoder.new.stopped ≡ None → reader.new.refusal ≡ None }
@@ -53,7 +53,7 @@ fn decode<I: Intake + Drop>(
     let mut samples = Vec::new(alloc);
     for _ in 0..2000 {
         let answer = next(&mut decoder, &mut reader, &mut meter, &mut block);
-        if answer != Ok(NextBlock::Block) {
+        if answer != Ok(Step::Block) {
             cases.check(block.is_empty());
             let seen = Seen {
                 samples,
@@ -94,9 +94,9 @@ fn decodes_line(cases: &mut Cases<'_>, alloc: Global, line: &str) -> Result<(), 
 }
 
 /// Returns what a decoder answers at the end of a code, by its name.
-fn answer_of(name: &str) -> Result<Result<NextBlock, CodeFault>, Fail> {
+fn answer_of(name: &str) -> Result<Result<Step, CodeFault>, Fail> {
     match name {
-        "done" => Ok(Ok(NextBlock::Done)),
+        "done" => Ok(Ok(Step::Done)),
         "ends" => Ok(Err(CodeFault::CodeEnds)),
         "run" => Ok(Err(CodeFault::RunPastSegment)),
         "residual" => Ok(Err(CodeFault::ResidualTooLarge)),
@@ -167,10 +167,10 @@ fn waiting_samples() -> Result<(), Fail> {
     let mut meter = Meter::new();
     let mut block = ArrayVec::new();
     cases.check(decoder.waiting() == 0);
-    cases.check(next(&mut decoder, &mut reader, &mut meter, &mut block) == Ok(NextBlock::Block));
+    cases.check(next(&mut decoder, &mut reader, &mut meter, &mut block) == Ok(Step::Block));
     cases.check(decoder.waiting() == 8);
     cases.check(decoder.is_in_run());
-    cases.check(next(&mut decoder, &mut reader, &mut meter, &mut block) == Ok(NextBlock::Block));
+    cases.check(next(&mut decoder, &mut reader, &mut meter, &mut block) == Ok(Step::Block));
     cases.check(decoder.waiting() == 0);
     cases.check(!decoder.is_in_run());
     cases.check(meter.steps() == 17);
@@ -186,7 +186,7 @@ fn repeated_samples() -> Result<(), Fail> {
     let mut meter = Meter::new();
     let mut levels = ArrayVec::new();
     cases.check(!decoder.repeats());
-    cases.check(decoder.next_levels(&mut reader, &mut meter, &mut levels) == Ok(NextBlock::Block));
+    cases.check(decoder.next_levels(&mut reader, &mut meter, &mut levels) == Ok(Step::Block));
     cases.check(levels.as_slice() == [0; 8].as_slice());
     if decoder.repeats() {
         decoder.pass_blocks_of_run(1);
@@ -256,8 +256,8 @@ fn bytes_of_a_block() -> Result<(), Fail> {
     cases.check(none == 0);
     let _taken = reader.taken();
     let first = decoder.next_levels(&mut reader, &mut meter, &mut levels);
-    cases.check(first == Ok(NextBlock::Block));
-    if first == Ok(NextBlock::Block) {
+    cases.check(first == Ok(Step::Block));
+    if first == Ok(Step::Block) {
         let one = next_eight_bytes(
             &setting,
             &mut decoder,
@@ -282,7 +282,7 @@ fn steps_of_second_extension() -> Result<(), Fail> {
     let mut decoder = Decoder::new(setting_of("N")?);
     let mut meter = Meter::new();
     let mut block = ArrayVec::new();
-    cases.check(decoder.next_block(&mut reader, &mut meter, &mut block) == Ok(NextBlock::Block));
+    cases.check(decoder.next_block(&mut reader, &mut meter, &mut block) == Ok(Step::Block));
     cases.check(reader.taken() == 10);
     cases.check(meter.steps() == 11);
     cases.end()

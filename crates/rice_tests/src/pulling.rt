@@ -7,7 +7,7 @@ use rice_base_tests::case_table::setting_of;
 use rice_base_tests::cases::Cases;
 use rice_base_tests::devices::MemoryIn;
 use rice_bits::{BitReader, Meter};
-use rice_code::{Decoder, NextBlock};
+use rice_code::{Decoder, Step};
 use rice_samples::Setting;
 use rice_stream::{Pause, Stand, decode_more};
 use std::test::Fail;
@@ -137,7 +137,7 @@ fn a_block_from_its_place() -> Result<(), Fail> {
     };
     let mut meter = Meter::new();
     let mut block = ArrayVec::new();
-    cases.check(decoder.next_block(&mut reader, &mut meter, &mut block) == Ok(NextBlock::Block));
+    cases.check(decoder.next_block(&mut reader, &mut meter, &mut block) == Ok(Step::Block));
     cases.check(block.as_slice() == [5, 5, 5, 5, 5, 5, 5, 4].as_slice());
     cases.check((decoder.block(), decoder.before(), decoder.run()) == (0, 4, 0));
     cases.end()

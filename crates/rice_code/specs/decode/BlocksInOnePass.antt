@@ -9,7 +9,7 @@ use Rattle.rice_code.specs.code.CodedDataSets.{CodedDataSet, bits_of_set, turns}
 use Rattle.rice_code.specs.code.Forms.{IsForm, RunIsSound, ResidualsAreSound, blocks_in}
 use Rattle.rice_code.specs.decode.Decoder.{Answers, GivesBlock, with_mark}
 use Rattle.rice_code.specs.decode.DecoderState.{DecoderState}
-use Rattle.rice_code.specs.declared.decode.call_results.NextBlock.TheVariants.{Block}
+use Rattle.rice_code.specs.declared.decode.call_results.Step.TheVariants.{Block}
 
 -- Samples of so many bytes that are predicted, of which blocks may be decoded in one pass.
 pub record ArePredicted (s : Parameters) (bytes_of_one : ℕ) : Type 0 where

@@ -9,8 +9,8 @@ use Rattle.rice_code.specs.code.CodedDataSets.{CodedDataSet, bits_of_set, turns}
 use Rattle.rice_code.specs.code.Forms.{IsForm, RunIsSound, ResidualsAreSound, blocks_in}
 use Rattle.rice_code.specs.code.Layout.{block_after, padding}
 use Rattle.rice_code.specs.decode.ReadSets.{SetCut}
-use Rattle.rice_code.specs.declared.decode.call_results.NextBlock.{NextBlock}
-use Rattle.rice_code.specs.declared.decode.call_results.NextBlock.TheVariants.{Block, Done}
+use Rattle.rice_code.specs.declared.decode.call_results.Step.{Step}
+use Rattle.rice_code.specs.declared.decode.call_results.Step.TheVariants.{Block, Done}
 use Rattle.rice_code.specs.declared.decode.call_results.CodeFault.{CodeFault}
 use Rattle.rice_code.specs.declared.decode.call_results.CodeFault.TheVariants as faults
 use Rattle.rice_code.specs.decode.DecoderState.{DecoderState, state_after_block}
@@ -63,7 +63,7 @@ pub record SetEnds {I : Type 0} (old new : Reader I) (old_steps new_steps : ℕ)
   pub told : is_blank cut.bits ≡ blank
 
 -- why a decoder at block b stops, whatever the intake is
-abbrev pub StopsBy : {I : Type 0} → Reader I → Reader I → ℕ → ℕ → Parameters → ℕ → Result NextBlock CodeFault → Type 0
+abbrev pub StopsBy : {I : Type 0} → Reader I → Reader I → ℕ → ℕ → Parameters → ℕ → Result Step CodeFault → Type 0
 StopsBy old new old_steps new_steps s b (Ok Block) = ⊥
 -- no 1 was left
 StopsBy old new old_steps new_steps s b (Ok Done) = SetEnds old new old_steps new_steps s b true
@@ -79,7 +79,7 @@ abbrev pub with_mark : {I : Type 0} → Reader I → Reader I
 with_mark r = record r { blank = true }
 
 -- What a call says that reads a data set.
-abbrev pub Answers : {I : Type 0} → Reader I → Reader I → ℕ → ℕ → DecoderState → DecoderState → List ℤ → Result NextBlock CodeFault → Type 0
+abbrev pub Answers : {I : Type 0} → Reader I → Reader I → ℕ → ℕ → DecoderState → DecoderState → List ℤ → Result Step CodeFault → Type 0
 Answers old new old_steps new_steps p q samples (Ok Block) =
     GivesSet old new old_steps new_steps p.setting p.block p.before samples q.run × (q ≡ state_after_block p samples q.run)
 Answers old new old_steps new_steps p q samples (Ok Done) = StopsBy old new old_steps new_steps p.setting p.block (Ok Done) × (q ≡ record p { stopped = Some (Ok Done) }) × (samples ≡ [])
@@ -96,7 +96,7 @@ RepeatsBlocks zero p q = q ≡ p
 RepeatsBlocks (suc n) p q = (m : DecoderState) × GivesFromRun p m (replicate p.setting.block p.before) × RepeatsBlocks n m q
 
 -- what a decoder returns when its reader refuses
-abbrev pub answer_to : BitFault → Result NextBlock CodeFault
+abbrev pub answer_to : BitFault → Result Step CodeFault
 answer_to (bit_faults.End true) = Ok Done
 answer_to (bit_faults.End false) = Err faults.CodeEnds
 answer_to bit_faults.Read = Err faults.Read

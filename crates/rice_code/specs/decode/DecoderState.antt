@@ -3,8 +3,8 @@ use Rattle.std.specs.Prelude.{◌≡◌, ◌≢◌, ℕ, ◌+◌, ◌<◌, ◌�
 use Rattle.rice_samples.specs.Parameters.{Parameters, IsLegal, IsSample}
 use Rattle.rice_samples.specs.Places.{blocks_left, begins_segment}
 use Rattle.rice_samples.specs.predict.Residuals.{last_of}
-use Rattle.rice_code.specs.declared.decode.call_results.NextBlock.{NextBlock}
-use Rattle.rice_code.specs.declared.decode.call_results.NextBlock.TheVariants.{Block}
+use Rattle.rice_code.specs.declared.decode.call_results.Step.{Step}
+use Rattle.rice_code.specs.declared.decode.call_results.Step.TheVariants.{Block}
 use Rattle.rice_code.specs.declared.decode.call_results.CodeFault.{CodeFault}
 
 -- The state of a decoder.
@@ -17,10 +17,10 @@ pub record DecoderState : Type 0 where
   -- the zero blocks of a run that are still to come
   pub run : ℕ
   -- what the decoder returns from now on
-  pub stopped : Option (Result NextBlock CodeFault)
+  pub stopped : Option (Result Step CodeFault)
 
 -- what holds of the fields of each decoder
-pub record IsDecoderState (s : Parameters) (block : ℕ) (before : ℤ) (run : ℕ) (stopped : Option (Result NextBlock CodeFault)) : Type 0 where
+pub record IsDecoderState (s : Parameters) (block : ℕ) (before : ℤ) (run : ℕ) (stopped : Option (Result Step CodeFault)) : Type 0 where
   pub legal : IsLegal s
   pub within : block < s.interval
   pub sample : IsSample s before

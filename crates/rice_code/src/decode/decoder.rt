@@ -15,7 +15,7 @@ ghost use Rattle.rice_code.specs.decode.DecoderState.{next_block_place, place_af
 ghost use Rattle.rice_code.specs.code.Layout.{padding};
 ghost use Rattle.rice_code.specs.code.CodedDataSets.{run_with_zeros};
 
-use crate::decode::call_results::{CodeFault, NextBlock};
+use crate::decode::call_results::{CodeFault, Step};
 use crate::decode::coded_data_set::read_set;
 use crate::decode::no_compression_ahead::{is_uncompressed_ahead, spell_uncompressed_ahead};
 use crate::decode::options::SetSummary;
@@ -56,11 +56,11 @@ fn run_blocks(setting: &Setting, block: u64, zeros: u64) -> Option<u32>
 }
 
 /// Returns what a decoder answers when its reader refuses.
-fn answer_of(fault: BitFault) -> Result<NextBlock, CodeFault>
+fn answer_of(fault: BitFault) -> Result<Step, CodeFault>
     ensures { result ≡ answer_to fault }
 {
     match fault {
-        BitFault::End { blank: true } => Ok(NextBlock::Done),
+        BitFault::End { blank: true } => Ok(Step::Done),
         BitFault::End { blank: false } => Err(CodeFault::CodeEnds),
         BitFault::Read => Err(CodeFault::Read),
         BitFault::TooLong => Err(CodeFault::TooLong),
@@ -145,7 +145,7 @@ pub struct Decoder {
     /// The level of the sample before it.
     before: u32,
     run: u32,
-    stopped: Option<Result<NextBlock, CodeFault>>,
+    stopped: Option<Result<Step, CodeFault>>,
     /// How many looks in a row for near samples were in vain, up to `MOST_IN_TURN`.
     vain_looks: u32,
     /// Scratch space for the residuals of a block and for their high parts.
@@ -167,7 +167,7 @@ impl Model for Decoder {
 impl Decoder {
     ghost use Rattle.rice_code.specs.decode.DecoderState.{IsDecoderState};
     ghost use Rattle.rice_code.specs.decode.Decoder.{Answers, GivesFromRun, RepeatsBlocks, with_mark};
-    ghost use Rattle.rice_code.specs.declared.decode.call_results.NextBlock.TheVariants.{Block};
+    ghost use Rattle.rice_code.specs.declared.decode.call_results.Step.TheVariants.{Block};
 
     /// Returns a decoder at the beginning of a code.
     pub fn new(setting: Setting) -> Self
@@ -285,7 +285,7 @@ impl Decoder {
         reader: &mut BitReader<I>,
         meter: &mut Meter,
         samples: &mut ArrayVec<i64, 64>,
-    ) -> Result<NextBlock, CodeFault>
+    ) -> Result<Step, CodeFault>
         requires going { self.old.stopped ≡ None → reader.old.refusal ≡ None }
         requires room { meter.old + 2 * (most_bits_read - reader.old.taken) + 64 < step_limit }
         // A decoder that has stopped answers the same from then on.
@@ -763,7 +763,7 @@ impl Decoder {
         reader: &mut BitReader<I>,
         meter: &mut Meter,
         levels: &mut ArrayVec<u32, 64>,
-    ) -> Result<NextBlock, CodeFault>
+    ) -> Result<Step, CodeFault>
         requires going { self.old.stopped ≡ None → reader.old.refusal ≡ None }
         requires room { meter.old + 2 * (most_bits_read - reader.old.taken) + 64 < step_limit }
         // A decoder that has stopped answers the same from then on.
@@ -798,7 +798,7 @@ impl Decoder {
             self.run -= 1;
             self.before = last;
             self.block = next_place(&self.setting, self.block);
-            return Ok(NextBlock::Block);
+            return Ok(Step::Block);
         }
         // It is laid out for each size of blocks.
         match self.setting.block() {
@@ -817,7 +817,7 @@ impl Decoder {
         reader: &mut BitReader<I>,
         meter: &mut Meter,
         levels: &mut ArrayVec<u32, 64>,
-    ) -> Result<NextBlock, CodeFault>
+    ) -> Result<Step, CodeFault>
         requires size { 0 < SIZE → SIZE ≡ self.old.setting.block }
         requires stopped { self.old.stopped ≡ None }
         requires run { self.old.run ≡ 0 }
@@ -877,7 +877,7 @@ impl Decoder {
         run: u32,
         reader: &mut BitReader<I>,
         meter: &mut Meter,
-    ) -> Result<NextBlock, CodeFault>
+    ) -> Result<Step, CodeFault>
         requires last { last < value_count self.old.setting }
         requires run { 0 < run → run + 1 ≤ blocks_left self.old.setting self.old.block }
         requires taken { reader.old.taken ≤ most_bits_read }
@@ -899,15 +899,15 @@ impl Decoder {
         self.run = run;
         self.before = last;
         self.block = next_place(&self.setting, self.block);
-        Ok(NextBlock::Block)
+        Ok(Step::Block)
     }
 
     /// Returns this answer from now on.
     fn stop(
         &mut self,
-        answer: Result<NextBlock, CodeFault>,
+        answer: Result<Step, CodeFault>,
         levels: &mut ArrayVec<u32, 64>,
-    ) -> Result<NextBlock, CodeFault>
+    ) -> Result<Step, CodeFault>
         requires { answer ≢ Ok Block }
         ensures answer { result ≡ answer }
         ensures stops { self.new ≡ record self.old { stopped = Some answer } }

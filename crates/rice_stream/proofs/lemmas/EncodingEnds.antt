@@ -16,7 +16,7 @@ use Rattle.rice_stream.specs.DevicesInCalls.{Fails, IsWithinLimit, PassesLimit, 
 use Rattle.rice_stream.specs.EncodingState.{Beginning, afresh, IsEncodingOf, CountsSamples, FailsIn, WritesRest, EncodingProgress, Pushes, PushFails}
 use Rattle.rice_stream.specs.Encodes.{fault_at, EncodesBetween, EndsEncoding, EncodesWithin, ReportsTaken, ReportsAll, LeavesEarly, SpellsSoFar}
 use Rattle.rice_code.specs.code.Code.{code_bits, output, early_output, complete_samples}
-use Rattle.rice_stream.specs.declared.encoding.Encoding.{Encoding}
+use Rattle.rice_stream.specs.EncodingState.{EncodingValue}
 use Rattle.rice_stream.specs.declared.outcome.Report.{Report}
 use Rattle.rice_stream.specs.declared.outcome.Fault.{Fault}
 use Rattle.rice_stream.specs.declared.outcome.Fault.TheVariants.{Read, Write, TooLong, SampleOutOfRange, SampleCut, CodeEnds, RunPastSegment, ResidualTooLarge}
@@ -65,21 +65,21 @@ given_ahead s bytes rest xs samples split few e =
     at w n k b m e h few = let p = ap (λ v. v * w) h in omega arith
 
 -- bytes came, and samples were taken of them
-reads_more : {N : ℕ} {s : Parameters} {left_old left left_new : Option (List ℕ)} {taken_old taken : Option Room} {e : Encoding N} {r r_new : SamplesAhead} {ys : List ℤ}
+reads_more : {s : Parameters} {left_old left left_new : Option (List ℕ)} {taken_old taken : Option Room} {e : EncodingValue} {r r_new : SamplesAhead} {ys : List ℤ}
     → (p : EncodingProgress s left_old left taken_old taken e r) → (g : GivesSamples r r_new left left_new ys) → Reads s (p.bytes ++ g.bytes) (p.samples ++ ys) r_new.waiting
 reads_more {s} {r} {r_new} {ys} p g =
     reads_then s (p.bytes ++ g.bytes) (r.waiting ++ g.bytes) r_new.waiting p.samples ys (reads_before s p.samples p.bytes r.waiting g.bytes p.reads)
     (subst (λ (s : Parameters). Reads s (r.waiting ++ g.bytes) ys r_new.waiting) p.setting g.reads)
 
 -- they are at most as many as the bytes
-pub few_given : {N : ℕ} {s : Parameters} {left_old left left_new : Option (List ℕ)} {taken_old taken : Option Room} {e : Encoding N} {r r_new : SamplesAhead} {ys : List ℤ}
+pub few_given : {s : Parameters} {left_old left left_new : Option (List ℕ)} {taken_old taken : Option Room} {e : EncodingValue} {r r_new : SamplesAhead} {ys : List ℤ}
     → (p : EncodingProgress s left_old left taken_old taken e r) → GivesSamples r r_new left left_new ys → length p.samples + length ys ≤ r_new.given
 few_given {s} {left_old} {left} {left_new} {taken_old} {taken} {e} {r} {r_new} {ys} p g =
     let few = few_more s (p.samples ++ ys) (p.bytes ++ g.bytes) r_new.waiting (reads_more p g) (some_width s) in
     omega (arith, few, length-append p.samples ys, length-append p.bytes g.bytes, p.count, g.given)
 
 -- and the encoding has taken them
-pub reads_further : {N : ℕ} {s : Parameters} {left_old left left_new : Option (List ℕ)} {taken_old taken taken_new : Option Room} {e e_new : Encoding N}
+pub reads_further : {s : Parameters} {left_old left left_new : Option (List ℕ)} {taken_old taken taken_new : Option Room} {e e_new : EncodingValue}
     {r r_new : SamplesAhead} {ys : List ℤ} → (p : EncodingProgress s left_old left taken_old taken e r) → GivesSamples r r_new left left_new ys →
     IsEncodingOf s (afresh taken_old) taken_new e_new (p.samples ++ ys) → EncodingProgress s left_old left_new taken_old taken_new e_new r_new
 reads_further {s} {left_old} {left} {left_new} {taken_old} {taken} {e} {r} {r_new} {ys} p g holds = record {
@@ -93,17 +93,17 @@ reads_further {s} {left_old} {left} {left_new} {taken_old} {taken} {e} {r} {r_ne
 }
 
 -- or bytes that spell no more samples yet
-pub reads_none : {N : ℕ} {s : Parameters} {left_old left left_new : Option (List ℕ)} {taken_old taken : Option Room} {e : Encoding N} {r r_new : SamplesAhead}
+pub reads_none : {s : Parameters} {left_old left left_new : Option (List ℕ)} {taken_old taken : Option Room} {e : EncodingValue} {r r_new : SamplesAhead}
     → EncodingProgress s left_old left taken_old taken e r → GivesSamples r r_new left left_new [] → EncodingProgress s left_old left_new taken_old taken e r_new
 reads_none {s} {left_old} {left} {left_new} {taken_old} {taken} {e} {r} {r_new} p g =
     reads_further p g (subst (λ (xs : List ℤ). IsEncodingOf s (afresh taken_old) taken e xs) (sym (append-nil p.samples)) p.holds)
 
 -- no more samples come
-pub reading_ends : {N : ℕ} {s : Parameters} {left_old left left_new : Option (List ℕ)} {taken_old taken : Option Room} {e : Encoding N} {r : SamplesAhead} (r_new : SamplesAhead)
+pub reading_ends : {s : Parameters} {left_old left left_new : Option (List ℕ)} {taken_old taken : Option Room} {e : EncodingValue} {r : SamplesAhead} (r_new : SamplesAhead)
     (fault : SampleFault) {report : Report} {f : Option Fault} → EncodingProgress s left_old left taken_old taken e r → StopsSamples fault r r_new left left_new
     → length r_new.waiting ≤ 4096 → r_new.given ≤ 281474976710656 → ((xs : List ℤ) → CountsSamples s e xs → ReportsTaken s report xs)
     → f ≡ Some (fault_at fault e.samples) → EncodesBetween s left_old left_new taken_old taken report f
-reading_ends {N} {s} {left_old} {left} {left_new} {taken_old} {taken} {e} {r} r_new fault {report} {f} before stops few limit told is =
+reading_ends {s} {left_old} {left} {left_new} {taken_old} {taken} {e} {r} r_new fault {report} {f} before stops few limit told is =
     subst (λ (f : Option Fault). EncodesBetween s left_old left_new taken_old taken report f) (sym is) (by_fault fault stops)
   where
     Progress : Option (List ℕ) → Type 0
@@ -173,7 +173,7 @@ reading_fails fault index {f} {reads} {mid} reads_new {writes} {writes_new} is c
     by_fault faults.OutOfRange e = (e ∙ same, calm)
 
 -- all samples were given, and their code is written or not
-pub finish_ends : {N : ℕ} {s : Parameters} {left_old left : Option (List ℕ)} {taken_old taken new : Option Room} {e : Encoding N} {q : SamplesAhead}
+pub finish_ends : {s : Parameters} {left_old left : Option (List ℕ)} {taken_old taken new : Option Room} {e : EncodingValue} {q : SamplesAhead}
     {r : Report} {f : Option Fault} → (runs : EncodingProgress s left_old left taken_old taken e q) → IsAtEnd left → q.waiting ≡ [] → q.given ≤ 281474976710656
     → ReportsAll s r runs.samples → WritesRest s (afresh taken_old) new runs.samples f → EncodesBetween s left_old left taken_old new r f
 finish_ends {s} {left_old} {left} {taken_old} {new} {e} {q} {r} {f} runs end none limit closes finishes = by_fault f finishes
@@ -223,7 +223,7 @@ finish_ends {s} {left_old} {left} {taken_old} {new} {e} {q} {r} {f} runs end non
     by_fault (Some (ResidualTooLarge block)) bad = absurd bad
 
 -- the outlet failed after one of the samples that were given
-pub writing_ends : {N : ℕ} {s : Parameters} {left_old left left_new : Option (List ℕ)} {taken_old taken taken_new : Option Room} {e e_new : Encoding N} {q q_new : SamplesAhead}
+pub writing_ends : {s : Parameters} {left_old left left_new : Option (List ℕ)} {taken_old taken taken_new : Option Room} {e e_new : EncodingValue} {q q_new : SamplesAhead}
     (r : Report) {ys : List ℤ} → (p : EncodingProgress s left_old left taken_old taken e q) → GivesSamples q q_new left left_new ys →
     FailsIn s (afresh taken_old) taken_new e_new p.samples ys → width s * length ys + length q_new.waiting ≤ 4096 → q_new.given ≤ 281474976710656
     → ((xs : List ℤ) → CountsSamples s e_new xs → ReportsTaken s r xs) → EncodesBetween s left_old left_new taken_old taken_new r (Some Write)
@@ -271,14 +271,14 @@ writing_ends {s} {left_old} {left} {left_new} {taken_old} {taken_new} {e} {e_new
     ahead w n b g k e few some lt = let p = mul-le-mul_right w lt in omega arith
 
 -- a push failed
-pub record FailedPush (N : ℕ) (s : Parameters) (old : Beginning) (taken : Option Room) (e : Encoding N) (xs : List ℤ) (bytes : List ℕ) (f : Fault) (mid writes_new : ℕ) : Type 0 where
+pub record FailedPush (s : Parameters) (old : Beginning) (taken : Option Room) (e : EncodingValue) (xs : List ℤ) (bytes : List ℕ) (f : Fault) (mid writes_new : ℕ) : Type 0 where
   pub pushed : Pushes {T = Unit {0}} s old taken e xs bytes (Err f)
   pub fails : PushFails {T = Unit {0}} mid writes_new (Err f)
 
 -- and the failures then
-pub push_fails : {N : ℕ} {s : Parameters} {old : Beginning} (taken : Option Room) (e : Encoding N) (xs : List ℤ) (bytes : List ℕ) {f : Fault} {g : Option Fault}
+pub push_fails : {s : Parameters} {old : Beginning} (taken : Option Room) (e : EncodingValue) (xs : List ℤ) (bytes : List ℕ) {f : Fault} {g : Option Fault}
     {reads reads_new writes mid : ℕ} (writes_new : ℕ) → reads_new ≡ reads → mid ≡ writes →
-    FailedPush N s old taken e xs bytes f mid writes_new → g ≡ Some f → Fails g reads reads_new writes writes_new
+    FailedPush s old taken e xs bytes f mid writes_new → g ≡ Some f → Fails g reads reads_new writes writes_new
 push_fails {s} {old} taken e xs bytes {f} {g} {reads} {reads_new} {writes} {mid} writes_new same before failed is =
     let result = by_fault f failed.pushed failed.fails in
     subst (λ (g : Option Fault). Fails g reads reads_new writes writes_new) (sym is) result
@@ -294,7 +294,7 @@ push_fails {s} {old} taken e xs bytes {f} {g} {reads} {reads_new} {writes} {mid}
     by_fault (ResidualTooLarge block) bad k = absurd bad
 
 -- the report's bounds where taking the bytes in hand stops
-pub push_within : {N : ℕ} {s : Parameters} (old : Beginning) (taken : Option Room) (e : Encoding N) {r : Report} (f : Fault) (xs : List ℤ) (bytes : List ℕ)
+pub push_within : {s : Parameters} (old : Beginning) (taken : Option Room) (e : EncodingValue) {r : Report} (f : Fault) (xs : List ℤ) (bytes : List ℕ)
     → ((ys : List ℤ) → CountsSamples s e ys → ReportsTaken s r ys) → Pushes {T = Unit {0}} s old taken e xs bytes (Err f) → EncodesWithin s r
 push_within {s} old taken e {r} (SampleOutOfRange index) xs bytes told m = let k = m.0.holds.counts in within_early s r (xs ++ m.0.more) (settled_by s e (xs ++ m.0.more) k) (told (xs ++ m.0.more) k)
 push_within {s} old taken e {r} Write xs bytes told m = let ys = (xs ++ m.more) ++ m.last ∷ [] in let k = m.fails.counts in within_early s r ys (settled_by s e ys k) (told ys k)

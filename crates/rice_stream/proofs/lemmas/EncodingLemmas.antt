@@ -25,7 +25,7 @@ use Rattle.rice_stream.specs.EncodingState.{FollowsBetween, FailsAt, FailsIn, Me
 use Rattle.rice_stream.specs.DevicesInCalls.{StopsBetween}
 use Rattle.rice_stream.specs.Encodes.{ReportsAll}
 use Rattle.rice_stream.specs.FailedWrites.{TakesPart}
-use Rattle.rice_stream.specs.declared.encoding.Encoding.{Encoding}
+use Rattle.rice_stream.specs.EncodingState.{EncodingValue}
 use Rattle.rice_stream.specs.declared.outcome.Report.{Report}
 use Rattle.rice_samples.proofs.lemmas.bytes.SampleReaderLemmas.{reads_then}
 use Rattle.rice_samples.proofs.lemmas.bytes.SpellingLengths.{spellings-append}
@@ -73,11 +73,11 @@ few_from s before at levels most e few within =
     omega (arith, few, within, inside, length-append before (take at samples), ap length e, length-drop at levels)
 
 -- what was counted settles the bounds of the samples
-pub settled_by : {N : ℕ} (s : Parameters) (e : Encoding N) (xs : List ℤ) → CountsSamples s e xs → Settles s xs
+pub settled_by : (s : Parameters) (e : EncodingValue) (xs : List ℤ) → CountsSamples s e xs → Settles s xs
 settled_by s e xs c = taken_settles s e.coder xs c.setting c.stands
 
 -- bits and steps are far below what a number holds
-pub counts_small : {N : ℕ} (s : Parameters) (e : Encoding N) (xs : List ℤ) → CountsSamples s e xs → (e.bits ≤ 73 * length xs + 4700)
+pub counts_small : (s : Parameters) (e : EncodingValue) (xs : List ℤ) → CountsSamples s e xs → (e.bits ≤ 73 * length xs + 4700)
     × (e.meter ≤ 73 * length xs + 4700) × (segment_steps e.coder.setting ≤ 274752)
 counts_small s e xs c =
     let h = settled_by s e xs c in
@@ -95,35 +95,35 @@ pub all_small : (s : Parameters) (coder : CoderState) (xs : List ℤ) → coder.
 all_small s coder xs e h = let k = taken_settles s coder xs e h in few_bits s (length xs) _ _ k.setting (all_bounded s xs k) (omega arith)
 
 -- what the sink holds goes on from the bytes that are whole
-pub sink_goes_on : {N : ℕ} (s : Parameters) (old : Beginning) (now : Option Room) (e : Encoding N) (xs : List ℤ) → IsEncodingOf s old now e xs
+pub sink_goes_on : (s : Parameters) (old : Beginning) (now : Option Room) (e : EncodingValue) (xs : List ℤ) → IsEncodingOf s old now e xs
     → whole_part (complete_code s xs) ++ e.sink ≡ complete_code s xs
 sink_goes_on s old now e xs h = ap (λ l. whole_part (complete_code s xs) ++ l) h.sink ∙ take-append-drop (bits_in_bytes (length (complete_code s xs))) (complete_code s xs)
 
 -- less than a byte waits in the sink
-pub sink_short : {N : ℕ} (s : Parameters) (old : Beginning) (now : Option Room) (e : Encoding N) (xs : List ℤ) → IsEncodingOf s old now e xs → length e.sink ≤ 7
+pub sink_short : (s : Parameters) (old : Beginning) (now : Option Room) (e : EncodingValue) (xs : List ℤ) → IsEncodingOf s old now e xs → length e.sink ≤ 7
 sink_short s old now e xs h = omega (arith, ap length h.sink, length-drop (bits_in_bytes (length (complete_code s xs))) (complete_code s xs))
 
 -- the sink stands at the place in a byte where the code does
-pub sink_place : {N : ℕ} (s : Parameters) (old : Beginning) (now : Option Room) (e : Encoding N) (xs : List ℤ) → IsEncodingOf s old now e xs → IsAlignedWith s (complete_samples s xs) e.sink
+pub sink_place : (s : Parameters) (old : Beginning) (now : Option Room) (e : EncodingValue) (xs : List ℤ) → IsEncodingOf s old now e xs → IsAlignedWith s (complete_samples s xs) e.sink
 sink_place s old now e xs h pads =
     let n = ap length h.sink in
     let m = length-drop (bits_in_bytes (length (complete_code s xs))) (complete_code s xs) in
     omega arith
 
 -- an encoding between two writes holds its code so
-pub holds_code : {N : ℕ} {s : Parameters} {old : Beginning} {now : Option Room} {e : Encoding N} {xs : List ℤ} → IsEncodingOf s old now e xs → HoldsCode s e xs xs
+pub holds_code : {s : Parameters} {old : Beginning} {now : Option Room} {e : EncodingValue} {xs : List ℤ} → IsEncodingOf s old now e xs → HoldsCode s e xs xs
 holds_code {s} {old} {now} {e} {xs} h = record { counts = h.counts; code_is = sym (sink_goes_on s old now e xs h) }
 
 -- and can take what it could
-pub can_take_more : {N : ℕ} {taken : Option Room} {e : Encoding N} {levels : List ℕ} → CanTake taken e levels → CanTakeMore e levels
+pub can_take_more : {taken : Option Room} {e : EncodingValue} {levels : List ℕ} → CanTake taken e levels → CanTakeMore e levels
 can_take_more c = record { setting = c.setting; written = c.before; before = c.before; holds = holds_code c.holds; legal = c.legal; few = c.few }
 
 -- less than a byte waits in the sink of one that can take samples
-pub can_take_short : {N : ℕ} {taken : Option Room} {e : Encoding N} {levels : List ℕ} → CanTake taken e levels → length e.sink ≤ 7
+pub can_take_short : {taken : Option Room} {e : EncodingValue} {levels : List ℕ} → CanTake taken e levels → length e.sink ≤ 7
 can_take_short {taken = taken} {e = e} c = sink_short c.setting c.start taken e c.before c.holds
 
 -- the sink stands at the place in a byte where the code does, however much it holds
-pub code_place : {N : ℕ} (s : Parameters) (e : Encoding N) (xs ys : List ℤ) → HoldsCode s e xs ys → IsAlignedWith s (complete_samples s ys) e.sink
+pub code_place : (s : Parameters) (e : EncodingValue) (xs ys : List ℤ) → HoldsCode s e xs ys → IsAlignedWith s (complete_samples s ys) e.sink
 code_place s e xs ys h pads =
     let n = ap length h.code_is in
     let m = length-append (whole_part (complete_code s xs)) e.sink in
@@ -131,7 +131,7 @@ code_place s e xs ys h pads =
     omega arith
 
 -- samples are taken
-pub taken_on : {N : ℕ} {s : Parameters} {e f : Encoding N} {xs zs ys : List ℤ} {n : ℕ} → HoldsCode s e xs zs →
+pub taken_on : {s : Parameters} {e f : EncodingValue} {xs zs ys : List ℤ} {n : ℕ} → HoldsCode s e xs zs →
     PushesSamples e.coder f.coder ys e.sink f.sink n e.meter f.meter → f.bits ≡ e.bits + n → f.samples ≡ e.samples + length ys
     → ((m : ℕ) → m < length ys → CompletesNone e.coder (take m ys)) → TakesSamples s f xs zs ys
 taken_on {s} {e} {f} {xs} {zs} {ys} {n} h pushes bits samples before =
@@ -157,7 +157,7 @@ taken_on {s} {e} {f} {xs} {zs} {ys} {n} h pushes bits samples before =
     }
 
 -- nothing is whole
-pub none_whole : {N : ℕ} {s : Parameters} {old : Beginning} {now : Option Room} {e f : Encoding N} {xs : List ℤ} (ys : List ℤ) → IsEncodingOf s old now e xs
+pub none_whole : {s : Parameters} {old : Beginning} {now : Option Room} {e f : EncodingValue} {xs : List ℤ} (ys : List ℤ) → IsEncodingOf s old now e xs
     → CountsSamples s f (xs ++ ys) → complete_code s (xs ++ ys) ≡ whole_part (complete_code s xs) ++ f.sink →
     length f.sink < 8 → IsEncodingOf s old now f (xs ++ ys)
 none_whole {s} {old} {now} {f} {xs} ys h c same few =
@@ -172,7 +172,7 @@ none_whole {s} {old} {now} {f} {xs} ys h c same few =
     }
 
 -- the whole bytes are written
-pub all_written : {N : ℕ} {s : Parameters} {old : Beginning} {now new : Option Room} {e f g : Encoding N} {xs : List ℤ} (ys : List ℤ) → IsEncodingOf s old now e xs
+pub all_written : {s : Parameters} {old : Beginning} {now new : Option Room} {e f g : EncodingValue} {xs : List ℤ} (ys : List ℤ) → IsEncodingOf s old now e xs
     → CountsSamples s f (xs ++ ys) → complete_code s (xs ++ ys) ≡ whole_part (complete_code s xs) ++ f.sink →
     Appends now new (whole_bytes f.sink) → g.sink ≡ drop (bits_in_bytes (length f.sink)) f.sink → CountsSamples s g (xs ++ ys) → IsEncodingOf s old new g (xs ++ ys)
 all_written {s} {old} {now} {new} {f} {xs} ys h c same took rest d =
@@ -224,7 +224,7 @@ parts_of (y ∷ []) h = record { before = []; last = y; split = refl }
 parts_of (y ∷ z ∷ ys) h = let p = parts_of (z ∷ ys) (omega arith) in record { before = y ∷ p.before; last = p.last; split = ap (λ l. y ∷ l) p.split }
 
 -- not all that the samples complete was written
-pub fails_in : {N : ℕ} {s : Parameters} {old : Beginning} {now new : Option Room} {e f g : Encoding N} {xs samples : List ℤ} {n : ℕ}
+pub fails_in : {s : Parameters} {old : Beginning} {now new : Option Room} {e f g : EncodingValue} {xs samples : List ℤ} {n : ℕ}
     → IsEncodingOf s old now e xs → TakesSamples s f xs xs (take n samples) → 0 < n → n ≤ length samples → TakesPart now new (whole_bytes f.sink)
     → CountsSamples s g (xs ++ take n samples) → FailsIn s old new g xs samples
 fails_in {s} {old} {now} {new} {f} {g} {xs} {samples} {n} h takes some within part counts =
@@ -251,7 +251,7 @@ fails_in {s} {old} {now} {new} {f} {g} {xs} {samples} {n} h takes some within pa
     }
 
 -- the samples before some others were taken
-pub fails_later : {N : ℕ} (s : Parameters) (old : Beginning) (new : Option Room) (e : Encoding N) (xs samples : List ℤ) (at : ℕ)
+pub fails_later : (s : Parameters) (old : Beginning) (new : Option Room) (e : EncodingValue) (xs samples : List ℤ) (at : ℕ)
     → FailsIn s old new e (xs ++ take at samples) (drop at samples) → FailsIn s old new e xs samples
 fails_later s old new e xs samples at f = record {
   before = take at samples ++ f.before;
@@ -289,7 +289,7 @@ sets_nothing s j =
     (bits, omega (arith, bits, least), omega (arith, bits, most))
 
 -- the end of the samples
-pub samples_end : {N : ℕ} {s : Parameters} {old : Beginning} {now : Option Room} {e : Encoding N} {r : Report} {sink end : List Bool} {xs : List ℤ} {n : ℕ} → IsEncodingOf s old now e xs →
+pub samples_end : {s : Parameters} {old : Beginning} {now : Option Room} {e : EncodingValue} {r : Report} {sink end : List Bool} {xs : List ℤ} {n : ℕ} → IsEncodingOf s old now e xs →
     AddsCode e.coder.setting (complete_samples e.coder.setting xs) xs e.sink sink n (fill_count_of e.coder.setting xs) e.meter r.steps → r.bits ≡ e.bits + n
     → r.samples ≡ e.samples → end ≡ sink ++ replicate (bits_to_byte (length sink)) false →
     ReportsAll s r xs × (padded_bits (code s xs) ≡ whole_part (complete_code s xs) ++ end)
@@ -314,7 +314,7 @@ All-front : {X : Type 0} (P : X → Type 0) (xs ys : List X) → All P (xs ++ ys
 All-front P xs ys h = subst (All P) (take-append_seam xs ys) (All-take P (length xs) (xs ++ ys) h)
 
 -- of samples that the bytes spell one is the last that was taken
-pub fails_among : {N : ℕ} {s : Parameters} {old : Beginning} {new : Option Room} {e : Encoding N} {xs ys : List ℤ} {bytes rest : List ℕ} → Reads s bytes ys rest
+pub fails_among : {s : Parameters} {old : Beginning} {new : Option Room} {e : EncodingValue} {xs ys : List ℤ} {bytes rest : List ℕ} → Reads s bytes ys rest
     → FailsIn s old new e xs ys → MeetsFailure s old new e xs bytes
 fails_among {s} {ys} {rest} reads f =
     let parts : ys ≡ (f.before ++ f.last ∷ []) ++ f.behind = f.split ∙ sym (append_assoc f.before (f.last ∷ []) f.behind) in
@@ -331,7 +331,7 @@ fails_among {s} {ys} {rest} reads f =
     }
 
 -- and others stand before them
-pub fails_behind : {N : ℕ} {s : Parameters} {old : Beginning} {new : Option Room} {e : Encoding N} {xs more : List ℤ} {bytes rest : List ℕ} → Reads s bytes more rest
+pub fails_behind : {s : Parameters} {old : Beginning} {new : Option Room} {e : EncodingValue} {xs more : List ℤ} {bytes rest : List ℕ} → Reads s bytes more rest
     → MeetsFailure s old new e (xs ++ more) rest → MeetsFailure s old new e xs bytes
 fails_behind {s} {old} {new} {e} {xs} {more} {bytes} {rest} reads m = record {
   more = more ++ m.more;

@@ -19,7 +19,7 @@ use Rattle.rice_code.specs.decode.RowsOfFields.{AreCounted}
 use Rattle.rice_code.specs.decode.ReadSets.{SetCut}
 use Rattle.rice_code.specs.declared.decode.call_results.CodeFault.{CodeFault}
 use Rattle.rice_code.specs.declared.decode.call_results.CodeFault.TheVariants as faults
-use Rattle.rice_code.specs.declared.decode.call_results.NextBlock.TheVariants.{Block, Done}
+use Rattle.rice_code.specs.declared.decode.call_results.Step.TheVariants.{Block, Done}
 use Rattle.rice_code.proofs.lemmas.code.RepeatedSamples.{last_append}
 use Rattle.rice_stream.specs.DecodingState.{DecodedSoFar, Gains, HasSets}
 use Rattle.rice_stream.specs.Pulling.{Origin, IsStand, MayBegin, GivesNext, GoesOnAt, IsReadFrom, TakesNext, ahead, bytes_told, state_of}

@@ -14,7 +14,7 @@ use Rattle.rice_code.specs.encode.Coder.{HasTaken, complete_code}
 use Rattle.rice_code.specs.encode.OpenSegment.{CoderState, state_between}
 use Rattle.rice_stream.specs.DevicesInCalls.{StopsBetween}
 use Rattle.rice_stream.specs.EncodingState.{Beginning, CanTakeFrom, CanTakeMore, CountsSamples, IsEncodingOf, HoldsCode, TakesSamples, GoesOnInside, IsRowStart, StopsAt, FailsIn, whole_part}
-use Rattle.rice_stream.specs.declared.encoding.Encoding.{Encoding}
+use Rattle.rice_stream.specs.EncodingState.{EncodingValue}
 use Rattle.rice_stream.specs.declared.seam.Seam.{Seam}
 use Rattle.rice_stream.proofs.lemmas.EncodingLemmas.{Follows-trans, counts_small, few_from, legal_from, parts_of, samples_on}
 use Rattle.rice_stream.proofs.lemmas.BytesOfGrowingCode.{length-part, more_bytes, more_rest}
@@ -25,7 +25,7 @@ length-whole bits =
     omega (arith, length-bits_of (whole_bytes bits), ap length (bits_of-whole_bytes bits), length-take-le (bits_in_bytes (length bits)) bits (omega arith))
 
 -- less than a byte waits where all whole bytes are written
-pub code_short : {N : ℕ} {s : Parameters} {e : Encoding N} {xs : List ℤ} → HoldsCode s e xs xs → length e.sink ≤ 7
+pub code_short : {s : Parameters} {e : EncodingValue} {xs : List ℤ} → HoldsCode s e xs xs → length e.sink ≤ 7
 code_short {s = s} {e = e} {xs = xs} h =
     omega (arith, ap length h.code_is, length-append (whole_part (complete_code s xs)) e.sink, length-part (complete_code s xs))
 
@@ -43,7 +43,7 @@ goes_on_at_first s xs zero le = ([], sym (append-nil (complete_code s (xs ++ [])
 goes_on_at_first s xs (suc m) le = absurd (omega (arith, le))
 
 -- the code of a row goes on with each segment
-pub goes_on_inside : {N : ℕ} {s : Parameters} {f : Encoding N} {ws : List ℤ} (xs ys more : List ℤ) → GoesOnInside s xs ys → TakesSamples s f ws (xs ++ ys) more → GoesOnInside s xs (ys ++ more)
+pub goes_on_inside : {s : Parameters} {f : EncodingValue} {ws : List ℤ} (xs ys more : List ℤ) → GoesOnInside s xs ys → TakesSamples s f ws (xs ++ ys) more → GoesOnInside s xs (ys ++ more)
 goes_on_inside {s = s} xs ys more inside t m le =
     let all : complete_code s (xs ++ (ys ++ more)) ≡ complete_code s (xs ++ ys) ++ t.bits = ap (complete_code s) (sym (append_assoc xs ys more)) ∙ t.goes_on in
     let size = length-append ys more in
@@ -80,11 +80,11 @@ between_beginnings {all = all} {from = from} {to = to} a b n e f le lt = record 
 }
 
 -- the whole bytes that a sink holds are those that follow
-pub row_bytes : {N : ℕ} {s : Parameters} {f : Encoding N} {xs ys : List ℤ} → HoldsCode s f xs ys → early_output s ys ≡ early_output s xs ++ whole_bytes f.sink
+pub row_bytes : {s : Parameters} {f : EncodingValue} {xs ys : List ℤ} → HoldsCode s f xs ys → early_output s ys ≡ early_output s xs ++ whole_bytes f.sink
 row_bytes {s = s} {f = f} {xs = xs} {ys = ys} h = more_bytes (complete_code s xs) (complete_code s ys) f.sink (sym h.code_is)
 
 -- The outlet took a part of the bytes of a row, and the samples up to those that pass that part are taken.
-pub fails_in_row : {N : ℕ} {s : Parameters} {old : Beginning} {now new : Option Room} {e f g : Encoding N} {xs samples : List ℤ} (n count : ℕ)
+pub fails_in_row : {s : Parameters} {old : Beginning} {now new : Option Room} {e f g : EncodingValue} {xs samples : List ℤ} (n count : ℕ)
     → IsEncodingOf s old now e xs → n ≤ length samples → HoldsCode s f xs (xs ++ take n samples) → GoesOnInside s xs (take n samples)
     → Appends now new (take count (whole_bytes f.sink)) → StopsAt s g xs (take n samples) (length (early_output s xs) + count) → FailsIn s old new g xs samples
 fails_in_row {s = s} {old = old} {now = now} {new = new} {f = f} {g = g} {xs = xs} {samples = samples} n count h within holds inside took stop =
@@ -129,12 +129,12 @@ fails_in_row {s = s} {old = old} {now = now} {new = new} {f = f} {g = g} {xs = x
 -- the steps so far are few
 pub row_steps : (s : Parameters) (start : Seam) (xs : List ℤ) → IsRowStart s start xs → start.steps ≤ 73 * length xs + 4700
 row_steps s start xs r =
-    let e : Encoding 0 = record { coder = state_between s start.start start.previous; sink = []; meter = start.steps; samples = start.samples; bits = start.bits } in
+    let e : EncodingValue = record { coder = state_between s start.start start.previous; sink = []; meter = start.steps; samples = start.samples; bits = start.bits } in
     let counts : CountsSamples s e xs = record { setting = refl; stands = r.taken; samples = r.samples; bits = r.bits; least = r.least; most = r.most } in
     (counts_small s e xs counts).1
 
 -- an encoding that goes back there
-pub back_at_start : {N : ℕ} {s : Parameters} {start : Seam} {xs : List ℤ} {e : Encoding N} → IsRowStart s start xs → e.coder ≡ state_between s start.start start.previous
+pub back_at_start : {s : Parameters} {start : Seam} {xs : List ℤ} {e : EncodingValue} → IsRowStart s start xs → e.coder ≡ state_between s start.start start.previous
     → e.sink ≡ word start.waiting_bits start.waiting → e.meter ≡ start.steps → e.samples ≡ start.samples → e.bits ≡ start.bits → HoldsCode s e xs xs
 back_at_start {s = s} {start = start} {xs = xs} {e = e} r coder sink meter samples bits =
     let a = complete_code s xs in
@@ -151,7 +151,7 @@ back_at_start {s = s} {start = start} {xs = xs} {e = e} r coder sink meter sampl
     }
 
 -- an encoding that has taken the first `at` of the samples that another can take can take those behind them
-pub can_take_rest : {N : ℕ} {e f : Encoding N} {levels rest : List ℕ} {written : List ℤ} (k : CanTakeFrom e levels) (at : ℕ) → at ≤ length levels → rest ≡ drop at levels
+pub can_take_rest : {e f : EncodingValue} {levels rest : List ℕ} {written : List ℤ} (k : CanTakeFrom e levels) (at : ℕ) → at ≤ length levels → rest ≡ drop at levels
     → HoldsCode k.setting f written (k.before ++ take at (values_at k.setting levels)) → CanTakeMore f rest
 can_take_rest {levels = levels} k at within behind holds = record {
   setting = k.setting;
@@ -163,27 +163,27 @@ can_take_rest {levels = levels} k at within behind holds = record {
 }
 
 -- an encoding takes the n samples behind the first `at` of some
-pub record TakesNext {N : ℕ} (s : Parameters) (f : Encoding N) (written xs samples : List ℤ) (at n : ℕ) : Type 0 where
+pub record TakesNext (s : Parameters) (f : EncodingValue) (written xs samples : List ℤ) (at n : ℕ) : Type 0 where
   pub more : List ℤ
   pub takes : TakesSamples s f written (xs ++ take at samples) more
   pub is : more ≡ take n (drop at samples)
 
 -- so it has taken the first at + n
-next_is : {N : ℕ} {s : Parameters} {f : Encoding N} {ws xs samples : List ℤ} {at n : ℕ} (t : TakesNext s f ws xs samples at n) → (xs ++ take at samples) ++ t.more ≡ xs ++ take (at + n) samples
+next_is : {s : Parameters} {f : EncodingValue} {ws xs samples : List ℤ} {at n : ℕ} (t : TakesNext s f ws xs samples at n) → (xs ++ take at samples) ++ t.more ≡ xs ++ take (at + n) samples
 next_is {xs = xs} {samples = samples} {at = at} {n = n} t = ap (λ l. (xs ++ take at samples) ++ l) t.is ∙ samples_on xs samples at n
 
 -- one more segment of a row is taken
-pub row_goes_on : {N : ℕ} {s : Parameters} {f : Encoding N} {ws xs samples : List ℤ} {at n : ℕ} → TakesNext s f ws xs samples at n → HoldsCode s f ws (xs ++ take (at + n) samples)
+pub row_goes_on : {s : Parameters} {f : EncodingValue} {ws xs samples : List ℤ} {at n : ℕ} → TakesNext s f ws xs samples at n → HoldsCode s f ws (xs ++ take (at + n) samples)
 row_goes_on {s = s} {f = f} {ws = ws} t = subst (HoldsCode s f ws) (next_is t) (record { counts = t.takes.counts; code_is = t.takes.code_is })
 
 -- and the row's code goes on inside it
-pub row_inside : {N : ℕ} {s : Parameters} {f : Encoding N} {ws xs samples : List ℤ} {at n : ℕ} → TakesNext s f ws xs samples at n → GoesOnInside s xs (take at samples)
+pub row_inside : {s : Parameters} {f : EncodingValue} {ws xs samples : List ℤ} {at n : ℕ} → TakesNext s f ws xs samples at n → GoesOnInside s xs (take at samples)
     → GoesOnInside s xs (take (at + n) samples)
 row_inside {s = s} {xs = xs} {samples = samples} {at = at} {n = n} t inside =
     subst (GoesOnInside s xs) (ap (λ l. take at samples ++ l) t.is ∙ sym (take-add at n samples)) (goes_on_inside xs (take at samples) t.more inside t.takes)
 
 -- where all whole bytes were written before it, so many are whole with it
-whole_so_far : {N : ℕ} {s : Parameters} {f : Encoding N} {xs samples : List ℤ} {at n : ℕ} → TakesNext s f (xs ++ take at samples) xs samples at n
+whole_so_far : {s : Parameters} {f : EncodingValue} {xs samples : List ℤ} {at n : ℕ} → TakesNext s f (xs ++ take at samples) xs samples at n
     → length (early_output s (xs ++ take (at + n) samples)) ≡ length (early_output s (xs ++ take at samples)) + length f.sink / 8
 whole_so_far {s = s} {f = f} {xs = xs} {samples = samples} {at = at} t =
     let zs = xs ++ take at samples in
@@ -192,7 +192,7 @@ whole_so_far {s = s} {f = f} {xs = xs} {samples = samples} {at = at} t =
     omega (arith, same, ap length e, length-append (early_output s zs) (whole_bytes f.sink), length-whole f.sink)
 
 -- these bytes pass the place that is looked for
-pub stops_here : {N : ℕ} {s : Parameters} {f : Encoding N} {xs samples : List ℤ} {at n goal : ℕ} (left : ℕ) → TakesNext s f (xs ++ take at samples) xs samples at n → 0 < n → at + n ≤ length samples
+pub stops_here : {s : Parameters} {f : EncodingValue} {xs samples : List ℤ} {at n goal : ℕ} (left : ℕ) → TakesNext s f (xs ++ take at samples) xs samples at n → 0 < n → at + n ≤ length samples
     → length (early_output s (xs ++ take at samples)) + left ≡ goal → left < length f.sink / 8 → StopsAt s f xs samples goal
 stops_here {s = s} {f = f} {xs = xs} {samples = samples} {at = at} {n = n} left t some within here passes =
     let zs = xs ++ take at samples in
@@ -213,7 +213,7 @@ stops_here {s = s} {f = f} {xs = xs} {samples = samples} {at = at} {n = n} left 
     }
 
 -- or they do not, and are dropped
-pub passes_on : {N : ℕ} {s : Parameters} {f g : Encoding N} {xs samples : List ℤ} {at n goal bytes : ℕ} (left : ℕ) (t : TakesNext s f (xs ++ take at samples) xs samples at n)
+pub passes_on : {s : Parameters} {f g : EncodingValue} {xs samples : List ℤ} {at n goal bytes : ℕ} (left : ℕ) (t : TakesNext s f (xs ++ take at samples) xs samples at n)
     → g.sink ≡ drop (bits_in_bytes (length f.sink)) f.sink → CountsSamples s g ((xs ++ take at samples) ++ t.more)
     → length (early_output s (xs ++ take at samples)) + left ≡ goal → bytes ≡ length f.sink / 8 → bytes ≤ left →
     HoldsCode s g (xs ++ take (at + n) samples) (xs ++ take (at + n) samples) × (length (early_output s (xs ++ take (at + n) samples)) + (left - bytes) ≡ goal)

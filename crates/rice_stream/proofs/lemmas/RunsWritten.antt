@@ -20,7 +20,7 @@ use Rattle.rice_stream.specs.RunsOfBlocks.{FailsInRun, WritesRun, repeated}
 use Rattle.rice_stream.specs.FailedWrites.{TakesPart}
 use Rattle.rice_code.proofs.lemmas.code.RepeatedSamples.{last_replicate}
 use Rattle.rice_code.specs.code.Decoded.{cut_to}
-use Rattle.rice_code.specs.declared.decode.call_results.NextBlock.TheVariants.{Block}
+use Rattle.rice_code.specs.declared.decode.call_results.Step.TheVariants.{Block}
 use Rattle.rice_bits.proofs.lemmas.device.OutletLemmas.{Appends-trans}
 use Rattle.rice_stream.specs.Decodes.{DecodesBetween, Reports}
 use Rattle.rice_stream.specs.declared.outcome.Report.{Report}

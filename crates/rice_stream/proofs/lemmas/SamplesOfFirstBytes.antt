@@ -7,7 +7,7 @@ use Rattle.rice_bits.specs.device.OutletRoom.{Room}
 use Rattle.rice_samples.specs.Parameters.{Parameters, width}
 use Rattle.rice_samples.specs.bytes.Spelling.{Reads, spellings, EndsSpelling, NoSpelling}
 use Rattle.rice_stream.specs.EncodingState.{Beginning, Pushes}
-use Rattle.rice_stream.specs.declared.encoding.Encoding.{Encoding}
+use Rattle.rice_stream.specs.EncodingState.{EncodingValue}
 use Rattle.rice_stream.specs.declared.outcome.Fault.{Fault}
 use Rattle.rice_stream.specs.declared.outcome.Fault.TheVariants.{Read, Write, TooLong, SampleOutOfRange, SampleCut, CodeEnds, RunPastSegment, ResidualTooLarge}
 use Rattle.rice_samples.proofs.lemmas.bytes.SampleReaderLemmas.{reads_before}
@@ -18,7 +18,7 @@ no_spelling_before : (s : Parameters) (rest behind : List ℕ) → EndsSpelling 
 no_spelling_before s rest behind h = (omega (arith, h.0, length-append rest behind), λ x k e. h.1 x k (sym (take-append-le (width s) rest behind h.0) ∙ e))
 
 -- behind the bytes where taking stops may stand any others
-pub stops_before : {N : ℕ} (s : Parameters) (old : Beginning) (new : Option Room) (e : Encoding N) (xs : List ℤ) (bytes behind : List ℕ) (fault : Fault)
+pub stops_before : (s : Parameters) (old : Beginning) (new : Option Room) (e : EncodingValue) (xs : List ℤ) (bytes behind : List ℕ) (fault : Fault)
     → Pushes {T = Unit {0}} s old new e xs bytes (Err fault) → Pushes {T = Unit {0}} s old new e xs (bytes ++ behind) (Err fault)
 stops_before s old new e xs bytes behind (SampleOutOfRange index) (h, named) = (
   record {

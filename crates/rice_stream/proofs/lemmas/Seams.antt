@@ -21,7 +21,7 @@ use Rattle.rice_code.proofs.lemmas.encode.PushedCode.{holds_nothing, between_all
 use Rattle.rice_stream.specs.Encodes.{ReportsTaken, ReportsAll}
 use Rattle.rice_stream.specs.EncodingState.{Beginning, CountsSamples, IsEncodingOf, IsRowStart, TakesAll, Pushes, WritesRest}
 use Rattle.rice_stream.specs.Feeding.{IsSeam, behind, bytes_in_all, samples_to_take, TakesPiece, EncodesMore, AreAll, EncodesRest}
-use Rattle.rice_stream.specs.declared.encoding.Encoding.{Encoding}
+use Rattle.rice_stream.specs.EncodingState.{EncodingValue}
 use Rattle.rice_stream.specs.declared.outcome.Fault.{Fault}
 use Rattle.rice_stream.specs.declared.outcome.Fault.TheVariants.{Read, Write, TooLong, SampleOutOfRange, SampleCut, CodeEnds, RunPastSegment, ResidualTooLarge}
 use Rattle.rice_stream.specs.declared.outcome.Report.{Report}
@@ -79,12 +79,12 @@ byte_fits x n k byte few is = shr_below x n (8 - k) (let e : n + (8 - k) ≡ 8 =
 
 -- ---- where the code goes on
 
-abbrev pub encoding_at : (N : ℕ) → Parameters → Seam → Encoding N
-encoding_at N s seam = record { coder = state_between s seam.start seam.previous; sink = word seam.waiting_bits seam.waiting; meter = seam.steps; samples = seam.samples; bits = seam.bits }
+abbrev pub encoding_at : Parameters → Seam → EncodingValue
+encoding_at s seam = record { coder = state_between s seam.start seam.previous; sink = word seam.waiting_bits seam.waiting; meter = seam.steps; samples = seam.samples; bits = seam.bits }
 
 -- an encoding that begins at a seam has taken its samples
-pub encoding_is_resumed : (N : ℕ) (s : Parameters) (seam : Seam) (xs : List ℤ) (now : Option Room) → IsSeam s seam xs → IsEncodingOf s (behind s xs now) now (encoding_at N s seam) xs
-encoding_is_resumed N s seam xs now h = record {
+pub encoding_is_resumed : (s : Parameters) (seam : Seam) (xs : List ℤ) (now : Option Room) → IsSeam s seam xs → IsEncodingOf s (behind s xs now) now (encoding_at s seam) xs
+encoding_is_resumed s seam xs now h = record {
   counts = record { setting = refl; stands = h.taken; samples = h.samples; bits = h.bits; least = h.least; most = h.most };
   sink = h.waiting;
   took = record { more = []; split = sym (append-nil (early_output s xs)); took = Appends-nil now };
@@ -101,11 +101,11 @@ fit_in w n k le = let p : w * k ≤ w * (n / w) = mul-le-mul_left w le in omega 
 -- the steps so far leave room for those of what is still to come
 pub few_steps_so_far : (s : Parameters) (seam : Seam) (xs : List ℤ) → IsSeam s seam xs → seam.steps < 4611686018427387904
 few_steps_so_far s seam xs h =
-    let small = (counts_small s (encoding_at 0 s seam) xs (encoding_is_resumed 0 s seam xs None h).counts).1 in
+    let small = (counts_small s (encoding_at s seam) xs (encoding_is_resumed s seam xs None h).counts).1 in
     omega (arith, small, few_all (width s) (length xs) 0 (some_width s) (omega (arith, h.limit)))
 
 -- a seam has what the encoding has
-pub record IsSeamOf (N : ℕ) (e : Encoding N) (seam : Seam) : Type 0 where
+pub record IsSeamOf (e : EncodingValue) (seam : Seam) : Type 0 where
   pub samples : seam.samples ≡ e.samples
   pub bits : seam.bits ≡ e.bits
   pub steps : seam.steps ≡ e.meter
@@ -116,8 +116,8 @@ pub record IsSeamOf (N : ℕ) (e : Encoding N) (seam : Seam) : Type 0 where
   pub fits : seam.waiting < 2 ^ length e.sink
 
 -- where a row begins, of an encoding between two segments
-pub row_start_of : {N : ℕ} {s : Parameters} {old : Beginning} {now : Option Room} {e : Encoding N} {start : Seam} {xs : List ℤ} → IsEncodingOf s old now e xs
-    → cut s (length xs) ≡ length xs → IsSeamOf N e start → length e.sink < 8 → IsRowStart s start xs
+pub row_start_of : {s : Parameters} {old : Beginning} {now : Option Room} {e : EncodingValue} {start : Seam} {xs : List ℤ} → IsEncodingOf s old now e xs
+    → cut s (length xs) ≡ length xs → IsSeamOf e start → length e.sink < 8 → IsRowStart s start xs
 row_start_of {s = s} {e = e} {start = start} {xs = xs} h all holds few =
     let nothing : e.coder ≡ state_between e.coder.setting e.coder.start e.coder.previous = holds_nothing e.coder xs h.counts.stands (ap (λ t. cut t (length xs)) h.counts.setting ∙ all) in
     let same : e.coder ≡ state_between s start.start start.previous = nothing ∙ (λ i. state_between (h.counts.setting i) (sym holds.start i) (sym holds.previous i)) in
@@ -133,9 +133,9 @@ row_start_of {s = s} {e = e} {start = start} {xs = xs} h all holds few =
     }
 
 -- where the samples make whole segments, the encoding's place is a seam
-pub seam_of : {N : ℕ} {s : Parameters} {old : Beginning} {now : Option Room} {e : Encoding N} {seam : Seam} {xs : List ℤ} → IsEncodingOf s old now e xs
+pub seam_of : {s : Parameters} {old : Beginning} {now : Option Room} {e : EncodingValue} {seam : Seam} {xs : List ℤ} → IsEncodingOf s old now e xs
     → cut s (length xs) ≡ length xs → width s * length xs ≤ 281474976710656 →
-    IsSeamOf N e seam → length e.sink < 8 → IsSeam s seam xs
+    IsSeamOf e seam → length e.sink < 8 → IsSeam s seam xs
 seam_of h all limit holds few =
     let r = row_start_of h all holds few in
     record { taken = r.taken; samples = r.samples; bits = r.bits; least = r.least; most = r.most; waiting = r.waiting; few = r.few; fits = r.fits; limit = limit }
@@ -169,7 +169,7 @@ cut_grows s seam xs n h le =
     omega (arith, up, k.1, all)
 
 -- an encoding that ends between two segments leaves a seam
-pub goes_on : {N : ℕ} {s : Parameters} {old new : Option Room} {e : Encoding N} {at seam : Seam} {xs : List ℤ} {bytes : List ℕ} (count : ℕ) → IsSeam s at xs
+pub goes_on : {s : Parameters} {old new : Option Room} {e : EncodingValue} {at seam : Seam} {xs : List ℤ} {bytes : List ℕ} (count : ℕ) → IsSeam s at xs
     → TakesAll s (behind s xs old) new e xs (take (width s * count) bytes) →
     length xs + count ≡ samples_to_take s xs bytes → width s * count ≤ length bytes → bytes_in_all s xs bytes ≤ 281474976710656 →
     ((ys : List ℤ) → IsEncodingOf s (behind s xs old) new e ys → cut s (length ys) ≡ length ys → width s * length ys ≤ 281474976710656 → IsSeam s seam ys) → TakesPiece s xs bytes old new seam
@@ -197,7 +197,7 @@ goes_on {s} {e} {xs} {bytes} count h t is within limit stands =
     parts w m n k e = ap (λ v. w * v) e ∙ (let p : w * (n + k) ≡ w * n + w * k = omega arith in p)
 
 -- what stops it inside the bytes, with others after them
-pub stopped_in : {N : ℕ} (s : Parameters) (old : Beginning) (new : Option Room) (e : Encoding N) (xs : List ℤ) (bytes : List ℕ) (k : ℕ) (f : Fault)
+pub stopped_in : (s : Parameters) (old : Beginning) (new : Option Room) (e : EncodingValue) (xs : List ℤ) (bytes : List ℕ) (k : ℕ) (f : Fault)
     → Pushes {T = Unit {0}} s old new e xs (take k bytes) (Err f) → Pushes {T = Unit {0}} s old new e xs bytes (Err f)
 stopped_in s old new e xs bytes k f h =
     subst (λ (l : List ℕ). Pushes {T = Unit {0}} s old new e xs l (Err f)) (take-append-drop k bytes)
@@ -215,15 +215,15 @@ refused_within s more part rest count r wide few =
     ]
 
 -- the samples that are to be taken of bytes are pushed, and a push stops
-pub record StopsInBytes (N : ℕ) (s : Parameters) (old new : Option Room) (e : Encoding N) (xs : List ℤ) (bytes : List ℕ) (count : ℕ) (f : Fault) : Type 0 where
+pub record StopsInBytes (s : Parameters) (old new : Option Room) (e : EncodingValue) (xs : List ℤ) (bytes : List ℕ) (count : ℕ) (f : Fault) : Type 0 where
   pub few : bytes_in_all s xs bytes ≤ 281474976710656
   pub count_is : length xs + count ≡ samples_to_take s xs bytes
   pub enough : width s * count ≤ length bytes
   pub pushes : Pushes {T = Unit {0}} s (behind s xs old) new e xs (take (width s * count) bytes) (Err f)
 
 -- why a piece is not taken whole
-pub more_stops : {N : ℕ} (s : Parameters) (old new : Option Room) (e : Encoding N) (xs : List ℤ) (bytes : List ℕ) (count : ℕ) (f : Fault)
-    → StopsInBytes N s old new e xs bytes count f → EncodesMore s xs bytes old new (Err f)
+pub more_stops : (s : Parameters) (old new : Option Room) (e : EncodingValue) (xs : List ℤ) (bytes : List ℕ) (count : ℕ) (f : Fault)
+    → StopsInBytes s old new e xs bytes count f → EncodesMore s xs bytes old new (Err f)
 more_stops s old new e xs bytes count f stops = by_fault f stops.pushes (stopped_in s (behind s xs old) new e xs bytes (width s * count) f stops.pushes)
   where
     by_fault : (f : Fault) → Pushes {T = Unit {0}} s (behind s xs old) new e xs (take (width s * count) bytes) (Err f)
@@ -246,7 +246,7 @@ more_stops s old new e xs bytes count f stops = by_fault f stops.pushes (stopped
 
 -- ---- what the last piece gives
 
-module _ {N : ℕ} (s : Parameters) (old new : Option Room) (e : Encoding N) (r : Report) (xs : List ℤ) (bytes : List ℕ) (limit : bytes_in_all s xs bytes ≤ 281474976710656) where
+module _ (s : Parameters) (old new : Option Room) (e : EncodingValue) (r : Report) (xs : List ℤ) (bytes : List ℕ) (limit : bytes_in_all s xs bytes ≤ 281474976710656) where
   rest_stops_at : (f : Fault) → ((ys : List ℤ) → CountsSamples s e ys → ReportsTaken s r ys) → Pushes {T = Unit {0}} s (behind s xs old) new e xs bytes (Err f)
       → EncodesRest s xs bytes old new r (Some f)
   rest_stops_at (SampleOutOfRange index) told m = (
@@ -324,6 +324,6 @@ module _ {N : ℕ} (s : Parameters) (old new : Option Room) (e : Encoding N) (r 
   rest_all (Some (ResidualTooLarge block)) t last whole told bad = absurd bad
 
 -- so few samples that all their steps are counted
-pub takes_few : {N : ℕ} (s : Parameters) (old : Beginning) (new : Option Room) (e : Encoding N) (xs : List ℤ) (bytes : List ℕ)
+pub takes_few : (s : Parameters) (old : Beginning) (new : Option Room) (e : EncodingValue) (xs : List ℤ) (bytes : List ℕ)
     → length xs + length bytes ≤ 281474976710656 → (t : TakesAll s old new e xs bytes) → length (xs ++ t.more) ≤ 281474976710656
 takes_few s old new e xs bytes few t = omega (arith, few, length-append xs t.more, few_more s t.more bytes t.rest t.reads (some_width s))

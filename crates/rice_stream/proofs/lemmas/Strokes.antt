@@ -14,7 +14,7 @@ use Rattle.rice_code.specs.decode.Decoder.{RepeatsBlocks}
 use Rattle.rice_code.specs.decode.DecoderState.{DecoderState, IsDecoderState}
 use Rattle.rice_code.specs.decode.RowsOfFields.{AreCounted}
 use Rattle.rice_code.specs.decode.PlainBlocks.{GivesRow}
-use Rattle.rice_code.specs.declared.decode.call_results.NextBlock.TheVariants.{Block}
+use Rattle.rice_code.specs.declared.decode.call_results.Step.TheVariants.{Block}
 use Rattle.rice_code.proofs.lemmas.code.RepeatedSamples.{last_replicate}
 use Rattle.rice_code.proofs.lemmas.code.SoundBlocks.{last_legal}
 use Rattle.rice_code.proofs.lemmas.decode.DecoderLemmas.{place_moves}

@@ -29,8 +29,8 @@ use Rattle.rice_code.specs.decode.DecoderState.{DecoderState, IsDecoderState, ne
 use Rattle.rice_bits.specs.declared.read.fault.BitFault.{BitFault}
 use Rattle.rice_bits.specs.declared.read.fault.BitFault.TheVariants as bit_faults
 use Rattle.rice_samples.specs.predict.Residuals.{last_of}
-use Rattle.rice_code.specs.declared.decode.call_results.NextBlock.{NextBlock}
-use Rattle.rice_code.specs.declared.decode.call_results.NextBlock.TheVariants.{Block, Done}
+use Rattle.rice_code.specs.declared.decode.call_results.Step.{Step}
+use Rattle.rice_code.specs.declared.decode.call_results.Step.TheVariants.{Block, Done}
 use Rattle.rice_code.specs.declared.decode.call_results.CodeFault.{CodeFault}
 
 -- a run says no residuals
@@ -116,7 +116,7 @@ run_goes_on s b run legal h pos le = by_begin (begins_segment s (b + 1)) refl
         (ap (λ n. begins_segment s n) same ∙ e, rw same (omega arith))
 
 -- Behind a block a decoder's state is sound again, if its last sample is legal, the segment has room for the run that is left, and no block stopped it.
-pub place_moves : {s : Parameters} {b next : ℕ} (run : ℕ) (last : ℤ) (stopped : Option (Result NextBlock CodeFault)) → IsLegal s → b < s.interval
+pub place_moves : {s : Parameters} {b next : ℕ} (run : ℕ) (last : ℤ) (stopped : Option (Result Step CodeFault)) → IsLegal s → b < s.interval
     → next ≡ next_block_place s b → IsSample s last → (0 < run → run + 1 ≤ blocks_left s b) → stopped ≢ Some (Ok Block) → IsDecoderState s next last run stopped
 place_moves {s} {b} run last stopped legal h e sample more no_block = record {
   legal = legal;
@@ -138,7 +138,7 @@ pub record ZeroBlock (s : Parameters) (b : ℕ) (p : ℤ) (samples : List ℤ) :
   pub block_is : block_data s b p samples ≡ zero_block s None
 
 -- a block of zeros is given from a run: the place moves on, and one block fewer is to come
-pub goes_on : (s : Parameters) (b : ℕ) {next run : ℕ} (p : ℤ) {last : ℤ} (stopped : Option (Result NextBlock CodeFault)) {samples : List ℤ} → 0 < run → next ≡ next_block_place s b
+pub goes_on : (s : Parameters) (b : ℕ) {next run : ℕ} (p : ℤ) {last : ℤ} (stopped : Option (Result Step CodeFault)) {samples : List ℤ} → 0 < run → next ≡ next_block_place s b
     → last ≡ last_of p samples
     → ZeroBlock s b p samples
     → GivesFromRun (record { setting = s; block = b; before = p; run = run; stopped = stopped }) (record { setting = s; block = next; before = last; run = run - 1; stopped = stopped }) samples
@@ -148,7 +148,7 @@ goes_on s b {run} p stopped pos e f zeros = record {
 }
 
 -- a block of a run repeats the sample before it
-pub repeats_on : {s : Parameters} {b : ℕ} (next : ℕ) {run : ℕ} {p : ℤ} {stopped : Option (Result NextBlock CodeFault)} → IsDecoderState s b p run stopped → 0 < run
+pub repeats_on : {s : Parameters} {b : ℕ} (next : ℕ) {run : ℕ} {p : ℤ} {stopped : Option (Result Step CodeFault)} → IsDecoderState s b p run stopped → 0 < run
     → s.preprocess ≡ true → next ≡ next_block_place s b
     → GivesFromRun (record { setting = s; block = b; before = p; run = run; stopped = stopped })
     (record { setting = s; block = next; before = p; run = run - 1; stopped = stopped }) (replicate s.block p)
@@ -160,7 +160,7 @@ repeats_on {s} {b} next {run} {p} {stopped} state pos ways e =
     })
 
 -- a run goes no further than its interval
-pub inside_interval : (s : Parameters) (b count run : ℕ) (p : ℤ) (stopped : Option (Result NextBlock CodeFault)) → IsDecoderState s b p run stopped → count ≤ run → b + count ≤ s.interval
+pub inside_interval : (s : Parameters) (b count run : ℕ) (p : ℤ) (stopped : Option (Result Step CodeFault)) → IsDecoderState s b p run stopped → count ≤ run → b + count ≤ s.interval
 inside_interval s b zero run p stopped state few = omega (arith, state.within)
 inside_interval s b (suc n) run p stopped state few =
     let at : place s b ≡ b = mod-eq_of_lt state.within in
@@ -181,13 +181,13 @@ place_on s b n h k = elim (cases_lt (b + 1) s.interval) [
 ]
 
 -- a decoder behind some blocks of a run
-pub record PassedBlocks (count : ℕ) (s : Parameters) (b next run : ℕ) (p : ℤ) (stopped : Option (Result NextBlock CodeFault)) : Type 0 where
+pub record PassedBlocks (count : ℕ) (s : Parameters) (b next run : ℕ) (p : ℤ) (stopped : Option (Result Step CodeFault)) : Type 0 where
   pub state : IsDecoderState s next p (run - count) stopped
   pub passes : RepeatsBlocks count (record { setting = s; block = b; before = p; run = run; stopped = stopped })
       (record { setting = s; block = next; before = p; run = run - count; stopped = stopped })
 
 -- blocks of a run repeat the sample before them
-pub passes_blocks : (count : ℕ) {s : Parameters} {b next run : ℕ} {p : ℤ} {stopped : Option (Result NextBlock CodeFault)} → IsDecoderState s b p run stopped
+pub passes_blocks : (count : ℕ) {s : Parameters} {b next run : ℕ} {p : ℤ} {stopped : Option (Result Step CodeFault)} → IsDecoderState s b p run stopped
     → count ≤ run → s.preprocess ≡ true → next ≡ place_after s b count → PassedBlocks count s b next run p stopped
 passes_blocks zero {s} {b} {next} {run} {p} {stopped} state few ways e =
     let h = state.within in
@@ -299,7 +299,7 @@ answers_block start {middle} {new} {first} {steps} last p {q} {samples} {run} {b
     )
 
 -- a decoder that stops answers so
-pub answers_stop : {I : Type 0} (old new : Reader I) (first last : ℕ) (p : DecoderState) {q : DecoderState} {samples : List ℤ} (a : Result NextBlock CodeFault)
+pub answers_stop : {I : Type 0} (old new : Reader I) (first last : ℕ) (p : DecoderState) {q : DecoderState} {samples : List ℤ} (a : Result Step CodeFault)
     → StopsBy old new first last p.setting p.block a → q ≡ record p { stopped = Some a } → samples ≡ [] → Answers old new first last p q samples a
 answers_stop old new first last p (Ok Block) stops moves none = absurd stops
 answers_stop old new first last p (Ok Done) stops moves none = (stops, moves, none)

@@ -9,7 +9,7 @@ use Rattle.rice_samples.specs.bytes.Spelling.{spelling, spellings}
 use Rattle.rice_samples.proofs.lemmas.bytes.LevelsSpelledInByteLanes.{bytes-front, one_byte}
 use Rattle.rice_samples.proofs.lemmas.bytes.SpellingLengths.{length-spellings}
 use Rattle.rice_code.specs.code.Layout.{padding}
-use Rattle.rice_code.specs.declared.decode.call_results.NextBlock.TheVariants.{Block}
+use Rattle.rice_code.specs.declared.decode.call_results.Step.TheVariants.{Block}
 use Rattle.rice_code.specs.Limits.{most_samples_of_bit}
 use Rattle.rice_code.specs.code.Forms.{blocks_in}
 use Rattle.rice_code.specs.decode.Decoder.{Answers, GivesBlock, Skips, TakesSet, with_mark}

@@ -15,7 +15,7 @@ use Rattle.rice_stream.proofs.decoding.decode_blocks.Goals as goal
 
 pub decode_all-init : goal.decode_all-init
 decode_all-init g c = record {
-  runs = progress_at_start c.args.asked (g.O.Outlet.taken c.args.outlet.now) c.block-block.ensures.legal c.new-decoder.ensures c.new-reader.ensures c.new-meter.ensures;
+  runs = progress_at_start c.args.asked (g.O.Outlet.taken c.args.outlet.now) c.block-block.ensures.legal c.start-decoder.ensures c.new-reader.ensures c.new-meter.ensures;
   writes = refl;
 }
 
@@ -24,12 +24,12 @@ write_block-requires-clause-legal g c =
     let s = c.args.setting.now in
     let i = c.decode_all.invariant in
     let old = c.decode_all in
-    let new = c.next_levels.new in
+    let new = c.levels_of_next.new in
     let mid = c.next_bytes_at_one_stroke-blocks.new in
     let same = c.next_bytes_at_one_stroke-blocks.ensures.none (omega (arith, c.if-blocks-gt0.false)) in
     let runs = progress_unchanged same.0 same.1 same.2 i.runs in
-    let a = decoder_advances mid.meter new.meter mid.decoder new.self new.levels.items runs.at_block.setting (ap Ok c.in-Block.is)
-    c.in-Ok-next_levels.ensures.in_run c.in-Ok-next_levels.ensures.reads in
+    let a = decoder_advances mid.meter new.meter (g.D.GivesLevels.state mid.decoder) (g.D.GivesLevels.state new.self) new.levels.items runs.at_block.setting (ap Ok c.in-Block.is)
+    c.in-Ok-levels_of_next.ensures.in_run c.in-Ok-levels_of_next.ensures.reads in
     let block = samples_of_block s runs.at_block.setting runs.at_block.going a in
     few_legal s c.wanted-count.result new.levels.items _ c.as_slice.ensures.value block.legal
 
@@ -38,63 +38,63 @@ returns-then-count-eq0-clause-call g c =
     let none = sym (c.wanted-count.ensures.value ∙ ap (wanted_of c.args.asked c.decode_all.written) c.block-block.ensures.value) ∙ c.if-count-eq0.true in
     reached_ends c.block-block.ensures.legal c.decode_all.invariant.runs none c.ended.ensures.reports
 
-pub returns-in-Err-next_levels-clause-call : goal.returns-in-Err-next_levels-clause-call
-returns-in-Err-next_levels-clause-call g c =
+pub returns-in-Err-levels_of_next-clause-call : goal.returns-in-Err-levels_of_next-clause-call
+returns-in-Err-levels_of_next-clause-call g c =
     let s = c.args.setting.now in
     let i = c.decode_all.invariant in
     let old = c.decode_all in
-    let new = c.next_levels.new in
+    let new = c.levels_of_next.new in
     let mid = c.next_bytes_at_one_stroke-blocks.new in
     let same = c.next_bytes_at_one_stroke-blocks.ensures.none (omega (arith, c.if-blocks-gt0.false)) in
     let runs = progress_unchanged same.0 same.1 same.2 i.runs in
-    let a = decoder_advances mid.meter new.meter mid.decoder new.self new.levels.items runs.at_block.setting refl
-    c.in-Err-next_levels.ensures.in_run c.in-Err-next_levels.ensures.reads in
+    let a = decoder_advances mid.meter new.meter (g.D.GivesLevels.state mid.decoder) (g.D.GivesLevels.state new.self) new.levels.items runs.at_block.setting refl
+    c.in-Err-levels_of_next.ensures.in_run c.in-Err-levels_of_next.ensures.reads in
     let some = block_is_wanted c.args.asked old.written c.wanted-count.ensures.value c.block-block.ensures.value c.if-count-eq0.false in
-    let tells = reports_as (ap Some (c.fault_of-fault.ensures ∙ ap (refusal_fault c.in-Err-next_levels.fault old.written) c.block-block.ensures.value)) c.ended-in-Err-next_levels.ensures.reports in
+    let tells = reports_as (ap Some (c.fault_of-fault.ensures ∙ ap (refusal_fault c.in-Err-levels_of_next.fault old.written) c.block-block.ensures.value)) c.ended-in-Err-levels_of_next.ensures.reports in
     let legal = c.block-block.ensures.legal in
-    refusal_ends c.in-Err-next_levels.fault legal runs some (stops_in_no_run legal runs a) c.in-Err-next_levels.ensures.steps tells
+    refusal_ends c.in-Err-levels_of_next.fault legal runs some (stops_in_no_run legal runs a) c.in-Err-levels_of_next.ensures.steps tells
 
-pub returns-in-Err-next_levels-clause-failures : goal.returns-in-Err-next_levels-clause-failures
-returns-in-Err-next_levels-clause-failures g c =
+pub returns-in-Err-levels_of_next-clause-failures : goal.returns-in-Err-levels_of_next-clause-failures
+returns-in-Err-levels_of_next-clause-failures g c =
     let s = c.args.setting.now in
     let i = c.decode_all.invariant in
     let old = c.decode_all in
-    let new = c.next_levels.new in
+    let new = c.levels_of_next.new in
     let mid = c.next_bytes_at_one_stroke-blocks.new in
     let same = c.next_bytes_at_one_stroke-blocks.ensures.none (omega (arith, c.if-blocks-gt0.false)) in
     let runs = progress_unchanged same.0 same.1 same.2 i.runs in
-    let a = decoder_advances mid.meter new.meter mid.decoder new.self new.levels.items runs.at_block.setting refl
-    c.in-Err-next_levels.ensures.in_run c.in-Err-next_levels.ensures.reads in
-    let tells = reports_as (ap Some (c.fault_of-fault.ensures ∙ ap (refusal_fault c.in-Err-next_levels.fault old.written) c.block-block.ensures.value)) c.ended-in-Err-next_levels.ensures.reports in
-    refusal_fails c.in-Err-next_levels.fault runs (stops_in_no_run c.block-block.ensures.legal runs a) i.writes tells
+    let a = decoder_advances mid.meter new.meter (g.D.GivesLevels.state mid.decoder) (g.D.GivesLevels.state new.self) new.levels.items runs.at_block.setting refl
+    c.in-Err-levels_of_next.ensures.in_run c.in-Err-levels_of_next.ensures.reads in
+    let tells = reports_as (ap Some (c.fault_of-fault.ensures ∙ ap (refusal_fault c.in-Err-levels_of_next.fault old.written) c.block-block.ensures.value)) c.ended-in-Err-levels_of_next.ensures.reports in
+    refusal_fails c.in-Err-levels_of_next.fault runs (stops_in_no_run c.block-block.ensures.legal runs a) i.writes tells
 
 pub returns-in-Done-clause-call : goal.returns-in-Done-clause-call
 returns-in-Done-clause-call g c =
     let s = c.args.setting.now in
     let i = c.decode_all.invariant in
     let old = c.decode_all in
-    let new = c.next_levels.new in
+    let new = c.levels_of_next.new in
     let mid = c.next_bytes_at_one_stroke-blocks.new in
     let same = c.next_bytes_at_one_stroke-blocks.ensures.none (omega (arith, c.if-blocks-gt0.false)) in
     let runs = progress_unchanged same.0 same.1 same.2 i.runs in
-    let a = decoder_advances mid.meter new.meter mid.decoder new.self new.levels.items runs.at_block.setting (ap Ok c.in-Done.is)
-    c.in-Ok-next_levels.ensures.in_run c.in-Ok-next_levels.ensures.reads in
+    let a = decoder_advances mid.meter new.meter (g.D.GivesLevels.state mid.decoder) (g.D.GivesLevels.state new.self) new.levels.items runs.at_block.setting (ap Ok c.in-Done.is)
+    c.in-Ok-levels_of_next.ensures.in_run c.in-Ok-levels_of_next.ensures.reads in
     let some = block_is_wanted c.args.asked old.written c.wanted-count.ensures.value c.block-block.ensures.value c.if-count-eq0.false in
     let tells = reports_as c.end_of.ensures c.ended-in-Done.ensures.reports in
     let ends = decoding_is_done c.block-block.ensures.legal runs a in
-    ended_ends true runs some ends.0 ends.1 c.in-Ok-next_levels.ensures.steps tells
+    ended_ends true runs some ends.0 ends.1 c.in-Ok-levels_of_next.ensures.steps tells
 
 pub returns-in-Done-clause-failures : goal.returns-in-Done-clause-failures
 returns-in-Done-clause-failures g c =
     let s = c.args.setting.now in
     let i = c.decode_all.invariant in
     let old = c.decode_all in
-    let new = c.next_levels.new in
+    let new = c.levels_of_next.new in
     let mid = c.next_bytes_at_one_stroke-blocks.new in
     let same = c.next_bytes_at_one_stroke-blocks.ensures.none (omega (arith, c.if-blocks-gt0.false)) in
     let runs = progress_unchanged same.0 same.1 same.2 i.runs in
-    let a = decoder_advances mid.meter new.meter mid.decoder new.self new.levels.items runs.at_block.setting (ap Ok c.in-Done.is)
-    c.in-Ok-next_levels.ensures.in_run c.in-Ok-next_levels.ensures.reads in
+    let a = decoder_advances mid.meter new.meter (g.D.GivesLevels.state mid.decoder) (g.D.GivesLevels.state new.self) new.levels.items runs.at_block.setting (ap Ok c.in-Done.is)
+    c.in-Ok-levels_of_next.ensures.in_run c.in-Ok-levels_of_next.ensures.reads in
     let tells = reports_as c.end_of.ensures c.ended-in-Done.ensures.reports in
     done_fails runs (decoding_is_done c.block-block.ensures.legal runs a) i.writes tells
 
@@ -103,37 +103,37 @@ returns-in-Err-write_block-clause-call g c =
     let s = c.args.setting.now in
     let i = c.decode_all.invariant in
     let old = c.decode_all in
-    let new = c.next_levels.new in
+    let new = c.levels_of_next.new in
     let mid = c.next_bytes_at_one_stroke-blocks.new in
     let same = c.next_bytes_at_one_stroke-blocks.ensures.none (omega (arith, c.if-blocks-gt0.false)) in
     let runs = progress_unchanged same.0 same.1 same.2 i.runs in
-    let a = decoder_advances mid.meter new.meter mid.decoder new.self new.levels.items runs.at_block.setting (ap Ok c.in-Block.is)
-    c.in-Ok-next_levels.ensures.in_run c.in-Ok-next_levels.ensures.reads in
+    let a = decoder_advances mid.meter new.meter (g.D.GivesLevels.state mid.decoder) (g.D.GivesLevels.state new.self) new.levels.items runs.at_block.setting (ap Ok c.in-Block.is)
+    c.in-Ok-levels_of_next.ensures.in_run c.in-Ok-levels_of_next.ensures.reads in
     let some = block_is_wanted c.args.asked old.written c.wanted-count.ensures.value c.block-block.ensures.value c.if-count-eq0.false in
     let is = c.wanted-count.ensures.value ∙ ap (wanted_of c.args.asked old.written) c.block-block.ensures.value in
     let legal = c.block-block.ensures.legal in
     let part = subst (λ (l : List ℕ). TakesPart (g.O.Outlet.taken old.outlet) (g.O.Outlet.taken c.write_block.new.outlet) l)
     (few_spelled s c.wanted-count.result new.levels.items _ c.as_slice.ensures.value) c.in-Err-write_block.ensures.err.0 in
-    write_ends c.wanted-count.result new.self legal runs is some (gains_block legal runs a) part c.ended-in-Err-write_block.ensures.reports
+    write_ends c.wanted-count.result (g.D.GivesLevels.state new.self) legal runs is some (gains_block legal runs a) part c.ended-in-Err-write_block.ensures.reports
 
 pub decode_all-smaller : goal.decode_all-smaller
 decode_all-smaller g c =
     let s = c.args.setting.now in
     let i = c.decode_all.invariant in
     let old = c.decode_all in
-    let new = c.next_levels.new in
+    let new = c.levels_of_next.new in
     let mid = c.next_bytes_at_one_stroke-blocks.new in
     let same = c.next_bytes_at_one_stroke-blocks.ensures.none (omega (arith, c.if-blocks-gt0.false)) in
     let runs = progress_unchanged same.0 same.1 same.2 i.runs in
-    let a = decoder_advances mid.meter new.meter mid.decoder new.self new.levels.items runs.at_block.setting (ap Ok c.in-Block.is)
-    c.in-Ok-next_levels.ensures.in_run c.in-Ok-next_levels.ensures.reads in
+    let a = decoder_advances mid.meter new.meter (g.D.GivesLevels.state mid.decoder) (g.D.GivesLevels.state new.self) new.levels.items runs.at_block.setting (ap Ok c.in-Block.is)
+    c.in-Ok-levels_of_next.ensures.in_run c.in-Ok-levels_of_next.ensures.reads in
     let block = samples_of_block s runs.at_block.setting runs.at_block.going a in
-    let counted = c.in-Ok-next_levels.ensures.steps in
+    let counted = c.in-Ok-levels_of_next.ensures.steps in
     omega (
       arith,
       block.len,
       length-values s new.levels.items,
-      c.in-Ok-next_levels.ensures.waiting,
+      c.in-Ok-levels_of_next.ensures.waiting,
       counted.forward,
       counted.limit,
       c.block-block.ensures.range,
@@ -146,26 +146,26 @@ decode_all-preserved g c =
     let s = c.args.setting.now in
     let i = c.decode_all.invariant in
     let old = c.decode_all in
-    let new = c.next_levels.new in
+    let new = c.levels_of_next.new in
     let mid = c.next_bytes_at_one_stroke-blocks.new in
     let same = c.next_bytes_at_one_stroke-blocks.ensures.none (omega (arith, c.if-blocks-gt0.false)) in
     let runs = progress_unchanged same.0 same.1 same.2 i.runs in
-    let a = decoder_advances mid.meter new.meter mid.decoder new.self new.levels.items runs.at_block.setting (ap Ok c.in-Block.is)
-    c.in-Ok-next_levels.ensures.in_run c.in-Ok-next_levels.ensures.reads in
+    let a = decoder_advances mid.meter new.meter (g.D.GivesLevels.state mid.decoder) (g.D.GivesLevels.state new.self) new.levels.items runs.at_block.setting (ap Ok c.in-Block.is)
+    c.in-Ok-levels_of_next.ensures.in_run c.in-Ok-levels_of_next.ensures.reads in
     let some = block_is_wanted c.args.asked old.written c.wanted-count.ensures.value c.block-block.ensures.value c.if-count-eq0.false in
     let is = c.wanted-count.ensures.value ∙ ap (wanted_of c.args.asked old.written) c.block-block.ensures.value in
     let legal = c.block-block.ensures.legal in
     let at = runs.at_block in
     let block = samples_of_block s at.setting at.going a in
-    let old_run : mid.decoder.run * mid.decoder.setting.block ≡ mid.decoder.run * s.block = ap (λ t. mid.decoder.run * t.block) at.setting in
-    let new_run : new.self.run * new.self.setting.block ≡ new.self.run * s.block = ap (λ t. new.self.run * t.block) (c.in-Ok-next_levels.ensures.setting ∙ at.setting) in
-    let few : s.block + new.self.run * s.block ≤ mid.decoder.run * s.block + 456 * (new.reader.taken - mid.reader.taken) = omega
-    (arith, block.len, length-values s new.levels.items, c.in-Ok-next_levels.ensures.waiting, old_run, new_run) in
+    let old_run : (g.D.GivesLevels.state mid.decoder).run * (g.D.GivesLevels.state mid.decoder).setting.block ≡ (g.D.GivesLevels.state mid.decoder).run * s.block = ap (λ t. (g.D.GivesLevels.state mid.decoder).run * t.block) at.setting in
+    let new_run : (g.D.GivesLevels.state new.self).run * (g.D.GivesLevels.state new.self).setting.block ≡ (g.D.GivesLevels.state new.self).run * s.block = ap (λ t. (g.D.GivesLevels.state new.self).run * t.block) (c.in-Ok-levels_of_next.ensures.setting ∙ at.setting) in
+    let few : s.block + (g.D.GivesLevels.state new.self).run * s.block ≤ (g.D.GivesLevels.state mid.decoder).run * s.block + 456 * (new.reader.taken - mid.reader.taken) = omega
+    (arith, block.len, length-values s new.levels.items, c.in-Ok-levels_of_next.ensures.waiting, old_run, new_run) in
     let put = subst (λ (l : List ℕ). Appends (g.O.Outlet.taken old.outlet) (g.O.Outlet.taken c.write_block.new.outlet) l)
     (few_spelled s c.wanted-count.result new.levels.items _ c.as_slice.ensures.value) c.in-Ok-write_block.ensures.ok.0 in
     record {
       runs = progress_with_block legal runs is some (gains_block legal runs a) (moves_of at.going a)
-          (record { counted = c.in-Ok-next_levels.ensures.steps; few = few }) c.tick-in-decode_all.ensures put;
+          (record { counted = c.in-Ok-levels_of_next.ensures.steps; few = few }) c.tick-in-decode_all.ensures put;
       writes = c.in-Ok-write_block.ensures.ok.1 ∙ i.writes;
     }
 
@@ -301,7 +301,7 @@ decode_all-smaller-then-blocks-gt0 g c =
     same row.room c.next_bytes_at_one_stroke-blocks.array_long
     (ap (λ k. k * all) c.block-block.ensures.value) given.1 ok.0 in
     let more = row_takes c.block-block.ensures.legal i.runs given.0 some wrote in
-    let none : new.decoder.run * new.decoder.setting.block ≡ 0 = ap (λ n. n * new.decoder.setting.block) given.1.run ∙ omega arith in
+    let none : (g.D.GivesLevels.state new.decoder).run * (g.D.GivesLevels.state new.decoder).setting.block ≡ 0 = ap (λ n. n * (g.D.GivesLevels.state new.decoder).setting.block) given.1.run ∙ omega arith in
     omega (arith, more, none, row.steps.limit)
 
 pub returns-in-Err-clause-call : goal.returns-in-Err-clause-call

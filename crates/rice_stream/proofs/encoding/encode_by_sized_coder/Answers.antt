@@ -5,7 +5,7 @@ use Rattle.std.proofs.KnownBytes.{Consumes-nil}
 use Rattle.rice_samples.specs.Parameters.{Parameters, value_at, value_count, values_at, width}
 use Rattle.rice_samples.specs.bytes.SampleReader.{GivesSamples}
 use Rattle.rice_samples.proofs.lemmas.setting.ValuesAtLevels.{length-values}
-use Rattle.rice_stream.specs.EncodingState.{afresh, FailsIn, IsEncodingOf}
+use Rattle.rice_stream.specs.EncodingState.{seen, afresh, FailsIn, IsEncodingOf}
 use Rattle.rice_stream.specs.Encodes.{fault_at, EncodesBetween}
 use Rattle.rice_stream.specs.declared.outcome.Fault.{Fault}
 use Rattle.rice_stream.proofs.lemmas.EncodingLemmas.{settled_by}
@@ -43,7 +43,7 @@ returns-in-Err-clause-bounds g c =
     let s = c.args.setting.now in
     let runs = c.encode_all.invariant.runs in
     let k = runs.holds.counts in
-    within_early s c.stopped.result.report runs.samples (settled_by s c.encode_all.encoding runs.samples k) (c.stopped.ensures.told s runs.samples k)
+    within_early s c.stopped.result.report runs.samples (settled_by s (seen g.C.TakesLevels.state c.encode_all.encoding) runs.samples k) (c.stopped.ensures.told s runs.samples k)
 
 pub finish-requires : goal.finish-requires
 finish-requires g c =
@@ -51,7 +51,7 @@ finish-requires g c =
     let i = c.encode_all.invariant in
     let start = g.O.Outlet.taken c.args.outlet.now in
     let few = few_given i.runs c.in-Ok.ensures.gives in
-    (search rules, ((s, afresh start, i.runs.samples, i.runs.holds, omega (arith, few, c.in-Ok.ensures.limits.1)), omega (arith, c.requires.writes, i.writes)))
+    record { ready = (s, afresh start, i.runs.samples, i.runs.holds, omega (arith, few, c.in-Ok.ensures.limits.1)); writes = omega (arith, c.requires.writes, i.writes); }
 
 pub returns-then-count-eq0-clause-call : goal.returns-then-count-eq0-clause-call
 returns-then-count-eq0-clause-call g c =
@@ -71,7 +71,7 @@ returns-then-count-eq0-clause-bounds g c =
     let s = c.args.setting.now in
     let runs = c.encode_all.invariant.runs in
     let did = c.finish.ensures.did s (afresh (g.O.Outlet.taken c.args.outlet.now)) runs.samples runs.holds in
-    within_all s c.finish.result.report runs.samples (settled_by s c.encode_all.encoding runs.samples runs.holds.counts) did.0
+    within_all s c.finish.result.report runs.samples (settled_by s (seen g.C.TakesLevels.state c.encode_all.encoding) runs.samples runs.holds.counts) did.0
 
 pub push_all_levels-requires : goal.push_all_levels-requires
 push_all_levels-requires g c =
@@ -80,10 +80,7 @@ push_all_levels-requires g c =
     let start = g.O.Outlet.taken c.args.outlet.now in
     let says = c.in-Ok.ensures in
     let few = few_given i.runs says.gives in
-    let n = taken_count c.encode_all.samples.setting c.next_levels.new.levels c.in-Ok.count says.count in (
-      search rules,
-      (
-        record {
+    let n = taken_count c.encode_all.samples.setting c.next_levels.new.levels c.in-Ok.count says.count in record { ready = record {
           setting = s;
           start = afresh start;
           before = i.runs.samples;
@@ -91,10 +88,7 @@ push_all_levels-requires g c =
           legal = subst (All (λ l. l < value_count s)) (sym c.front.ensures)
               (subst (λ (s : Parameters). All (λ l. l < value_count s) (take c.in-Ok.count c.next_levels.new.levels)) i.runs.setting says.legal);
           few = omega (arith, few, n.0, n.1, ap length c.front.ensures, says.limits.1);
-        },
-        omega (arith, c.requires.writes, i.writes),
-      ),
-    )
+        }; writes = omega (arith, c.requires.writes, i.writes); }
 
 pub encode_all-smaller : goal.encode_all-smaller
 encode_all-smaller g c =
@@ -121,7 +115,7 @@ encode_all-preserved g c =
     let n = c.in-Ok.count in
     let ys = take n (values_at s levels) in
     let gives = subst (λ (s : Parameters). GivesSamples c.encode_all.samples c.next_levels.new.self left new (take n (values_at s levels))) i.runs.setting c.in-Ok.ensures.gives in
-    let holds = subst (λ (l : List ℤ). IsEncodingOf s (afresh start) taken c.push_all_levels.new.self (i.runs.samples ++ l)) (ap (values_at s) c.front.ensures ∙ sym (take-map (value_at s) n levels))
+    let holds = subst (λ (l : List ℤ). IsEncodingOf s (afresh start) taken (seen g.C.TakesLevels.state c.push_all_levels.new.self) (i.runs.samples ++ l)) (ap (values_at s) c.front.ensures ∙ sym (take-map (value_at s) n levels))
     (c.in-Ok-push_all_levels.ensures.ok s (afresh start) i.runs.samples i.runs.holds) in
     record {
       runs = reads_further i.runs gives holds;
@@ -144,7 +138,7 @@ returns-in-Err-push_all_levels-clause-call g c =
     let ys = take n (values_at s levels) in
     let o = c.stopped-in-Err-push_all_levels in
     let gives = subst (λ (s : Parameters). GivesSamples c.encode_all.samples c.next_levels.new.self left new (take n (values_at s levels))) runs.setting says.gives in
-    let fails = subst (λ (l : List ℤ). FailsIn s (afresh start) taken c.push_all_levels.new.self runs.samples l) (ap (values_at s) c.front.ensures ∙ sym (take-map (value_at s) n levels))
+    let fails = subst (λ (l : List ℤ). FailsIn s (afresh start) taken (seen g.C.TakesLevels.state c.push_all_levels.new.self) runs.samples l) (ap (values_at s) c.front.ensures ∙ sym (take-map (value_at s) n levels))
     (c.in-Err-push_all_levels.ensures.err s (afresh start) runs.samples runs.holds) in
     let count : length ys ≡ n = (taken_count s levels n says.count).1 in
     let piece : width s * n + length c.next_levels.new.self.waiting ≤ 4096 = subst (λ (s : Parameters). width s * n + length c.next_levels.new.self.waiting ≤ 4096) runs.setting says.piece in
@@ -158,7 +152,7 @@ returns-in-Err-push_all_levels-clause-bounds g c =
     let fails = c.in-Err-push_all_levels.ensures.err s (afresh (g.O.Outlet.taken c.args.outlet.now)) runs.samples runs.holds in
     let xs = (runs.samples ++ fails.before) ++ fails.last ∷ [] in
     let k = fails.fails.counts in
-    within_early s c.stopped-in-Err-push_all_levels.result.report xs (settled_by s c.push_all_levels.new.self xs k) (c.stopped-in-Err-push_all_levels.ensures.told s xs k)
+    within_early s c.stopped-in-Err-push_all_levels.result.report xs (settled_by s (seen g.C.TakesLevels.state c.push_all_levels.new.self) xs k) (c.stopped-in-Err-push_all_levels.ensures.told s xs k)
 
 pub returns-in-Err-clause-failures : goal.returns-in-Err-clause-failures
 returns-in-Err-clause-failures g c =

@@ -3,7 +3,7 @@ use Rattle.std.proofs.lemmas.List.{length-take}
 use Rattle.std.proofs.lemmas.Result.{err_from_is_err_and}
 use Rattle.rice_samples.specs.Parameters.{width}
 use Rattle.rice_samples.specs.Places.{cut}
-use Rattle.rice_stream.specs.EncodingState.{TakesAll, Pushes}
+use Rattle.rice_stream.specs.EncodingState.{seen, TakesAll, Pushes}
 use Rattle.rice_samples.proofs.lemmas.bytes.SpellingLengths.{some_width}
 use Rattle.rice_stream.specs.Feeding.{behind}
 use Rattle.rice_stream.proofs.lemmas.EncodingLemmas.{sink_short}
@@ -29,10 +29,10 @@ returns-then-bytes-bytes_left-clause-did g c xs h =
     record { passes = omega (arith, size, c.bytes_left.ensures.value, c.if-bytes-bytes_left.true); untouched = refl }
 
 pub resume-encoding-requires : goal.resume-encoding-requires
-resume-encoding-requires g c = (search rules, (c.requires.size, (c.requires.room, c.requires.seam)))
+resume-encoding-requires g c = record { room = c.requires.room; seam = c.requires.seam; }
 
 pub put_bits_of_seam-requires : goal.put_bits_of_seam-requires
-put_bits_of_seam-requires g c = (search rules, (c.args.setting.now, c.requires.seam.0, c.requires.seam.1, c.resume-encoding.ensures))
+put_bits_of_seam-requires g c = (c.args.setting.now, c.requires.seam.0, c.requires.seam.1, c.resume-encoding.ensures)
 
 pub push_samples_of_bytes-requires : goal.push_samples_of_bytes-requires
 push_samples_of_bytes-requires g c =
@@ -40,10 +40,7 @@ push_samples_of_bytes-requires g c =
     let xs = c.requires.seam.0 in
     let h = c.requires.seam.1 in
     let bytes = c.args.bytes.now in
-    let few = c.bytes_left.ensures.few (omega (arith, c.width-width.ensures.range)) in (
-      search rules,
-      (
-        (
+    let few = c.bytes_left.ensures.few (omega (arith, c.width-width.ensures.range)) in record { ready = (
           behind c.args.setting.now xs now,
           xs,
           c.put_bits_of_seam.ensures c.args.setting.now now xs c.resume-encoding.ensures h,
@@ -55,10 +52,7 @@ push_samples_of_bytes-requires g c =
             length-take (c.width-width.result * (c.in_whole_segments.result - c.args.seam.now.samples))
                 bytes,
           ),
-        ),
-        c.requires.writes,
-      ),
-    )
+        ); writes = c.requires.writes; }
 
 pub seam-requires : goal.seam-requires
 seam-requires g c =
@@ -66,7 +60,7 @@ seam-requires g c =
     let s = c.args.setting.now in
     let xs = c.requires.seam.0 in
     let t = c.in_ok-push_samples_of_bytes.ensures.did (behind s xs now) xs (c.put_bits_of_seam.ensures c.args.setting.now now xs c.resume-encoding.ensures c.requires.seam.1) in
-    (search rules, omega (arith, sink_short s (behind s xs now) _ _ _ t.holds))
+    omega (arith, sink_short s (behind s xs now) _ _ _ t.holds)
 
 pub returns-clause-did : goal.returns-clause-did
 returns-clause-did g c xs h =
@@ -75,7 +69,7 @@ returns-clause-did g c xs h =
     let s = c.args.setting.now in
     let seam = c.args.seam.now in
     let bytes = c.args.bytes.now in
-    let e = c.push_samples_of_bytes.new.self in
+    let e = (seen g.C.TakesLevels.state c.push_samples_of_bytes.new.self) in
     let w = c.width-width.result in
     let all = c.in_whole_segments.result in
     let count = all - seam.samples in
@@ -96,7 +90,7 @@ returns-in_err-push_samples_of_bytes-clause-did g c xs h =
     let s = c.args.setting.now in
     let seam = c.args.seam.now in
     let bytes = c.args.bytes.now in
-    let e = c.push_samples_of_bytes.new.self in
+    let e = (seen g.C.TakesLevels.state c.push_samples_of_bytes.new.self) in
     let w = c.width-width.result in
     let count = c.in_whole_segments.result - seam.samples in
     let fault = c.in_err-push_samples_of_bytes.field-0.0 in

@@ -1,3 +1,4 @@
+use Rattle.rice_stream.specs.EncodingState.{seen}
 use Rattle.std.proofs.Common.{arith, rules, ◌≡◌, ◌+◌, refl, sym, subst}
 use Rattle.rice_samples.specs.Parameters.{Parameters}
 use Rattle.rice_code.specs.code.Code.{code_bits, complete_samples}
@@ -10,7 +11,7 @@ use Rattle.rice_stream.proofs.encoding.Encoding.code_rest_and_fill.Goals as goal
 pub finish_reset-bits-requires : goal.finish_reset-bits-requires
 finish_reset-bits-requires g c =
     let small = counts_small c.requires.0 _ c.requires.3 c.requires.4.counts in
-    (search rules, (sink_short c.requires.0 c.requires.1 c.requires.2 c.args.self.now c.requires.3 c.requires.4, omega (arith, small.1, small.2, c.requires.5)))
+    record { room = sink_short c.requires.0 c.requires.1 c.requires.2 (seen g.C.TakesLevels.state c.args.self.now) c.requires.3 c.requires.4; meter = omega (arith, small.1, small.2, c.requires.5); }
 
 pub overflow_add-report : goal.overflow_add-report
 overflow_add-report g c =
@@ -19,11 +20,11 @@ overflow_add-report g c =
     let k = c.requires.4.counts in
     let adds = c.finish_reset-bits.ensures.adds xs k.stands in
     let same = subst (λ (t : Parameters). code_bits t xs ≡ code_bits t (complete_samples t xs) + c.finish_reset-bits.result) k.setting adds.bits in
-    omega (arith, all_small s c.args.self.now.coder xs k.setting k.stands, same, k.bits, c.requires.5)
+    omega (arith, all_small s (seen g.C.TakesLevels.state c.args.self.now).coder xs k.setting k.stands, same, k.bits, c.requires.5)
 
 pub returns : goal.returns
 returns g c s old now xs h =
-    let e = c.args.self.now in
+    let e = (seen g.C.TakesLevels.state c.args.self.now) in
     let f = c.finish_reset-bits in
     let r : Report = record { samples = e.samples; bits = e.bits + f.result; steps = c.steps.result } in
     let adds : AddsCode e.coder.setting (complete_samples e.coder.setting xs) xs e.sink f.new.sink f.result (fill_count_of e.coder.setting xs) e.meter c.steps.result =

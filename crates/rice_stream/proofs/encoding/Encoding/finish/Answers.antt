@@ -1,5 +1,5 @@
 use Rattle.std.proofs.Common.{subst, sym, List, ℕ}
-use Rattle.rice_stream.specs.EncodingState.{Follows}
+use Rattle.rice_stream.specs.EncodingState.{seen, Follows}
 use Rattle.rice_bits.specs.Bits.{padded_bits, whole_bytes}
 use Rattle.rice_code.specs.code.Code.{code, output, early_output}
 use Rattle.rice_code.specs.encode.Coder.{complete_code}
@@ -12,7 +12,7 @@ returns-in-Ok-clause-did g c s old xs h =
     let now = g.O.Outlet.taken c.args.outlet.now in
     let new = g.O.Outlet.taken c.write_whole.new.outlet in
     let r = c.code_rest_and_fill-report.ensures s old now xs h in
-    let sink = c.code_rest_and_fill-report.new.self.sink in
+    let sink = (seen g.C.TakesLevels.state c.code_rest_and_fill-report.new.self).sink in
     let more = more_bytes (complete_code s xs) (padded_bits (code s xs)) sink (sym r.1) in
     (r.0, subst (λ (l : List ℕ). Follows old new l) (sym more) (Follows-trans old now new (early_output s xs) (whole_bytes sink) h.took c.in-Ok.ensures.ok.0))
 
@@ -21,5 +21,5 @@ returns-in-Err-clause-did g c s old xs h =
     let now = g.O.Outlet.taken c.args.outlet.now in
     let new = g.O.Outlet.taken c.write_whole.new.outlet in
     let r = c.code_rest_and_fill-report.ensures s old now xs h in
-    let sink = c.code_rest_and_fill-report.new.self.sink in
+    let sink = (seen g.C.TakesLevels.state c.code_rest_and_fill-report.new.self).sink in
     (r.0, part_follows old now new (early_output s xs) (whole_bytes sink) (output s xs) h.took c.in-Err.ensures.err.0 (more_bytes (complete_code s xs) (padded_bits (code s xs)) sink (sym r.1)))

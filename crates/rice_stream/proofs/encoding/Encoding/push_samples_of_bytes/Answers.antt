@@ -9,7 +9,7 @@ use Rattle.rice_samples.proofs.lemmas.bytes.SpellingLengths.{some_width}
 use Rattle.rice_samples.proofs.lemmas.setting.ValuesAtLevels.{length-values}
 use Rattle.rice_samples.specs.bytes.Spelling.{Reads, IsNoSpelling}
 use Rattle.rice_samples.proofs.lemmas.bytes.SampleReaderLemmas.{reads_then}
-use Rattle.rice_stream.specs.EncodingState.{IsEncodingOf, FailsIn}
+use Rattle.rice_stream.specs.EncodingState.{seen, IsEncodingOf, FailsIn}
 use Rattle.rice_stream.proofs.lemmas.EncodingLemmas.{fails_among, fails_behind}
 use Rattle.rice_stream.proofs.lemmas.SamplesOfFirstBytes.{few_more}
 use Rattle.rice_stream.proofs.encoding.Encoding.push_samples_of_bytes.Goals as goal
@@ -25,7 +25,7 @@ loop-at-init g c = record {
     [],
     record { split = refl; legal = λ k d lt. absurd (omega arith) },
     subst
-        (λ (l : List ℤ). IsEncodingOf c.args.setting.now old (g.O.Outlet.taken c.args.outlet.now) c.args.self.now l) (sym (append-nil xs)) h,
+        (λ (l : List ℤ). IsEncodingOf c.args.setting.now old (g.O.Outlet.taken c.args.outlet.now) (seen g.C.TakesLevels.state c.args.self.now) l) (sym (append-nil xs)) h,
   );
   failures = refl;
 }
@@ -61,20 +61,14 @@ push_all_levels-requires g c =
     let all = reads_then s bytes (drop at bytes) (drop (at + c.width-width.result * f.result) bytes) p.0 ys p.1 here in
     let few = few_more s (p.0 ++ ys) bytes (drop (at + c.width-width.result * f.result) bytes) all (some_width s) in
     let n : length ys ≡ length (take f.result f.new.self) = length-take f.result (values_at s f.new.self) ∙ ap (min f.result) (length-values s f.new.self)
-    ∙ sym (length-take f.result f.new.self) in (
-      search rules,
-      (
-        record {
+    ∙ sym (length-take f.result f.new.self) in record { ready = record {
           setting = s;
           start = r.0;
           before = r.1 ++ p.0;
           holds = p.2;
           legal = subst (All (λ l. l < value_count s)) (sym c.front.ensures) f.ensures.legal;
           few = omega (arith, r.3, few, length-append r.1 p.0, length-append p.0 ys, n, ap length c.front.ensures);
-        },
-        omega (arith, c.requires.writes, c.loop-at.invariant.failures),
-      ),
-    )
+        }; writes = omega (arith, c.requires.writes, c.loop-at.invariant.failures); }
 
 pub loop-at-smaller : goal.loop-at-smaller
 loop-at-smaller g c =
@@ -98,7 +92,7 @@ loop-at-preserved g c =
           let taken = ap (λ l. (xs ++ p.0) ++ l) (ap (values_at s) c.front.ensures ∙ sym (take-map (value_at s) f.result f.new.self)) ∙ append_assoc xs p.0 ys in (
             p.0 ++ ys,
             reads_then s bytes (drop at bytes) (drop (at + w * f.result) bytes) p.0 ys p.1 (read_from s bytes at f.result w ys f.ensures.reads c.width-width.ensures.value),
-            subst (λ (l : List ℤ). IsEncodingOf s old (g.O.Outlet.taken c.push_all_levels.new.outlet) c.push_all_levels.new.self l) taken (c.in-Ok.ensures.ok s old (xs ++ p.0) p.2),
+            subst (λ (l : List ℤ). IsEncodingOf s old (g.O.Outlet.taken c.push_all_levels.new.outlet) (seen g.C.TakesLevels.state c.push_all_levels.new.self) l) taken (c.in-Ok.ensures.ok s old (xs ++ p.0) p.2),
           ));
       failures = c.in-Ok.ensures.calm ∙ i.failures;
     }
@@ -112,7 +106,7 @@ returns-in-Err-clause-did g c old xs h =
     let p = c.loop-at.invariant.part old xs h in
     let ys = take f.result (values_at s f.new.self) in
     let new = g.O.Outlet.taken c.push_all_levels.new.outlet in
-    let e = c.push_all_levels.new.self in
+    let e = (seen g.C.TakesLevels.state c.push_all_levels.new.self) in
     let same = ap (values_at s) c.front.ensures ∙ sym (take-map (value_at s) f.result f.new.self) in
     let fails = subst (λ (l : List ℤ). FailsIn s old new e (xs ++ p.0) l) same (c.in-Err.ensures.err s old (xs ++ p.0) p.2) in
     fails_behind p.1 (fails_among (read_from s bytes at f.result c.width-width.result ys f.ensures.reads c.width-width.ensures.value) fails)

@@ -1,13 +1,13 @@
 use Rattle.std.proofs.Common.{List, ℤ, length, drop, ◌-◌, ◌++◌, ◌≡◌, ◌≤◌}
 use Rattle.rice_samples.specs.bytes.Spelling.{Reads}
-use Rattle.rice_stream.specs.EncodingState.{Beginning, IsEncodingOf}
+use Rattle.rice_stream.specs.EncodingState.{seen, Beginning, IsEncodingOf}
 use Rattle.rice_stream.proofs.encoding.Encoding.push_samples_of_bytes.Given as goal
 
 abbrev pub invariant-loop-at : goal.invariant-loop-at
 invariant-loop-at g l = record {
   within : l.at ≤ length l.bytes;
-  part : (old : Beginning) (xs : List ℤ) → IsEncodingOf l.setting old (g.O.Outlet.taken l.fn.outlet) l.fn.self xs
-      → (more : List ℤ) × Reads l.setting l.bytes more (drop l.at l.bytes) × IsEncodingOf l.setting old (g.O.Outlet.taken l.outlet) l.self (xs ++ more);
+  part : (old : Beginning) (xs : List ℤ) → IsEncodingOf l.setting old (g.O.Outlet.taken l.fn.outlet) (seen g.C.TakesLevels.state l.fn.self) xs
+      → (more : List ℤ) × Reads l.setting l.bytes more (drop l.at l.bytes) × IsEncodingOf l.setting old (g.O.Outlet.taken l.outlet) (seen g.C.TakesLevels.state l.self) (xs ++ more);
   failures : g.O.Outlet.failed l.outlet ≡ g.O.Outlet.failed l.fn.outlet;
 }
 

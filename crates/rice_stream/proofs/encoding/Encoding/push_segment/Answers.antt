@@ -1,3 +1,4 @@
+use Rattle.rice_stream.specs.EncodingState.{seen}
 use Rattle.std.proofs.Common.{arith, inl, rules, ◌<◌, length, take}
 use Rattle.std.proofs.lemmas.Result.{err_from_is_err_and}
 use Rattle.rice_samples.specs.Parameters.{values_at}
@@ -6,7 +7,7 @@ use Rattle.rice_stream.proofs.lemmas.EncodingLemmas.{can_take_more, can_take_sho
 use Rattle.rice_stream.proofs.encoding.Encoding.push_segment.Goals as goal
 
 pub push_to_coder_in_a_call-taken-requires : goal.push_to_coder_in_a_call-taken-requires
-push_to_coder_in_a_call-taken-requires g c = (search rules, (can_take_more c.requires.ready, inl (can_take_short c.requires.ready)))
+push_to_coder_in_a_call-taken-requires g c = record { some = c.requires.some; ready = can_take_more c.requires.ready; room = g.met.C.TakesLevels.takes_less_than_a_byte _ _ (can_take_short c.requires.ready); }
 
 pub returns-then-len-lt8-clause-count : goal.returns-then-len-lt8-clause-count
 returns-then-len-lt8-clause-count g c = (c.push_to_coder_in_a_call-taken.ensures.some c.requires.some, c.push_to_coder_in_a_call-taken.ensures.count)
@@ -17,7 +18,7 @@ returns-clause-count g c = (c.push_to_coder_in_a_call-taken.ensures.some c.requi
 pub returns-then-len-lt8-clause-ok : goal.returns-then-len-lt8-clause-ok
 returns-then-len-lt8-clause-ok g c s old xs h =
     let t = c.push_to_coder_in_a_call-taken.ensures.took s xs xs (holds_code h) in
-    let few : length c.push_to_coder_in_a_call-taken.new.self.sink < 8 = omega (arith, c.len.ensures.value, c.if-len-lt8.true) in
+    let few : length (seen g.C.TakesLevels.state c.push_to_coder_in_a_call-taken.new.self).sink < 8 = omega (arith, c.len.ensures.value, c.if-len-lt8.true) in
     none_whole (take c.push_to_coder_in_a_call-taken.result (values_at s c.args.levels.now)) h t.counts t.code_is few
 
 pub returns-clause-ok : goal.returns-clause-ok

@@ -5,12 +5,12 @@ use Rattle.rice_samples.specs.Parameters.{Parameters, value_count, values_at}
 use Rattle.rice_samples.proofs.lemmas.setting.ValuesAtLevels.{length-values}
 use Rattle.rice_code.specs.code.Code.{code_bits, complete_samples}
 use Rattle.rice_code.specs.encode.Coder.{CompletesNone}
-use Rattle.rice_stream.specs.EncodingState.{TakesSamples}
-use Rattle.rice_stream.specs.declared.encoding.Encoding.{Encoding}
+use Rattle.rice_stream.specs.EncodingState.{seen, TakesSamples}
+use Rattle.rice_stream.specs.EncodingState.{EncodingValue}
 use Rattle.rice_stream.proofs.lemmas.EncodingLemmas.{counts_small, early_small, taken_on}
 use Rattle.rice_stream.proofs.encoding.Encoding.push_to_coder.Goals as goal
 
-of_setting : {N : ℕ} (s own : Parameters) (e : Encoding N) (xs ys : List ℤ) (levels : List ℕ) (n : ℕ) → own ≡ s
+of_setting : (s own : Parameters) (e : EncodingValue) (xs ys : List ℤ) (levels : List ℕ) (n : ℕ) → own ≡ s
     → TakesSamples s e xs ys (take n (values_at own levels)) → TakesSamples s e xs ys (take n (values_at s levels))
 of_setting s own e xs ys levels n same h = subst (λ (t : Parameters). TakesSamples s e xs ys (take n (values_at t levels))) same h
 
@@ -19,7 +19,7 @@ push_some-pushed-requires g c =
     let can = c.requires.ready in
     let legal = subst (λ (t : Parameters). All (λ l. l < value_count t) c.args.levels.now) (sym can.holds.counts.setting) can.legal in
     let small = counts_small can.setting _ can.before can.holds.counts in
-    (search rules, (legal, (c.requires.room, omega (arith, small.1, small.2, can.few))))
+    record { some = c.requires.some; legal = legal; room = c.requires.room; meter = omega (arith, small.1, small.2, can.few); }
 
 pub overflow_add-self : goal.overflow_add-self
 overflow_add-self g c = let can = c.requires.ready in omega (arith, can.holds.counts.samples, can.few, c.push_some-pushed.ensures.taken)
@@ -30,17 +30,17 @@ overflow_add-self-2 g c =
     let k = can.holds.counts in
     let p = c.push_some-pushed in
     let xs = can.before in
-    let samples = values_at c.args.self.now.coder.setting c.args.levels.now in
+    let samples = values_at (seen g.C.TakesLevels.state c.args.self.now).coder.setting c.args.levels.now in
     let zs = take p.result.samples samples in
     let pushes = p.ensures.pushes in
     let same = subst (λ (t : Parameters). code_bits t (complete_samples t (xs ++ zs)) ≡ code_bits t (complete_samples t xs) + p.result.bits) k.setting (pushes.adds xs k.stands).bits in
-    let small = early_small can.setting p.new.self (xs ++ zs) (pushes.setting ∙ k.setting) (pushes.taken xs k.stands) in
-    let len = length-take-le p.result.samples samples (omega (arith, p.ensures.taken, length-values c.args.self.now.coder.setting c.args.levels.now)) in
+    let small = early_small can.setting (g.C.TakesLevels.state p.new.self) (xs ++ zs) (pushes.setting ∙ k.setting) (pushes.taken xs k.stands) in
+    let len = length-take-le p.result.samples samples (omega (arith, p.ensures.taken, length-values (seen g.C.TakesLevels.state c.args.self.now).coder.setting c.args.levels.now)) in
     omega (arith, small, same, k.bits, can.few, length-append xs zs, len, p.ensures.taken)
 
 pub returns-clause-took : goal.returns-clause-took
 returns-clause-took g c s xs ys h =
-    let e = c.args.self.now in
+    let e = (seen g.C.TakesLevels.state c.args.self.now) in
     let p = c.push_some-pushed in
     let own = e.coder.setting in
     let samples = values_at own c.args.levels.now in

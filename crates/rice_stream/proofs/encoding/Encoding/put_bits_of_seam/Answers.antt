@@ -1,8 +1,8 @@
 use Rattle.std.proofs.Common.{arith, rules, ◌≡◌, ◌++◌, ◌∙◌, ap, sym, subst, length}
 use Rattle.rice_bits.specs.Bits.{word}
-use Rattle.rice_stream.specs.EncodingState.{IsEncodingOf}
+use Rattle.rice_stream.specs.EncodingState.{seen, IsEncodingOf}
 use Rattle.rice_stream.specs.Feeding.{behind}
-use Rattle.rice_stream.specs.declared.encoding.Encoding.{Encoding}
+use Rattle.rice_stream.specs.EncodingState.{EncodingValue}
 use Rattle.rice_stream.proofs.lemmas.Seams.{encoding_at, encoding_is_resumed}
 use Rattle.rice_stream.proofs.encoding.Encoding.put_bits_of_seam.Goals as goal
 
@@ -14,8 +14,8 @@ put-requires g c =
 pub returns : goal.returns
 returns g c s now xs st h =
     let seam = c.args.seam.now in
-    let e = c.args.self.now in
+    let e = (seen g.C.TakesLevels.state c.args.self.now) in
     let sink = c.put.ensures.bits ∙ ap (λ l. l ++ word seam.waiting_bits seam.waiting) st.sink in
-    let same : encoding_at g.row.N s seam ≡ record { coder = e.coder; sink = c.put.new.self; meter = e.meter; samples = e.samples; bits = e.bits } =
+    let same : encoding_at s seam ≡ record { coder = e.coder; sink = c.put.new.self; meter = e.meter; samples = e.samples; bits = e.bits } =
     λ i. record { coder = sym st.coder i; sink = sym sink i; meter = sym st.steps i; samples = sym st.samples i; bits = sym st.bits i } in
-    subst (λ (v : Encoding g.row.N). IsEncodingOf s (behind s xs now) now v xs) same (encoding_is_resumed g.row.N s seam xs now h)
+    subst (λ (v : EncodingValue). IsEncodingOf s (behind s xs now) now v xs) same (encoding_is_resumed s seam xs now h)

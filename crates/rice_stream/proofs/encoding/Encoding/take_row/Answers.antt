@@ -1,7 +1,7 @@
 use Rattle.std.proofs.Common.{arith, rules, ◌≡◌, ◌<◌, ◌≤◌, ◌++◌, zero, suc, refl, length, take, ap, sym, ◌∙◌, subst, inr, append-nil, length-drop, List, ℕ, ℤ}
 use Rattle.rice_samples.specs.Parameters.{Parameters, values_at}
 use Rattle.rice_code.specs.Bounds.{block_bound}
-use Rattle.rice_stream.specs.EncodingState.{HoldsCode}
+use Rattle.rice_stream.specs.EncodingState.{seen, HoldsCode}
 use Rattle.rice_stream.proofs.lemmas.EncodingLemmas.{samples_from}
 use Rattle.rice_stream.proofs.lemmas.RowsOfSegments.{TakesNext, can_take_rest, code_short, goes_on_at_first, row_goes_on, row_inside}
 use Rattle.rice_stream.proofs.encoding.Encoding.take_row.Goals as goal
@@ -10,20 +10,17 @@ pub loop-at-init : goal.loop-at-init
 loop-at-init g c = record {
   within = omega arith;
   begins = λ e. code_short c.requires.holds;
-  holds = λ s xs h. subst (λ (l : List ℤ). HoldsCode s c.args.self.now xs l) (sym (append-nil xs)) h;
+  holds = λ s xs h. subst (λ (l : List ℤ). HoldsCode s (seen g.C.TakesLevels.state c.args.self.now) xs l) (sym (append-nil xs)) h;
   inside = λ s xs h. goes_on_at_first s xs;
 }
 
 pub returns-then-len-most-clause-some : goal.returns-then-len-most-clause-some
 returns-then-len-most-clause-some g c some =
     let i = c.loop-at.invariant in
-    let short : c.loop-at.at ≡ 0 → length c.loop-at.self.sink ≤ 7 = i.begins in
-    let legal = c.requires.holds.counts.stands.holds.legal in
-    let block : c.args.self.now.coder.setting.block ≤ 64 = grind (arith, legal.block) in
-    let enough : 64 ≤ c.most_before-most.result = omega (arith, c.most_before-most.ensures.value, block) in
-    some_taken c.loop-at.at (length c.loop-at.self.sink) c.most_before-most.result short enough (omega (arith, c.if-len-most.true, c.len-in-loop-at.ensures.value))
+    let short : c.loop-at.at ≡ 0 → length (seen g.C.TakesLevels.state c.loop-at.self).sink ≤ 7 = i.begins in
+    some_taken c.loop-at.at (length (seen g.C.TakesLevels.state c.loop-at.self).sink) c.most_before-most.result short c.most_before-most.ensures.least (omega (arith, c.if-len-most.true, c.len-in-loop-at.ensures.value))
   where
-    some_taken : (n size most : ℕ) → (n ≡ 0 → size ≤ 7) → 64 ≤ most → most < size → 0 < n
+    some_taken : (n size most : ℕ) → (n ≡ 0 → size ≤ 7) → 7 ≤ most → most < size → 0 < n
     some_taken zero size most short some over = absurd (omega (arith, short refl, some, over))
     some_taken (suc n) size most short some over = omega arith
 
@@ -32,8 +29,9 @@ push_to_coder-at-requires g c =
     let k = c.requires in
     let i = c.loop-at.invariant in
     let holds = i.holds k.setting k.before k.holds in
-    let same = ap block_bound (holds.counts.setting ∙ sym k.holds.counts.setting) in
-    (search rules, (can_take_rest k c.loop-at.at i.within c.behind.ensures holds, inr (omega (arith, c.most_before-most.ensures.room, c.if-len-most.false, c.len-in-loop-at.ensures.value, same))))
+    let fits = c.most_before-most.ensures.room (seen g.C.TakesLevels.state c.loop-at.self).sink (omega (arith, c.if-len-most.false, c.len-in-loop-at.ensures.value)) in
+    let here = subst (λ (t : Parameters). g.C.TakesLevels.is_sink t (seen g.C.TakesLevels.state c.loop-at.self).sink) (k.holds.counts.setting ∙ sym holds.counts.setting) fits in
+    record { some = omega (arith, ap length c.behind.ensures, length-drop c.loop-at.at c.args.levels.now, c.loop-at-test.true, c.len.ensures); ready = can_take_rest k c.loop-at.at i.within c.behind.ensures holds; room = here; }
 
 pub loop-at-smaller : goal.loop-at-smaller
 loop-at-smaller g c =
@@ -51,7 +49,7 @@ loop-at-preserved g c =
     let n = c.push_to_coder-at.result in
     let left = ap length c.behind.ensures in
     let some = c.push_to_coder-at.ensures.some (omega (arith, left, length-drop at levels, c.loop-at-test.true, c.len.ensures)) in
-    let next : (s : Parameters) (xs : List ℤ) → HoldsCode s c.args.self.now xs xs → TakesNext s c.push_to_coder-at.new.self xs xs (values_at s levels) at n =
+    let next : (s : Parameters) (xs : List ℤ) → HoldsCode s (seen g.C.TakesLevels.state c.args.self.now) xs xs → TakesNext s (seen g.C.TakesLevels.state c.push_to_coder-at.new.self) xs xs (values_at s levels) at n =
     λ s xs h. record {
       more = _;
       takes = c.push_to_coder-at.ensures.took s xs (xs ++ take at (values_at s levels)) (i.holds s xs h);

@@ -3,7 +3,7 @@ use Rattle.std.proofs.Math.Seq.{take-length}
 use Rattle.rice_samples.specs.Parameters.{values_at}
 use Rattle.rice_samples.proofs.lemmas.setting.ValuesAtLevels.{length-values}
 use Rattle.rice_code.specs.code.Code.{early_output}
-use Rattle.rice_stream.specs.EncodingState.{HoldsCode}
+use Rattle.rice_stream.specs.EncodingState.{seen, HoldsCode}
 use Rattle.rice_stream.proofs.lemmas.EncodingLemmas.{samples_from}
 use Rattle.rice_stream.proofs.lemmas.RowsOfSegments.{TakesNext, can_take_rest, code_short, stops_here, passes_on}
 use Rattle.rice_stream.proofs.encoding.Encoding.take_until_past.Goals as goal
@@ -12,7 +12,7 @@ pub loop-at-init : goal.loop-at-init
 loop-at-init g c = record {
   within = omega arith;
   holds = λ s xs h. (
-    subst (λ (l : List ℤ). HoldsCode s c.args.self.now l l) (sym (append-nil xs)) h,
+    subst (λ (l : List ℤ). HoldsCode s (seen g.C.TakesLevels.state c.args.self.now) l l) (sym (append-nil xs)) h,
     ap (λ (l : List ℤ). length (early_output s l) + c.args.count) (append-nil xs),
   );
 }
@@ -22,7 +22,7 @@ push_to_coder_in_a_call-at-requires g c =
     let k = c.requires in
     let i = c.loop-at.invariant in
     let holds = (i.holds k.setting k.before k.holds).0 in
-    (search rules, (can_take_rest k c.loop-at.at i.within c.behind.ensures holds, inl (code_short holds)))
+    record { some = omega (arith, ap length c.behind.ensures, length-drop c.loop-at.at c.args.levels.now, c.loop-at-test.true, c.len.ensures); ready = can_take_rest k c.loop-at.at i.within c.behind.ensures holds; room = g.met.C.TakesLevels.takes_less_than_a_byte _ _ (code_short holds); }
 
 pub returns-then-left-bytes : goal.returns-then-left-bytes
 returns-then-left-bytes g c s xs h enough =
@@ -36,7 +36,7 @@ returns-then-left-bytes g c s xs h enough =
     let some = c.push_to_coder_in_a_call-at.ensures.some (omega (arith, left, length-drop at levels, c.loop-at-test.true, c.len.ensures)) in
     let within : at + n ≤ length samples = omega (arith, i.within, c.push_to_coder_in_a_call-at.ensures.count, left, length-drop at levels, length-values s levels) in
     let zs = xs ++ take at samples in
-    let next : TakesNext s c.push_to_coder_in_a_call-at.new.self zs xs samples at n =
+    let next : TakesNext s (seen g.C.TakesLevels.state c.push_to_coder_in_a_call-at.new.self) zs xs samples at n =
     record { more = _; takes = c.push_to_coder_in_a_call-at.ensures.took s zs zs p.0; is = ap (take n) (samples_from s at levels c.behind.ensures) } in
     stops_here c.loop-at.left next some within p.1 (omega (arith, c.if-left-bytes.true, c.len-bytes.ensures.value))
 
@@ -60,7 +60,7 @@ loop-at-preserved g c =
       holds = λ s xs h. (let p = i.holds s xs h in
           let samples = values_at s levels in
           let zs = xs ++ take at samples in
-          let next : TakesNext s c.push_to_coder_in_a_call-at.new.self zs xs samples at n =
+          let next : TakesNext s (seen g.C.TakesLevels.state c.push_to_coder_in_a_call-at.new.self) zs xs samples at n =
           record { more = _; takes = c.push_to_coder_in_a_call-at.ensures.took s zs zs p.0; is = ap (take n) (samples_from s at levels c.behind.ensures) } in
           let k = next.takes.counts in
           passes_on c.loop-at.left next c.drop_whole.ensures.bits

@@ -1,0 +1,91 @@
+//! The decoder that gives the samples of a block a call, as engines ask for one.
+ghost use Rattle.std.specs.Prelude.{◌≡◌, ℕ, ◌+◌, ◌-◌, ◌*◌, ◌^◌, ◌<◌, ◌≤◌, All, length, List, ℤ};
+ghost use Rattle.rice_samples.specs.Parameters.{IsSample, value_count, values_at};
+
+use crate::gives::{GivesLevels, GivesRows};
+use arrayvec::ArrayVec;
+use rice_bits::{BitReader, Intake, Meter};
+use rice_code::{CodeFault, Decoder, Step};
+use rice_samples::Setting;
+
+/// Makes these the levels of these samples.
+fn write_levels_of(setting: &Setting, samples: &[i64], levels: &mut ArrayVec<u32, 64>)
+    requires legal { All (IsSample setting.now) samples.now }
+    requires few { length samples.now ≤ 64 }
+    ensures values { values_at setting.now levels.new.items ≡ samples.now }
+    ensures legal { All (λ l. l < value_count setting.now) levels.new.items }
+{
+    levels.clear();
+    for i in 0..samples.len() {
+        let level = setting.level(samples[i]);
+        levels.push(level as u32);
+    }
+}
+
+/// The decoder that gives samples, a block a call.
+#[derive(Drop)]
+pub struct Plain {
+    setting: Setting,
+    decoder: Decoder,
+    ghost same: { decoder.setting ≡ setting },
+}
+
+impl GivesLevels for Plain {
+    ghost state = { λ d. d.decoder };
+
+    fn start(setting: Setting) -> Self {
+        Plain {
+            setting,
+            decoder: Decoder::new(setting),
+        }
+    }
+
+    fn place(&self) -> u32 {
+        self.decoder.block()
+    }
+
+    fn sample_before(&self) -> i64 {
+        self.decoder.before()
+    }
+
+    fn blocks_of_run(&self) -> u32 {
+        self.decoder.run()
+    }
+
+    #[inline(always)]
+    fn is_repeating(&self) -> bool {
+        false
+    }
+
+    #[inline(always)]
+    fn pass_blocks(&mut self, count: u32) {
+        self.decoder.pass_blocks_of_run(count);
+    }
+
+    fn levels_of_next<I: Intake>(
+        &mut self,
+        reader: &mut BitReader<I>,
+        meter: &mut Meter,
+        levels: &mut ArrayVec<u32, 64>,
+    ) -> Result<Step, CodeFault> {
+        let mut samples = ArrayVec::new();
+        let answer = self.decoder.next_block(reader, meter, &mut samples);
+        write_levels_of(&self.setting, samples.as_slice(), levels);
+        answer
+    }
+}
+
+impl<const SIZE: usize, const WIDTH: usize> GivesRows<SIZE, WIDTH> for Plain {
+    #[inline(always)]
+    fn bytes_at_once<I: Intake>(
+        &mut self,
+        most: usize,
+        reader: &mut BitReader<I>,
+        meter: &mut Meter,
+        bytes: &mut [u8],
+        ends: &mut [u32; 64],
+    ) -> usize {
+        let _taken = reader.taken();
+        0
+    }
+}

@@ -1,0 +1,230 @@
+//! What an engine of encoding asks of a coder.
+ghost use Rattle.std.specs.Prelude.{◌≡◌, ℕ, ◌+◌, ◌*◌, ◌^◌, ◌<◌, ◌≤◌, [], ◌∷◌, ◌++◌, length, take, All, List, Bool, ℤ};
+ghost use Rattle.rice_bits.specs.Limits.{step_limit};
+ghost use Rattle.rice_samples.specs.Limits.{longest_segment, most_input};
+ghost use Rattle.rice_samples.specs.Parameters.{IsSample, value_count, values_at};
+ghost use Rattle.rice_samples.specs.Places.{cut};
+ghost use Rattle.rice_code.specs.CoderSteps.{segment_steps};
+ghost use Rattle.rice_code.specs.encode.OpenSegment.{HoldsAnySegment, HasRoomForSegment, most_before, state_between};
+
+use rice_bits::Meter;
+use rice_code::{Pushed, SegmentSink, SizedCoder};
+use rice_samples::{Levels, Setting};
+
+/// A coder that takes some samples a call.
+pub trait TakesLevels: Drop {
+    ghost use Rattle.rice_code.specs.Bounds.{block_bound};
+    ghost use Rattle.rice_code.specs.encode.BitBuffer.{sink_bits};
+    ghost use Rattle.rice_code.specs.encode.OpenSegment.{CoderState};
+    ghost use Rattle.rice_code.specs.code.Code.{complete_samples};
+    ghost use Rattle.rice_code.specs.code.Blocks.{fill_count_of};
+    ghost use Rattle.rice_code.specs.encode.Coder.{HasTaken, AddsCode, PushesSamples, CompletesNone};
+    ghost use Rattle.rice_samples.specs.Parameters.{Parameters};
+
+    ghost state: { Self → CoderState };
+
+    // The settings whose segments it has room for.
+    ghost has_room: { Parameters → Type 0 };
+
+    // The sinks that it may append the code of a segment to.
+    ghost is_sink: { Parameters → List Bool → Type 0 };
+
+
+    fn begin(setting: Setting) -> Self
+        requires { has_room setting }
+        ensures taken { HasTaken (state result) [] }
+        ensures setting { (state result).setting ≡ setting };
+
+    fn push_some(
+        &mut self,
+        levels: &Levels<'_>,
+        sink: &mut SegmentSink,
+        meter: &mut Meter,
+    ) -> Pushed
+        requires some { 0 < length levels.now }
+        requires legal { All (λ l. l < value_count (state self.old).setting) levels.now }
+        requires room { is_sink (state self.old).setting sink.old }
+        requires meter { meter.old + segment_steps (state self.old).setting < step_limit }
+        ensures taken { result.samples ≤ length levels.now }
+        ensures some { 0 < result.samples }
+        ensures pushes { PushesSamples (state self.old) (state self.new)
+            (take result.samples (values_at (state self.old).setting levels.now))
+            sink.old sink.new result.bits meter.old meter.new }
+        ensures before_last { (m : ℕ) → m < result.samples →
+            CompletesNone (state self.old) (take m (values_at (state self.old).setting levels.now)) };
+
+    fn resume(setting: Setting, start: u32, previous: i64) -> Self
+        requires room { has_room setting }
+        requires taken { (xs : List ℤ) × HasTaken (state_between setting start previous) xs }
+        ensures { state result ≡ state_between setting start previous };
+
+    fn go_back(&mut self, start: u32, previous: i64)
+        requires { (xs : List ℤ) × HasTaken (state_between (state self.old).setting start previous) xs }
+        ensures { state self.new ≡ state_between (state self.old).setting start previous };
+
+    /// Whether several segments may be coded before their bytes are written.
+    fn takes_rows(&self) -> bool;
+
+    fn most_before(&self) -> u64
+        ensures least { 7 ≤ result }
+        ensures room { (bits : List Bool) → length bits ≤ result → is_sink (state self.now).setting bits };
+
+    fn start(&self) -> u32
+        ensures { result ≡ (state self.now).start };
+
+    fn previous(&self) -> i64
+        ensures { result ≡ (state self.now).previous };
+
+    fn pending(&self) -> u32
+        ensures value { (xs : List ℤ) → HasTaken (state self.now) xs →
+            result + cut (state self.now).setting (length xs) ≡ length xs }
+        ensures limit { result < 64 * (state self.now).setting.block };
+
+    fn finish_reset(&mut self, sink: &mut SegmentSink, meter: &mut Meter) -> u64
+        requires room { length sink.old ≤ 7 }
+        requires meter { meter.old + segment_steps (state self.old).setting < step_limit }
+        ensures adds { (xs : List ℤ) → HasTaken (state self.old) xs →
+            AddsCode (state self.old).setting (complete_samples (state self.old).setting xs) xs
+            sink.old sink.new result (fill_count_of (state self.old).setting xs) meter.old meter.new }
+        ensures taken { HasTaken (state self.new) [] }
+        ensures setting { (state self.new).setting ≡ (state self.old).setting };
+
+
+    ghost takes_less_than_a_byte: { (s : Parameters) (bits : List Bool) → length bits ≤ 7 → is_sink s bits };
+}
+
+impl<const N: usize> TakesLevels for SizedCoder<N> {
+    ghost use Rattle.std.proofs.Common.{inl};
+
+    ghost state = { λ c. c };
+
+    ghost has_room = { λ s. (N ≤ longest_segment) × HoldsAnySegment N s };
+
+    ghost is_sink = { λ s bits. HasRoomForSegment s bits };
+
+
+    fn begin(setting: Setting) -> Self {
+        SizedCoder::begin(setting)
+    }
+
+    #[inline(always)]
+    fn push_some(
+        &mut self,
+        levels: &Levels<'_>,
+        sink: &mut SegmentSink,
+        meter: &mut Meter,
+    ) -> Pushed {
+        self.push_some(levels, sink, meter)
+    }
+
+    fn resume(setting: Setting, start: u32, previous: i64) -> Self {
+        SizedCoder::resume(setting, start, previous)
+    }
+
+    fn go_back(&mut self, start: u32, previous: i64) {
+        self.go_back(start, previous);
+    }
+
+    #[inline(always)]
+    fn takes_rows(&self) -> bool {
+        N <= 128
+    }
+
+    #[inline(always)]
+    fn most_before(&self) -> u64 {
+        self.most_before().max(7)
+    }
+
+    fn start(&self) -> u32 {
+        self.start()
+    }
+
+    fn previous(&self) -> i64 {
+        self.previous()
+    }
+
+    #[inline(always)]
+    fn pending(&self) -> u32 {
+        self.pending()
+    }
+
+    fn finish_reset(&mut self, sink: &mut SegmentSink, meter: &mut Meter) -> u64 {
+        self.finish_reset(sink, meter)
+    }
+
+
+    ghost takes_less_than_a_byte = { λ s bits few. inl few };
+}
+
+/// A coder that takes a sample a call.
+#[derive(Drop)]
+pub struct OneByOne<const N: usize> {
+    setting: Setting,
+    coder: SizedCoder<N>,
+    ghost same: { coder.setting ≡ setting },
+}
+
+impl<const N: usize> TakesLevels for OneByOne<N> {
+    ghost state = { λ c. c.coder };
+
+    ghost has_room = { λ s. (N ≤ longest_segment) × HoldsAnySegment N s };
+
+    ghost is_sink = { λ s bits. length bits ≤ 7 };
+
+    fn begin(setting: Setting) -> Self {
+        OneByOne {
+            setting,
+            coder: SizedCoder::begin(setting),
+        }
+    }
+
+    fn push_some(
+        &mut self,
+        levels: &Levels<'_>,
+        sink: &mut SegmentSink,
+        meter: &mut Meter,
+    ) -> Pushed {
+        let x = self.setting.value_at(levels.first_or(0) as u64);
+        let bits = self.coder.push(x, sink, meter);
+        Pushed { samples: 1, bits }
+    }
+
+    fn resume(setting: Setting, start: u32, previous: i64) -> Self {
+        OneByOne {
+            setting,
+            coder: SizedCoder::resume(setting, start, previous),
+        }
+    }
+
+    fn go_back(&mut self, start: u32, previous: i64) {
+        self.coder.go_back(start, previous);
+    }
+
+    #[inline(always)]
+    fn takes_rows(&self) -> bool {
+        false
+    }
+
+    #[inline(always)]
+    fn most_before(&self) -> u64 {
+        7
+    }
+
+    fn start(&self) -> u32 {
+        self.coder.start()
+    }
+
+    fn previous(&self) -> i64 {
+        self.coder.previous()
+    }
+
+    fn pending(&self) -> u32 {
+        self.coder.pending()
+    }
+
+    fn finish_reset(&mut self, sink: &mut SegmentSink, meter: &mut Meter) -> u64 {
+        self.coder.finish_reset(sink, meter)
+    }
+
+    ghost takes_less_than_a_byte = { λ s bits few. few };
+}
