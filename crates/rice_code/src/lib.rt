@@ -6,6 +6,7 @@ pub mod decode;
 pub mod decoding_examples;
 pub mod encode;
 pub mod examples;
+pub mod fast;
 mod known_len;
 pub mod laws;
 
@@ -13,7 +14,9 @@ pub use bounds::{added_bound, bit_bound, padded_bound, set_bound, step_bound};
 pub use decode::call_results::{CodeFault, Step};
 pub use decode::decoder::Decoder;
 pub use encode::SegmentSink;
-pub use encode::coder::{Coder, Pushed, SizedCoder};
+pub use encode::coder::Coder;
+pub use fast::decode::decoder::FastDecoder;
+pub use fast::encode::coder::{Pushed, SizedCoder};
 pub use known_len::known_or;
 
 // What these hold, in bytes, on a machine with pointers of eight.
@@ -21,4 +24,6 @@ const _: () = prove!(size_of::<SegmentSink>() == 16440);
 
 const _: () = prove!(size_of::<Coder>() == 16456);
 
-const _: () = prove!(size_of::<Decoder>() == 568);
+const _: () = prove!(size_of::<Decoder>() == 56);
+
+const _: () = prove!(size_of::<FastDecoder>() == 568);

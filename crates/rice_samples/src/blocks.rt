@@ -3,5 +3,4 @@
 pub mod block;
 mod pair_codeword_lengths;
 pub mod segment;
-mod stops;
-mod tests_and_sums;
+pub(crate) mod tests_and_sums;

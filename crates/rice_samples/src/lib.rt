@@ -5,33 +5,35 @@
 pub mod blocks;
 pub mod bytes;
 pub mod examples;
+pub mod fast;
 pub mod laws;
 mod patterns;
 pub mod predict;
 pub mod setting;
 
 pub use blocks::block::Block;
-pub use blocks::segment::{Residuals, Segment};
-pub use bytes::level_row::LevelRow;
-pub use bytes::levels::Levels;
-pub use bytes::pattern_lanes::bytes_of_patterns;
+pub use blocks::segment::Segment;
 pub use bytes::reading::read_legal_levels;
 pub use bytes::sample_fault::SampleFault;
 pub use bytes::sample_reader::{MOST_INPUT, SampleReader};
 pub use bytes::spelling::{bytes_of, sample_of};
-pub use bytes::three_bytes::write_threes;
 pub use bytes::unused_bits::set_unused_bits;
 pub use bytes::writing::{write_spellings, write_spellings_by_eights, write_spellings_laid_out};
-pub use predict::preprocessor::{from_pattern, pattern, residual, restore};
-pub use predict::residuals::from_levels::pattern_of_level;
-pub use predict::restoring::byte_lanes::{LevelLanes, near_levels_of_parts, spelled_in_one_byte};
-pub use predict::restoring::bytes_in_turn::{levels_in_turn, levels_of_parts_in_turn};
-pub use predict::restoring::half_lanes::{LevelHalves, near_halves_of_parts, spelled_in_two_bytes};
-pub use predict::restoring::halves_in_turn::halves_of_parts_in_turn;
-pub use predict::restoring::levels::{
+pub use fast::level_row::LevelRow;
+pub use fast::levels::Levels;
+pub use fast::pattern_lanes::bytes_of_patterns;
+pub use fast::residuals::Residuals;
+pub use fast::residuals_of_levels::from_levels::pattern_of_level;
+pub use fast::restoring::byte_lanes::{LevelLanes, near_levels_of_parts, spelled_in_one_byte};
+pub use fast::restoring::bytes_in_turn::{levels_in_turn, levels_of_parts_in_turn};
+pub use fast::restoring::half_lanes::{LevelHalves, near_halves_of_parts, spelled_in_two_bytes};
+pub use fast::restoring::halves_in_turn::halves_of_parts_in_turn;
+pub use fast::restoring::levels::{
     has_few_near, level_of_pattern, levels_of_patterns, restore_by_selection, restore_near_first,
 };
-pub use predict::restoring::word_lanes::{LevelWords, near_words_of_parts};
+pub use fast::restoring::word_lanes::{LevelWords, near_words_of_parts};
+pub use fast::three_bytes::write_threes;
+pub use predict::preprocessor::{from_pattern, pattern, residual, restore};
 pub use setting::{Setting, SettingFault};
 
 // What it holds, in bytes, on a machine with pointers of eight.

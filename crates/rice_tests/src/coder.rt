@@ -1,12 +1,11 @@
 //! Tests of the coder: codes, bits and steps.
-ghost use Rattle.std.specs.Prelude.{◌≡◌, ◌<◌, ◌≤◌, true, All, length};
-ghost use Rattle.rice_samples.specs.Parameters.{value_count};
+ghost use Rattle.std.specs.Prelude.{◌≡◌, ◌≤◌, length};
 
 use rice_base_tests::case_table::{Columns, bytes_of, number_of, samples_of, setting_of};
 use rice_base_tests::cases::Cases;
 use rice_bits::{BitSink, Meter};
 use rice_code::{Coder, SegmentSink, bit_bound, padded_bound, step_bound};
-use rice_samples::{Levels, Setting};
+use rice_samples::Setting;
 use std::alloc::Global;
 use std::process::Abort;
 use std::test::Fail;
@@ -52,92 +51,6 @@ fn code(rt: &impl Abort, alloc: Global, setting: Setting, samples: &[i64]) -> Re
     }
     assert!(rt; meter.steps() < 1 << 61);
     coder.finish(&mut sink, &mut meter);
-    let bits = (bytes.len() as u64)
-        .saturating_mul(8)
-        .saturating_add(sink.len());
-    sink.pad();
-    bytes.extend_from_slice(sink.whole())?;
-    Ok(Coded {
-        bytes,
-        bits,
-        steps: meter.steps(),
-    })
-}
-
-fn are_legal(setting: &Setting, levels: &[u32]) -> bool
-    ensures { result ≡ true → All (λ l. l < value_count setting.now) levels.now }
-{
-    for i in 0..levels.len() {
-        if levels[i] as u64 >= setting.number_of_values() {
-            return false;
-        }
-    }
-    true
-}
-
-/// Returns the levels of samples.
-fn levels_in(
-    rt: &impl Abort,
-    alloc: Global,
-    setting: &Setting,
-    samples: &[i64],
-) -> Result<Vec<u32>, Fail> {
-    let mut levels = Vec::new(alloc);
-    for &x in samples {
-        assert!(rt; setting.in_range(x));
-        levels.push(setting.level(x) as u32)?;
-    }
-    Ok(levels)
-}
-
-/// Pushes as many of the samples with these levels as one call takes, after testing all that it requires but the room of the sink.
-fn push_some(
-    rt: &impl Abort,
-    setting: &Setting,
-    coder: &mut Coder,
-    levels: &[u32],
-    sink: &mut SegmentSink,
-    meter: &mut Meter,
-) -> usize
-    requires setting { coder.old.setting ≡ setting.now }
-    requires room { length sink.old ≤ 7 }
-    ensures setting { coder.new.setting ≡ setting.now }
-{
-    let _block = setting.block();
-    assert!(rt; are_legal(setting, levels));
-    assert!(rt; meter.steps() < 1 << 61);
-    coder
-        .push_some(&Levels::of_words(levels), sink, meter)
-        .samples
-}
-
-/// Codes samples as `code` does, several at a time.
-fn code_some(
-    rt: &impl Abort,
-    cases: &mut Cases<'_>,
-    alloc: Global,
-    setting: Setting,
-    samples: &[i64],
-) -> Result<Coded, Fail> {
-    let _block = setting.block();
-    let levels = levels_in(rt, alloc, &setting, samples)?;
-    let levels = levels.as_slice();
-    let mut coder = Coder::new(setting);
-    let mut sink = BitSink::new();
-    let mut meter = Meter::new();
-    let mut bytes = Vec::new(alloc);
-    let mut taken: usize = 0;
-    for _ in 0..levels.len() {
-        let rest = &levels[taken.min(levels.len())..];
-        let more = push_some(rt, &setting, &mut coder, rest, &mut sink, &mut meter);
-        taken = taken.saturating_add(more);
-        bytes.extend_from_slice(sink.whole())?;
-        sink.drop_whole();
-    }
-    cases.check(taken == levels.len());
-    assert!(rt; meter.steps() < 1 << 61);
-    coder.finish_reset(&mut sink, &mut meter);
-    cases.check(coder.pending() == 0);
     let bits = (bytes.len() as u64)
         .saturating_mul(8)
         .saturating_add(sink.len());
@@ -211,7 +124,7 @@ fn line_is_coded(
     )
 }
 
-/// Codes samples one by one and several at a time, and looks at the bytes and the number of bits.
+/// Codes samples, and looks at the bytes and the number of bits.
 fn are_coded(
     rt: &impl Abort,
     cases: &mut Cases<'_>,
@@ -222,9 +135,6 @@ fn are_coded(
 ) -> Result<(), Fail> {
     let coded = code(rt, alloc, setting, samples)?;
     cases.check((coded.bytes.as_slice(), Some(coded.bits)) == (bytes, bits));
-    let at_once = code_some(rt, cases, alloc, setting, samples)?;
-    cases.check(at_once.bytes.as_slice() == bytes);
-    cases.check((at_once.bits, at_once.steps) == (coded.bits, coded.steps));
     Ok(())
 }
 

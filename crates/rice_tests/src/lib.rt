@@ -4,6 +4,7 @@
 //! The devices, and what takes tables of cases apart, are in `rice_base_tests`, with the tests of the crates below.
 #![tactic(auto)]
 
+pub mod calls_by_types;
 #[cfg(test)]
 mod coder;
 #[cfg(test)]

@@ -8,6 +8,7 @@ pub mod PlainBlocksRead
 pub mod BlocksInRow
 pub mod OptionsRead
 pub mod RestoredBlocks
+pub mod SamplesRestored
 pub mod FirstLanes
 pub mod SplitInSixteens
 pub mod NoCompressionAhead

@@ -26,6 +26,12 @@ pub record AddsFields (more : List Bool) (count ticks : ℕ) (sink_old fields_ol
   pub len : length sink_new + length fields_new ≡ length sink_old + length fields_old + count
   pub steps : meter_new + length fields_new ≡ meter_old + length fields_old + ticks
 
+-- These bits, `count` of them, are put into a sink, and `ticks` steps are counted.
+pub record PutsFields (more : List Bool) (count ticks : ℕ) (sink_old sink_new : List Bool) (meter_old meter_new : ℕ) : Type 0 where
+  pub bits : sink_new ≡ sink_old ++ more
+  pub len : length sink_new ≡ length sink_old + count
+  pub steps : meter_new ≡ meter_old + ticks
+
 -- as `HasRoomFor` and `AddsFields` for a list of bits, where nothing is counted beside them
 abbrev pub HasRoomForBits : List Bool → ℕ → ℕ → Type 0
 HasRoomForBits more bits meter = HasRoomFor (length more) (length more) bits meter

@@ -2,7 +2,7 @@
 use Rattle.std.specs.Prelude.{ℕ, ◌+◌, ◌-◌, ◌*◌, ◌/◌, ◌^◌, Bool, List, length, drop, flat_map, sum_by}
 use Rattle.rice_bits.specs.Bits.{word, fundamental_sequence}
 use Rattle.rice_samples.specs.blocks.Pairs.{pair_codes}
-use Rattle.rice_code.specs.encode.BitBuffer.{HasRoomFor, HasRoomForBits, AddsBits, AddsFields}
+use Rattle.rice_code.specs.encode.BitBuffer.{HasRoomFor, HasRoomForBits, AddsBits, AddsFields, PutsFields}
 
 -- `width` lowest digits of each of n residuals, and a look at each
 abbrev pub HasRoomForLow : ℕ → ℕ → ℕ → ℕ → Type 0
@@ -39,3 +39,14 @@ AddsSequences ms sink_old fields_old sink_new fields_new meter_old meter_new = A
 -- the bits of the codewords that second extension sends for the pairs
 abbrev pub pairs_len : List ℕ → ℕ
 pairs_len ds = sum_by (λ g. g + 1) (pair_codes ds)
+
+-- these parts are put, with a look at each residual
+abbrev pub PutsLow : ℕ → ℕ → List ℕ → List Bool → List Bool → ℕ → ℕ → Type 0
+PutsLow width n ds sink_old sink_new meter_old meter_new = PutsFields (flat_map (word width) ds) (n * width) (n * (width + 1)) sink_old sink_new meter_old meter_new
+
+abbrev pub PutsOnes : ℕ → ℕ → List ℕ → List Bool → List Bool → ℕ → ℕ → Type 0
+PutsOnes k n ds sink_old sink_new meter_old meter_new =
+    PutsFields (flat_map (λ d. fundamental_sequence (d / 2 ^ k)) ds) (n + sum_by (λ d. d / 2 ^ k) ds) (n + (n + sum_by (λ d. d / 2 ^ k) ds)) sink_old sink_new meter_old meter_new
+
+abbrev pub PutsPairs : List ℕ → List Bool → List Bool → ℕ → ℕ → Type 0
+PutsPairs ds sink_old sink_new meter_old meter_new = PutsFields (flat_map fundamental_sequence (pair_codes ds)) (pairs_len ds) (length ds + pairs_len ds) sink_old sink_new meter_old meter_new

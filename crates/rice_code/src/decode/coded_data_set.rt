@@ -9,20 +9,17 @@ use crate::decode::options::{
 use rice_bits::{BitFault, BitReader, Intake, Meter};
 use rice_samples::Setting;
 
-/// Reads what follows an identifier of zeros: a bit, and then a block by second extension or a run of zero blocks. `codes` is
-/// scratch space.
+/// Reads what follows an identifier of zeros: a bit, and then a block by second extension or a run of zero blocks.
 fn read_low_entropy<I: Intake>(
     setting: &Setting,
     block: u64,
     reader: &mut BitReader<I>,
     meter: &mut Meter,
     residuals: &mut [u32],
-    codes: &mut [u32],
 ) -> Result<SetSummary, BitFault>
     requires going { reader.old.refusal ≡ None }
     requires room { HasRoom meter.old reader.old.taken }
     requires size { length residuals.old ≡ setting.now.block }
-    requires codes { length codes.old ≡ 64 }
     ensures ok { IfOk result (λ t. LowEntropyRead reader.old reader.new meter.old meter.new
         setting.now block t residuals.new) }
     ensures err { IfErr result
@@ -34,7 +31,7 @@ fn read_low_entropy<I: Intake>(
         let (reference, zeros) = read_run(setting, block, reader, meter)?;
         return Ok(SetSummary::Zeros { reference, zeros });
     }
-    let head = read_second_extension(setting, block, reader, meter, residuals, codes)?;
+    let head = read_second_extension(setting, block, reader, meter, residuals)?;
     Ok(SetSummary::Residuals {
         reference: head.reference,
         sound: head.sound,
@@ -42,20 +39,17 @@ fn read_low_entropy<I: Intake>(
     })
 }
 
-/// Reads all bits of one coded data set, and refuses none that has its form. `highs` is scratch space.
-#[inline(always)]
+/// Reads all bits of one coded data set, and refuses none that has its form.
 pub fn read_set<I: Intake>(
     setting: &Setting,
     block: u64,
     reader: &mut BitReader<I>,
     meter: &mut Meter,
     residuals: &mut [u32],
-    highs: &mut [u32],
 ) -> Result<SetSummary, BitFault>
     requires going { reader.old.refusal ≡ None }
     requires room { HasRoom meter.old reader.old.taken }
     requires size { length residuals.old ≡ setting.now.block }
-    requires highs { length highs.old ≡ 64 }
     ensures ok { IfOk result (λ t.
         SetRead reader.old reader.new meter.old meter.new setting.now block t residuals.new) }
     ensures err { IfErr result
@@ -65,7 +59,7 @@ pub fn read_set<I: Intake>(
     let width = setting.id_len();
     let id = reader.take(width, meter)?;
     if id == 0 {
-        let taken = read_low_entropy(setting, block, reader, meter, residuals, highs)?;
+        let taken = read_low_entropy(setting, block, reader, meter, residuals)?;
         return Ok(taken);
     }
     if id == (1 << width) - 1 {
@@ -76,7 +70,7 @@ pub fn read_set<I: Intake>(
             near: false,
         });
     }
-    let head = read_split(setting, block, id - 1, reader, meter, residuals, highs)?;
+    let head = read_split(setting, block, id - 1, reader, meter, residuals)?;
     Ok(SetSummary::Residuals {
         reference: head.reference,
         sound: head.sound,

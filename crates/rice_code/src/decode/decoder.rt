@@ -1,39 +1,27 @@
-//! Decodes coded data sets, a block a call or several.
-ghost use Rattle.std.specs.Prelude.{◌≡◌, ◌≢◌, ℕ, ◌+◌, ◌-◌, ◌*◌, ◌%◌, ◌^◌, ◌<◌, ◌≤◌, ◌↔◌, IsTrue, true, false, All, [], length, take, None, Option, Some, IfSome, IfNone, Ok, pos};
+//! Decodes coded data sets, a block a call.
+ghost use Rattle.std.specs.Prelude.{◌≡◌, ◌≢◌, ℕ, ◌+◌, ◌-◌, ◌*◌, ◌<◌, ◌≤◌, [], length, None, Option, Some, IfSome, IfNone, Ok, pos, true};
 ghost use Rattle.rice_bits.specs.Limits.{step_limit, most_bits_read};
-ghost use Rattle.rice_samples.specs.Parameters.{id_len, k_max, value_at, value_count, values_at};
+ghost use Rattle.rice_samples.specs.Parameters.{IsSample};
 ghost use Rattle.rice_samples.specs.Places.{blocks_left};
-ghost use Rattle.rice_bits.specs.Bits.{word};
 ghost use Rattle.rice_code.specs.Limits.{most_samples_of_bit};
+ghost use Rattle.rice_code.specs.code.CodedDataSets.{run_with_zeros};
 ghost use Rattle.rice_code.specs.code.Forms.{RunIsSound, blocks_in, zero_blocks};
-ghost use Rattle.rice_code.specs.decode.BlocksInOnePass.{ArePredicted, HasLanes, lanes_of};
-ghost use Rattle.rice_code.specs.decode.BlocksInRow.{GivesBlocks, GivesOneBlock};
+ghost use Rattle.rice_code.specs.code.Layout.{padding};
 ghost use Rattle.rice_code.specs.decode.RowsOfFields.{AreCounted};
-ghost use Rattle.rice_code.specs.decode.PlainBlocks.{GivesRow, IsPlain, PlainRow};
 ghost use Rattle.rice_code.specs.decode.Decoder.{Skips, answer_to};
 ghost use Rattle.rice_code.specs.decode.DecoderState.{next_block_place, place_after};
-ghost use Rattle.rice_code.specs.code.Layout.{padding};
-ghost use Rattle.rice_code.specs.code.CodedDataSets.{run_with_zeros};
 
 use crate::decode::call_results::{CodeFault, Step};
 use crate::decode::coded_data_set::read_set;
-use crate::decode::no_compression_ahead::{is_uncompressed_ahead, spell_uncompressed_ahead};
 use crate::decode::options::SetSummary;
-use crate::decode::plain_blocks::{last_of_plain, plain_len, spell_plain_row_ahead};
-use crate::decode::restoring::{restore_block, restore_zero_block, set_len_of_levels};
-use crate::decode::split_ahead::{spell_ahead, split_of_block_ahead, take_ahead};
-use crate::decode::wide_ahead::{restore_wide_ahead, wide_split_ahead};
-use crate::known_len::known_or;
+use crate::decode::restoring::{restore_block, restore_zero_block};
 use arrayvec::ArrayVec;
 use rice_bits::{BitFault, BitReader, Intake, Meter};
-use rice_samples::{Setting, has_few_near, write_spellings_by_eights};
+use rice_samples::Setting;
 use std::marker::Model;
 
-/// The most blocks in a row that are read without a look whether their samples are near to those before them.
-const MOST_IN_TURN: u32 = 8;
-
 /// Returns the number of blocks of the run whose codeword has `zeros` zeros, or `None` if that run is not sound.
-fn run_blocks(setting: &Setting, block: u64, zeros: u64) -> Option<u32>
+pub(crate) fn run_blocks(setting: &Setting, block: u64, zeros: u64) -> Option<u32>
     ensures within { IfSome result (λ z. (1 ≤ z) × (z ≤ blocks_left setting.now block)) }
     // All this holds whatever reference the run has.
     ensures sound { IfSome result (λ z. (reference : Option ℕ) →
@@ -56,7 +44,7 @@ fn run_blocks(setting: &Setting, block: u64, zeros: u64) -> Option<u32>
 }
 
 /// Returns what a decoder answers when its reader refuses.
-fn answer_of(fault: BitFault) -> Result<Step, CodeFault>
+pub(crate) fn answer_of(fault: BitFault) -> Result<Step, CodeFault>
     ensures { result ≡ answer_to fault }
 {
     match fault {
@@ -68,7 +56,7 @@ fn answer_of(fault: BitFault) -> Result<Step, CodeFault>
 }
 
 /// Returns the place of the next block in its reference interval.
-fn next_place(setting: &Setting, block: u64) -> u64
+pub(crate) fn next_place(setting: &Setting, block: u64) -> u64
     requires { block < setting.now.interval }
     ensures { result ≡ next_block_place setting.now block }
 {
@@ -78,7 +66,7 @@ fn next_place(setting: &Setting, block: u64) -> u64
 }
 
 /// Returns the place of the block that stands `count` blocks behind block `block`, if none between them begins an interval.
-fn place_behind(setting: &Setting, block: u64, count: u32) -> u64
+pub(crate) fn place_behind(setting: &Setting, block: u64, count: u32) -> u64
     requires block { block < setting.now.interval }
     requires within { block + count ≤ setting.now.interval }
     ensures { result ≡ place_after setting.now block count }
@@ -88,23 +76,8 @@ fn place_behind(setting: &Setting, block: u64, count: u32) -> u64
     if next == interval { 0 } else { next }
 }
 
-/// Returns the place in its interval of the block that stands `count` blocks behind block `block`.
-fn place_on(setting: &Setting, block: u64, count: usize) -> u64
-    requires block { block < setting.now.interval }
-    requires count { count ≤ 512 }
-    ensures { result ≡ (block + count) % setting.now.interval }
-{
-    let interval = setting.interval() as u64;
-    let next = block + count as u64;
-    if next < interval {
-        next
-    } else {
-        next % interval
-    }
-}
-
 /// Skips the padding before block `next`, if intervals are padded and the next one begins there.
-fn skip_padding<I: Intake>(
+pub(crate) fn skip_padding<I: Intake>(
     setting: &Setting,
     next: u64,
     reader: &mut BitReader<I>,
@@ -122,46 +95,27 @@ fn skip_padding<I: Intake>(
     }
 }
 
-/// Makes these the values at these levels.
-fn write_values_at_levels(setting: &Setting, levels: &[u32], values: &mut ArrayVec<i64, 64>)
-    requires legal { All (λ l. l < value_count setting.now) levels.now }
-    requires few { length levels.now ≤ 64 }
-    ensures { values.new.items ≡ values_at setting.now levels.now }
-{
-    values.clear();
-    for i in 0..levels.len() {
-        values.push(setting.value_at(levels[i] as u64));
-    }
-}
-
-/// Decodes coded data sets, a block a call or several.
+/// Decodes coded data sets, a block a call.
 ///
-/// It takes 568 bytes of memory. In contracts its value is its state: the setting, the place of the next block, the
-/// sample before it, the zero blocks of a run that are still to come, and what it answers once it has stopped.
+/// In contracts its value is its state: the setting, the place of the next block, the sample before it, the zero blocks of a run
+/// that are still to come, and what it answers once it has stopped.
 #[derive(Drop)]
 pub struct Decoder {
     setting: Setting,
     block: u64,
-    /// The level of the sample before it.
-    before: u32,
+    before: i64,
     run: u32,
     stopped: Option<Result<Step, CodeFault>>,
-    /// How many looks in a row for near samples were in vain, up to `MOST_IN_TURN`.
-    vain_looks: u32,
-    /// Scratch space for the residuals of a block and for their high parts.
-    scratch: [u32; 128],
 }
 
 impl Model for Decoder {
-    ghost use Rattle.std.specs.Prelude.{◌<◌};
-    ghost use Rattle.rice_samples.specs.Parameters.{value_at, value_count};
     ghost use Rattle.rice_code.specs.decode.DecoderState.{DecoderState, IsDecoderState};
 
     ghost Value = { DecoderState };
 
-    ghost view = { λ d. record { setting = d.setting; block = d.block; before = value_at d.setting d.before; run = d.run; stopped = d.stopped } };
+    ghost view = { λ d. record { setting = d.setting; block = d.block; before = d.before; run = d.run; stopped = d.stopped } };
 
-    ghost invariant = { λ d. (d.before < value_count d.setting) × IsDecoderState d.setting d.block (value_at d.setting d.before) d.run d.stopped };
+    ghost invariant = { λ d. IsDecoderState d.setting d.block d.before d.run d.stopped };
 }
 
 impl Decoder {
@@ -175,15 +129,12 @@ impl Decoder {
             ≡ record { setting = setting; block = 0; before = pos 0; run = 0; stopped = None } }
     {
         let _bits = setting.bits();
-        let before = setting.level(0) as u32;
         Decoder {
             setting,
             block: 0,
-            before,
+            before: 0,
             run: 0,
             stopped: None,
-            vain_looks: 0,
-            scratch: [0; 128],
         }
     }
 
@@ -200,16 +151,12 @@ impl Decoder {
               stopped = None;
             } }
     {
-        let _bits = setting.bits();
-        let level = setting.level(before) as u32;
         Decoder {
             setting,
             block: block as u64,
-            before: level,
+            before,
             run,
             stopped: None,
-            vain_looks: 0,
-            scratch: [0; 128],
         }
     }
 
@@ -227,7 +174,7 @@ impl Decoder {
     pub fn before(&self) -> i64
         ensures { result ≡ self.now.before }
     {
-        self.setting.value_at(self.before as u64)
+        self.before
     }
 
     /// Returns the number of zero blocks of a run that are still to come.
@@ -244,25 +191,7 @@ impl Decoder {
         self.run as u64 * self.setting.block() as u64
     }
 
-    /// Returns whether the next block is in a run.
-    #[inline]
-    pub fn is_in_run(&self) -> bool
-        ensures { IsTrue result ↔ (0 < self.now.run) }
-    {
-        self.run != 0
-    }
-
-    /// Returns whether the next block is in a run, and each of its samples is known to be the sample before it. Without preprocessing
-    /// none is known to be.
-    #[inline(always)]
-    pub fn repeats(&self) -> bool
-        ensures { IsTrue result ↔ ((0 < self.now.run) × (self.now.setting.preprocess ≡ true)) }
-    {
-        self.is_in_run() && self.setting.preprocess()
-    }
-
     /// Goes past the next `count` blocks of a run: each of their samples is the sample before them.
-    #[inline(always)]
     pub fn pass_blocks_of_run(&mut self, count: u32)
         requires run { count ≤ self.old.run }
         requires preprocess { self.old.setting.preprocess ≡ true }
@@ -309,583 +238,90 @@ impl Decoder {
             ≤ self.old.run * self.old.setting.block
             + most_samples_of_bit * (reader.new.taken - reader.old.taken) }
     {
-        let mut levels = ArrayVec::new();
-        let answer = self.next_levels(reader, meter, &mut levels);
-        write_values_at_levels(&self.setting, levels.as_slice(), samples);
-        answer
-    }
-
-    /// Reads coded data sets and writes the bytes of their blocks, of predicted samples of `WIDTH` bytes, to the front of `bytes`. `SIZE`,
-    /// if it is not 0, is the number of samples of a block. Each has to be coded by a split, with short fundamental sequences, or, where
-    /// samples have one byte, not to be compressed, and enough bits have to wait. Where samples have more than two bytes, or the split is above
-    /// 8, all of them have to be near to those before them, too. Returns how many it read, at most `most`, and writes to `ends` how many bits
-    /// it had taken behind each. If it is 0, nothing has happened, and [`next_levels`](Self::next_levels) gives the block.
-    #[inline(always)]
-    pub fn next_bytes<I: Intake, const SIZE: usize, const WIDTH: usize>(
-        &mut self,
-        most: usize,
-        reader: &mut BitReader<I>,
-        meter: &mut Meter,
-        bytes: &mut [u8],
-        ends: &mut [u32; 64],
-    ) -> usize
-        requires size { 0 < SIZE → SIZE ≡ self.old.setting.block }
-        requires samples { ArePredicted self.old.setting WIDTH }
-        requires stopped { self.old.stopped ≡ None }
-        requires going { reader.old.refusal ≡ None }
-        requires room { meter.old + 2 * (most_bits_read - reader.old.taken) + 64 < step_limit }
-        requires few { (1 ≤ most) × (most ≤ 64) }
-        requires bytes { WIDTH * self.old.setting.block * most + 32 ≤ length bytes.old }
-        ensures most { result ≤ most }
-        ensures some { 0 < result → (self.old.run ≡ 0) ×
-            GivesBlocks result reader.old reader.new meter.old meter.new self.old self.new bytes.new
-            ends.new }
-        ensures none { result ≡ 0 → (self.new ≡ self.old) × (reader.new ≡ reader.old) ×
-            (meter.new ≡ meter.old) × (bytes.new ≡ bytes.old) }
-        // It may be called again with this reader.
-        ensures going { reader.new.refusal ≡ None }
-        ensures stopped { self.new.stopped ≡ None }
-        ensures setting { self.new.setting ≡ self.old.setting }
-        // Steps are at least the bits taken, and at most twice as many.
-        ensures steps { AreCounted meter.old meter.new reader.old.taken reader.new.taken }
-    {
-        let _taken = reader.taken();
-        if self.run > 0 {
-            return 0;
-        }
-        if WIDTH > 2 {
-            return self.read_wide_blocks_to_bytes::<I, WIDTH>(most, reader, meter, bytes, ends);
-        }
-        let blocks = self.next_bytes_in_lanes::<I, SIZE, WIDTH>(most, reader, meter, bytes, ends);
-        if blocks > 0 || WIDTH == 1 || wide_split_ahead(&self.setting, reader).is_none() {
-            return blocks;
-        }
-        self.read_wide_blocks_to_bytes::<I, WIDTH>(most, reader, meter, bytes, ends)
-    }
-
-    /// As `next_bytes`, outside a run, of samples of one byte or two, of which the bytes are made in lanes.
-    #[inline(always)]
-    fn next_bytes_in_lanes<I: Intake, const SIZE: usize, const WIDTH: usize>(
-        &mut self,
-        most: usize,
-        reader: &mut BitReader<I>,
-        meter: &mut Meter,
-        bytes: &mut [u8],
-        ends: &mut [u32; 64],
-    ) -> usize
-        requires size { 0 < SIZE → SIZE ≡ self.old.setting.block }
-        requires lanes { HasLanes self.old.setting self.old.setting.block WIDTH }
-        requires stopped { self.old.stopped ≡ None }
-        requires run { self.old.run ≡ 0 }
-        requires going { reader.old.refusal ≡ None }
-        requires room { meter.old + 2 * (most_bits_read - reader.old.taken) + 64 < step_limit }
-        requires few { (1 ≤ most) × (most ≤ 64) }
-        requires bytes { WIDTH * self.old.setting.block * most + 32 ≤ length bytes.old }
-        ensures most { result ≤ most }
-        ensures some { 0 < result →
-            GivesBlocks result reader.old reader.new meter.old meter.new self.old self.new bytes.new
-            ends.new }
-        ensures none { result ≡ 0 → (self.new ≡ self.old) × (reader.new ≡ reader.old) ×
-            (meter.new ≡ meter.old) × (bytes.new ≡ bytes.old) }
-        ensures going { reader.new.refusal ≡ None }
-        ensures stopped { self.new.stopped ≡ None }
-        ensures setting { self.new.setting ≡ self.old.setting }
-        ensures steps { AreCounted meter.old meter.new reader.old.taken reader.new.taken }
-    {
-        let _taken = reader.taken();
-        if split_of_block_ahead::<I, WIDTH>(&self.setting, reader).is_some() {
-            if has_few_near(self.before) {
-                let few = most.min(MOST_IN_TURN as usize);
-                return self.read_split_blocks_to_bytes::<I, SIZE, WIDTH, true>(
-                    few, reader, meter, bytes, ends,
-                );
-            }
-            // Most samples are near to those before them. A call for others in the same function would take registers from these.
-            let blocks = self.read_split_blocks_to_bytes::<I, SIZE, WIDTH, false>(
-                most, reader, meter, bytes, ends,
-            );
-            if blocks > 0 {
-                self.vain_looks = 0;
-                return blocks;
-            }
-            self.vain_looks = self.vain_looks.min(MOST_IN_TURN - 1) + 1;
-            let few = most.min(self.vain_looks as usize);
-            return self.read_split_blocks_to_bytes::<I, SIZE, WIDTH, true>(
-                few, reader, meter, bytes, ends,
-            );
-        }
-        let size = known_or::<SIZE>(self.setting.block() as usize);
-        if is_uncompressed_ahead::<I, WIDTH>(&self.setting, size, reader) {
-            return self.read_uncompressed_blocks_to_bytes::<I, SIZE>(
-                most, reader, meter, bytes, ends,
-            );
-        }
-        0
-    }
-
-    /// As `next_bytes`, outside a run, of blocks by a split: by `TURNS` whatever their samples are, else of samples that are near to those
-    /// before them.
-    #[inline(never)]
-    fn read_split_blocks_to_bytes<
-        I: Intake,
-        const SIZE: usize,
-        const WIDTH: usize,
-        const TURNS: bool,
-    >(
-        &mut self,
-        most: usize,
-        reader: &mut BitReader<I>,
-        meter: &mut Meter,
-        bytes: &mut [u8],
-        ends: &mut [u32; 64],
-    ) -> usize
-        requires size { 0 < SIZE → SIZE ≡ self.old.setting.block }
-        requires lanes { HasLanes self.old.setting self.old.setting.block WIDTH }
-        requires stopped { self.old.stopped ≡ None }
-        requires run { self.old.run ≡ 0 }
-        requires going { reader.old.refusal ≡ None }
-        requires room { meter.old + 2 * (most_bits_read - reader.old.taken) + 64 < step_limit }
-        requires few { most ≤ 64 }
-        requires bytes { WIDTH * self.old.setting.block * most + 32 ≤ length bytes.old }
-        ensures most { result ≤ most }
-        ensures some { 0 < result →
-            GivesBlocks result reader.old reader.new meter.old meter.new self.old self.new bytes.new
-            ends.new }
-        ensures none { result ≡ 0 → (self.new ≡ self.old) × (reader.new ≡ reader.old) ×
-            (meter.new ≡ meter.old) × (bytes.new ≡ bytes.old) }
-        ensures going { reader.new.refusal ≡ None }
-        ensures stopped { self.new.stopped ≡ None }
-        ensures setting { self.new.setting ≡ self.old.setting }
-        ensures steps { AreCounted meter.old meter.new reader.old.taken reader.new.taken }
-    {
-        let _taken = reader.taken();
-        // Each step is a bit that is taken.
-        let begin = meter.steps();
-        let len = WIDTH * known_or::<SIZE>(self.setting.block() as usize);
-        for i in 0..most {
-            let k = match split_of_block_ahead::<I, WIDTH>(&self.setting, reader) {
-                Some(k) => k,
-                None => return i,
-            };
-            let own = &mut bytes[len * i..];
-            if !self.read_split_to_bytes::<I, SIZE, WIDTH, TURNS>(k, reader, meter, own) {
-                return i;
-            }
-            ends[i] = (meter.steps() - begin) as u32;
-        }
-        most
-    }
-
-    /// Reads the block by split `k` that waits outside a run, and writes its bytes: by `TURNS` of any samples, else of samples that are
-    /// near to those before them. Returns whether it did; otherwise nothing has happened.
-    #[inline(always)]
-    fn read_split_to_bytes<I: Intake, const SIZE: usize, const WIDTH: usize, const TURNS: bool>(
-        &mut self,
-        k: u32,
-        reader: &mut BitReader<I>,
-        meter: &mut Meter,
-        bytes: &mut [u8],
-    ) -> bool
-        requires size { 0 < SIZE → SIZE ≡ self.old.setting.block }
-        requires lanes { HasLanes self.old.setting self.old.setting.block WIDTH }
-        requires stopped { self.old.stopped ≡ None }
-        requires run { self.old.run ≡ 0 }
-        requires there { 208 ≤ length reader.old.waiting }
-        requires split { k < 3 + 3 * WIDTH }
-        requires id { word (id_len self.old.setting) (k + 1)
-            ≡ take (id_len self.old.setting) reader.old.waiting }
-        requires going { reader.old.refusal ≡ None }
-        requires room { meter.old + 2 * (most_bits_read - reader.old.taken) + 64 < step_limit }
-        requires bytes { (32 ≤ length bytes.old) ×
-            (WIDTH * lanes_of self.old.setting.block ≤ length bytes.old) }
-        ensures some { result ≡ true →
-            GivesOneBlock reader.old reader.new meter.old meter.new self.old self.new bytes.new }
-        ensures none { result ≡ false → (self.new ≡ self.old) × (reader.new ≡ reader.old) ×
-            (meter.new ≡ meter.old) × (bytes.new ≡ bytes.old) }
-        ensures going { reader.new.refusal ≡ None }
-        ensures stopped { self.new.stopped ≡ None }
-        ensures setting { self.new.setting ≡ self.old.setting }
-        ensures steps { AreCounted meter.old meter.new reader.old.taken reader.new.taken }
-    {
-        let _taken = reader.taken();
-        let setting = &self.setting;
-        let spelled = match spell_ahead::<I, SIZE, WIDTH, TURNS>(
-            setting,
-            known_or::<SIZE>(setting.block() as usize),
-            self.block,
-            self.before,
-            k,
-            reader,
-            bytes,
-        ) {
-            Some(spelled) => spelled,
-            None => return false,
-        };
-        take_ahead(reader, spelled.len, meter);
-        let _answer = self.go_to_next_block(spelled.last, 0, reader, meter);
-        true
-    }
-
-    /// As `next_bytes`, outside a run, of blocks without compression, of samples of one byte.
-    #[inline(never)]
-    fn read_uncompressed_blocks_to_bytes<I: Intake, const SIZE: usize>(
-        &mut self,
-        most: usize,
-        reader: &mut BitReader<I>,
-        meter: &mut Meter,
-        bytes: &mut [u8],
-        ends: &mut [u32; 64],
-    ) -> usize
-        requires size { 0 < SIZE → SIZE ≡ self.old.setting.block }
-        requires lanes { HasLanes self.old.setting self.old.setting.block 1 }
-        requires stopped { self.old.stopped ≡ None }
-        requires run { self.old.run ≡ 0 }
-        requires going { reader.old.refusal ≡ None }
-        requires room { meter.old + 2 * (most_bits_read - reader.old.taken) + 64 < step_limit }
-        requires few { most ≤ 64 }
-        requires bytes { self.old.setting.block * most + 32 ≤ length bytes.old }
-        ensures most { result ≤ most }
-        ensures some { 0 < result →
-            GivesBlocks result reader.old reader.new meter.old meter.new self.old self.new bytes.new
-            ends.new }
-        ensures none { result ≡ 0 → (self.new ≡ self.old) × (reader.new ≡ reader.old) ×
-            (meter.new ≡ meter.old) × (bytes.new ≡ bytes.old) }
-        ensures going { reader.new.refusal ≡ None }
-        ensures stopped { self.new.stopped ≡ None }
-        ensures setting { self.new.setting ≡ self.old.setting }
-        ensures steps { AreCounted meter.old meter.new reader.old.taken reader.new.taken }
-    {
-        let _taken = reader.taken();
-        let start = meter.steps();
-        let size = known_or::<SIZE>(self.setting.block() as usize);
-        for i in 0..most {
-            if !is_uncompressed_ahead::<I, 1>(&self.setting, size, reader) {
-                return i;
-            }
-            self.read_uncompressed_to_bytes::<I, SIZE>(reader, meter, &mut bytes[size * i..]);
-            ends[i] = (meter.steps() - start) as u32;
-        }
-        most
-    }
-
-    /// Reads the block without compression that waits outside a run, and writes its bytes.
-    #[inline(always)]
-    fn read_uncompressed_to_bytes<I: Intake, const SIZE: usize>(
-        &mut self,
-        reader: &mut BitReader<I>,
-        meter: &mut Meter,
-        bytes: &mut [u8],
-    )
-        requires size { 0 < SIZE → SIZE ≡ self.old.setting.block }
-        requires lanes { HasLanes self.old.setting self.old.setting.block 1 }
-        requires stopped { self.old.stopped ≡ None }
-        requires run { self.old.run ≡ 0 }
-        requires there { 148 + 8 * self.old.setting.block ≤ length reader.old.waiting }
-        requires id { word (id_len self.old.setting) (2 ^ id_len self.old.setting - 1)
-            ≡ take (id_len self.old.setting) reader.old.waiting }
-        requires going { reader.old.refusal ≡ None }
-        requires room { meter.old + 2 * (most_bits_read - reader.old.taken) + 64 < step_limit }
-        requires bytes { lanes_of self.old.setting.block ≤ length bytes.old }
-        ensures gives { GivesOneBlock reader.old reader.new meter.old meter.new self.old self.new
-            bytes.new }
-        ensures going { reader.new.refusal ≡ None }
-        ensures stopped { self.new.stopped ≡ None }
-        ensures setting { self.new.setting ≡ self.old.setting }
-        ensures steps { AreCounted meter.old meter.new reader.old.taken reader.new.taken }
-    {
-        let _taken = reader.taken();
-        let setting = &self.setting;
-        let spelled = spell_uncompressed_ahead::<I, SIZE>(
-            setting,
-            known_or::<SIZE>(setting.block() as usize),
-            self.block,
-            self.before,
-            reader,
-            bytes,
-        );
-        take_ahead(reader, spelled.len, meter);
-        let _answer = self.go_to_next_block(spelled.last, 0, reader, meter);
-    }
-
-    /// As `next_bytes`, outside a run, of blocks by a split that are restored in lanes of 32 bits.
-    #[inline(never)]
-    fn read_wide_blocks_to_bytes<I: Intake, const WIDTH: usize>(
-        &mut self,
-        most: usize,
-        reader: &mut BitReader<I>,
-        meter: &mut Meter,
-        bytes: &mut [u8],
-        ends: &mut [u32; 64],
-    ) -> usize
-        requires samples { ArePredicted self.old.setting WIDTH }
-        requires stopped { self.old.stopped ≡ None }
-        requires run { self.old.run ≡ 0 }
-        requires going { reader.old.refusal ≡ None }
-        requires room { meter.old + 2 * (most_bits_read - reader.old.taken) + 64 < step_limit }
-        requires few { most ≤ 64 }
-        requires bytes { WIDTH * self.old.setting.block * most + 32 ≤ length bytes.old }
-        ensures most { result ≤ most }
-        ensures some { 0 < result →
-            GivesBlocks result reader.old reader.new meter.old meter.new self.old self.new bytes.new
-            ends.new }
-        ensures none { result ≡ 0 → (self.new ≡ self.old) × (reader.new ≡ reader.old) ×
-            (meter.new ≡ meter.old) × (bytes.new ≡ bytes.old) }
-        ensures going { reader.new.refusal ≡ None }
-        ensures stopped { self.new.stopped ≡ None }
-        ensures setting { self.new.setting ≡ self.old.setting }
-        ensures steps { AreCounted meter.old meter.new reader.old.taken reader.new.taken }
-    {
-        let _taken = reader.taken();
-        let before = meter.steps();
-        let len = WIDTH * self.setting.block() as usize;
-        let mut levels = [0; 64];
-        for i in 0..most {
-            let k = match wide_split_ahead(&self.setting, reader) {
-                Some(k) => k,
-                None => return i,
-            };
-            let rest = &mut bytes[len * i..];
-            if !self.read_wide_split_to_bytes::<I, WIDTH>(k, reader, meter, &mut levels, rest) {
-                return i;
-            }
-            ends[i] = (meter.steps() - before) as u32;
-        }
-        most
-    }
-
-    /// Reads the block by split `k` that waits outside a run, in lanes of 32 bits, and writes its bytes, if its fundamental sequences are
-    /// short and all samples are near to those before them. Returns whether it did; otherwise nothing has happened, but for the levels,
-    /// which are unspecified.
-    #[inline(always)]
-    fn read_wide_split_to_bytes<I: Intake, const WIDTH: usize>(
-        &mut self,
-        k: u32,
-        reader: &mut BitReader<I>,
-        meter: &mut Meter,
-        levels: &mut [u32; 64],
-        bytes: &mut [u8],
-    ) -> bool
-        requires samples { ArePredicted self.old.setting WIDTH }
-        requires split { (1 ≤ k) × (k ≤ 24) × (k ≤ k_max self.old.setting) }
-        requires there { 101 ≤ length reader.old.waiting }
-        requires id { word (id_len self.old.setting) (k + 1)
-            ≡ take (id_len self.old.setting) reader.old.waiting }
-        requires stopped { self.old.stopped ≡ None }
-        requires run { self.old.run ≡ 0 }
-        requires going { reader.old.refusal ≡ None }
-        requires room { meter.old + 2 * (most_bits_read - reader.old.taken) + 64 < step_limit }
-        requires bytes { WIDTH * self.old.setting.block + 8 ≤ length bytes.old }
-        ensures some { result ≡ true →
-            GivesOneBlock reader.old reader.new meter.old meter.new self.old self.new bytes.new }
-        ensures none { result ≡ false → (self.new ≡ self.old) × (reader.new ≡ reader.old) ×
-            (meter.new ≡ meter.old) × (bytes.new ≡ bytes.old) }
-        ensures going { reader.new.refusal ≡ None }
-        ensures stopped { self.new.stopped ≡ None }
-        ensures setting { self.new.setting ≡ self.old.setting }
-        ensures steps { AreCounted meter.old meter.new reader.old.taken reader.new.taken }
-    {
-        let _taken = reader.taken();
-        // A copy stays in registers.
-        let setting = self.setting;
-        let own = &mut levels[..setting.block() as usize];
-        let restored = match restore_wide_ahead(&setting, self.block, self.before, k, reader, own) {
-            Some(restored) => restored,
-            None => return false,
-        };
-        write_spellings_by_eights::<WIDTH>(&setting, own, bytes);
-        take_ahead(reader, restored.len, meter);
-        let _answer = self.go_to_next_block(restored.last, 0, reader, meter);
-        true
-    }
-
-    /// Returns how many of the next coded data sets, at most `most`, are blocks without compression and wait one behind another, where
-    /// samples are not predicted and use all bits of `WIDTH` bytes. Writes the bytes of these blocks. It takes nothing:
-    /// [`pass_plain_blocks`](Self::pass_plain_blocks) does.
-    #[inline(always)]
-    pub fn spell_plain_blocks_ahead<I: Intake, const WIDTH: usize>(
-        &self,
-        most: usize,
-        reader: &BitReader<I>,
-        bytes: &mut [u8],
-    ) -> usize
-        requires plain { IsPlain self.now.setting WIDTH }
-        requires few { most ≤ 512 }
-        requires room { WIDTH * self.now.setting.block * most + 15 ≤ length bytes.old }
-        ensures most { result ≤ most }
-        ensures row { PlainRow reader.now.waiting self.now.setting WIDTH result bytes.new }
-    {
-        spell_plain_row_ahead::<I, WIDTH>(&self.setting, most, reader, bytes)
-    }
-
-    /// Goes past the next `count` blocks, outside a run, which are not compressed and have these bytes.
-    #[inline(always)]
-    pub fn pass_plain_blocks<I: Intake, const WIDTH: usize>(
-        &mut self,
-        count: usize,
-        reader: &mut BitReader<I>,
-        meter: &mut Meter,
-        bytes: &[u8],
-    )
-        requires plain { IsPlain self.old.setting WIDTH }
-        requires some { 1 ≤ count }
-        requires few { count ≤ 512 }
-        requires row { PlainRow reader.old.waiting self.old.setting WIDTH count bytes.now }
-        requires run { self.old.run ≡ 0 }
-        requires stopped { self.old.stopped ≡ None }
-        requires going { reader.old.refusal ≡ None }
-        requires room { meter.old + 2 * (most_bits_read - reader.old.taken) + 64 < step_limit }
-        ensures gives { GivesRow count reader.old reader.new meter.old meter.new self.old self.new
-            bytes.now }
-        // It may be called again with this reader.
-        ensures going { reader.new.refusal ≡ None }
-        ensures stopped { self.new.stopped ≡ None }
-        ensures setting { self.new.setting ≡ self.old.setting }
-        ensures run { self.new.run ≡ 0 }
-        // Steps are the bits taken.
-        ensures steps { AreCounted meter.old meter.new reader.old.taken reader.new.taken }
-    {
-        let _bytes = bytes.len();
-        let _taken = reader.taken();
-        let len = plain_len::<WIDTH>(&self.setting);
-        let last = last_of_plain::<I, WIDTH>(&self.setting, reader, len * (count - 1));
-        take_ahead(reader, len * count, meter);
-        self.block = place_on(&self.setting, self.block, count);
-        self.before = last;
-    }
-
-    /// Restores the samples of the next block, as `next_block` does, by their levels: the level of a sample is the number of legal
-    /// values below it.
-    ///
-    /// A decoder that has found the end or has refused returns the same again at each later call.
-    #[inline(always)]
-    pub fn next_levels<I: Intake>(
-        &mut self,
-        reader: &mut BitReader<I>,
-        meter: &mut Meter,
-        levels: &mut ArrayVec<u32, 64>,
-    ) -> Result<Step, CodeFault>
-        requires going { self.old.stopped ≡ None → reader.old.refusal ≡ None }
-        requires room { meter.old + 2 * (most_bits_read - reader.old.taken) + 64 < step_limit }
-        // A decoder that has stopped answers the same from then on.
-        ensures stopped { IfSome self.old.stopped (λ a. (result ≡ a) × (levels.new.items ≡ []) ×
-            (self.new ≡ self.old) × (reader.new ≡ reader.old) × (meter.new ≡ meter.old)) }
-        // Inside a run no bit is taken.
-        ensures in_run { self.old.stopped ≡ None → 0 < self.old.run → (result ≡ Ok Block) ×
-            GivesFromRun self.old self.new (values_at self.old.setting levels.new.items) ×
-            (reader.new ≡ reader.old) × (meter.new ≡ meter.old) }
-        ensures reads { self.old.stopped ≡ None → self.old.run ≡ 0 →
-            Answers (with_mark reader.old) reader.new meter.old meter.new
-            self.old self.new (values_at self.old.setting levels.new.items) result }
-        ensures legal { All (λ l. l < value_count self.old.setting) levels.new.items }
-        // A decoder that has not stopped may be called again with this reader.
-        ensures going { self.new.stopped ≡ None → reader.new.refusal ≡ None }
-        ensures block { result ≡ Ok Block → self.new.stopped ≡ None }
-        ensures setting { self.new.setting ≡ self.old.setting }
-        // Steps are at least the bits taken, and at most twice as many.
-        ensures steps { AreCounted meter.old meter.new reader.old.taken reader.new.taken }
-        // The samples that are given and those that then wait are bounded by the bits.
-        ensures waiting { length levels.new.items + self.new.run * self.new.setting.block
-            ≤ self.old.run * self.old.setting.block
-            + most_samples_of_bit * (reader.new.taken - reader.old.taken) }
-    {
+        samples.clear();
         let _taken = reader.taken();
         if let Some(answer) = self.stopped {
-            levels.clear();
             return answer;
         }
         if self.run > 0 {
-            let last = restore_zero_block(&self.setting, self.block, self.before, None, levels);
+            self.before = restore_zero_block(&self.setting, self.block, self.before, None, samples);
             self.run -= 1;
-            self.before = last;
             self.block = next_place(&self.setting, self.block);
             return Ok(Step::Block);
         }
-        // It is laid out for each size of blocks.
-        match self.setting.block() {
-            8 => self.read_set_and_restore_block::<I, 8>(reader, meter, levels),
-            16 => self.read_set_and_restore_block::<I, 16>(reader, meter, levels),
-            32 => self.read_set_and_restore_block::<I, 32>(reader, meter, levels),
-            size if size < 64 => self.read_set_and_restore_block::<I, 0>(reader, meter, levels),
-            _ => self.read_set_and_restore_block::<I, 64>(reader, meter, levels),
-        }
+        self.read_block(reader, meter, samples)
     }
 
-    /// Reads a coded data set, and restores the samples of its first block, which are `SIZE` unless that is 0, by their levels.
-    #[inline(never)]
-    fn read_set_and_restore_block<I: Intake, const SIZE: usize>(
+    /// Reads a coded data set outside a run, and restores the samples of its first block.
+    fn read_block<I: Intake>(
         &mut self,
         reader: &mut BitReader<I>,
         meter: &mut Meter,
-        levels: &mut ArrayVec<u32, 64>,
+        samples: &mut ArrayVec<i64, 64>,
     ) -> Result<Step, CodeFault>
-        requires size { 0 < SIZE → SIZE ≡ self.old.setting.block }
         requires stopped { self.old.stopped ≡ None }
         requires run { self.old.run ≡ 0 }
         requires going { reader.old.refusal ≡ None }
         requires room { meter.old + 2 * (most_bits_read - reader.old.taken) + 64 < step_limit }
+        requires empty { samples.old.items ≡ [] }
         ensures reads { Answers (with_mark reader.old) reader.new meter.old meter.new
-            self.old self.new (values_at self.old.setting levels.new.items) result }
-        ensures legal { All (λ l. l < value_count self.old.setting) levels.new.items }
+            self.old self.new samples.new.items result }
         ensures going { self.new.stopped ≡ None → reader.new.refusal ≡ None }
         ensures block { result ≡ Ok Block → self.new.stopped ≡ None }
         ensures setting { self.new.setting ≡ self.old.setting }
         ensures steps { AreCounted meter.old meter.new reader.old.taken reader.new.taken }
-        ensures waiting { length levels.new.items + self.new.run * self.new.setting.block
+        ensures waiting { length samples.new.items + self.new.run * self.new.setting.block
             ≤ most_samples_of_bit * (reader.new.taken - reader.old.taken) }
     {
         let _taken = reader.taken();
         reader.mark();
-        let size = known_or::<SIZE>(self.setting.block() as usize);
+        let mut room = [0; 64];
         let setting = &self.setting;
         let block = self.block;
         let before = self.before;
-        let (residuals, highs) = self.scratch.split_at_mut(64);
-        let residuals = &mut residuals[..size];
-        match read_set(setting, block, reader, meter, residuals, highs) {
+        let residuals = &mut room[..setting.block() as usize];
+        match read_set(setting, block, reader, meter, residuals) {
             Ok(
                 SetSummary::Residuals {
                     reference,
                     sound,
-                    near,
+                    ..
                 },
             ) => {
                 if !sound {
-                    return self.stop(Err(CodeFault::ResidualTooLarge), levels);
+                    return self.stop(Err(CodeFault::ResidualTooLarge));
                 }
-                let last = restore_block(
-                    setting, block, before, reference, residuals, near, levels,
-                );
+                let last = restore_block(setting, block, before, reference, residuals, samples);
                 self.go_to_next_block(last, 0, reader, meter)
             }
             Ok(SetSummary::Zeros { reference, zeros }) => match run_blocks(setting, block, zeros) {
                 Some(count) => {
-                    let last = restore_zero_block(setting, block, before, reference, levels);
+                    let last = restore_zero_block(setting, block, before, reference, samples);
                     self.go_to_next_block(last, count - 1, reader, meter)
                 }
-                None => self.stop(Err(CodeFault::RunPastSegment), levels),
+                None => self.stop(Err(CodeFault::RunPastSegment)),
             },
-            Err(fault) => self.stop(answer_of(fault), levels),
+            Err(fault) => self.stop(answer_of(fault)),
         }
     }
 
-    /// Goes to the next block, after a data set of which `last` is the level of the last sample of the first block, and which `run`
+    /// Goes to the next block, after a data set of which `last` is the last sample of the first block, and which `run`
     /// zero blocks follow.
-    #[inline(always)]
     fn go_to_next_block<I: Intake>(
         &mut self,
-        last: u32,
+        last: i64,
         run: u32,
         reader: &mut BitReader<I>,
         meter: &mut Meter,
     ) -> Result<Step, CodeFault>
-        requires last { last < value_count self.old.setting }
+        requires last { IsSample self.old.setting last }
         requires run { 0 < run → run + 1 ≤ blocks_left self.old.setting self.old.block }
         requires taken { reader.old.taken ≤ most_bits_read }
         requires meter { meter.old + 7 < step_limit }
         ensures block { result ≡ Ok Block }
         ensures moves { self.new ≡ record self.old {
           block = next_block_place self.old.setting self.old.block;
-          before = value_at self.old.setting last;
+          before = last;
           run = run;
         } }
         ensures skips { Skips reader.old reader.new
@@ -903,17 +339,11 @@ impl Decoder {
     }
 
     /// Returns this answer from now on.
-    fn stop(
-        &mut self,
-        answer: Result<Step, CodeFault>,
-        levels: &mut ArrayVec<u32, 64>,
-    ) -> Result<Step, CodeFault>
+    fn stop(&mut self, answer: Result<Step, CodeFault>) -> Result<Step, CodeFault>
         requires { answer ≢ Ok Block }
         ensures answer { result ≡ answer }
         ensures stops { self.new ≡ record self.old { stopped = Some answer } }
-        ensures samples { levels.new.items ≡ [] }
     {
-        levels.clear();
         self.stopped = Some(answer);
         answer
     }

@@ -100,7 +100,6 @@ pub fn read_run<I: Intake>(
 }
 
 /// Reads a block that is not compressed.
-#[inline(always)]
 pub fn read_no_compression<I: Intake>(
     setting: &Setting,
     block: u64,
@@ -126,19 +125,17 @@ pub fn read_no_compression<I: Intake>(
     })
 }
 
-/// Reads a block that is coded by second extension. `codes` is scratch space.
+/// Reads a block that is coded by second extension.
 pub fn read_second_extension<I: Intake>(
     setting: &Setting,
     block: u64,
     reader: &mut BitReader<I>,
     meter: &mut Meter,
     residuals: &mut [u32],
-    codes: &mut [u32],
 ) -> Result<BlockSummary, BitFault>
     requires going { reader.old.refusal ≡ None }
     requires room { HasRoom meter.old reader.old.taken }
     requires size { length residuals.old ≡ setting.now.block }
-    requires codes { length codes.old ≡ 64 }
     ensures ok { IfOk result (λ h. BlockRead reader.old reader.new meter.old meter.new
         setting.now block SecondExtension h residuals.new) }
     ensures err { IfErr result (BlockCut reader.old reader.new setting.now block SecondExtension) }
@@ -146,13 +143,12 @@ pub fn read_second_extension<I: Intake>(
 {
     let reference = read_reference(setting, block, reader, meter)?;
     let values = setting.number_of_values();
-    let few = read_pairs(reader, meter, codes, residuals)?;
-    let sound = are_sound(reference, few, residuals, values);
+    read_pairs(reader, meter, residuals)?;
+    let sound = are_sound(reference, residuals, values);
     Ok(BlockSummary { reference, sound })
 }
 
-/// Reads a block that is coded by split sample option `k`. `highs` is scratch space for the high parts.
-#[inline(always)]
+/// Reads a block that is coded by split sample option `k`.
 pub fn read_split<I: Intake>(
     setting: &Setting,
     block: u64,
@@ -160,14 +156,12 @@ pub fn read_split<I: Intake>(
     reader: &mut BitReader<I>,
     meter: &mut Meter,
     residuals: &mut [u32],
-    highs: &mut [u32],
 ) -> Result<BlockSummary, BitFault>
     requires going { reader.old.refusal ≡ None }
     requires room { HasRoom meter.old reader.old.taken }
     requires k { k ≤ k_max setting.now }
     requires limit { k ≤ 29 }
     requires size { length residuals.old ≡ setting.now.block }
-    requires highs { length highs.old ≡ 64 }
     ensures ok { IfOk result (λ h. BlockRead reader.old reader.new meter.old meter.new
         setting.now block (Split k) h residuals.new) }
     ensures err { IfErr result (BlockCut reader.old reader.new setting.now block (Split k)) }
@@ -177,7 +171,7 @@ pub fn read_split<I: Intake>(
     let values = setting.number_of_values();
     let most = (values - 1) >> k;
     let first = write_zero_for_reference(reference, residuals);
-    let small = read_sent(reader, meter, most, k, first, highs, residuals)?;
+    let small = read_sent(reader, meter, most, k, first, residuals)?;
     if !small {
         return Ok(BlockSummary {
             reference,
@@ -188,15 +182,13 @@ pub fn read_split<I: Intake>(
     Ok(BlockSummary { reference, sound })
 }
 
-/// Reads the parts of the residuals after the first `first`, which is 0 or 1, as `read_parts` does. `highs` is scratch space.
-#[inline(always)]
+/// Reads the parts of the residuals after the first `first`, which is 0 or 1, as `read_parts` does.
 fn read_sent<I: Intake>(
     reader: &mut BitReader<I>,
     meter: &mut Meter,
     most: u64,
     k: u32,
     first: usize,
-    highs: &mut [u32],
     residuals: &mut [u32],
 ) -> Result<bool, BitFault>
     requires going { reader.old.refusal ≡ None }
@@ -206,7 +198,6 @@ fn read_sent<I: Intake>(
     requires first { first ≤ 1 }
     requires some { 0 < length residuals.old }
     requires few { length residuals.old ≤ 64 }
-    requires highs { length highs.old ≡ 64 }
     ensures ok { IfOk result (λ small. PartsRead reader.old reader.new most k small
         (length residuals.old - first) (drop first residuals.new)) }
     ensures stay { take first residuals.new ≡ take first residuals.old }
@@ -214,17 +205,14 @@ fn read_sent<I: Intake>(
     ensures steps { meter.new + reader.old.taken ≡ meter.old + reader.new.taken }
     ensures limit { reader.new.taken ≤ most_bits_read }
 {
-    // It is laid out for blocks with a reference and without.
     let size = residuals.len();
-    match first {
-        0 => read_parts(reader, meter, most, k, &mut highs[..size], residuals),
-        _ => read_parts(
-            reader,
-            meter,
-            most,
-            k,
-            &mut highs[..size - 1],
-            &mut residuals[1..],
-        ),
-    }
+    let mut highs = [0; 64];
+    read_parts(
+        reader,
+        meter,
+        most,
+        k,
+        &mut highs[..size - first],
+        &mut residuals[first..],
+    )
 }

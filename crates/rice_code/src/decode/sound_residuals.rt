@@ -1,5 +1,5 @@
 //! Joins the parts of residuals, and says whether residuals are sound.
-ghost use Rattle.std.specs.Prelude.{◌≡◌, ◌-◌, ◌/◌, ◌^◌, ◌<◌, ◌≤◌, ◌↔◌, IsTrue, true, length, slice_index, OnSome, All};
+ghost use Rattle.std.specs.Prelude.{◌≡◌, ◌-◌, ◌/◌, ◌^◌, ◌<◌, ◌≤◌, ◌↔◌, IsTrue, length, slice_index, OnSome, All};
 ghost use Rattle.rice_bits.specs.read.JoinedParts.{joined_parts};
 
 /// Joins each high part with the low part of k bits at its place, and writes the residual there.
@@ -14,6 +14,20 @@ pub fn join_all_parts(highs: &[u32], k: u32, lows: &mut [u32])
     for i in 0..highs.len() {
         lows[i] += highs[i] << k;
     }
+}
+
+/// Returns whether all residuals are below `count`.
+#[inline(always)]
+pub fn are_below(residuals: &[u32], count: u64) -> bool
+    requires { (0 < count) × (count ≤ 2 ^ 32) }
+    ensures { IsTrue result ↔ All (λ d. d < count) residuals.now }
+{
+    let greatest = (count - 1) as u32;
+    let mut all = true;
+    for i in 0..residuals.len() {
+        all = all & (residuals[i] <= greatest);
+    }
+    all
 }
 
 /// Returns whether all residuals are below 2^`bits`, of which the high parts, without `k` digits, are as small as those of such
@@ -31,48 +45,16 @@ pub fn are_below_as_high_parts(bits: u32, k: u32, residuals: &[u32]) -> bool
     are_below(residuals, 1 << bits)
 }
 
-/// Returns whether all residuals are below `count`.
-pub fn are_below(residuals: &[u32], count: u64) -> bool
-    requires { (0 < count) × (count ≤ 2 ^ 32) }
-    ensures { IsTrue result ↔ All (λ d. d < count) residuals.now }
-{
-    // The loop is laid out for blocks of 8, with a reference and without.
-    match residuals.len() {
-        7 => are_below_of_any_number(&residuals[..7], count),
-        8 => are_below_of_any_number(&residuals[..8], count),
-        _ => are_below_of_any_number(residuals, count),
-    }
-}
-
-/// As `are_below`, with a loop over residuals of any number.
-#[inline(always)]
-pub fn are_below_of_any_number(residuals: &[u32], count: u64) -> bool
-    requires { (0 < count) × (count ≤ 2 ^ 32) }
-    ensures { IsTrue result ↔ All (λ d. d < count) residuals.now }
-{
-    let greatest = (count - 1) as u32;
-    let mut all = true;
-    for i in 0..residuals.len() {
-        all = all & (residuals[i] <= greatest);
-    }
-    all
-}
-
 /// Returns whether the residuals of a block by second extension are sound: all are below `count`, and the first is 0
-/// where the block has a reference sample. `few` says that all are known to be below 64.
-#[inline]
-pub fn are_sound(reference: Option<u32>, few: bool, residuals: &[u32], count: u64) -> bool
+/// where the block has a reference sample.
+pub fn are_sound(reference: Option<u32>, residuals: &[u32], count: u64) -> bool
     requires some { 0 < length residuals.now }
-    requires few { few ≡ true → All (λ d. d < 64) residuals.now }
     requires count { (0 < count) × (count ≤ 2 ^ 32) }
     ensures { IsTrue result ↔ (OnSome reference (slice_index residuals.now 0 ≡ 0) ×
         All (λ d. d < count) residuals.now) }
 {
     if reference.is_some() && residuals[0] != 0 {
         return false;
-    }
-    if few && count >= 64 {
-        return true;
     }
     are_below(residuals, count)
 }

@@ -1,92 +1,64 @@
-//! What a block costs by each option, in bits, without its head: the identifier and the reference, which are as long by
-//! each option.
-ghost use Rattle.std.specs.Prelude.{◌≡◌, All, ◌+◌, ◌/◌, ◌^◌, ◌<◌, ◌≤◌, length, sum_by};
+//! What a block costs by each option, in bits.
+ghost use Rattle.std.specs.Prelude.{◌≡◌, ◌+◌, ◌*◌, ◌^◌, ◌<◌, ◌≤◌, length};
 ghost use Rattle.rice_bits.specs.Limits.{step_limit};
 ghost use Rattle.rice_samples.specs.Parameters.{k_max};
-ghost use Rattle.rice_code.specs.code.CodedDataSets.{NoCompression, SecondExtension, Split, sent_residuals, cost};
+ghost use Rattle.rice_code.specs.code.CodedDataSets.{NoCompression, SecondExtension, Split, cost, reference_len as len_of_reference};
 ghost use Rattle.rice_code.specs.code.SoundBlocks.{IsSoundData};
-ghost use Rattle.rice_code.specs.encode.SetOfChoice.{head_len};
-ghost use Rattle.rice_code.specs.encode.SentParts.{pairs_len};
 
 use crate::encode::held_block::HeldBlock;
-use crate::encode::prepared_setting::PreparedSetting;
 use rice_bits::Meter;
-use rice_samples::Block;
+use rice_samples::Setting;
 
-/// Returns the cost of the block by no compression, without its head.
-#[inline(always)]
-pub fn no_compression_cost(setting: &PreparedSetting, block: &HeldBlock<'_>) -> u64
-    requires { IsSoundData setting.now block.now }
-    ensures value { result + head_len setting.now block.now ≡
-        cost setting.now (NoCompression block.now) }
-    ensures limit { result ≤ 2048 }
+/// Returns the number of bits of the reference sample, if there is one.
+fn reference_len(setting: &Setting, reference: Option<u32>) -> u64
+    ensures value { result ≡ len_of_reference setting.now reference }
+    ensures limit { result ≤ 32 }
 {
-    let bits = setting.bits();
-    (coded_len(setting, block) * bits) as u64
-}
-
-/// Returns the cost of the block by second extension, without its head, where its residuals are small.
-#[inline(always)]
-pub fn second_extension_cost(
-    setting: &PreparedSetting,
-    block: &HeldBlock<'_>,
-    meter: &mut Meter,
-) -> u64
-    requires sound { IsSoundData setting.now block.now }
-    requires small { All (λ d. d < 2 ^ 12) block.now.residuals }
-    requires meter { meter.old + length block.now.residuals < step_limit }
-    ensures value { result + head_len setting.now block.now ≡
-        cost setting.now (SecondExtension block.now) }
-    ensures steps { meter.new ≡ meter.old + setting.now.block }
-{
-    let residuals = block.residuals();
-    let bits = pairs_bits(residuals.sized(residuals.len()));
-    meter.tick(setting.block() as u64);
-    1 + bits
-}
-
-/// Returns the number of bits of the codewords of the pairs, where all residuals are small. Counts no steps.
-///
-/// It is never inlined, so that none of it is done where no pairs are wanted.
-#[inline(never)]
-fn pairs_bits(residuals: Block<'_>) -> u64
-    requires { All (λ d. d < 2 ^ 12) residuals }
-    ensures value { result ≡ pairs_len residuals.entry }
-    ensures limit { result ≤ 2 ^ 30 }
-{
-    let _len = residuals.len();
-    let mut steps = Meter::new();
-    residuals.small_pair_sum(&mut steps)
-}
-
-/// Returns the number of residuals that a split sends: all but that at the reference place.
-#[inline(always)]
-pub fn coded_len(setting: &PreparedSetting, block: &HeldBlock<'_>) -> u32
-    requires { IsSoundData setting.now block.now }
-    ensures value { result ≡ length (sent_residuals block.now) }
-    ensures limit { result ≤ 64 }
-{
-    // The compiler may know the length of the block, and not that of the setting's blocks.
-    let len = block.residuals().len() as u32;
-    match block.reference() {
-        Some(_) => len - 1,
-        None => len,
+    match reference {
+        Some(_) => setting.bits() as u64,
+        None => 0,
     }
 }
 
-/// Returns the cost of the block by split `k`, without its head, where `sum` is that of the residuals without their `k`
-/// lowest digits.
-#[inline(always)]
-pub fn split_cost(setting: &PreparedSetting, block: &HeldBlock<'_>, k: u32, sum: u64) -> u64
+/// Returns the cost of the block by no compression.
+pub fn no_compression_cost(setting: &Setting, block: &HeldBlock<'_>) -> u64
+    requires { IsSoundData setting.now block.now }
+    ensures value { result ≡ cost setting.now (NoCompression block.now) }
+    ensures limit { result ≤ 2053 }
+{
+    setting.id_len() as u64 + (setting.block() * setting.bits()) as u64
+}
+
+/// Returns the cost of the block by second extension.
+pub fn second_extension_cost(setting: &Setting, block: &HeldBlock<'_>, meter: &mut Meter) -> u128
+    requires sound { IsSoundData setting.now block.now }
+    requires meter { meter.old + length block.now.residuals < step_limit }
+    ensures value { result ≡ cost setting.now (SecondExtension block.now) }
+    ensures steps { meter.new ≡ meter.old + setting.now.block }
+{
+    let _block = setting.block();
+    let head = setting.id_len() as u64 + 1 + reference_len(setting, block.reference());
+    head as u128 + block.residuals().pair_sum(meter)
+}
+
+/// Returns the cost of the block by split `k`.
+pub fn split_cost(setting: &Setting, block: &HeldBlock<'_>, k: u32, meter: &mut Meter) -> u64
     requires split { k ≤ k_max setting.now }
     requires sound { IsSoundData setting.now block.now }
-    requires sum { sum ≡ sum_by (λ d. d / 2 ^ k) block.now.residuals }
-    requires few { sum ≤ 2 ^ 38 }
-    ensures value { result + head_len setting.now block.now ≡ cost setting.now (Split k block.now) }
+    requires meter { meter.old + length block.now.residuals < step_limit }
+    ensures value { result ≡ cost setting.now (Split k block.now) }
     ensures limit { result < 2 ^ 40 }
+    ensures steps { meter.new ≡ meter.old + setting.now.block }
 {
+    let reference = block.reference();
+    let coded = match reference {
+        Some(_) => setting.block() - 1,
+        None => setting.block(),
+    };
     let limit = setting.k_max();
     prove!(k <= limit);
-    let digits = coded_len(setting, block) * (k + 1);
-    digits as u64 + sum
+    let head = setting.id_len() as u64
+        + reference_len(setting, reference)
+        + (coded * (k + 1)) as u64;
+    head + block.residuals().sum_shifted(k, meter)
 }

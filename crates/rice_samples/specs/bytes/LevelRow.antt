@@ -2,8 +2,8 @@
 use Rattle.std.specs.Prelude.{◌≡◌, ℕ, ◌*◌, ◌/◌, ◌<◌, List, All, length, min, take}
 use Rattle.rice_samples.specs.Parameters.{Parameters, value_count, values_at, width}
 use Rattle.rice_samples.specs.bytes.Spelling.{spellings}
-use Rattle.rice_samples.specs.declared.bytes.level_row.Held.{Held}
-use Rattle.rice_samples.specs.declared.bytes.level_row.Held.TheVariants.{Bytes, Halves, Words}
+use Rattle.rice_samples.specs.declared.fast.level_row.Held.{Held}
+use Rattle.rice_samples.specs.declared.fast.level_row.Held.TheVariants.{Bytes, Halves, Words}
 
 -- those of the three lists in which they are held
 abbrev pub held_levels : Held → List ℕ → List ℕ → List ℕ → List ℕ

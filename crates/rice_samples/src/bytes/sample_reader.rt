@@ -9,8 +9,8 @@ ghost use Rattle.rice_samples.specs.bytes.Spelling.{EndsSpelling, NoSpelling};
 ghost use Rattle.rice_samples.specs.bytes.SampleReader.{IsWithinLimits, unread, GivesSamples, LacksSample, LeavesNoSample, StopsSamples, CountsReads, Refills};
 
 use crate::Setting;
-use crate::bytes::level_row::LevelRow;
 use crate::bytes::sample_fault::SampleFault;
+use crate::fast::level_row::LevelRow;
 use rice_bits::{Intake, ReadFault};
 use std::marker::Model;
 

@@ -4,7 +4,7 @@ ghost use Rattle.rice_samples.specs.Parameters.{value_count, values_at, width as
 ghost use Rattle.rice_samples.specs.bytes.Spelling.{spellings};
 
 use crate::Setting;
-use crate::bytes::three_bytes::write_threes;
+use crate::fast::three_bytes::write_threes;
 use crate::patterns::store_word;
 use rice_bits::low_digits;
 

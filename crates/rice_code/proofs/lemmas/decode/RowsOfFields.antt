@@ -85,6 +85,50 @@ counts-append {old} {mid} {new} {most} {small} {fits} r q e =
     not_told true false f g e q = g refl q
     not_told false b f g e q = f refl q
 
+-- no fundamental sequences: the reader stays as it is, and all of them are told
+pub row_of_counts-none : {I : Type 0} (r : Reader I) (most : ℕ) (told : List ℕ) → told ≡ [] → r.refusal ≡ None → CountRow r r most true 0 told
+row_of_counts-none r most told e h = record {
+  values = [];
+  len = refl;
+  told_are = λ _. (e, λ i d lt. absurd (omega arith));
+  refused = λ f. absurd cc;
+  takes = takes-none r h;
+}
+
+-- one more is told, where it is at most `most`
+pub row_of_counts-more : {I : Type 0} {old mid new : Reader I} {most done : ℕ} {small : Bool} (fits : Bool) (m v : ℕ) (counts : List ℕ) → done < length counts
+    → CountRow old mid most small done (take done counts) → Takes mid new (fundamental_sequence m)
+    → (fits ≡ true → (v ≡ m) × (m ≤ most)) → (fits ≡ false → most < m)
+    → CountRow old new most (small && fits) (done + 1) (take (done + 1) (set counts done v))
+row_of_counts-more {old} {mid} {new} {most} {done} {small} fits m v counts lt r t good bad =
+    let P : ℕ → Type 0 = λ x. x ≤ most in
+    record {
+      values = r.values ++ m ∷ [];
+      len = omega (arith, length-append r.values (m ∷ []), r.len);
+      told_are = λ e. (let b = and-split small fits e in (
+        take_more_set counts done v lt ∙ (λ i. (r.told_are b.0).0 i ++ (good b.1).0 i ∷ []),
+        All-append P r.values (m ∷ []) (r.told_are b.0).1 (λ i d below. subst P (sym (get_or_head m [] i d (omega arith))) (good b.1).1),
+      ));
+      refused = not_told small fits (λ f h. r.refused f (all_front P r.values (m ∷ []) h)) (λ f h. omega (arith, bad f, all_back P r.values (m ∷ []) h 0 0 (omega arith)));
+      takes = rw (flat_map-push fundamental_sequence r.values m) (takes-append old mid new _ _ r.takes t);
+    }
+  where
+    not_told : {Q : Type 0} (a b : Bool) → (a ≡ false → Q → ⊥) → (b ≡ false → Q → ⊥) → (a && b) ≡ false → Q → ⊥
+    not_told true true f g e q = absurd cc
+    not_told true false f g e q = g refl q
+    not_told false b f g e q = f refl q
+
+-- fundamental sequences for all places
+pub row_of_counts-whole : {I : Type 0} {old new : Reader I} {most : ℕ} {small : Bool} {done count : ℕ} {xs : List ℕ}
+    → CountRow old new most small done (take done xs) → done ≡ count → length xs ≡ count → CountRow old new most small count xs
+row_of_counts-whole {done} {xs} r e n = record {
+  values = r.values;
+  len = r.len ∙ e;
+  told_are = λ f. (sym (take_all done xs (omega (arith, e, n))) ∙ (r.told_are f).0, (r.told_are f).1);
+  refused = r.refused;
+  takes = r.takes;
+}
+
 -- those that waited together
 pub counts-waiting : {I : Type 0} (old new : Reader I) (most some : ℕ) (now : List ℕ)
     → some ≤ length now → Takes old new (flat_map fundamental_sequence (take some now)) → CountsRead old new most true some (take some now)

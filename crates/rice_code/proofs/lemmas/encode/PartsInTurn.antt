@@ -42,6 +42,10 @@ none_times from w = let e : from - from ≡ 0 = omega arith in ap (λ k. k * w) 
 pub one_more_times : (from i w : ℕ) → from ≤ i → (i + 1 - from) * w ≡ (i - from) * w + w
 one_more_times from i w le = let e : i + 1 - from ≡ suc (i - from) = omega arith in ap (λ k. k * w) e ∙ (omega arith)
 
+-- what is left of n residuals has w digits fewer behind one more
+pub one_less_times : (n i w : ℕ) → i < n → (n - i) * w ≡ (n - (i + 1)) * w + w
+one_less_times n i w lt = let e : n - i ≡ suc (n - (i + 1)) = omega arith in ap (λ k. k * w) e ∙ (omega arith)
+
 -- a range, and the rest
 pub split_times : (n from to w : ℕ) → from ≤ to → to ≤ n → (n - from) * w ≡ (to - from) * w + (n - to) * w
 split_times n from to w h k = let e : n - from ≡ (to - from) + (n - to) = omega arith in ap (λ m. m * w) e ∙ (omega arith)

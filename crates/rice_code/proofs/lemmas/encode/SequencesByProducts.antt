@@ -15,7 +15,7 @@ use Rattle.rice_samples.proofs.lemmas.blocks.EightsInLanes.{lanes_below_digits, 
 use Rattle.rice_bits.specs.Bits.{word, number_of, fundamental_sequence}
 use Rattle.rice_bits.proofs.lemmas.bits.WordsAndNumbers.{word-cat, word-fs, word-number_of, number_of-word, number_of-lt, join_below, length-fundamental_sequence}
 use Rattle.rice_samples.proofs.lemmas.predict.NearEights.{select_min}
-use Rattle.rice_code.specs.declared.encode.sequences_by_products.TheConstants.{WEIGHTS}
+use Rattle.rice_code.specs.declared.fast.encode.sequences_by_products.TheConstants.{WEIGHTS}
 use Rattle.rice_code.specs.encode.GatheredSequences.{HasDigits}
 use Rattle.rice_code.specs.encode.SequencesByProducts.{joined_values, joined_weights}
 use Rattle.rice_code.proofs.lemmas.encode.JoinedWords.{one_fits}

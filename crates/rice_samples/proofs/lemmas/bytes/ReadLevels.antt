@@ -4,8 +4,8 @@ use Rattle.std.proofs.Math.Nat.{le-div_iff_mul-le}
 use Rattle.std.proofs.lemmas.List.{take-append-drop, take-map, take_all}
 use Rattle.rice_samples.specs.Parameters.{Parameters, IsSample, value_at, value_count, values_at, width}
 use Rattle.rice_samples.specs.bytes.LevelRow.{IsRowRead, held_levels}
-use Rattle.rice_samples.specs.declared.bytes.level_row.Held.{Held}
-use Rattle.rice_samples.specs.declared.bytes.level_row.Held.TheVariants.{Bytes, Halves, Words}
+use Rattle.rice_samples.specs.declared.fast.level_row.Held.{Held}
+use Rattle.rice_samples.specs.declared.fast.level_row.Held.TheVariants.{Bytes, Halves, Words}
 use Rattle.rice_samples.specs.bytes.Spelling.{IsNoSpelling, Reads, ReadsSamples, spelling, spellings}
 use Rattle.rice_samples.proofs.lemmas.setting.ValuesAtLevels.{legal_values, length-values}
 

@@ -1,47 +1,30 @@
-use Rattle.std.specs.Prelude.{All}
-use Rattle.std.proofs.Common.{◌≡◌, ◌+◌, ◌*◌, ◌/◌, ◌++◌, ◌∙◌, ap, arith, length, subst, take, ◌<◌}
-use Rattle.std.proofs.lemmas.List.{take_all}
+use Rattle.std.proofs.Common.{arith, ◌+◌, ◌/◌, length, take}
 use Rattle.rice_samples.proofs.lemmas.blocks.PairNumbers.{count_pairs}
+use Rattle.rice_code.proofs.lemmas.decode.RowsOfFields.{pairs-none, pairs-more, sequences-stop, two_more}
 use Rattle.rice_samples.specs.blocks.Pairs.{pair_codes}
-use Rattle.rice_code.proofs.lemmas.decode.RowsOfFields.{counted-both, pairs-both, pairs-whole, put_rest, sequences-stop_behind}
 use Rattle.std.proofs.lemmas.Result.{err_from_is_err_and}
 use Rattle.rice_code.proofs.decode.pairs.read_pairs.Goals as goal
 
-pub returns-then-some-count-clause-ok : goal.returns-then-some-count-clause-ok
-returns-then-some-count-clause-ok g c =
-    let w = c.take_waiting_pairs-some in
-    pairs-whole w.ensures.taken.row (omega (arith, c.if-some-count.true)) (omega (arith, w.auto.out, c.requires.even))
+pub loop-done-init : goal.loop-done-init
+loop-done-init g c = record {
+  row = pairs-none c.args.reader.now c.args.meter.now c.requires.going;
+  limit = c.requires.room.limit;
+}
 
-pub returns-then-some-count-clause-few : goal.returns-then-some-count-clause-few
-returns-then-some-count-clause-few g c =
-    let w = c.take_waiting_pairs-some in
-    λ _. subst (λ xs. All (λ d. d < 64) xs) (take_all (w.result + w.result) w.new.out (omega (arith, c.if-some-count.true, w.auto.out, c.requires.even))) w.ensures.taken.few
-
-pub returns-in_err-read_pairs_one_by_one-clause-err : goal.returns-in_err-read_pairs_one_by_one-clause-err
-returns-in_err-read_pairs_one_by_one-clause-err g c =
-    let w = c.take_waiting_pairs-some in
-    let front = take (w.result + w.result) w.new.out in
+pub returns-in_err-g-clause-err : goal.returns-in_err-g-clause-err
+returns-in_err-g-clause-err g c =
+    let r = c.loop-done.invariant.row in
+    let e = c.in_err-g.ensures.err r.takes.going in
+    let values = take (c.loop-done.done + c.loop-done.done) c.loop-done.out in
     let p = err_from_is_err_and c.from_residual.result c.from_residual.ensures.1 in
-    rw (p.1, p.2) (sequences-stop_behind (pair_codes front) (length c.args.out.now / 2) w.ensures.taken.row.takes
-    (omega (arith, count_pairs w.result front w.ensures.taken.row.len, w.ensures.within, w.auto.out, c.read_pairs_one_by_one.auto.out)) c.in_err-read_pairs_one_by_one.ensures.err)
+    rw (p.1, p.2) (sequences-stop (pair_codes values) (length c.args.out.now / 2)
+    e.0 r.takes (omega (arith, count_pairs c.loop-done.done values r.len, c.loop-done-test.true)) e.1)
 
-pub returns-in_err-read_pairs_one_by_one-clause-steps : goal.returns-in_err-read_pairs_one_by_one-clause-steps
-returns-in_err-read_pairs_one_by_one-clause-steps g c =
-    let w = c.take_waiting_pairs-some in
-    counted-both c.args.meter.now w.new.meter c.read_pairs_one_by_one.new.meter c.args.reader.now.taken w.new.reader.taken c.read_pairs_one_by_one.new.reader.taken w.ensures.taken.counted
-    c.in_err-read_pairs_one_by_one.ensures.steps
-
-pub returns-clause-steps : goal.returns-clause-steps
-returns-clause-steps g c =
-    let w = c.take_waiting_pairs-some in
-    counted-both c.args.meter.now w.new.meter c.read_pairs_one_by_one.new.meter c.args.reader.now.taken w.new.reader.taken c.read_pairs_one_by_one.new.reader.taken w.ensures.taken.counted
-    c.in_ok-read_pairs_one_by_one.ensures.steps
-
-pub returns-clause-ok : goal.returns-clause-ok
-returns-clause-ok g c =
-    let w = c.take_waiting_pairs-some in
-    let rest = c.read_pairs_one_by_one.new.out in
-    let twice : 2 * w.result ≡ w.result + w.result = omega arith in
-    pairs-both
-    w.ensures.taken.row c.in_ok-read_pairs_one_by_one.ensures.ok (omega (arith, w.ensures.within, w.auto.out, c.read_pairs_one_by_one.auto.out))
-    (put_rest (2 * w.result) w.new.out rest (omega (arith, w.ensures.within, w.auto.out)) ∙ ap (λ k. take k w.new.out ++ rest) twice)
+pub loop-done-preserved : goal.loop-done-preserved
+loop-done-preserved g c = record {
+  row = pairs-more c.pair_by_search-a.result.0 c.pair_by_search-a.result.1 c.take_fs.new.meter
+      c.loop-done.invariant.row c.in_ok-g.ensures.ok (record { code = c.pair_by_search-a.ensures.pair; most = c.pair_by_search-a.ensures.turns }) c.in_ok-g.ensures.steps
+      c.pair_by_search-a.ensures.steps
+      (two_more c.loop-done.done c.loop-done.out c.pair_by_search-a.result.0 c.pair_by_search-a.result.1 (omega (arith, c.loop-done-test.true, c.loop-done.auto.out)));
+  limit = c.in_ok-g.ensures.most;
+}

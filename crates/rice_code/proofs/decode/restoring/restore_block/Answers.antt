@@ -1,25 +1,30 @@
-use Rattle.std.proofs.Common.{arith, ◌≡◌, ◌-◌, ◌∙◌, ap, sym, length, slice_index_or}
-use Rattle.rice_samples.specs.Parameters.{value_at, values_at}
-use Rattle.rice_samples.specs.predict.Residuals.{last_of}
-use Rattle.rice_samples.proofs.lemmas.setting.ValuesAtLevels.{last_value}
-use Rattle.rice_code.specs.code.Blocks.{block_data}
-use Rattle.rice_code.proofs.lemmas.decode.RestoredBlocks.{refill_all}
+use Rattle.std.proofs.Common.{arith, rules, ◌≡◌, ap, ◌∙◌, w64, to_z, of_z, length, take}
+use Rattle.std.proofs.lemmas.Int.{to_z-of_z}
+use Rattle.std.proofs.Math.Seq.{take-length}
+use mir.Val.{SFits}
+use Rattle.rice_code.proofs.lemmas.decode.RestoredBlocks.{contents_are}
+use Rattle.rice_code.proofs.lemmas.decode.SamplesRestored.{restored-none, restored-more}
 use Rattle.rice_code.proofs.decode.restoring.restore_block.Goals as goal
+
+pub loop-i-init : goal.loop-i-init
+loop-i-init c = rw (to_z-of_z w64 c.args.p c.ranges.p, c.clear.ensures) (restored-none c.args.setting.now c.args.block c.args.p c.args.reference c.args.residuals.now c.requires.before)
+
+pub loop-i-preserved : goal.loop-i-preserved
+loop-i-preserved c =
+    let r : SFits w64 c.sample_of_residual-last.result = search rules in
+    let items = rw (to_z-of_z w64 c.sample_of_residual-last.result r) at c.push.ensures.items in
+    rw (to_z-of_z w64 c.sample_of_residual-last.result r, items)
+    (restored-more (to_z w64 c.loop-i.last-bits) c.sample_of_residual-last.result
+    c.loop-i.invariant c.requires.form.reference (omega (arith, c.loop-i-test.true, c.requires.form.len)) c.requires.form.len c.sample_of_residual-last.ensures.sample
+    c.sample_of_residual-last.ensures.residual c.sample_of_residual-last.ensures.reference)
+
+pub push-requires : goal.push-requires
+push-requires c = omega (arith, c.loop-i.invariant.len)
 
 pub returns-clause-contents : goal.returns-clause-contents
 returns-clause-contents c =
-    let len = c.requires.form.len in
-    let s = c.args.setting.now in
-    ap (λ ls. block_data s c.args.block (value_at s c.args.before) (values_at s ls)) (refill_all c.set_len_of_levels.new.levels.items c.write_levels.new.levels (omega arith))
-    ∙ c.write_levels.ensures.contents
-
-pub returns-clause-last : goal.returns-clause-last
-returns-clause-last c =
-    let len = c.requires.form.len in
-    let s = c.args.setting.now in
-    let p = value_at s c.args.before in
-    let ls = c.write_levels.new.levels in
-    let all = refill_all c.set_len_of_levels.new.levels.items ls (omega arith) in
-    let n : length c.args.residuals.now - 1 ≡ length ls - 1 = omega arith in
-    let whole = c.as_slice.ensures.value ∙ all in
-    (λ j. value_at s (slice_index_or (whole j) (n j) 0)) ∙ (last_value s p ls (omega arith) ∙ ap (λ xs. last_of p (values_at s xs)) (sym all))
+    let inv = rw (to_z-of_z w64 c.args.p c.ranges.p) at c.loop-i.invariant in
+    let n : c.loop-i.i ≡ length c.args.residuals.now = omega (arith, c.loop-i-test.false, c.loop-i.auto.i-end, c.requires.form.len, c.block-i-end.ensures.value) in
+    let whole : take c.loop-i.i c.args.residuals.now ≡ c.args.residuals.now = ap (λ k. take k c.args.residuals.now) n ∙ take-length c.args.residuals.now in
+    contents_are c.args.setting.now c.args.block c.args.p c.args.reference c.args.residuals.now c.loop-i.samples.items c.requires.form.reference (inv.same ∙ whole)
+    (inv.first (omega (arith, c.loop-i-test.false, c.block-i-end.ensures.range)))

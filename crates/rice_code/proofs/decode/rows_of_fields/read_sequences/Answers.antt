@@ -1,24 +1,33 @@
-use Rattle.std.proofs.Common.{arith, length, take}
-use Rattle.std.proofs.lemmas.List.{length-take-le}
-use Rattle.std.proofs.lemmas.Bool.{iff_false}
-use Rattle.rice_code.proofs.lemmas.decode.RowsOfFields.{counts-both, counts-judged, put_rest, sequences-stop_behind}
+use Rattle.std.proofs.Common.{arith, length, refl, take, ◌∙◌}
+use Rattle.std.proofs.lemmas.Bool.{leb-true, leb-false}
+use Rattle.std.proofs.Math.Nat.{min-eq_left}
+use Rattle.rice_code.proofs.lemmas.decode.RowsOfFields.{row_of_counts-none, row_of_counts-more, row_of_counts-whole, sequences-stop}
 use Rattle.std.proofs.lemmas.Result.{err_from_is_err_and}
 use Rattle.rice_code.proofs.decode.rows_of_fields.read_sequences.Goals as goal
 
-pub returns-in_err-small-clause-err : goal.returns-in_err-small-clause-err
-returns-in_err-small-clause-err g c =
-    let waiting = c.take_waiting_fs-some in
-    let now = waiting.new.zeros in
-    let p = err_from_is_err_and c.from_residual.result c.from_residual.ensures.1 in
-    rw (p.1, p.2) (sequences-stop_behind (take waiting.result now) (length c.args.counts.now) waiting.ensures.takes
-    (omega (arith, length-take-le waiting.result now waiting.ensures.within, waiting.auto.zeros, waiting.ensures.within, c.read_sequences_one_by_one.auto.counts)) c.in_err-small.ensures.err)
+pub loop-done-init : goal.loop-done-init
+loop-done-init g c = record {
+  row = row_of_counts-none c.args.reader.now c.args.most (take 0 c.args.counts.now) refl c.requires.going;
+  steps = refl;
+  limit = c.requires.room.limit;
+}
 
-pub returns-then-some-counts-clause-ok : goal.returns-then-some-counts-clause-ok
-returns-then-some-counts-clause-ok g c =
-    let waiting = c.take_waiting_fs-some in
-    let now = waiting.new.zeros in
-    let rest = c.read_sequences_one_by_one.new.counts in
-    counts-judged _ (counts-both (length c.args.counts.now) now
-    waiting.ensures.within waiting.ensures.takes c.in_ok-small.ensures.ok (omega (arith, waiting.auto.zeros, waiting.ensures.within, c.read_sequences_one_by_one.auto.counts))
-    (put_rest waiting.result now rest waiting.ensures.within))
-    c.are_below.ensures.0 (iff_false c.are_below.ensures)
+pub returns-in_err-zeros-clause-err : goal.returns-in_err-zeros-clause-err
+returns-in_err-zeros-clause-err g c =
+    let r = c.loop-done.invariant.row in
+    let e = c.in_err-zeros.ensures.err r.takes.going in
+    let p = err_from_is_err_and c.from_residual.result c.from_residual.ensures.1 in
+    rw (p.1, p.2) (sequences-stop r.values (length c.args.counts.now) e.0 r.takes (omega (arith, r.len, c.loop-done-test.true, c.loop-done.auto.counts)) e.1)
+
+pub returns-clause-ok : goal.returns-clause-ok
+returns-clause-ok g c = row_of_counts-whole c.loop-done.invariant.row (omega (arith, c.loop-done-test.false, c.loop-done.auto)) c.loop-done.auto.counts
+
+pub loop-done-preserved : goal.loop-done-preserved
+loop-done-preserved g c = record {
+  row = row_of_counts-more _ c.in_ok-zeros.zeros c.min.result c.loop-done.counts (omega (arith, c.loop-done-test.true, c.loop-done.auto.counts))
+      c.loop-done.invariant.row c.in_ok-zeros.ensures.ok
+      (λ e. (c.min.ensures ∙ min-eq_left (leb-true c.in_ok-zeros.zeros c.args.most e), leb-true c.in_ok-zeros.zeros c.args.most e))
+      (λ e. leb-false c.in_ok-zeros.zeros c.args.most e);
+  steps = omega (arith, c.in_ok-zeros.ensures.steps, c.loop-done.invariant.steps);
+  limit = c.in_ok-zeros.ensures.most;
+}

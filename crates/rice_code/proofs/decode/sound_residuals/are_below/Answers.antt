@@ -1,12 +1,16 @@
-use Rattle.std.proofs.Common.{◌<◌, ◌↔◌, arith, subst}
-use Rattle.std.specs.Prelude.{All, IsTrue}
+use Rattle.std.proofs.Common.{◌≡◌, ◌<◌, arith, take, subst}
+use Rattle.std.specs.Prelude.{All}
+use Rattle.std.proofs.lemmas.Bool.{true_from_ne_false}
 use Rattle.std.proofs.lemmas.List.{take_all}
+use Rattle.rice_code.proofs.lemmas.decode.JoinedResiduals.{below-more}
 use Rattle.rice_code.proofs.decode.sound_residuals.are_below.Goals as goal
 
-pub returns-in-7 : goal.returns-in-7
-returns-in-7 c =
-    subst (λ xs. IsTrue c.are_below_of_any_number.result ↔ All (λ d. d < c.args.count) xs) (take_all 7 c.args.residuals.now (omega (arith, c.in-7.is))) c.are_below_of_any_number.ensures
+pub loop-i-preserved : goal.loop-i-preserved
+loop-i-preserved c =
+    let more = below-more c.args.count c.args.residuals.now c.loop-i.i c.loop-i.all c.loop-i-test.true c.requires.0 c.loop-i.invariant.below c.loop-i.invariant.not_below in
+    record { below = more.0; not_below = more.1 }
 
-pub returns-in-8 : goal.returns-in-8
-returns-in-8 c =
-    subst (λ xs. IsTrue c.are_below_of_any_number-in-8.result ↔ All (λ d. d < c.args.count) xs) (take_all 8 c.args.residuals.now (omega (arith, c.in-8.is))) c.are_below_of_any_number-in-8.ensures
+pub returns : goal.returns
+returns c =
+    let whole : take c.loop-i.i c.args.residuals.now ≡ c.args.residuals.now = take_all c.loop-i.i c.args.residuals.now (omega (arith, c.loop-i-test.false)) in
+    (λ e. subst (λ xs. All (λ d. d < c.args.count) xs) whole (c.loop-i.invariant.below e), λ all. true_from_ne_false c.loop-i.all (λ no. c.loop-i.invariant.not_below no all))

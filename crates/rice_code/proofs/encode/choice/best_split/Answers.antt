@@ -1,25 +1,18 @@
-use Rattle.std.proofs.Common.{◌+◌, ap, arith}
-use Rattle.rice_samples.proofs.lemmas.blocks.FallingSums.{cut_sum, sum_halves}
-use Rattle.rice_code.proofs.lemmas.cost.SplitSavings.{sum_stop_is_best}
-use Rattle.rice_code.proofs.lemmas.encode.ChoiceLemmas.{best_split_is, small_sum}
+use Rattle.std.proofs.Common.{arith}
+use Rattle.rice_code.proofs.lemmas.cost.SplitSavings.{best_where_it_stops, best_where_it_ends, first_more}
+use Rattle.rice_code.proofs.lemmas.encode.ChoiceLemmas.{best_split_is}
 use Rattle.rice_code.proofs.encode.choice.best_split.Goals as goal
 
+pub returns-then-next-least-clause-best : goal.returns-then-next-least-clause-best
+returns-then-next-least-clause-best c =
+    best_where_it_stops c.args.setting.now c.args.block.now c.loop-best.best c.loop-best.invariant.at_most c.loop-best.invariant.first
+    (omega (arith, c.loop-best.invariant.value, c.split_cost-next.ensures.value, c.if-next-least.true))
+
+pub returns-then-next-least-clause-named : goal.returns-then-next-least-clause-named
+returns-then-next-least-clause-named c = best_split_is c.args.setting.now c.args.block.now c.loop-best.best (returns-then-next-least-clause-best c)
+
 pub returns-clause-best : goal.returns-clause-best
-returns-clause-best c =
-    let stop = c.split_stop-k.ensures.stop in
-    let len = c.coded_len-coded.ensures.value in
-    sum_stop_is_best c.args.setting.now c.args.block.now c.split_stop-k.result.0 c.requires.sound.zero stop.limit
-    (λ j lt. omega (arith, stop.falls j lt, len))
-    (λ lt. omega (arith, stop.stops lt, len))
+returns-clause-best c = best_where_it_ends c.args.setting.now c.args.block.now c.loop-best.best (omega arith) c.loop-best.invariant.first
 
 pub returns-clause-named : goal.returns-clause-named
-returns-clause-named c = best_split_is c.args.setting.now c.args.block.now c.split_stop-k.result.0 (returns-clause-best c)
-
-pub returns-clause-small : goal.returns-clause-small
-returns-clause-small c = λ none.
-    let ds = c.args.block.now.residuals in
-    let k = c.split_stop-k.result.0 in
-    let here = ap (cut_sum ds) none in
-    let next = ap (λ n. cut_sum ds (n + 1)) none in
-    let stops = c.split_stop-k.ensures.stop.stops (omega (arith, none)) in
-    small_sum ds (omega (arith, here, next, stops, sum_halves ds 0, c.coded_len-coded.ensures.limit))
+returns-clause-named c = best_split_is c.args.setting.now c.args.block.now c.loop-best.best (returns-clause-best c)

@@ -13,7 +13,7 @@ returns c =
     let body = fundamental_sequence (zeros_of_run c.args.to_end c.args.z) in
     let head = ap (λ n. word (n + 1) 0) c.id_len-id.ensures.value ∙ word_flag_zero (id_len s) in
     let one = ap (λ z. c.args.sink.now ++ z) head in
-    let two = c.put.ensures.bits ∙ (c.begin_set-fields.ensures.bits ∙ ap (λ z. z ++ ref) one) in
+    let two = c.put_head.ensures.bits ∙ ap (λ z. z ++ ref) one in
     let three = c.put_fs.ensures.bits ∙ (λ i. two i ++ fundamental_sequence (c.sent_zeros.ensures.value i)) in
     let cost = run_cost s c.args.to_end c.args.reference c.args.z in
     record {

@@ -1,28 +1,32 @@
-use Rattle.std.proofs.Common.{◌≡◌, ◌∙◌, ap, length}
-use Rattle.std.proofs.lemmas.Option.{IfSome_then}
-use Rattle.rice_samples.specs.Parameters.{values_at}
-use Rattle.rice_samples.proofs.lemmas.setting.ValuesAtLevels.{length-values}
+use Rattle.std.proofs.Common.{arith, rules, ◌-◌, ◌∙◌, refl, w64}
+use Rattle.std.proofs.lemmas.Int.{to_z-of_z}
+use mir.Val.{SFits}
+use Rattle.rice_code.proofs.lemmas.decode.DecoderLemmas.{place_moves, goes_on}
 use Rattle.rice_code.proofs.decode.decoder.Decoder.next_block.Goals as goal
 
--- the samples are those at the levels
-told : (g : _) (c : goal.After-write_values_at_levels g) → c.write_values_at_levels.new.values.items ≡ values_at c.args.self.now.setting c.next_levels-answer.new.levels.items
-told g c =
-    let levels = c.next_levels-answer in
-    let same : c.self.inside.setting ≡ c.args.self.now.setting = ap (λ p. p.setting) c.self.view_is ∙ levels.ensures.setting in
-    c.write_values_at_levels.ensures ∙ (λ j. values_at (same j) (c.as_slice.ensures.value j))
+pub invariant_of-self : goal.invariant_of-self
+invariant_of-self g c =
+    let st = c.self.inside in
+    let state = c.self.invariant in
+    let last = c.restore_zero_block-self-inside in
+    let f : SFits w64 last.result = search rules in
+    rw (to_z-of_z w64 last.result f) (place_moves (st.run - 1) last.result st.stopped
+    state.legal state.within c.next_place-self-inside.ensures last.ensures.sample
+    (λ h. omega (arith, state.run_fits c.if-self-gt0.true)) state.no_block)
 
-pub returns-clause-stopped : goal.returns-clause-stopped
-returns-clause-stopped g c = IfSome_then c.args.self.now.stopped c.next_levels-answer.ensures.stopped (λ a h. (h.0, told g c ∙ ap (values_at c.args.self.now.setting) h.1, h.2, h.3, h.4))
-
-pub returns-clause-in_run : goal.returns-clause-in_run
-returns-clause-in_run g c none run = rw (told g c) (c.next_levels-answer.ensures.in_run none run)
-
-pub returns-clause-reads : goal.returns-clause-reads
-returns-clause-reads g c none run = rw (told g c) (c.next_levels-answer.ensures.reads none run)
-
-pub returns-clause-waiting : goal.returns-clause-waiting
-returns-clause-waiting g c =
-    let levels = c.next_levels-answer in
-    let count : length c.write_values_at_levels.new.values.items ≡ length levels.new.levels.items
-    = ap length c.write_values_at_levels.ensures ∙ length-values c.self.inside.setting _ ∙ ap length c.as_slice.ensures.value in
-    rw count levels.ensures.waiting
+pub returns-then-self-gt0-clause-in_run : goal.returns-then-self-gt0-clause-in_run
+returns-then-self-gt0-clause-in_run g c none pos =
+    let st = c.self.inside in
+    let last = c.restore_zero_block-self-inside in
+    let f : SFits w64 last.result = search rules in
+    let b : SFits w64 st.before = search rules in
+    rw (← c.self.view_is, to_z-of_z w64 last.result f) (
+      refl,
+      goes_on st.setting st.block st.before st.stopped c.if-self-gt0.true c.next_place-self-inside.ensures (rw (to_z-of_z w64 st.before b) at last.ensures.last) (record {
+        len = last.ensures.len;
+        legal = last.ensures.legal;
+        block_is = rw (to_z-of_z w64 st.before b) at last.ensures.contents;
+      }),
+      refl,
+      refl,
+    )

@@ -1,9 +1,0 @@
-use Rattle.std.proofs.Common.{◌+◌, ◌^◌, ◌≤◌, take}
-use Rattle.rice_code.specs.decode.RowsOfFields.{PairRow}
-use Rattle.rice_code.proofs.decode.pairs.read_pairs_one_by_one.Given as goal
-
-abbrev pub invariant-loop-done : goal.invariant-loop-done
-invariant-loop-done g l = record {
-  row : PairRow l.fn.reader l.reader l.done (take (l.done + l.done) l.out) l.fn.meter l.meter;
-  limit : l.reader.taken ≤ 2 ^ 52;
-}

@@ -1,0 +1,117 @@
+use Rattle.std.proofs.Common.{arith, ◌≡◌, ◌-◌, ◌∙◌, ap, refl, subst, true, []}
+use Rattle.std.proofs.lemmas.Grind.{common_steps}
+use Rattle.rice_samples.specs.Parameters.{value_at, values_at}
+use Rattle.rice_samples.proofs.lemmas.setting.ValuesAtLevels.{legal_values, length-values}
+use Rattle.rice_code.specs.decode.Decoder.{TakesSet, StopsBy, answer_to, with_mark}
+use Rattle.rice_code.proofs.lemmas.decode.DecoderLemmas.{answers_block, answers_stop, block_given, run_given, samples_by_bits, stops_by}
+use Rattle.rice_code.proofs.fast.decode.decoder.FastDecoder.read_set_and_restore_block.Goals as goal
+
+pub returns-else-not-sound-clause-reads : goal.returns-else-not-sound-clause-reads
+returns-else-not-sound-clause-reads g c =
+    let st = c.self.inside in
+    let last = c.restore_block-last in
+    let s = st.setting in
+    let p = value_at s st.before in
+    let ls = last.new.levels.items in
+    let marks = c.mark.ensures.going c.requires.going in
+    let read = rw (c.in-Ok-Residuals.field-0-is, c.if-not-sound.false) at c.in-Ok-Residuals.ensures.ok in
+    let set = block_given p c.in-Ok-Residuals.reference c.in-Ok-Residuals.near (values_at s ls)
+    read (length-values s ls ∙ last.ensures.len) (legal_values s ls last.ensures.legal) last.ensures.contents in
+    rw (← c.self.view_is, c.go_to_next_block.ensures.block)
+    (answers_block c.args.reader.now c.go_to_next_block.new.meter
+    (record { setting = st.setting; block = st.block; before = value_at st.setting st.before; run = st.run; stopped = st.stopped })
+    (subst (λ r. TakesSet r c.read_set.new.reader c.args.meter.now c.read_set.new.meter s st.block p (values_at s ls) 0) marks set) c.go_to_next_block.ensures.skips c.go_to_next_block.ensures.steps
+    last.ensures.last c.go_to_next_block.ensures.moves)
+
+pub returns-else-not-sound-clause-steps : goal.returns-else-not-sound-clause-steps
+returns-else-not-sound-clause-steps g c =
+    let same : c.mark.new.self.taken ≡ c.args.reader.now.taken = ap (λ r. r.taken) (c.mark.ensures.going c.requires.going) in
+    let read = c.read_set.ensures.steps in
+    record {
+      forward = omega (arith, same, read.forward, c.go_to_next_block.ensures.few);
+      limit = c.go_to_next_block.ensures.limit;
+      least = omega (arith, same, read.least, c.go_to_next_block.ensures.steps);
+      most = omega (arith, same, read.most, c.go_to_next_block.ensures.steps, c.go_to_next_block.ensures.few);
+    }
+
+pub returns-else-not-sound-clause-waiting : goal.returns-else-not-sound-clause-waiting
+returns-else-not-sound-clause-waiting g c =
+    let st = c.self.inside in
+    let last = c.restore_block-last in
+    let s = st.setting in
+    let p = value_at s st.before in
+    let ls = last.new.levels.items in
+    let read = rw (c.in-Ok-Residuals.field-0-is, c.if-not-sound.false) at c.in-Ok-Residuals.ensures.ok in
+    let set = block_given p c.in-Ok-Residuals.reference c.in-Ok-Residuals.near (values_at s ls)
+    read (length-values s ls ∙ last.ensures.len) (legal_values s ls last.ensures.legal) last.ensures.contents in
+    let same : c.mark.new.self.taken ≡ c.args.reader.now.taken = ap (λ r. r.taken) (c.mark.ensures.going c.requires.going) in
+    let bound = samples_by_bits c.self.invariant.1.legal set in
+    let waits : c.go_to_next_block.new.self.run ≡ 0 = ap (λ r. r.run) c.go_to_next_block.ensures.moves in
+    rw waits (omega (arith, bound, same, c.go_to_next_block.ensures.few))
+
+pub returns-in-Some-clause-reads : goal.returns-in-Some-clause-reads
+returns-in-Some-clause-reads g c =
+    let st = c.self.inside in
+    let last = c.restore_zero_block-last in
+    let s = st.setting in
+    let p = value_at s st.before in
+    let ls = last.new.levels.items in
+    let marks = c.mark.ensures.going c.requires.going in
+    let run = c.in-Some.ensures in
+    let set = run_given c.in-Ok-Zeros.reference c.in-Ok-Zeros.zeros c.in-Some.count
+    (rw c.in-Ok-Zeros.field-0-is at c.in-Ok-Zeros.ensures.ok) (run.sound c.in-Ok-Zeros.reference) (run.blocks c.in-Ok-Zeros.reference)
+    (length-values s ls ∙ last.ensures.len) (legal_values s ls last.ensures.legal) last.ensures.contents in
+    rw (← c.self.view_is, c.go_to_next_block-in-Some.ensures.block)
+    (answers_block c.args.reader.now c.go_to_next_block-in-Some.new.meter
+    (record { setting = st.setting; block = st.block; before = value_at st.setting st.before; run = st.run; stopped = st.stopped })
+    (subst (λ r. TakesSet r c.read_set.new.reader c.args.meter.now c.read_set.new.meter s st.block p (values_at s ls) (c.in-Some.count - 1)) marks set)
+    c.go_to_next_block-in-Some.ensures.skips c.go_to_next_block-in-Some.ensures.steps
+    last.ensures.last c.go_to_next_block-in-Some.ensures.moves)
+
+pub returns-in-Some-clause-steps : goal.returns-in-Some-clause-steps
+returns-in-Some-clause-steps g c =
+    let same : c.mark.new.self.taken ≡ c.args.reader.now.taken = ap (λ r. r.taken) (c.mark.ensures.going c.requires.going) in
+    let read = c.read_set.ensures.steps in
+    record {
+      forward = omega (arith, same, read.forward, c.go_to_next_block-in-Some.ensures.few);
+      limit = c.go_to_next_block-in-Some.ensures.limit;
+      least = omega (arith, same, read.least, c.go_to_next_block-in-Some.ensures.steps);
+      most = omega (arith, same, read.most, c.go_to_next_block-in-Some.ensures.steps, c.go_to_next_block-in-Some.ensures.few);
+    }
+
+pub returns-in-Some-clause-waiting : goal.returns-in-Some-clause-waiting
+returns-in-Some-clause-waiting g c =
+    let st = c.self.inside in
+    let last = c.restore_zero_block-last in
+    let s = st.setting in
+    let p = value_at s st.before in
+    let ls = last.new.levels.items in
+    let run = c.in-Some.ensures in
+    let set = run_given c.in-Ok-Zeros.reference c.in-Ok-Zeros.zeros c.in-Some.count
+    (rw c.in-Ok-Zeros.field-0-is at c.in-Ok-Zeros.ensures.ok) (run.sound c.in-Ok-Zeros.reference) (run.blocks c.in-Ok-Zeros.reference)
+    (length-values s ls ∙ last.ensures.len) (legal_values s ls last.ensures.legal) last.ensures.contents in
+    let same : c.mark.new.self.taken ≡ c.args.reader.now.taken = ap (λ r. r.taken) (c.mark.ensures.going c.requires.going) in
+    let bound = samples_by_bits c.self.invariant.1.legal set in
+    let moves = c.go_to_next_block-in-Some.ensures.moves in
+    let waits : c.go_to_next_block-in-Some.new.self.run ≡ c.in-Some.count - 1 = ap (λ r. r.run) moves in
+    let size : c.go_to_next_block-in-Some.new.self.setting.block ≡ st.setting.block = ap (λ r. r.setting.block) moves in
+    rw (waits, size) (omega (arith, bound, same, c.go_to_next_block-in-Some.ensures.few))
+
+pub returns-in-Err-clause-reads : goal.returns-in-Err-clause-reads
+returns-in-Err-clause-reads g c =
+    let st = c.self.inside in
+    let marks = c.mark.ensures.going c.requires.going in
+    let marked : c.mark.new.self.blank ≡ true = ap (λ r. r.blank) marks in
+    let none : values_at st.setting c.stop-in-Err.new.levels.items ≡ [] = rw c.stop-in-Err.ensures.samples refl in
+    let stops = stops_by c.mark.new.self c.read_set.new.reader c.args.meter.now c.read_set.new.meter st.setting st.block c.in-Err.fault marked c.in-Err.ensures.err in
+    rw (← c.self.view_is, c.stop-in-Err.ensures.answer, c.answer_of.ensures)
+    (answers_stop (with_mark c.args.reader.now) c.read_set.new.reader c.args.meter.now c.read_set.new.meter
+    (record { setting = st.setting; block = st.block; before = value_at st.setting st.before; run = st.run; stopped = st.stopped }) (answer_to c.in-Err.fault)
+    (subst (λ r. StopsBy r c.read_set.new.reader c.args.meter.now c.read_set.new.meter st.setting st.block (answer_to c.in-Err.fault)) marks stops)
+    (rw c.answer_of.ensures at c.stop-in-Err.ensures.stops) none)
+
+pub returns-then-not-sound-clause-reads : goal.returns-then-not-sound-clause-reads
+returns-then-not-sound-clause-reads g c = grind (arith, common_steps)
+
+pub returns-in-None-clause-reads : goal.returns-in-None-clause-reads
+returns-in-None-clause-reads g c = grind (arith, common_steps)

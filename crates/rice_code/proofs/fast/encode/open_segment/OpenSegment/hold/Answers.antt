@@ -1,0 +1,32 @@
+use Rattle.std.proofs.Common.{rules, ◌≡◌, ◌<◌, ◌&&◌, ℕ, Bool, true, false, Option, Some, subst, sym, w64}
+use Rattle.std.specs.Prelude.{IfSome, if◌then◌else◌}
+use Rattle.rice_samples.specs.Parameters.{IsSample, value_count}
+use Rattle.std.proofs.lemmas.Int.{to_z-of_z}
+use Rattle.rice_code.specs.encode.OpenSegment.{CoderState}
+use Rattle.rice_samples.proofs.lemmas.setting.LevelsOfSamples.{pattern_fits}
+use Rattle.rice_samples.proofs.lemmas.setting.ValuesAboveLeast.{sample_at}
+use Rattle.rice_code.proofs.fast.encode.open_segment.OpenSegment.hold.Goals as goal
+
+-- the reference fits that was there, or the one that is noted
+noted_fits : (b : Bool) (word : ℕ) (old new : Option ℕ) (count : ℕ) → new ≡ (if b then Some word else old) → word < count → IfSome old (λ v. v < count) → IfSome new (λ v. v < count)
+noted_fits true word old new count e fits was = subst (λ r. IfSome r (λ v. v < count)) (sym e) fits
+noted_fits false word old new count e fits was = subst (λ r. IfSome r (λ v. v < count)) (sym e) was
+
+pub invariant_of-self : goal.invariant_of-self
+invariant_of-self g c =
+    let same = to_z-of_z w64 c.args.x c.ranges.x in
+    let sample = subst (IsSample c.self.inside.setting) (sym same) (subst (λ (v : CoderState). IsSample v.setting c.args.x) (sym c.self.view_is) c.requires.sample) in (
+      c.level_of_sample-self-inside.ensures.below,
+      record {
+        legal = c.self.invariant.1.legal;
+        place = c.self.invariant.1.place;
+        begins = c.self.invariant.1.begins;
+        few = search rules;
+        previous = sample_at c.self.inside.setting c.level_of_sample-self-inside.result c.level_of_sample-self-inside.ensures.below;
+        reference = noted_fits (c.self.inside.setting.preprocess && c.is_first-first.result) _ c.self.inside.reference c.note_reference.new.reference
+            (value_count c.self.inside.setting) c.note_reference.ensures (pattern_fits c.self.inside.setting _ c.self.invariant.1.legal.bits_from sample)
+            c.self.invariant.1.reference;
+        ends = c.self.invariant.1.ends;
+      },
+      c.self.invariant.2,
+    )

@@ -1,0 +1,84 @@
+//! Reads one coded data set.
+ghost use Rattle.std.specs.Prelude.{◌≡◌, ◌-◌, ◌<◌, length, None, IfOk, IfErr};
+ghost use Rattle.rice_code.specs.decode.RowsOfFields.{HasRoom, AreCounted};
+ghost use Rattle.rice_code.specs.decode.ReadSets.{LowEntropyRead, LowEntropyCut, SetRead, SetCut};
+
+use crate::decode::options::{SetSummary, read_run};
+use crate::fast::decode::options::{read_no_compression, read_second_extension, read_split};
+use rice_bits::{BitFault, BitReader, Intake, Meter};
+use rice_samples::Setting;
+
+/// Reads what follows an identifier of zeros: a bit, and then a block by second extension or a run of zero blocks. `codes` is
+/// scratch space.
+fn read_low_entropy<I: Intake>(
+    setting: &Setting,
+    block: u64,
+    reader: &mut BitReader<I>,
+    meter: &mut Meter,
+    residuals: &mut [u32],
+    codes: &mut [u32],
+) -> Result<SetSummary, BitFault>
+    requires going { reader.old.refusal ≡ None }
+    requires room { HasRoom meter.old reader.old.taken }
+    requires size { length residuals.old ≡ setting.now.block }
+    requires codes { length codes.old ≡ 64 }
+    ensures ok { IfOk result (λ t. LowEntropyRead reader.old reader.new meter.old meter.new
+        setting.now block t residuals.new) }
+    ensures err { IfErr result
+        (LowEntropyCut reader.old reader.new meter.old meter.new setting.now block) }
+    ensures steps { AreCounted meter.old meter.new reader.old.taken reader.new.taken }
+{
+    let bit = reader.take(1, meter)?;
+    if bit == 0 {
+        let (reference, zeros) = read_run(setting, block, reader, meter)?;
+        return Ok(SetSummary::Zeros { reference, zeros });
+    }
+    let head = read_second_extension(setting, block, reader, meter, residuals, codes)?;
+    Ok(SetSummary::Residuals {
+        reference: head.reference,
+        sound: head.sound,
+        near: true,
+    })
+}
+
+/// Reads all bits of one coded data set, and refuses none that has its form. `highs` is scratch space.
+#[inline(always)]
+pub fn read_set<I: Intake>(
+    setting: &Setting,
+    block: u64,
+    reader: &mut BitReader<I>,
+    meter: &mut Meter,
+    residuals: &mut [u32],
+    highs: &mut [u32],
+) -> Result<SetSummary, BitFault>
+    requires going { reader.old.refusal ≡ None }
+    requires room { HasRoom meter.old reader.old.taken }
+    requires size { length residuals.old ≡ setting.now.block }
+    requires highs { length highs.old ≡ 64 }
+    ensures ok { IfOk result (λ t.
+        SetRead reader.old reader.new meter.old meter.new setting.now block t residuals.new) }
+    ensures err { IfErr result
+        (SetCut reader.old reader.new meter.old meter.new setting.now block) }
+    ensures steps { AreCounted meter.old meter.new reader.old.taken reader.new.taken }
+{
+    let width = setting.id_len();
+    let id = reader.take(width, meter)?;
+    if id == 0 {
+        let taken = read_low_entropy(setting, block, reader, meter, residuals, highs)?;
+        return Ok(taken);
+    }
+    if id == (1 << width) - 1 {
+        let head = read_no_compression(setting, block, reader, meter, residuals)?;
+        return Ok(SetSummary::Residuals {
+            reference: head.reference,
+            sound: head.sound,
+            near: false,
+        });
+    }
+    let head = read_split(setting, block, id - 1, reader, meter, residuals, highs)?;
+    Ok(SetSummary::Residuals {
+        reference: head.reference,
+        sound: head.sound,
+        near: true,
+    })
+}

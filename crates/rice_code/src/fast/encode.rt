@@ -1,0 +1,18 @@
+//! The coder of rows of samples. It does what the plain coder does, and its contracts are the same; it looks at several residuals at
+//! once, gathers fields before they are put, and counts the looks that the plain search takes.
+
+mod bit_buffer;
+mod blocks;
+mod choice;
+pub mod coder;
+mod cost;
+mod gathered_sequences;
+mod high_parts;
+mod low_parts;
+mod open_segment;
+mod options;
+mod pairs;
+mod prepared_setting;
+mod sequences_by_places;
+mod sequences_by_products;
+mod short_low_parts;
