@@ -9,16 +9,16 @@ ghost use Rattle.rice_stream.specs.DevicesInCalls.{Fails};
 ghost use Rattle.rice_stream.specs.declared.outcome.Fault.TheVariants.{Write};
 ghost use Rattle.rice_stream.specs.Decodes.{DecodesBetween, DecodesWithin, Reports, wanted_of, ended_fault, refusal_fault};
 
+use crate::gives::{GivesLevels, GivesRows};
 use crate::outcome::{Fault, Outcome, Report};
 use crate::patience::Patience;
 use crate::plain::{ROOM, blocks_wanted, decode_plain, is_plain};
+use crate::plain_decoder::Plain;
 use crate::runs::write_run;
 use crate::write::{write_block, write_counted, write_in_calls};
 use arrayvec::ArrayVec;
 use rice_bits::{BitReader, Intake, Meter, Outlet};
-use crate::gives::{GivesLevels, GivesRows};
-use crate::plain_decoder::Plain;
-use rice_code::{CodeFault, Decoder, Step, known_or};
+use rice_code::{CodeFault, FastDecoder, Step, known_or};
 use rice_samples::Setting;
 
 /// Returns how many samples of the next block are wanted after the first `written`.
@@ -110,10 +110,10 @@ pub fn decode<I: Intake, O: Outlet>(
         return decode_sizes::<I, O, 2>(setting, asked, intake, outlet);
     }
     if has_passes::<3>(setting) {
-        return decode_laid_out::<Decoder, I, O, 0, 3>(setting, asked, intake, outlet);
+        return decode_laid_out::<FastDecoder, I, O, 0, 3>(setting, asked, intake, outlet);
     }
     if has_passes::<4>(setting) {
-        return decode_laid_out::<Decoder, I, O, 0, 4>(setting, asked, intake, outlet);
+        return decode_laid_out::<FastDecoder, I, O, 0, 4>(setting, asked, intake, outlet);
     }
     if is_plain::<1>(setting) {
         return decode_plain::<I, O, 1>(setting, asked, intake, outlet);
@@ -124,7 +124,7 @@ pub fn decode<I: Intake, O: Outlet>(
     if is_plain::<4>(setting) {
         return decode_plain::<I, O, 4>(setting, asked, intake, outlet);
     }
-    decode_laid_out::<Decoder, I, O, 0, 0>(setting, asked, intake, outlet)
+    decode_laid_out::<FastDecoder, I, O, 0, 0>(setting, asked, intake, outlet)
 }
 
 /// As `decode`, by the decoder that gives a block a call.
@@ -173,22 +173,23 @@ fn decode_sizes<I: Intake, O: Outlet, const WIDTH: usize>(
     ensures idle { asked ≡ Some 0 → result.1 ≡ intake }
 {
     match setting.block() {
-        8 => decode_laid_out::<Decoder, I, O, 8, WIDTH>(setting, asked, intake, outlet),
-        16 => decode_laid_out::<Decoder, I, O, 16, WIDTH>(setting, asked, intake, outlet),
-        32 => decode_laid_out::<Decoder, I, O, 32, WIDTH>(setting, asked, intake, outlet),
-        64 => decode_laid_out::<Decoder, I, O, 64, WIDTH>(setting, asked, intake, outlet),
-        _ => decode_laid_out::<Decoder, I, O, 0, WIDTH>(setting, asked, intake, outlet),
+        8 => decode_laid_out::<FastDecoder, I, O, 8, WIDTH>(setting, asked, intake, outlet),
+        16 => decode_laid_out::<FastDecoder, I, O, 16, WIDTH>(setting, asked, intake, outlet),
+        32 => decode_laid_out::<FastDecoder, I, O, 32, WIDTH>(setting, asked, intake, outlet),
+        64 => decode_laid_out::<FastDecoder, I, O, 64, WIDTH>(setting, asked, intake, outlet),
+        _ => decode_laid_out::<FastDecoder, I, O, 0, WIDTH>(setting, asked, intake, outlet),
     }
 }
 
 /// Decodes blocks of `SIZE` samples, unless that is 0, of `WIDTH` bytes that may be decoded at one stroke, or of any kind where that is 0.
 #[inline(never)]
-fn decode_laid_out<D: GivesRows<SIZE, WIDTH>, I: Intake, O: Outlet, const SIZE: usize, const WIDTH: usize>(
-    setting: &Setting,
-    asked: Option<u64>,
-    intake: I,
-    outlet: &mut O,
-) -> (Outcome, I)
+fn decode_laid_out<
+    D: GivesRows<SIZE, WIDTH>,
+    I: Intake,
+    O: Outlet,
+    const SIZE: usize,
+    const WIDTH: usize,
+>(setting: &Setting, asked: Option<u64>, intake: I, outlet: &mut O) -> (Outcome, I)
     requires size { 0 < SIZE → SIZE ≡ setting.now.block }
     requires samples { 0 < WIDTH → ArePredicted setting.now WIDTH }
     requires reads { I.failed intake + 1 < 2 ^ 64 }
@@ -220,7 +221,12 @@ pub(crate) fn blocks_in_pass<const SIZE: usize, const WIDTH: usize>(setting: &Se
 /// Gives the bytes of the next blocks, at most `fit`, if `whole` says that all of the next one is wanted, it is to be looked at, and they
 /// can be decoded at one stroke. Returns how many; if none, nothing has happened to the decoder, the reader, the meter and the bytes.
 #[inline(always)]
-fn next_bytes_at_one_stroke<D: GivesRows<SIZE, WIDTH>, I: Intake, const SIZE: usize, const WIDTH: usize>(
+fn next_bytes_at_one_stroke<
+    D: GivesRows<SIZE, WIDTH>,
+    I: Intake,
+    const SIZE: usize,
+    const WIDTH: usize,
+>(
     setting: &Setting,
     asked: Option<u64>,
     written: u64,
@@ -330,12 +336,13 @@ fn write_blocks<O: Outlet>(
 /// Decodes, whatever is asked for. `WIDTH`, if it is not 0, is the number of bytes of each sample of blocks whose bytes may be decoded
 /// at one stroke, and `SIZE`, if it is not 0, that of the samples of each.
 #[inline(always)]
-fn decode_blocks<D: GivesRows<SIZE, WIDTH>, I: Intake, O: Outlet, const SIZE: usize, const WIDTH: usize>(
-    setting: &Setting,
-    asked: Option<u64>,
-    intake: I,
-    outlet: &mut O,
-) -> (Outcome, I)
+fn decode_blocks<
+    D: GivesRows<SIZE, WIDTH>,
+    I: Intake,
+    O: Outlet,
+    const SIZE: usize,
+    const WIDTH: usize,
+>(setting: &Setting, asked: Option<u64>, intake: I, outlet: &mut O) -> (Outcome, I)
     requires size { 0 < SIZE → SIZE ≡ setting.now.block }
     requires samples { 0 < WIDTH → ArePredicted setting.now WIDTH }
     requires reads { I.failed intake + 1 < 2 ^ 64 }

@@ -490,14 +490,13 @@ pub fn encode_plainly<I: Intake, O: Outlet>(
 ) -> Outcome
     requires reads { I.failed intake.old + 1 < 2 ^ 64 }
     requires writes { O.failed outlet.old + 1 < 2 ^ 64 }
-    requires room { HoldsAnySegment longest_segment setting.now }
     ensures call { EncodesBetween setting.now (I.left intake.old) (I.left intake.new)
         (O.taken outlet.old) (O.taken outlet.new) result.report result.fault }
     ensures failures { Fails result.fault (I.failed intake.old) (I.failed intake.new)
         (O.failed outlet.old) (O.failed outlet.new) }
     ensures bounds { EncodesWithin setting.now result.report }
 {
-    encode_by_sized_coder::<OneByOne<LONGEST>, I, O>(setting, intake, outlet)
+    encode_by_sized_coder::<OneByOne, I, O>(setting, intake, outlet)
 }
 
 /// Returns whether a short row holds the residuals of each segment.

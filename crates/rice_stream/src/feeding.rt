@@ -12,8 +12,8 @@ use crate::encoding::{Encoding, LONGEST, SHORT, has_short_intervals};
 use crate::outcome::{Fault, Outcome};
 use crate::seam::Seam;
 use crate::takes::TakesLevels;
-use rice_code::SizedCoder;
 use rice_bits::Outlet;
+use rice_code::SizedCoder;
 use rice_samples::{LevelRow, MOST_INPUT, Setting};
 
 /// Encodes the next samples, which the bytes spell, and returns where their code ends.

@@ -9,7 +9,7 @@ ghost use Rattle.rice_code.specs.decode.RowsOfFields.{AreCounted};
 
 use arrayvec::ArrayVec;
 use rice_bits::{BitReader, Intake, Meter};
-use rice_code::{CodeFault, Decoder, Step};
+use rice_code::{CodeFault, FastDecoder, Step};
 use rice_samples::Setting;
 
 /// A decoder of coded data sets, a block a call or several.
@@ -103,11 +103,11 @@ pub trait GivesRows<const SIZE: usize, const WIDTH: usize>: GivesLevels {
 }
 
 /// The decoder that gives levels, and the bytes of several blocks at once.
-impl GivesLevels for Decoder {
+impl GivesLevels for FastDecoder {
     ghost state = { λ d. d };
 
     fn start(setting: Setting) -> Self {
-        Decoder::new(setting)
+        FastDecoder::new(setting)
     }
 
     fn place(&self) -> u32 {
@@ -143,7 +143,7 @@ impl GivesLevels for Decoder {
     }
 }
 
-impl<const SIZE: usize, const WIDTH: usize> GivesRows<SIZE, WIDTH> for Decoder {
+impl<const SIZE: usize, const WIDTH: usize> GivesRows<SIZE, WIDTH> for FastDecoder {
     #[inline(always)]
     fn bytes_at_once<I: Intake>(
         &mut self,

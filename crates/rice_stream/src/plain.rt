@@ -12,7 +12,7 @@ use crate::outcome::{Fault, Outcome};
 use crate::write::{write_block, write_counted};
 use arrayvec::ArrayVec;
 use rice_bits::{BitReader, Intake, Meter, Outlet};
-use rice_code::{Decoder, Step};
+use rice_code::{FastDecoder, Step};
 use rice_samples::Setting;
 
 /// Returns whether samples are not predicted, and use all bits of `WIDTH` bytes, and intervals are not padded.
@@ -77,7 +77,7 @@ pub(crate) fn spell_row_ahead<I: Intake, const WIDTH: usize>(
     written: u64,
     fit: usize,
     whole: bool,
-    decoder: &Decoder,
+    decoder: &FastDecoder,
     reader: &BitReader<I>,
     bytes: &mut [u8; 512],
 ) -> usize
@@ -104,7 +104,7 @@ pub(crate) fn spell_row_ahead<I: Intake, const WIDTH: usize>(
 fn write_row_of_blocks<I: Intake, O: Outlet, const WIDTH: usize>(
     setting: &Setting,
     blocks: usize,
-    decoder: &mut Decoder,
+    decoder: &mut FastDecoder,
     reader: &mut BitReader<I>,
     meter: &mut Meter,
     bytes: &[u8; 512],
@@ -170,7 +170,7 @@ pub(crate) fn decode_plain<I: Intake, O: Outlet, const WIDTH: usize>(
     let own = *setting;
     let block = own.block();
     let fit = blocks_of_row::<WIDTH>(&own);
-    let mut decoder = Decoder::new(own);
+    let mut decoder = FastDecoder::new(own);
     let mut reader = BitReader::new(intake);
     let mut meter = Meter::new();
     let mut levels = ArrayVec::new();

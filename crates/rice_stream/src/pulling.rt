@@ -16,7 +16,7 @@ use crate::stand::{Pause, Stand};
 use crate::strokes::{copy_at, next_stroke, stand_behind};
 use arrayvec::ArrayVec;
 use rice_bits::{BitReader, Meter, SliceIn};
-use rice_code::{CodeFault, Decoder, Step};
+use rice_code::{CodeFault, FastDecoder, Step};
 use rice_samples::{Setting, write_spellings, write_spellings_laid_out, write_threes};
 
 /// The most bits of a code.
@@ -105,7 +105,7 @@ fn decode_piece<const SIZE: usize, const WIDTH: usize, const PLAIN: bool>(
 {
     let own = *setting;
     let size = own.width() as usize * own.block() as usize;
-    let mut decoder = Decoder::at(own, stand.block, stand.previous, stand.run);
+    let mut decoder = FastDecoder::at(own, stand.block, stand.previous, stand.run);
     let mut reader = BitReader::new(SliceIn::new(piece));
     if !skip_bits(&mut reader, piece, (stand.bits % 8) as u32) {
         let _intake = reader.into_inner();
@@ -203,7 +203,7 @@ fn skip_bits(reader: &mut BitReader<SliceIn<'_>>, piece: &[u8], skipped: u32) ->
 fn restore_next_block(
     setting: &Setting,
     stand: &Stand,
-    decoder: &mut Decoder,
+    decoder: &mut FastDecoder,
     reader: &mut BitReader<SliceIn<'_>>,
     levels: &mut ArrayVec<u32, 64>,
 ) -> Result<Option<Stand>, CodeFault>

@@ -5,9 +5,9 @@ ghost use Rattle.rice_samples.specs.bytes.Spelling.{spellings};
 ghost use Rattle.rice_stream.specs.Decodes.{wanted_of};
 ghost use Rattle.rice_stream.specs.RunsOfBlocks.{FailsInRun, WritesRun, repeated};
 
+use crate::gives::GivesLevels;
 use crate::write::write_counted;
 use rice_bits::Outlet;
-use crate::gives::GivesLevels;
 use rice_samples::{Setting, bytes_of};
 
 /// The bytes of a run that are written at once, at most.

@@ -12,7 +12,7 @@ use crate::plain::{blocks_wanted, spell_row_ahead};
 use crate::runs::{blocks_at_once, spell_copies_of_sample};
 use crate::stand::Stand;
 use rice_bits::{BitReader, Meter, SliceIn};
-use rice_code::Decoder;
+use rice_code::FastDecoder;
 use rice_samples::Setting;
 
 /// Where decoding stands behind blocks that were given at one stroke, and the number of their bytes.
@@ -54,7 +54,7 @@ pub(crate) fn stand_behind(
     stand: &Stand,
     samples: u64,
     before: u64,
-    decoder: &Decoder,
+    decoder: &FastDecoder,
     reader: &BitReader<SliceIn<'_>>,
     meter: &Meter,
 ) -> Stand
@@ -83,7 +83,7 @@ pub(crate) fn stand_behind(
 fn write_next_of_run(
     setting: &Setting,
     stand: &Stand,
-    decoder: &mut Decoder,
+    decoder: &mut FastDecoder,
     reader: &BitReader<SliceIn<'_>>,
     at: usize,
     samples: &mut [u8],
@@ -119,7 +119,7 @@ fn write_next_in_pass<const SIZE: usize, const WIDTH: usize>(
     setting: &Setting,
     stand: &Stand,
     most: usize,
-    decoder: &mut Decoder,
+    decoder: &mut FastDecoder,
     reader: &mut BitReader<SliceIn<'_>>,
     bytes: &mut [u8; 512],
     ends: &mut [u32; 64],
@@ -160,7 +160,7 @@ fn write_next_plain_blocks<const WIDTH: usize>(
     setting: &Setting,
     stand: &Stand,
     most: usize,
-    decoder: &mut Decoder,
+    decoder: &mut FastDecoder,
     reader: &mut BitReader<SliceIn<'_>>,
     bytes: &mut [u8; 512],
     at: usize,
@@ -208,7 +208,7 @@ pub(crate) fn next_stroke<const SIZE: usize, const WIDTH: usize, const PLAIN: bo
     stand: &Stand,
     most: usize,
     patience: &mut Patience,
-    decoder: &mut Decoder,
+    decoder: &mut FastDecoder,
     reader: &mut BitReader<SliceIn<'_>>,
     bytes: &mut [u8; 512],
     ends: &mut [u32; 64],

@@ -1,5 +1,5 @@
 //! What an engine of encoding asks of a coder.
-ghost use Rattle.std.specs.Prelude.{◌≡◌, ℕ, ◌+◌, ◌*◌, ◌^◌, ◌<◌, ◌≤◌, [], ◌∷◌, ◌++◌, length, take, All, List, Bool, ℤ};
+ghost use Rattle.std.specs.Prelude.{◌≡◌, ℕ, ◌+◌, ◌*◌, ◌^◌, ◌<◌, ◌≤◌, [], ◌∷◌, ◌++◌, length, take, All, List, Bool, ℤ, ⊤};
 ghost use Rattle.rice_bits.specs.Limits.{step_limit};
 ghost use Rattle.rice_samples.specs.Limits.{longest_segment, most_input};
 ghost use Rattle.rice_samples.specs.Parameters.{IsSample, value_count, values_at};
@@ -8,7 +8,7 @@ ghost use Rattle.rice_code.specs.CoderSteps.{segment_steps};
 ghost use Rattle.rice_code.specs.encode.OpenSegment.{HoldsAnySegment, HasRoomForSegment, most_before, state_between};
 
 use rice_bits::Meter;
-use rice_code::{Pushed, SegmentSink, SizedCoder};
+use rice_code::{Coder, Pushed, SegmentSink, SizedCoder};
 use rice_samples::{Levels, Setting};
 
 /// A coder that takes some samples a call.
@@ -28,7 +28,6 @@ pub trait TakesLevels: Drop {
 
     // The sinks that it may append the code of a segment to.
     ghost is_sink: { Parameters → List Bool → Type 0 };
-
 
     fn begin(setting: Setting) -> Self
         requires { has_room setting }
@@ -89,7 +88,6 @@ pub trait TakesLevels: Drop {
         ensures taken { HasTaken (state self.new) [] }
         ensures setting { (state self.new).setting ≡ (state self.old).setting };
 
-
     ghost takes_less_than_a_byte: { (s : Parameters) (bits : List Bool) → length bits ≤ 7 → is_sink s bits };
 }
 
@@ -101,7 +99,6 @@ impl<const N: usize> TakesLevels for SizedCoder<N> {
     ghost has_room = { λ s. (N ≤ longest_segment) × HoldsAnySegment N s };
 
     ghost is_sink = { λ s bits. HasRoomForSegment s bits };
-
 
     fn begin(setting: Setting) -> Self {
         SizedCoder::begin(setting)
@@ -152,29 +149,28 @@ impl<const N: usize> TakesLevels for SizedCoder<N> {
         self.finish_reset(sink, meter)
     }
 
-
     ghost takes_less_than_a_byte = { λ s bits few. inl few };
 }
 
 /// A coder that takes a sample a call.
 #[derive(Drop)]
-pub struct OneByOne<const N: usize> {
+pub struct OneByOne {
     setting: Setting,
-    coder: SizedCoder<N>,
+    coder: Coder,
     ghost same: { coder.setting ≡ setting },
 }
 
-impl<const N: usize> TakesLevels for OneByOne<N> {
+impl TakesLevels for OneByOne {
     ghost state = { λ c. c.coder };
 
-    ghost has_room = { λ s. (N ≤ longest_segment) × HoldsAnySegment N s };
+    ghost has_room = { λ s. ⊤ };
 
     ghost is_sink = { λ s bits. length bits ≤ 7 };
 
     fn begin(setting: Setting) -> Self {
         OneByOne {
             setting,
-            coder: SizedCoder::begin(setting),
+            coder: Coder::new(setting),
         }
     }
 
@@ -185,19 +181,19 @@ impl<const N: usize> TakesLevels for OneByOne<N> {
         meter: &mut Meter,
     ) -> Pushed {
         let x = self.setting.value_at(levels.first_or(0) as u64);
-        let bits = self.coder.push(x, sink, meter);
+        let bits = self.coder.push_counted(x, sink, meter);
         Pushed { samples: 1, bits }
     }
 
     fn resume(setting: Setting, start: u32, previous: i64) -> Self {
         OneByOne {
             setting,
-            coder: SizedCoder::resume(setting, start, previous),
+            coder: Coder::resume(setting, start, previous),
         }
     }
 
     fn go_back(&mut self, start: u32, previous: i64) {
-        self.coder.go_back(start, previous);
+        self.coder = Coder::resume(self.setting, start, previous);
     }
 
     #[inline(always)]
@@ -223,7 +219,7 @@ impl<const N: usize> TakesLevels for OneByOne<N> {
     }
 
     fn finish_reset(&mut self, sink: &mut SegmentSink, meter: &mut Meter) -> u64 {
-        self.coder.finish_reset(sink, meter)
+        self.coder.finish_counted(sink, meter)
     }
 
     ghost takes_less_than_a_byte = { λ s bits few. few };

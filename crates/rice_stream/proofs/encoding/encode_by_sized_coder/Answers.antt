@@ -51,7 +51,7 @@ finish-requires g c =
     let i = c.encode_all.invariant in
     let start = g.O.Outlet.taken c.args.outlet.now in
     let few = few_given i.runs c.in-Ok.ensures.gives in
-    record { ready = (s, afresh start, i.runs.samples, i.runs.holds, omega (arith, few, c.in-Ok.ensures.limits.1)); writes = omega (arith, c.requires.writes, i.writes); }
+    record { ready = (s, afresh start, i.runs.samples, i.runs.holds, omega (arith, few, c.in-Ok.ensures.limits.1)); writes = omega (arith, c.requires.writes, i.writes) }
 
 pub returns-then-count-eq0-clause-call : goal.returns-then-count-eq0-clause-call
 returns-then-count-eq0-clause-call g c =
@@ -80,15 +80,18 @@ push_all_levels-requires g c =
     let start = g.O.Outlet.taken c.args.outlet.now in
     let says = c.in-Ok.ensures in
     let few = few_given i.runs says.gives in
-    let n = taken_count c.encode_all.samples.setting c.next_levels.new.levels c.in-Ok.count says.count in record { ready = record {
-          setting = s;
-          start = afresh start;
-          before = i.runs.samples;
-          holds = i.runs.holds;
-          legal = subst (All (λ l. l < value_count s)) (sym c.front.ensures)
-              (subst (λ (s : Parameters). All (λ l. l < value_count s) (take c.in-Ok.count c.next_levels.new.levels)) i.runs.setting says.legal);
-          few = omega (arith, few, n.0, n.1, ap length c.front.ensures, says.limits.1);
-        }; writes = omega (arith, c.requires.writes, i.writes); }
+    let n = taken_count c.encode_all.samples.setting c.next_levels.new.levels c.in-Ok.count says.count in record {
+      ready = record {
+        setting = s;
+        start = afresh start;
+        before = i.runs.samples;
+        holds = i.runs.holds;
+        legal = subst (All (λ l. l < value_count s)) (sym c.front.ensures)
+            (subst (λ (s : Parameters). All (λ l. l < value_count s) (take c.in-Ok.count c.next_levels.new.levels)) i.runs.setting says.legal);
+        few = omega (arith, few, n.0, n.1, ap length c.front.ensures, says.limits.1);
+      };
+      writes = omega (arith, c.requires.writes, i.writes);
+    }
 
 pub encode_all-smaller : goal.encode_all-smaller
 encode_all-smaller g c =

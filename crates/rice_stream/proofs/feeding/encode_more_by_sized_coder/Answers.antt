@@ -29,7 +29,7 @@ returns-then-bytes-bytes_left-clause-did g c xs h =
     record { passes = omega (arith, size, c.bytes_left.ensures.value, c.if-bytes-bytes_left.true); untouched = refl }
 
 pub resume-encoding-requires : goal.resume-encoding-requires
-resume-encoding-requires g c = record { room = c.requires.room; seam = c.requires.seam; }
+resume-encoding-requires g c = record { room = c.requires.room; seam = c.requires.seam }
 
 pub put_bits_of_seam-requires : goal.put_bits_of_seam-requires
 put_bits_of_seam-requires g c = (c.args.setting.now, c.requires.seam.0, c.requires.seam.1, c.resume-encoding.ensures)
@@ -40,19 +40,22 @@ push_samples_of_bytes-requires g c =
     let xs = c.requires.seam.0 in
     let h = c.requires.seam.1 in
     let bytes = c.args.bytes.now in
-    let few = c.bytes_left.ensures.few (omega (arith, c.width-width.ensures.range)) in record { ready = (
-          behind c.args.setting.now xs now,
-          xs,
-          c.put_bits_of_seam.ensures c.args.setting.now now xs c.resume-encoding.ensures h,
-          omega (
-            arith,
-            few,
-            c.if-bytes-bytes_left.false,
-            h.samples,
-            length-take (c.width-width.result * (c.in_whole_segments.result - c.args.seam.now.samples))
-                bytes,
-          ),
-        ); writes = c.requires.writes; }
+    let few = c.bytes_left.ensures.few (omega (arith, c.width-width.ensures.range)) in record {
+      ready = (
+        behind c.args.setting.now xs now,
+        xs,
+        c.put_bits_of_seam.ensures c.args.setting.now now xs c.resume-encoding.ensures h,
+        omega (
+          arith,
+          few,
+          c.if-bytes-bytes_left.false,
+          h.samples,
+          length-take (c.width-width.result * (c.in_whole_segments.result - c.args.seam.now.samples))
+              bytes,
+        ),
+      );
+      writes = c.requires.writes;
+    }
 
 pub seam-requires : goal.seam-requires
 seam-requires g c =

@@ -29,7 +29,7 @@ returns-then-bytes-bytes_left-clause-did g c xs h =
     )
 
 pub resume-encoding-requires : goal.resume-encoding-requires
-resume-encoding-requires g c = record { room = c.requires.room; seam = c.requires.seam; }
+resume-encoding-requires g c = record { room = c.requires.room; seam = c.requires.seam }
 
 pub put_bits_of_seam-requires : goal.put_bits_of_seam-requires
 put_bits_of_seam-requires g c = (c.args.setting.now, c.requires.seam.0, c.requires.seam.1, c.resume-encoding.ensures)
@@ -40,7 +40,7 @@ push_samples_of_bytes-requires g c =
     let xs = c.requires.seam.0 in
     let h = c.requires.seam.1 in
     let holds = c.put_bits_of_seam.ensures c.args.setting.now now xs c.resume-encoding.ensures h in
-    let few = c.bytes_left.ensures.few (omega (arith, c.width-width.ensures.range)) in record { ready = (behind c.args.setting.now xs now, xs, holds, omega (arith, few, c.if-bytes-bytes_left.false, c.taken.ensures, holds.counts.samples)); writes = c.requires.writes; }
+    let few = c.bytes_left.ensures.few (omega (arith, c.width-width.ensures.range)) in record { ready = (behind c.args.setting.now xs now, xs, holds, omega (arith, few, c.if-bytes-bytes_left.false, c.taken.ensures, holds.counts.samples)); writes = c.requires.writes }
 
 pub returns-in-Err-clause-did : goal.returns-in-Err-clause-did
 returns-in-Err-clause-did g c xs h =
@@ -90,14 +90,17 @@ finish-requires g c =
     let h = c.requires.seam.1 in
     let holds = c.put_bits_of_seam.ensures c.args.setting.now now xs c.resume-encoding.ensures h in
     let t = c.in-Ok.ensures.did (behind s xs now) xs holds in
-    let few = c.bytes_left.ensures.few (omega (arith, c.width-width.ensures.range)) in record { ready = (
-          s,
-          behind s xs now,
-          xs ++ t.more,
-          t.holds,
-          takes_few s (behind s xs now) new (seen g.C.TakesLevels.state c.push_samples_of_bytes.new.self) xs c.args.bytes.now
-              (omega (arith, few, c.if-bytes-bytes_left.false, c.taken.ensures, holds.counts.samples)) t,
-        ); writes = omega (arith, c.requires.writes, c.in-Ok.ensures.failures); }
+    let few = c.bytes_left.ensures.few (omega (arith, c.width-width.ensures.range)) in record {
+      ready = (
+        s,
+        behind s xs now,
+        xs ++ t.more,
+        t.holds,
+        takes_few s (behind s xs now) new (seen g.C.TakesLevels.state c.push_samples_of_bytes.new.self) xs c.args.bytes.now
+            (omega (arith, few, c.if-bytes-bytes_left.false, c.taken.ensures, holds.counts.samples)) t,
+      );
+      writes = omega (arith, c.requires.writes, c.in-Ok.ensures.failures);
+    }
 
 pub returns-clause-did : goal.returns-clause-did
 returns-clause-did g c xs h =

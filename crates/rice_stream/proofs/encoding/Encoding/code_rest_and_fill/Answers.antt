@@ -11,7 +11,7 @@ use Rattle.rice_stream.proofs.encoding.Encoding.code_rest_and_fill.Goals as goal
 pub finish_reset-bits-requires : goal.finish_reset-bits-requires
 finish_reset-bits-requires g c =
     let small = counts_small c.requires.0 _ c.requires.3 c.requires.4.counts in
-    record { room = sink_short c.requires.0 c.requires.1 c.requires.2 (seen g.C.TakesLevels.state c.args.self.now) c.requires.3 c.requires.4; meter = omega (arith, small.1, small.2, c.requires.5); }
+    record { room = sink_short c.requires.0 c.requires.1 c.requires.2 (seen g.C.TakesLevels.state c.args.self.now) c.requires.3 c.requires.4; meter = omega (arith, small.1, small.2, c.requires.5) }
 
 pub overflow_add-report : goal.overflow_add-report
 overflow_add-report g c =

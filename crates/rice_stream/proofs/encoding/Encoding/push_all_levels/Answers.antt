@@ -20,14 +20,18 @@ push_some_and_write-requires g c =
     let k = c.requires.ready in
     let levels = c.args.levels.now in
     let at = c.loop-at.at in
-    let i = c.loop-at.invariant in record { ready = record {
-          setting = k.setting;
-          start = k.start;
-          before = k.before ++ take at (values_at k.setting levels);
-          holds = i.holds k.setting k.start k.before k.holds;
-          legal = legal_from (value_count k.setting) at levels c.behind.ensures k.legal;
-          few = few_from k.setting k.before at levels most_input c.behind.ensures k.few i.within;
-        }; some = omega (arith, ap length c.behind.ensures, length-drop at levels, c.loop-at-test.true, c.len.ensures); writes = omega (arith, c.requires.writes, i.failures); }
+    let i = c.loop-at.invariant in record {
+      ready = record {
+        setting = k.setting;
+        start = k.start;
+        before = k.before ++ take at (values_at k.setting levels);
+        holds = i.holds k.setting k.start k.before k.holds;
+        legal = legal_from (value_count k.setting) at levels c.behind.ensures k.legal;
+        few = few_from k.setting k.before at levels most_input c.behind.ensures k.few i.within;
+      };
+      some = omega (arith, ap length c.behind.ensures, length-drop at levels, c.loop-at-test.true, c.len.ensures);
+      writes = omega (arith, c.requires.writes, i.failures);
+    }
 
 pub returns-in_err-at-clause-err : goal.returns-in_err-at-clause-err
 returns-in_err-at-clause-err g c =

@@ -16,12 +16,12 @@ use Rattle.rice_stream.proofs.encoding.Encoding.push_row.Goals as goal
 pub take_row-taken-requires : goal.take_row-taken-requires
 take_row-taken-requires g c =
     let k = c.requires.ready in record {
-        setting = k.setting;
-        before = k.before;
-        holds = subst (λ (v : EncodingValue). HoldsCode k.setting v k.before k.before) (sym c.row_start-start.ensures.same) (holds_code k.holds);
-        legal = k.legal;
-        few = k.few;
-      }
+      setting = k.setting;
+      before = k.before;
+      holds = subst (λ (v : EncodingValue). HoldsCode k.setting v k.before k.before) (sym c.row_start-start.ensures.same) (holds_code k.holds);
+      legal = k.legal;
+      few = k.few;
+    }
 
 pub go_back-requires : goal.go_back-requires
 go_back-requires g c =
@@ -29,12 +29,12 @@ go_back-requires g c =
     let counts = k.holds.counts in
     let at_start = subst (λ (v : EncodingValue). HoldsCode k.setting v k.before k.before) (sym c.row_start-start.ensures.same) (holds_code k.holds) in
     let cut_there = sym (ap (λ t. cut t (length k.before)) counts.setting) ∙ c.requires.between k.before counts.stands in (
-        k.setting,
-        k.before,
-        (c.take_row-taken.ensures.holds k.setting k.before at_start).counts.setting,
-        c.row_start-start.ensures.start k.setting k.start (g.O.Outlet.taken c.args.outlet.now) k.before k.holds cut_there,
-        omega (arith, k.few),
-      )
+      k.setting,
+      k.before,
+      (c.take_row-taken.ensures.holds k.setting k.before at_start).counts.setting,
+      c.row_start-start.ensures.start k.setting k.start (g.O.Outlet.taken c.args.outlet.now) k.before k.holds cut_there,
+      omega (arith, k.few),
+    )
 
 pub take_until_past-requires : goal.take_until_past-requires
 take_until_past-requires g c =
@@ -46,12 +46,12 @@ take_until_past-requires g c =
     let cut_there = sym (ap (λ t. cut t (length k.before)) counts.setting) ∙ c.requires.between k.before counts.stands in
     let start = c.row_start-start.ensures.start k.setting k.start (g.O.Outlet.taken c.args.outlet.now) k.before k.holds cut_there in
     let t = c.take_row-taken.ensures.holds k.setting k.before at_start in record {
-        setting = k.setting;
-        before = k.before;
-        holds = c.go_back.ensures k.setting k.before t.counts.setting start;
-        legal = subst (All (λ l. l < value_count k.setting)) (sym c.front.ensures) (All-take (λ l. l < value_count k.setting) n levels k.legal);
-        few = omega (arith, k.few, ap length c.front.ensures, length-take-le n levels c.take_row-taken.ensures.count, c.take_row-taken.ensures.count);
-      }
+      setting = k.setting;
+      before = k.before;
+      holds = c.go_back.ensures k.setting k.before t.counts.setting start;
+      legal = subst (All (λ l. l < value_count k.setting)) (sym c.front.ensures) (All-take (λ l. l < value_count k.setting) n levels k.legal);
+      few = omega (arith, k.few, ap length c.front.ensures, length-take-le n levels c.take_row-taken.ensures.count, c.take_row-taken.ensures.count);
+    }
 
 pub returns-in-Ok-clause-count : goal.returns-in-Ok-clause-count
 returns-in-Ok-clause-count g c = (c.take_row-taken.ensures.some c.requires.some, c.take_row-taken.ensures.count)

@@ -61,14 +61,17 @@ push_all_levels-requires g c =
     let all = reads_then s bytes (drop at bytes) (drop (at + c.width-width.result * f.result) bytes) p.0 ys p.1 here in
     let few = few_more s (p.0 ++ ys) bytes (drop (at + c.width-width.result * f.result) bytes) all (some_width s) in
     let n : length ys ≡ length (take f.result f.new.self) = length-take f.result (values_at s f.new.self) ∙ ap (min f.result) (length-values s f.new.self)
-    ∙ sym (length-take f.result f.new.self) in record { ready = record {
-          setting = s;
-          start = r.0;
-          before = r.1 ++ p.0;
-          holds = p.2;
-          legal = subst (All (λ l. l < value_count s)) (sym c.front.ensures) f.ensures.legal;
-          few = omega (arith, r.3, few, length-append r.1 p.0, length-append p.0 ys, n, ap length c.front.ensures);
-        }; writes = omega (arith, c.requires.writes, c.loop-at.invariant.failures); }
+    ∙ sym (length-take f.result f.new.self) in record {
+      ready = record {
+        setting = s;
+        start = r.0;
+        before = r.1 ++ p.0;
+        holds = p.2;
+        legal = subst (All (λ l. l < value_count s)) (sym c.front.ensures) f.ensures.legal;
+        few = omega (arith, r.3, few, length-append r.1 p.0, length-append p.0 ys, n, ap length c.front.ensures);
+      };
+      writes = omega (arith, c.requires.writes, c.loop-at.invariant.failures);
+    }
 
 pub loop-at-smaller : goal.loop-at-smaller
 loop-at-smaller g c =

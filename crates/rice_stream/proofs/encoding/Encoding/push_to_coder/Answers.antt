@@ -19,7 +19,7 @@ push_some-pushed-requires g c =
     let can = c.requires.ready in
     let legal = subst (λ (t : Parameters). All (λ l. l < value_count t) c.args.levels.now) (sym can.holds.counts.setting) can.legal in
     let small = counts_small can.setting _ can.before can.holds.counts in
-    record { some = c.requires.some; legal = legal; room = c.requires.room; meter = omega (arith, small.1, small.2, can.few); }
+    record { some = c.requires.some; legal = legal; room = c.requires.room; meter = omega (arith, small.1, small.2, can.few) }
 
 pub overflow_add-self : goal.overflow_add-self
 overflow_add-self g c = let can = c.requires.ready in omega (arith, can.holds.counts.samples, can.few, c.push_some-pushed.ensures.taken)

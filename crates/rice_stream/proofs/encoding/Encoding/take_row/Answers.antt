@@ -31,7 +31,7 @@ push_to_coder-at-requires g c =
     let holds = i.holds k.setting k.before k.holds in
     let fits = c.most_before-most.ensures.room (seen g.C.TakesLevels.state c.loop-at.self).sink (omega (arith, c.if-len-most.false, c.len-in-loop-at.ensures.value)) in
     let here = subst (λ (t : Parameters). g.C.TakesLevels.is_sink t (seen g.C.TakesLevels.state c.loop-at.self).sink) (k.holds.counts.setting ∙ sym holds.counts.setting) fits in
-    record { some = omega (arith, ap length c.behind.ensures, length-drop c.loop-at.at c.args.levels.now, c.loop-at-test.true, c.len.ensures); ready = can_take_rest k c.loop-at.at i.within c.behind.ensures holds; room = here; }
+    record { some = omega (arith, ap length c.behind.ensures, length-drop c.loop-at.at c.args.levels.now, c.loop-at-test.true, c.len.ensures); ready = can_take_rest k c.loop-at.at i.within c.behind.ensures holds; room = here }
 
 pub loop-at-smaller : goal.loop-at-smaller
 loop-at-smaller g c =
