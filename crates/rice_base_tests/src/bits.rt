@@ -2,10 +2,9 @@
 ghost use Rattle.std.specs.Prelude.{◌<◌};
 
 use crate::cases::Cases;
-use crate::devices::{MemoryIn, MemoryOut, ZeroIn};
 use rice_bits::{
-    BitFault, BitReader, BitSink, FromBufWriter, FromReader, FromWriter, Intake, Meter, Outlet,
-    ReadFault, SliceIn, SliceOut, WriteFault,
+    BitFault, BitReader, BitSink, FromBufWriter, FromReader, FromWriter, Intake, MemoryIn,
+    MemoryOut, Meter, Outlet, ReadFault, SliceIn, SliceOut, WriteFault, ZeroIn,
 };
 use std::io::{self, BufWriter, ErrorKind, Read, Write};
 use std::test::Fail;

@@ -1,7 +1,4 @@
-//! Tests of bits, devices and samples, and what the tests of all libraries use: devices that fail, tables of cases, and cases that
-//! are counted.
-//!
-//! The devices, in [`devices`], are proved as all else is.
+//! Tests of bits, devices and samples, and what the tests of all libraries use: tables of cases, and cases that are counted.
 //!
 //! They are a crate of their own, since a crate with tests is proved twice: with them and without. Tests of the crates above
 //! `rice_samples` are another, `rice_tests`, so that what is here need not wait until those crates are proved.
@@ -11,6 +8,5 @@
 mod bits;
 pub mod case_table;
 pub mod cases;
-pub mod devices;
 #[cfg(test)]
 mod samples;

@@ -1,4 +1,5 @@
 -- What contracts see of the devices that give and take bytes.
+pub mod Memory
 pub mod OverBufWriter
 pub mod Failures
 pub mod OutletRoom

@@ -1,10 +1,10 @@
 //! Devices that fail, and samples that are none.
 ghost use Rattle.std.specs.Prelude.{◌≡◌};
-ghost use Rattle.rice_base_tests.specs.Devices.{memory_in_failures};
+ghost use Rattle.rice_bits.specs.device.Memory.{memory_in_failures};
 
 use rice_base_tests::case_table::{Columns, bytes_of, number_of, setting_of};
 use rice_base_tests::cases::Cases;
-use rice_base_tests::devices::{MemoryIn, MemoryOut};
+use rice_bits::{MemoryIn, MemoryOut};
 use rice_samples::Setting;
 use rice_stream::{Fault, decode, encode};
 use std::alloc::Global;

@@ -1,7 +1,7 @@
 //! Tests of the coder, of the decoder, and of the calls from bytes to bytes, over their public calls: worked bytes, bits and steps,
 //! pieces of several sizes, devices that fail.
 //!
-//! The devices, and what takes tables of cases apart, are in `rice_base_tests`, with the tests of the crates below.
+//! What takes tables of cases apart is in `rice_base_tests`, with the tests of the crates below.
 #![tactic(auto)]
 
 pub mod calls_by_types;

@@ -1,6 +1,6 @@
 use Rattle.std.proofs.Common.{arith}
 use Rattle.rice_bits.proofs.lemmas.device.OutletLemmas.{put_fills}
-use Rattle.rice_base_tests.proofs.devices.MemoryOutOutlet.put.Goals as goal
+use Rattle.rice_bits.proofs.device.memory.MemoryOutOutlet.put.Goals as goal
 
 pub returns-clause-bytes : goal.returns-clause-bytes
 returns-clause-bytes c =

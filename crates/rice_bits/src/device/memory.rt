@@ -1,10 +1,10 @@
-//! Devices over memory, for tests. Those over slices can be made to work in small pieces, and to fail at a place.
+//! Devices over memory, which work in pieces, and fail where they are told to; and an intake of zeros.
 ghost use Rattle.std.specs.Prelude.{◌≡◌, ◌+◌, ◌-◌, ◌^◌, ◌<◌, ◌≤◌, ◌↔◌, length, drop, take, min, [], Some, IsErr, IsOk, IfOk, OnErr};
 ghost use Rattle.std.specs.Io.KnownBytes.{Consumes, IsAtEnd, Keeps};
 ghost use Rattle.rice_bits.specs.device.Failures.{CountsFailure};
 ghost use Rattle.rice_bits.specs.device.OutletRoom as outlet;
 
-use rice_bits::{Intake, Outlet, ReadFault, WriteFault};
+use crate::device::{Intake, Outlet, ReadFault, WriteFault};
 
 /// An intake that gives the bytes of a slice, in pieces, up to a place where it fails.
 #[derive(Drop)]
@@ -17,7 +17,7 @@ pub struct MemoryIn<'a> {
 }
 
 impl<'a> MemoryIn<'a> {
-    ghost use Rattle.rice_base_tests.specs.Devices.{memory_left, memory_in_piece, memory_before_failure, memory_in_failures};
+    ghost use Rattle.rice_bits.specs.device.Memory.{memory_left, memory_in_piece, memory_before_failure, memory_in_failures};
 
     /// Returns an intake that gives at most `piece` bytes a call. No call passes the place `fail_at`, and each call that finds the
     /// intake there fails.
@@ -38,7 +38,7 @@ impl<'a> MemoryIn<'a> {
 }
 
 impl Intake for MemoryIn<'_> {
-    ghost use Rattle.rice_base_tests.specs.Devices.{memory_left, memory_in_piece, memory_before_failure, memory_in_failures, memory_gives, limit_after};
+    ghost use Rattle.rice_bits.specs.device.Memory.{memory_left, memory_in_piece, memory_before_failure, memory_in_failures, memory_gives, limit_after};
 
     ghost left = { λ s. Some s.rest.now };
 
@@ -100,7 +100,7 @@ pub struct MemoryOut<'a> {
 }
 
 impl<'a> MemoryOut<'a> {
-    ghost use Rattle.rice_base_tests.specs.Devices.{memory_taken, memory_state, memory_out_piece, memory_room, memory_out_failures, limited_to};
+    ghost use Rattle.rice_bits.specs.device.Memory.{memory_taken, memory_state, memory_out_piece, memory_room, memory_out_failures, limited_to};
 
     /// Returns an outlet that takes at most `piece` bytes a call. No call passes the place `fail_at` or the end of `room`, and each
     /// call that finds the outlet there fails.
@@ -134,7 +134,7 @@ impl<'a> MemoryOut<'a> {
 }
 
 impl Outlet for MemoryOut<'_> {
-    ghost use Rattle.rice_base_tests.specs.Devices.{memory_state, memory_out_piece, memory_room, memory_takes, memory_out_failures};
+    ghost use Rattle.rice_bits.specs.device.Memory.{memory_state, memory_out_piece, memory_room, memory_takes, memory_out_failures};
 
     ghost taken = { λ s. Some (memory_state s) };
 
@@ -182,7 +182,7 @@ pub struct ZeroIn {
 }
 
 impl ZeroIn {
-    ghost use Rattle.rice_base_tests.specs.Devices.{zeros_left};
+    ghost use Rattle.rice_bits.specs.device.Memory.{zeros_left};
 
     /// Returns an intake that gives `bytes` zero bytes.
     pub fn new(bytes: u64) -> Self
@@ -194,7 +194,7 @@ impl ZeroIn {
 
 impl Intake for ZeroIn {
     ghost use Rattle.std.specs.Prelude.{replicate};
-    ghost use Rattle.rice_base_tests.specs.Devices.{zeros_left};
+    ghost use Rattle.rice_bits.specs.device.Memory.{zeros_left};
 
     ghost left = { λ s. Some (replicate s.rest 0) };
 

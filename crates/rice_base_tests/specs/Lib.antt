@@ -1,2 +1,0 @@
--- What contracts of the tests cite: devices over memory.
-pub mod Devices
