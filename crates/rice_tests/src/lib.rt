@@ -1,15 +1,19 @@
 //! Tests of the coder, of the decoder, and of the calls from bytes to bytes, over their public calls: worked bytes, bits and steps,
-//! pieces of several sizes, devices that fail.
+//! pieces of several sizes, devices that fail, bytes that are anything.
 //!
 //! What takes tables of cases apart is in `rice_base_tests`, with the tests of the crates below.
 #![tactic(auto)]
 
 pub mod calls_by_types;
 #[cfg(test)]
+mod calls;
+#[cfg(test)]
 mod coder;
 #[cfg(test)]
 mod decoder;
 #[cfg(test)]
-mod failing_devices;
+mod decoding;
+#[cfg(test)]
+mod encoding;
 #[cfg(test)]
 mod pulling;

@@ -1,0 +1,219 @@
+//! Tests of `decode`: codes of any coder, whole, cut and invalid, devices that fail, and bytes that are anything.
+ghost use Rattle.std.specs.Prelude.{◌<◌};
+
+use crate::calls::{Call, fault_of};
+use rice_base_tests::case_table::{Columns, number_of, setting_of};
+use rice_base_tests::cases::Cases;
+use rice_bits::{MemoryIn, MemoryOut, ZeroIn};
+use rice_samples::Setting;
+use rice_stream::{Fault, Outcome, decode};
+use std::alloc::Global;
+use std::test::Fail;
+
+/// The number of samples that are asked for, and then as in the table of `encode`: the options, the bytes of the code, the places
+/// where the intake and the outlet fail, the bytes that are written, the fault, and the report.
+const CALLS: &str =
+    "   |           |                    |   |   |                  |            | 0    | 0  | 0    | 0
+       | N         |                    |   |   |                  |            | 0    | 0  | 0    | 0
+       |           | 0058               |   |   | 05*8             |            | 8    | 16 | 24   | 24
+    8  |           | 0058               |   |   | 05*8             |            | 8    | 13 | 21   | 21
+    1  |           | 0058               |   |   | 05               |            | 1    | 13 | 14   | 14
+       | r64       | 000080             |   |   | 00*512           |            | 512  | 24 | 536  | 536
+    40 | r64       | 000080             |   |   | 00*40            |            | 40   | 17 | 57   | 57
+       |           | 2009               |   |   |                  | ends 0     | 0    | 16 | 16   | 16
+       | n4        | 200001FC           |   |   |                  | residual 0 | 0    | 30 | 30   | 30
+       |           | 00580000           |   |   | 05*8             |            | 8    | 32 | 40   | 40
+    0  |           | FFFF               |   |   |                  |            | 0    | 0  | 0    | 0
+       |           | 0002               |   |   |                  | run 0      | 0    | 15 | 15   | 15
+    8  |           | 0002               |   |   |                  | run 0      | 0    | 15 | 15   | 15
+       |           | 0054               |   |   | 05*16            |            | 16   | 16 | 32   | 32
+       | N         | FE1E3E5E7E9EBEDEE0 |   |   | F0F1F2F3F4F5F6F7 |            | 8    | 72 | 80   | 80
+       |           | 40155580           |   |   | 0001020304050607 |            | 8    | 32 | 40   | 40
+       |           | 105780             |   |   |                  | residual 0 | 0    | 17 | 18   | 22
+       |           | 000080             |   |   | 00*16            |            | 16   | 24 | 40   | 40
+       | r5        | 000040             |   |   | 00*40            |            | 40   | 24 | 64   | 64
+       | r64       | 00*9 10            |   |   | 00*504           |            | 504  | 80 | 584  | 584
+       | r64       | 00*9 08            |   |   |                  | run 0      | 0    | 77 | 77   | 77
+    9  |           | 0058               |   |   | 05*8             | ends 8     | 8    | 16 | 24   | 24
+    1  |           |                    |   |   |                  | ends 0     | 0    | 0  | 0    | 0
+       | n1        | CFE100000000       |   |   | 00 01*7          |            | 8    | 48 | 56   | 56
+       | n1        | CFE200000000       |   |   |                  | residual 0 | 0    | 46 | 46   | 46
+       |           | 0058               |   | 3 | 050505           | write      | 0    | 13 | 13   | 13
+       | N         | FE 1E*7 00         |   |   | F0*8             |            | 8    | 72 | 80   | 80
+    1  | N         | FE 1E*7 00         |   |   | F0               |            | 1    | 67 | 68   | 68
+       | N         | FE1E               |   |   |                  | ends 0     | 0    | 16 | 16   | 16
+    9  | N         | FE1E3E5E7E9EBEDEE0 |   |   | F0F1F2F3F4F5F6F7 | ends 8     | 8    | 72 | 80   | 80
+       |           | E0                 |   |   |                  | ends 0     | 0    | 8  | 8    | 8
+       |           | E01F               |   |   |                  | ends 0     | 0    | 16 | 16   | 16
+       |           | E01F FF            |   |   |                  | ends 0     | 0    | 24 | 24   | 24
+       |           | E01F FF*2          |   |   |                  | ends 0     | 0    | 32 | 32   | 32
+       |           | E01F FF*3          |   |   |                  | ends 0     | 0    | 40 | 40   | 40
+       |           | E01F FF*4          |   |   |                  | ends 0     | 0    | 48 | 48   | 48
+       |           | E01F FF*5          |   |   |                  | ends 0     | 0    | 56 | 56   | 56
+       |           | E01F FF*6          |   |   |                  | ends 0     | 0    | 64 | 64   | 64
+       | r1        | 00                 |   |   |                  |            | 0    | 8  | 8    | 8
+       | r1        | 0058               |   |   | 05*8             |            | 8    | 16 | 24   | 24
+       | r1        | 005802             |   |   | 05*8             | ends 8     | 8    | 24 | 32   | 32
+       | r1        | 005802C0           |   |   | 05*16            |            | 16   | 32 | 48   | 48
+       | N j64 r64 | 0080               |   |   | 00*4096          |            | 4096 | 16 | 4112 | 4112
+    10 | N j64 r64 | 0080               |   |   | 00*10            |            | 10   | 9  | 19   | 19
+    8  | N         | 1E40               |   |   | 00*7 01          |            | 8    | 10 | 19   | 23
+       | r1 p      | 00580058           |   |   | 05*16            |            | 16   | 32 | 48   | 48
+       | r1 p      | 005F0058           |   |   | 05*16            |            | 16   | 32 | 48   | 48
+    8  | r1 p      | 005F0058           |   |   | 05*8             |            | 8    | 16 | 24   | 24
+       | r1        | 00580058           |   |   | 05*8 00*8        | ends 16    | 16   | 32 | 48   | 48
+       | r1        | 005802C0           | 0 |   |                  | read       | 0    | 0  | 0    | 0
+       | r1        | 005802C0           | 1 |   |                  | read       | 0    | 8  | 8    | 8
+       | r1        | 005802C0           | 2 |   | 05*8             | read       | 8    | 16 | 24   | 24
+       | r1        | 005802C0           | 3 |   | 05*8             | read       | 8    | 24 | 32   | 43
+       | r1        | 005802C0           | 4 |   | 05*16            | read       | 16   | 32 | 48   | 48
+    16 | r1        | 005802C0           | 4 |   | 05*16            |            | 16   | 26 | 42   | 42";
+
+#[test]
+fn codes_are_decoded(rt: HostRuntime) -> Result<(), Fail> {
+    let mut cases = Cases::new();
+    for line in CALLS.lines() {
+        cases.of_line(line);
+        line_is_decoded(&mut cases, rt.alloc(), line)?;
+    }
+    cases.end()
+}
+
+fn line_is_decoded(cases: &mut Cases<'_>, alloc: Global, line: &str) -> Result<(), Fail> {
+    let mut columns = Columns::of(line);
+    let asked = number_of(columns.next())?;
+    let call = Call::of(&mut columns, alloc)?;
+    for piece in [1, 7, 4096] {
+        is_decoded(cases, &call, asked, piece);
+    }
+    Ok(())
+}
+
+fn is_decoded(cases: &mut Cases<'_>, call: &Call, asked: Option<u64>, piece: usize)
+    requires { 0 < piece }
+{
+    let mut room = [0u8; 4200];
+    let mut outlet = MemoryOut::new(&mut room, piece, call.writes);
+    let intake = MemoryIn::new(call.input.as_slice(), piece, call.reads);
+    let (outcome, _) = decode(&call.setting, asked, intake, &mut outlet);
+    call.check(cases, &outcome, outlet.written());
+}
+
+/// The number of samples that are asked of zeros, and the fault.
+const ZEROS: &str = "  |
+    1 | ends 0";
+
+#[test]
+fn zeros_are_no_samples() -> Result<(), Fail> {
+    let mut cases = Cases::new();
+    for line in ZEROS.lines() {
+        cases.of_line(line);
+        zeros_of_line(&mut cases, line)?;
+    }
+    cases.end()
+}
+
+/// Decodes 1,048,576 bytes of zeros.
+fn zeros_of_line(cases: &mut Cases<'_>, line: &str) -> Result<(), Fail> {
+    let mut columns = Columns::of(line);
+    let asked = number_of(columns.next())?;
+    let fault = fault_of(columns.next())?;
+    let mut room = [0u8; 8];
+    let mut outlet = MemoryOut::new(&mut room, 8, None);
+    let (outcome, _) = decode(&setting_of("")?, asked, ZeroIn::new(1048576), &mut outlet);
+    let report = outcome.report;
+    cases.check(outcome.fault == fault);
+    cases.check(outlet.written().is_empty());
+    cases.check((report.samples, report.bits) == (0, 8388608));
+    cases.check(8388608 <= report.steps && report.steps <= 16777216);
+    Ok(())
+}
+
+/// The options with which bytes that are anything are decoded.
+const SETTINGS: &str = "n1 j8
+    n1 j16
+    n1 j32
+    n1 j64
+    n8 j8
+    n8 j16
+    n8 j32
+    n8 j64
+    n16 j8
+    n16 j16
+    n16 j32
+    n16 j64
+    n32 j8
+    n32 j16
+    n32 j32
+    n32 j64";
+
+#[test]
+fn any_bytes_stay_in_their_bounds() -> Result<(), Fail> {
+    let mut cases = Cases::new();
+    let mut x = 1;
+    for _ in 0..1000 {
+        let bytes = next_bytes(&mut x);
+        stay_in_bounds(&mut cases, &bytes)?;
+    }
+    cases.end()
+}
+
+/// Returns the next bytes of a generator of pseudorandom numbers, of each number its highest byte.
+fn next_bytes(x: &mut u32) -> [u8; 64] {
+    let mut bytes = [0; 64];
+    for byte in bytes.iter_mut() {
+        *x = x.wrapping_mul(1103515245).wrapping_add(12345);
+        *byte = (*x >> 24) as u8;
+    }
+    bytes
+}
+
+/// Decodes bytes with all settings.
+fn stay_in_bounds(cases: &mut Cases<'_>, bytes: &[u8; 64]) -> Result<(), Fail> {
+    for line in SETTINGS.lines() {
+        cases.of_line(line);
+        stay_in_bounds_by(cases, &setting_of(line)?, bytes);
+    }
+    Ok(())
+}
+
+/// Decodes bytes with some counts of samples and with none.
+fn stay_in_bounds_by(cases: &mut Cases<'_>, setting: &Setting, bytes: &[u8; 64]) {
+    for asked in [Some(0), Some(1), Some(100), None] {
+        let mut room = [0u8; 16384];
+        let mut outlet = MemoryOut::new(&mut room, 4096, None);
+        let intake = MemoryIn::new(bytes, 4096, None);
+        let (outcome, _) = decode(setting, asked, intake, &mut outlet);
+        let samples = outlet.written().len() as u64 / setting.width() as u64;
+        cases.check(outcome.report.samples == samples);
+        cases.check(is_in_bounds(&outcome));
+        cases.check(ends_as_asked(&outcome, asked, setting.block()));
+    }
+}
+
+/// Returns whether the bits are those of 64 bytes at most, and the steps as many as the bits and samples, and at most the bits more.
+fn is_in_bounds(outcome: &Outcome) -> bool {
+    let report = outcome.report;
+    let least = report.bits.saturating_add(report.samples);
+    let most = least.saturating_add(report.bits);
+    report.bits <= 512 && least <= report.steps && report.steps <= most
+}
+
+/// Returns whether decoding of 64 bytes may end so: with the count that is asked for, after all bits, or at a refused block.
+fn ends_as_asked(outcome: &Outcome, asked: Option<u64>, size: u32) -> bool {
+    let report = outcome.report;
+    let ends = match outcome.fault {
+        None => match asked {
+            None => report.bits == 512,
+            Some(count) => report.samples == count,
+        },
+        Some(Fault::CodeEnds { samples }) => (report.bits, report.samples) == (512, samples),
+        Some(Fault::RunPastSegment { block }) => report.samples
+            == block.saturating_mul(size as u64),
+        Some(Fault::ResidualTooLarge { block }) => {
+            report.samples == block.saturating_mul(size as u64)
+        }
+        Some(_) => false,
+    };
+    ends && report.samples <= asked.unwrap_or(u64::MAX)
+}
