@@ -48,6 +48,22 @@ pub fn decodes_the_greatest_split()
         [])) None (pos 0 ∷ replicate 7 (pos 1)) Ended 48 }
 {}
 
+/// Split 1 and the greatest split of samples of 16 bits.
+pub fn decodes_splits_of_16_bits()
+    ensures second { Decoded (record unprocessed_defaults { bits = 16 }) (bits_of (0x2F ∷ 0xF0 ∷ 0x10 ∷
+        [])) None (replicate 7 (pos 0) ++ pos 1 ∷ []) Ended 24 }
+    ensures greatest { Decoded (record unprocessed_defaults { bits = 16 }) (bits_of (0xEF ∷ 0xF0 ∷
+        replicate 12 0x00 ++ 0x10 ∷ [])) None (replicate 7 (pos 0) ++ pos 1 ∷ []) Ended 120 }
+{}
+
+/// Split 1 and the greatest split of samples of 32 bits.
+pub fn decodes_splits_of_32_bits()
+    ensures second { Decoded (record unprocessed_defaults { bits = 32 }) (bits_of (0x17 ∷ 0xF8 ∷ 0x08 ∷
+        [])) None (replicate 7 (pos 0) ++ pos 1 ∷ []) Ended 24 }
+    ensures greatest { Decoded (record unprocessed_defaults { bits = 32 }) (bits_of (0xF7 ∷ 0xF8 ∷
+        replicate 28 0x00 ++ 0x08 ∷ [])) None (replicate 7 (pos 0) ++ pos 1 ∷ []) Ended 248 }
+{}
+
 /// A residual that is greater than all of the samples: 2 where they have one bit, and 16 where they have four.
 pub fn refuses_a_residual_too_large()
     ensures low { Decoded one_bit_defaults (bits_of (0xCF ∷ 0xE2 ∷ 0x00 ∷ 0x00 ∷ 0x00 ∷ 0x00 ∷

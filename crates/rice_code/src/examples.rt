@@ -192,18 +192,52 @@ pub fn early_outputs()
         0x05 ∷ 0x80 ∷ [] }
 {}
 
-/// Identifiers of no compression, split 0, split 5, second extension and a run, where samples have eight bits.
+/// Identifiers of no compression, splits 0, 1 and 5, second extension and a run, where samples have eight bits.
 pub fn identifiers()
     ensures no_compression { bits_of_set defaults (NoCompression (record { reference = None; residuals = [] })) ≡
         true ∷ true ∷ true ∷ [] }
     ensures first_split { bits_of_set defaults (Split 0 (record { reference = None; residuals = [] })) ≡
         false ∷ false ∷ true ∷ [] }
+    ensures second_split { bits_of_set defaults (Split 1 (record { reference = None; residuals = [] })) ≡
+        false ∷ true ∷ false ∷ [] }
     ensures last_split { bits_of_set defaults (Split 5 (record { reference = None; residuals = [] })) ≡
         true ∷ true ∷ false ∷ [] }
     ensures second_extension { bits_of_set defaults (SecondExtension (record { reference = None; residuals = [] })) ≡
         false ∷ false ∷ false ∷ true ∷ [] }
     ensures run { bits_of_set defaults (ZeroBlocks None 1) ≡
         false ∷ false ∷ false ∷ false ∷ true ∷ [] }
+{}
+
+/// The same where samples have 16 bits: the greatest split is 13.
+pub fn identifiers_of_16_bits()
+    ensures no_compression { bits_of_set (record defaults { bits = 16 }) (NoCompression (record { reference = None; residuals = [] })) ≡
+        true ∷ true ∷ true ∷ true ∷ [] }
+    ensures first_split { bits_of_set (record defaults { bits = 16 }) (Split 0 (record { reference = None; residuals = [] })) ≡
+        false ∷ false ∷ false ∷ true ∷ [] }
+    ensures second_split { bits_of_set (record defaults { bits = 16 }) (Split 1 (record { reference = None; residuals = [] })) ≡
+        false ∷ false ∷ true ∷ false ∷ [] }
+    ensures last_split { bits_of_set (record defaults { bits = 16 }) (Split 13 (record { reference = None; residuals = [] })) ≡
+        true ∷ true ∷ true ∷ false ∷ [] }
+    ensures second_extension { bits_of_set (record defaults { bits = 16 }) (SecondExtension (record { reference = None; residuals = [] })) ≡
+        false ∷ false ∷ false ∷ false ∷ true ∷ [] }
+    ensures run { bits_of_set (record defaults { bits = 16 }) (ZeroBlocks None 1) ≡
+        false ∷ false ∷ false ∷ false ∷ false ∷ true ∷ [] }
+{}
+
+/// The same where samples have 32 bits: the greatest split is 29.
+pub fn identifiers_of_32_bits()
+    ensures no_compression { bits_of_set (record defaults { bits = 32 }) (NoCompression (record { reference = None; residuals = [] })) ≡
+        true ∷ true ∷ true ∷ true ∷ true ∷ [] }
+    ensures first_split { bits_of_set (record defaults { bits = 32 }) (Split 0 (record { reference = None; residuals = [] })) ≡
+        false ∷ false ∷ false ∷ false ∷ true ∷ [] }
+    ensures second_split { bits_of_set (record defaults { bits = 32 }) (Split 1 (record { reference = None; residuals = [] })) ≡
+        false ∷ false ∷ false ∷ true ∷ false ∷ [] }
+    ensures last_split { bits_of_set (record defaults { bits = 32 }) (Split 29 (record { reference = None; residuals = [] })) ≡
+        true ∷ true ∷ true ∷ true ∷ false ∷ [] }
+    ensures second_extension { bits_of_set (record defaults { bits = 32 }) (SecondExtension (record { reference = None; residuals = [] })) ≡
+        false ∷ false ∷ false ∷ false ∷ false ∷ true ∷ [] }
+    ensures run { bits_of_set (record defaults { bits = 32 }) (ZeroBlocks None 1) ≡
+        false ∷ false ∷ false ∷ false ∷ false ∷ false ∷ true ∷ [] }
 {}
 
 /// The codewords of runs: one less up to four, then the number itself, which leaves four zeros for the remainder of a segment.
