@@ -5,7 +5,10 @@ ghost use Rattle.rice_samples.specs.Parameters.{IsBlockSize, IsSample, value_cou
 ghost use Rattle.rice_code.specs.CoderSteps.{segment_steps};
 
 use arrayvec::ArrayVec;
-use rice_bits::{BitFault, BitReader, BitSink, FromReader, FromWriter, Intake, Meter, Outlet};
+use rice_bits::{
+    BitFault, BitReader, BitSink, FromReader, FromWriter, Intake, MemoryIn, MemoryOut, Meter,
+    Outlet,
+};
 use rice_code::{CodeFault, Coder, Decoder, Step, bit_bound, step_bound};
 use rice_samples::{
     Block, Segment, Setting, SettingFault, bytes_of, from_pattern, pattern, residual, restore,
@@ -35,6 +38,19 @@ pub fn outlet<O: Outlet>(outlet: &mut O, bytes: &[u8]) -> (bool, u64)
 {
     let took: Result<usize, rice_bits::WriteFault> = outlet.put(bytes);
     (took.is_ok(), outlet.failures())
+}
+
+pub fn memory_in(bytes: &[u8], piece: usize, fail_at: Option<usize>) -> MemoryIn<'_>
+    requires { 1 ≤ piece }
+{
+    MemoryIn::new(bytes, piece, fail_at)
+}
+
+pub fn memory_out(room: &mut [u8], piece: usize, fail_at: Option<usize>) -> usize
+    requires { 1 ≤ piece }
+{
+    let outlet: MemoryOut<'_> = MemoryOut::new(room, piece, fail_at);
+    outlet.written().len()
 }
 
 pub fn from_reader<R: Read>(reader: R) -> FromReader<R> {
@@ -103,7 +119,12 @@ pub fn is_end(fault: BitFault) -> bool {
     }
 }
 
-pub fn setting(bits: u32, block: u32, interval: u32, flags: [bool; 5]) -> Result<Setting, SettingFault> {
+pub fn setting(
+    bits: u32,
+    block: u32,
+    interval: u32,
+    flags: [bool; 5],
+) -> Result<Setting, SettingFault> {
     let [signed, msb, three, preprocess, pad] = flags;
     Setting::new(bits, block, interval, signed, msb, three, preprocess, pad)
 }
@@ -119,7 +140,10 @@ pub fn getters(setting: Setting, b: u64, x: i64) -> ([u32; 8], [bool; 3]) {
         setting.segment_blocks(b),
         setting.blocks_left(b),
     ];
-    (numbers, [setting.is_reference(b), setting.in_range(x), setting.pads()])
+    (
+        numbers,
+        [setting.is_reference(b), setting.in_range(x), setting.pads()],
+    )
 }
 
 pub fn spelled(setting: &Setting, bytes: &[u8]) -> Option<i64>

@@ -4,9 +4,9 @@
 //! What takes tables of cases apart is in `rice_base_tests`, with the tests of the crates below.
 #![tactic(auto)]
 
-pub mod calls_by_types;
 #[cfg(test)]
 mod calls;
+pub mod calls_by_types;
 #[cfg(test)]
 mod coder;
 #[cfg(test)]
