@@ -1,18 +1,13 @@
--- What the typed getters read of an entry, and what is known of a plan.
-use Rattle.std.proofs.Common.{◌≡◌, ◌∙◌, ◌&&◌, ◌||◌, ℕ, ◌^◌, ◌<◌, Bool, true, false, not, List, [], ◌∷◌, length, Option, Some, None, ap, refl, sym}
-use Rattle.std.specs.Prelude.{Result, Ok, Err, codes, if◌then◌else◌, is_some, nat_lt}
+-- What the typed getters read of an entry.
+use Rattle.std.proofs.Common.{◌≡◌, ◌&&◌, ℕ, ◌^◌, ◌<◌, Bool, true, false, List, [], ◌∷◌, length, Option, Some, None, refl}
+use Rattle.std.specs.Prelude.{Result, Ok, Err, nat_lt}
 use Rattle.std.specs.List.{list_all}
 use Rattle.std.specs.Option.{option_and_then}
 use Rattle.std.specs.Char.{digit_value}
 use Rattle.std.specs.Str.Parse.{AllDigits, IsNumeral, ParsesUnsigned, digits_value, without_leading_plus}
 use Rattle.std.proofs.lemmas.Bool.{ltb-true, lt-ltb}
-use Rattle.clap.specs.Words.{ReadsOne, first_value}
-use Rattle.clap.specs.declared.parser.matches.Found.{Found}
-use Rattle.rice_samples.specs.Parameters.{Parameters}
-use Rattle.rice_samples.specs.declared.setting.SettingFault.{SettingFault}
-use Rattle.aec_command.specs.Plan.{PlanView, decodes, is_flagged, number_below, number_in, plan_in, plan_with_entries, plan_with_setting, samples_in, setting_in, tests}
-use Rattle.aec_command.specs.declared.plan.PlanFault.{PlanFault}
-use Rattle.aec_command.specs.declared.plan.PlanFault.TheVariants as fault
+use Rattle.clap.specs.Words.{ReadsOne}
+use Rattle.aec_command.specs.Plan.{number_below}
 
 -- the tests of digits and numbers agree with the facts
 digits_of_test : (ds : List ℕ) → list_all (λ c. nat_lt (digit_value c) 10) ds ≡ true → AllDigits 10 ds
@@ -71,49 +66,3 @@ reads_number E G k (Some t) (Some v) only none some =
 reads_number E G k (Some t) None only none some =
     let read = some t refl in
     rw (no_number (2 ^ k) t (only t (Err read.0) read.1)) refl
-
-abbrev dest_in : Result PlanView PlanFault → Option (List ℕ)
-dest_in (Ok p) = p.dest
-dest_in (Err e) = None
-
-abbrev is_decoding : Result PlanView PlanFault → Bool
-is_decoding (Ok p) = p.decode
-is_decoding (Err e) = false
-
--- a plan has the line's destination and direction
-plan_of_setting : (f : Found) (p : PlanView) (source : List ℕ) (s : Result Parameters SettingFault) → Ok p ≡ plan_with_setting f source s
-    → (p.dest ≡ first_value f (codes "dest")) × (p.decode ≡ decodes f)
-plan_of_setting f p source (Ok setting) e = (ap dest_in e, ap is_decoding e)
-plan_of_setting f p source (Err refused) e = let bad : ⊥ = cc in absurd bad
-
-plan_of_entries : (f : Found) (p : PlanView) (bits block interval : Option ℕ) (source : Option (List ℕ)) → Ok p ≡ plan_with_entries f bits block interval source
-    → (p.dest ≡ first_value f (codes "dest")) × (p.decode ≡ decodes f)
-plan_of_entries f p (Some bits) (Some block) (Some interval) (Some source) e = plan_of_setting f p source (setting_in f bits block interval) e
-plan_of_entries f p None block interval source e = let bad : ⊥ = cc in absurd bad
-plan_of_entries f p (Some bits) None interval source e = let bad : ⊥ = cc in absurd bad
-plan_of_entries f p (Some bits) (Some block) None source e = let bad : ⊥ = cc in absurd bad
-plan_of_entries f p (Some bits) (Some block) (Some interval) None e = let bad : ⊥ = cc in absurd bad
-
--- a line without a destination that is not refused asks for a test
-plan_of_line : (samples test : Bool) (dest : Option (List ℕ)) (entries : Result PlanView PlanFault) (p : PlanView)
-    → Ok p ≡ (if samples then Err fault.SamplesWithoutDecode
-    else (if test && is_some dest then Err fault.TestWithDest
-    else (if not test && not (is_some dest) then Err fault.Unreadable else entries)))
-    → (Ok p ≡ entries) × (dest ≡ None → test ≡ true)
-plan_of_line true test dest entries p e = let bad : ⊥ = cc in absurd bad
-plan_of_line false true None entries p e = (e, λ none. refl)
-plan_of_line false true (Some name) entries p e = let bad : ⊥ = cc in absurd bad
-plan_of_line false false None entries p e = let bad : ⊥ = cc in absurd bad
-plan_of_line false false (Some name) entries p e = (e, λ none. let bad : ⊥ = cc in absurd bad)
-
-or_true : (a b : Bool) → b ≡ true → (a || b) ≡ true
-or_true true b e = refl
-or_true false b e = e
-
--- a plan without a destination decodes
-pub decodes_without_dest : (f : Found) (p : PlanView) → Ok p ≡ plan_in f → p.dest ≡ None → p.decode ≡ true
-decodes_without_dest f p e none =
-    let line = plan_of_line (is_some (samples_in f) && not (decodes f)) (tests f) (first_value f (codes "dest"))
-    (plan_with_entries f (number_in (2 ^ 32) f (codes "n")) (number_in (2 ^ 32) f (codes "j")) (number_in (2 ^ 32) f (codes "r")) (first_value f (codes "source"))) p e in
-    let plan = plan_of_entries f p (number_in (2 ^ 32) f (codes "n")) (number_in (2 ^ 32) f (codes "j")) (number_in (2 ^ 32) f (codes "r")) (first_value f (codes "source")) line.0 in
-    plan.1 ∙ or_true (is_flagged f (codes "d")) (tests f) (line.1 (sym plan.0 ∙ none))

@@ -1,5 +1,5 @@
 -- What a parsed command line asks for.
-use Rattle.std.specs.Prelude.{ℕ, ◌^◌, Bool, false, not, ◌&&◌, ◌||◌, nat_lt, List, length, codes, Option, Some, None, is_some, option_map, Result, Ok, Err, if◌then◌else◌}
+use Rattle.std.specs.Prelude.{ℕ, ◌^◌, Bool, false, not, ◌&&◌, nat_lt, List, length, codes, Option, Some, None, is_some, Result, Ok, Err, if◌then◌else◌}
 use Rattle.std.specs.List.{list_all}
 use Rattle.std.specs.Option.{option_and_then, option_map_or}
 use Rattle.std.specs.Char.{digit_value}
@@ -39,9 +39,7 @@ pub record PlanView : Type 0 where
   pub decode : Bool
   pub samples : Option ℕ
   pub source : List ℕ
-  -- none where the code is only tested
-  pub dest : Option (List ℕ)
-  pub verbose : Bool
+  pub dest : List ℕ
 
 abbrev pub plan_view : Plan → PlanView
 plan_view p = record {
@@ -49,8 +47,7 @@ plan_view p = record {
   decode = p.decode;
   samples = p.samples;
   source = p.source.now;
-  dest = option_map (λ name. name.now) p.dest;
-  verbose = p.verbose;
+  dest = p.dest.now;
 }
 
 -- what the answer says, with its plan as what the plan says
@@ -62,17 +59,13 @@ answer_view (Err e) = Err e
 abbrev pub samples_in : Found → Option ℕ
 samples_in f = number_in (2 ^ 64) f (codes "samples")
 
--- a test is asked for
-abbrev pub tests : Found → Bool
-tests f = is_flagged f (codes "test")
-
--- decoding is asked for, as a test does too
+-- decoding is asked for
 abbrev pub decodes : Found → Bool
-decodes f = is_flagged f (codes "d") || tests f
+decodes f = is_flagged f (codes "d")
 
 -- the setting of these numbers and of the flags that were used
-abbrev pub setting_in : Found → ℕ → ℕ → ℕ → Result Parameters SettingFault
-setting_in f bits block interval =
+abbrev pub setting_with : Found → ℕ → ℕ → ℕ → Result Parameters SettingFault
+setting_with f bits block interval =
     setting_of (record {
       bits = bits;
       block = block;
@@ -84,32 +77,30 @@ setting_in f bits block interval =
       pad = is_flagged f (codes "p");
     })
 
-abbrev pub plan_with_setting : Found → List ℕ → Result Parameters SettingFault → Result PlanView PlanFault
-plan_with_setting f source (Ok setting) = Ok (record {
+abbrev pub setting_with_entries : Found → Option ℕ → Option ℕ → Option ℕ → Option (Result Parameters SettingFault)
+setting_with_entries f (Some bits) (Some block) (Some interval) = Some (setting_with f bits block interval)
+setting_with_entries f bits block interval = None
+
+-- the setting that the options give, or why it is refused, if its numbers can be read
+abbrev pub setting_in : Found → Option (Result Parameters SettingFault)
+setting_in f =
+    setting_with_entries f (number_in (2 ^ 32) f (codes "n")) (number_in (2 ^ 32) f (codes "j"))
+    (number_in (2 ^ 32) f (codes "r"))
+
+-- the plan of these names and this setting, if there are all three
+abbrev pub plan_with_entries : Found → Option (List ℕ) → Option (List ℕ) → Option (Result Parameters SettingFault) → Result PlanView PlanFault
+plan_with_entries f (Some source) (Some dest) (Some (Ok setting)) = Ok (record {
   setting = setting;
   decode = decodes f;
   samples = samples_in f;
   source = source;
-  dest = first_value f (codes "dest");
-  verbose = is_flagged f (codes "verbose");
+  dest = dest;
 })
-plan_with_setting f source (Err e) = Err (fault.Setting e)
-
-abbrev pub plan_with_entries : Found → Option ℕ → Option ℕ → Option ℕ → Option (List ℕ) → Result PlanView PlanFault
-plan_with_entries f (Some bits) (Some block) (Some interval) (Some source) =
-    plan_with_setting f source (setting_in f bits block interval)
-plan_with_entries f bits block interval source = Err fault.Unreadable
-
--- the plan that the entries give besides those that `plan_in` looks at first
-abbrev pub plan_by_entries : Found → Result PlanView PlanFault
-plan_by_entries f =
-    plan_with_entries f (number_in (2 ^ 32) f (codes "n")) (number_in (2 ^ 32) f (codes "j"))
-    (number_in (2 ^ 32) f (codes "r")) (first_value f (codes "source"))
+plan_with_entries f (Some source) (Some dest) (Some (Err e)) = Err (fault.Setting e)
+plan_with_entries f source dest setting = Err fault.Unreadable
 
 -- the plan that the entries give, or the first reason to refuse them
 abbrev pub plan_in : Found → Result PlanView PlanFault
 plan_in f =
     if is_some (samples_in f) && not (decodes f) then Err fault.SamplesWithoutDecode
-    else (if tests f && is_some (first_value f (codes "dest")) then Err fault.TestWithDest
-    else (if not (tests f) && not (is_some (first_value f (codes "dest"))) then Err fault.Unreadable
-    else plan_by_entries f))
+    else plan_with_entries f (first_value f (codes "source")) (first_value f (codes "dest")) (setting_in f)

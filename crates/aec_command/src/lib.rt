@@ -1,14 +1,17 @@
-//! The command line of `aec`: its options, and the [`Plan`] that its words ask for. [`matches_of`] parses the words, and [`plan_of`]
-//! makes the plan of what was parsed.
+//! The command line of `aec`: its options, and what its words ask for. [`matches_of`] parses the words, and [`plan_of`] makes the
+//! [`Plan`] of what was parsed. Where that asks for a test, [`test_plan_of`] makes a [`TestPlan`].
 #![tactic(auto)]
 
 pub mod command_line;
 pub mod entries;
 pub mod matches;
 pub mod plan;
+pub mod test_plan;
 #[cfg(test)]
 mod tests;
 
-pub use entries::plan_of;
+pub use command_line::command;
+pub use entries::{is_test, is_verbose, plan_of, test_plan_of};
 pub use matches::matches_of;
 pub use plan::{Plan, PlanFault};
+pub use test_plan::{TestFault, TestPlan};

@@ -6,7 +6,7 @@ ghost use Rattle.clap.specs.Walk.{texts};
 ghost use Rattle.aec_command.specs.CommandLine.{aec, aec_test, AreParsedBy, AreParsedTo, AreRefusedFor, IsRefusedBy};
 
 use crate::command_line::{command, command_with_one_name};
-use crate::entries::is_used;
+use crate::entries::is_test;
 use clap::error::ErrorKind;
 use clap::{ArgMatches, Error};
 use std::alloc::Global;
@@ -56,7 +56,7 @@ fn matches_of_test<'a>(
 {
     match matches_of_one_name(alloc, words) {
         Ok(matches) => {
-            if is_used(&matches, "test") {
+            if is_test(&matches) {
                 return Ok(matches);
             }
             Err(error)

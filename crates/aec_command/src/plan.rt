@@ -3,16 +3,14 @@
 use rice_samples::{Setting, SettingFault};
 use thiserror::Error;
 
-/// What the command line asks for: a setting, which direction, how many samples at most, the names, and whether a closing line is
-/// told. Without a destination the code is only tested.
+/// What the command line asks for: a setting, which direction, how many samples at most, and the names.
 #[derive(Clone, Copy, Debug)]
 pub struct Plan<'a> {
     pub setting: Setting,
     pub decode: bool,
     pub samples: Option<u64>,
     pub source: &'a str,
-    pub dest: Option<&'a str>,
-    pub verbose: bool,
+    pub dest: &'a str,
 }
 
 /// Why a command line that was parsed is refused.
@@ -20,8 +18,6 @@ pub struct Plan<'a> {
 pub enum PlanFault {
     #[error("--samples needs -d")]
     SamplesWithoutDecode,
-    #[error("--test takes no DEST")]
-    TestWithDest,
     #[error("option value cannot be read")]
     Unreadable,
     #[error(transparent)]

@@ -63,16 +63,16 @@ pub record EngineRan (p : PlanView) (left left' : Option (List ℕ)) (taken take
   pub did : (c : Call) × Happens left left' taken taken' c × EngineOf p.decode p c done
   pub failures : Fails done.fault reads reads' writes writes'
 
--- the source of the plan's name is open, and nothing was read
-pub record IsOpened {Source : Type 0} (left : Source → Option (List ℕ)) (reads : Source → ℕ) (p : PlanView) (o : Outside) (given : List ℕ) (opened : Source) : Type 0 where
-  pub source : source_bytes o p.source ≡ Some given
+-- the source of this name is open, and nothing was read
+pub record IsOpened {Source : Type 0} (left : Source → Option (List ℕ)) (reads : Source → ℕ) (name : List ℕ) (o : Outside) (given : List ℕ) (opened : Source) : Type 0 where
+  pub source : source_bytes o name ≡ Some given
   pub sound : reads opened ≡ 0
   pub gives : left opened ≡ Some given
 
--- the destination of this name is begun, and nothing was written
-pub record IsBegun {Dest : Type 0} (taken : Dest → Option Room) (writes : Dest → ℕ) (p : PlanView) (dest : List ℕ) (o : Outside) (begins : Dest) : Type 0 where
-  pub keeps_source : EmptiesSource o p dest → ⊥
-  pub creatable : is_creatable o dest ≡ true
+-- the destination of the plan's name is begun, and nothing was written
+pub record IsBegun {Dest : Type 0} (taken : Dest → Option Room) (writes : Dest → ℕ) (p : PlanView) (o : Outside) (begins : Dest) : Type 0 where
+  pub keeps_source : EmptiesSource o p → ⊥
+  pub creatable : is_creatable o p.dest ≡ true
   pub unwritten : writes begins ≡ 0
   pub empty : HasTakenNothing (taken begins)
 
@@ -86,14 +86,14 @@ pub record IsFinished (outlet : Option Room) (place : Place) (fault : Option Fau
 
 -- The source was read, what the engine wrote has arrived, and then the last words came.
 pub runs_of : {Source Dest : Type 0} {left : Source → Option (List ℕ)} {reads : Source → ℕ} {taken : Dest → Option Room} {writes : Dest → ℕ}
-    {p : PlanView} {dest : List ℕ} {o : Outside} {status samples : ℕ} {given : List ℕ} {opened read : Source} {begins written : Dest} {done : Outcome}
+    {p : PlanView} {o : Outside} {status samples : ℕ} {given : List ℕ} {opened read : Source} {begins written : Dest} {done : Outcome}
     {kept : Result (Unit {0}) WriteFault} {told new : Option Outside} {words : Option Said}
-    → IsOpened left reads p o given opened → IsBegun taken writes p dest o begins
+    → IsOpened left reads p.source o given opened → IsBegun taken writes p o begins
     → EngineRan p (left opened) (left read) (taken begins) (taken written) (reads opened) (reads read) (writes begins) (writes written) done
-    → IsFinished (taken written) (place_of dest (new_mode (source_id o p.source))) done.fault kept o told new words status → samples ≡ done.report.samples
-    → (after : Outside) × (new ≡ Some after) × Runs left reads taken writes p dest o after status samples
-runs_of {p} {dest} {o} {given} {opened} {read} {begins} {written} {done} {kept} {words} source destination ran finished samples_are =
-    let place = place_of dest (new_mode (source_id o p.source)) in
+    → IsFinished (taken written) (place_of p.dest (new_mode (source_id o p.source))) done.fault kept o told new words status → samples ≡ done.report.samples
+    → (after : Outside) × (new ≡ Some after) × Runs left reads taken writes p o after status samples
+runs_of {p} {o} {given} {opened} {read} {begins} {written} {done} {kept} {words} source destination ran finished samples_are =
+    let place = place_of p.dest (new_mode (source_id o p.source)) in
     let got = arrives_of destination.empty ran.did.0.written ran.did.1.took (begun o place) kept finished.finishes in (
       record o { destination = Holds place got.0; said = words },
       finished.says got.0 got.2,

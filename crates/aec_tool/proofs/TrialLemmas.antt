@@ -1,16 +1,16 @@
 -- What a test of a code comes to.
 use Rattle.std.proofs.Common.{◌≡◌, ◌∙◌, ◌+◌, ap, ℕ, Bool, true, false, List, Option, Some, None, Result, Ok, Err, refl}
 use Rattle.rice_bits.specs.device.OutletRoom.{Room}
-use Rattle.rice_stream.specs.DevicesInCalls.{Call, Happens}
+use Rattle.rice_stream.specs.DevicesInCalls.{Fails}
 use Rattle.rice_stream.specs.Decodes.{DecodesBetween}
 use Rattle.rice_stream.specs.declared.outcome.Outcome.{Outcome}
 use Rattle.rice_stream.specs.declared.outcome.Fault.{Fault}
 use Rattle.rice_stream.specs.declared.outcome.Fault.TheVariants.{Read, TooLong}
 use Rattle.aec_tool.specs.OneBehind.{Looks, LooksBehind}
-use Rattle.aec_command.specs.Plan.{PlanView}
+use Rattle.aec_command.specs.TestPlan.{TestView}
 use Rattle.aec_tool.specs.Outside.{Outside}
-use Rattle.aec_tool.specs.Performs.{EngineOf, Judges, Tests, test_status, tested}
-use Rattle.aec_tool.proofs.OutsideLemmas.{EngineRan, IsOpened}
+use Rattle.aec_tool.specs.Performs.{Judges, Tests, test_status, tested}
+use Rattle.aec_tool.proofs.OutsideLemmas.{IsOpened}
 
 -- nothing is looked for
 pub looks_nowhere : {Source : Type 0} (reads : Source → ℕ) (wanted is_wanted : Bool) (bits : ℕ) (given : List ℕ) → is_wanted ≡ wanted → is_wanted ≡ false → Looks reads wanted bits given (Ok None)
@@ -34,31 +34,25 @@ looks_in_vain reads {wanted = true} bits Read e is none told looks = (looks.0, l
 looks_in_vain reads {wanted = true} bits TooLong e is none told looks = λ bytes same. looks bytes (told ∙ same)
 looks_in_vain reads {wanted = true} bits other e is none told looks = absurd looks
 
--- what decoding has done is what the engine of a plan that decodes has done
-pub engine_of_decoding : (p : PlanView) {decode : Bool} {left left' : Option (List ℕ)} {taken taken' : Option Room} (done : Outcome) → decode ≡ true
-    → DecodesBetween p.setting p.samples left left' taken taken' done.report done.fault
-    → (c : Call) × Happens left left' taken taken' c × EngineOf decode p c done
-engine_of_decoding p {decode = true} done e call = call
-engine_of_decoding p {decode = false} done e call = let bad : ⊥ = cc in absurd bad
-
 -- The source was decoded, and what was found is told.
 pub tests_of : {Source Dest : Type 0} {left : Source → Option (List ℕ)} {reads : Source → ℕ} {taken : Dest → Option Room} {writes : Dest → ℕ}
-    {p : PlanView} {o after : Outside} {status samples : ℕ} {given : List ℕ} {opened read : Source} {done : Outcome} (found : Result (Option Bool) Fault) (told : Bool)
-    → IsOpened left reads p o given opened → EngineRan p (left opened) (left read) None None (reads opened) (reads read) 0 0 done
+    {p : TestView} {o after : Outside} {status samples : ℕ} {given : List ℕ} {opened read : Source} {done : Outcome} (found : Result (Option Bool) Fault) (told : Bool)
+    → IsOpened left reads p.source o given opened
+    → DecodesBetween p.setting p.samples (left opened) (left read) None None done.report done.fault → Fails done.fault (reads opened) (reads read) 0 0
     → Judges left reads taken writes p o given done.report.bits done.fault found
     → after ≡ tested p.setting done.report found told o → status ≡ test_status found told → samples ≡ done.report.samples → Tests left reads taken writes p o after status samples
-tests_of {given} {opened} {read} {done} found told source ran judges outside status_is samples_are = record {
+tests_of {given} {opened} {read} {done} found told source did failures judges outside status_is samples_are = record {
   given = given;
   source = source.source;
   opened = opened;
   read = read;
   sound = source.sound;
   gives = source.gives;
-  call = ran.did.0;
+  call = did.0;
   outcome = done;
-  happens = ran.did.1;
-  engine = ran.did.2;
-  failures = ran.failures;
+  happens = did.1;
+  decodes = did.2;
+  failures = failures;
   found = found;
   judges = judges;
   told = told;

@@ -7,9 +7,12 @@ use Rattle.rice_bits.specs.device.OutletRoom.{Room}
 use Rattle.rice_stream.specs.declared.outcome.Fault.{Fault}
 use Rattle.aec_tool.specs.declared.finding.Finding.{Finding}
 use Rattle.aec_command.specs.declared.plan.PlanFault.{PlanFault}
+use Rattle.aec_command.specs.declared.test_plan.TestFault.{TestFault}
 use Rattle.aec_tool.specs.declared.same_file.FileId.{FileId}
 use Rattle.aec_tool.specs.declared.message.Message.{Message}
 use Rattle.aec_tool.specs.declared.message.Message.TheVariants as message
+use Rattle.aec_tool.specs.declared.message.StartFault.{StartFault}
+use Rattle.aec_tool.specs.declared.message.StartFault.TheVariants as start
 use Rattle.aec_tool.specs.declared.system.CreateFault.{CreateFault}
 use Rattle.aec_tool.specs.declared.system.CreateFault.TheVariants as create
 use Rattle.aec_tool.specs.declared.system.OpenFault.{OpenFault}
@@ -33,16 +36,21 @@ pub data Said : Type 0 where
   LacksMemory : Said
   NotText : Said
   Refused : PlanFault → Said
+  TestRefused : TestFault → Said
   Stopped : Fault → Said
   -- the fault of a code, and the block, the bit and the byte where reading it stopped
   Faulty : Fault → ℕ → ℕ → ℕ → Said
 
+abbrev pub said_at_start : StartFault → Said
+said_at_start (start.NoSource name) = CannotOpen name.now
+said_at_start (start.NoDest name) = CannotCreate name.now
+said_at_start start.NoMemory = LacksMemory
+
 abbrev pub said_of : Message → Said
-said_of (message.NoSource name) = CannotOpen name.now
-said_of (message.NoDest name) = CannotCreate name.now
-said_of message.NoMemory = LacksMemory
+said_of (message.Start fault) = said_at_start fault
 said_of message.NotUtf8 = NotText
 said_of (message.Refused fault) = Refused fault
+said_of (message.TestRefused fault) = TestRefused fault
 said_of (message.Stopped fault) = Stopped fault
 said_of (message.Faulty fault block bit byte) = Faulty fault block bit byte
 

@@ -11,6 +11,7 @@ use Rattle.rice_stream.specs.declared.outcome.Fault.{Fault}
 use Rattle.rice_stream.specs.declared.outcome.Fault.TheVariants.{Write}
 use Rattle.aec_tool.specs.OneBehind.{Looks}
 use Rattle.aec_command.specs.Plan.{PlanView}
+use Rattle.aec_command.specs.TestPlan.{TestView}
 use Rattle.aec_tool.specs.Outside.{Outside, Said, CannotOpen, CannotCreate, LacksMemory, Stopped, Faulty, Holds, HasTakenNothing, closing, finding}
 use Rattle.aec_tool.specs.Outside.{losing, new_mode, refusing, saying, is_standard, is_read_again, source_bytes, source_id, place_of, is_creatable, AreOneFile}
 
@@ -35,26 +36,26 @@ abbrev pub status_with : Option Said → ℕ
 status_with None = 0
 status_with (Some line) = 1
 
--- creating the file of this name would empty the source
-abbrev pub EmptiesSource : Outside → PlanView → List ℕ → Type 0
-EmptiesSource o p dest = (is_standard dest ≡ false) × AreOneFile (source_id o p.source) (o.ids dest)
+-- creating the destination would empty the source
+abbrev pub EmptiesSource : Outside → PlanView → Type 0
+EmptiesSource o p = (is_standard p.dest ≡ false) × AreOneFile (source_id o p.source) (o.ids p.dest)
 
 -- A message is all that came of it.
 pub record OnlySays (line : Said) (o after : Outside) (status : ℕ) : Type 0 where
   pub outside : after ≡ saying o line
   pub status_is : status ≡ 1
 
--- the source can't be opened
-pub record FindsNoSource (p : PlanView) (o after : Outside) (status : ℕ) : Type 0 where
-  pub none : source_bytes o p.source ≡ None
-  pub says : OnlySays (CannotOpen p.source) o after status
+-- the source of this name can't be opened
+pub record FindsNoSource (source : List ℕ) (o after : Outside) (status : ℕ) : Type 0 where
+  pub none : source_bytes o source ≡ None
+  pub says : OnlySays (CannotOpen source) o after status
 
 -- the destination is the source, or can't be created
-pub record CreatesNothing (p : PlanView) (dest : List ℕ) (o after : Outside) (status : ℕ) : Type 0 where
+pub record CreatesNothing (p : PlanView) (o after : Outside) (status : ℕ) : Type 0 where
   pub given : List ℕ
   pub source : source_bytes o p.source ≡ Some given
-  pub why : EmptiesSource o p dest ⊎ (is_creatable o dest ≡ false)
-  pub says : OnlySays (CannotCreate dest) o after status
+  pub why : EmptiesSource o p ⊎ (is_creatable o p.dest ≡ false)
+  pub says : OnlySays (CannotCreate p.dest) o after status
 
 -- there is no memory for the destination's buffer
 pub record WantsMemory (o after : Outside) (status : ℕ) : Type 0 where
@@ -76,11 +77,11 @@ test_status _ _ = 1
 
 module _ {Source Dest : Type 0} (left : Source → Option (List ℕ)) (reads : Source → ℕ) (taken : Dest → Option Room) (writes : Dest → ℕ) where
   -- The source of the plan's name was read, and what the engine wrote stands at the destination of the plan's name.
-  pub record Runs (p : PlanView) (dest : List ℕ) (o after : Outside) (status samples : ℕ) : Type 0 where
+  pub record Runs (p : PlanView) (o after : Outside) (status samples : ℕ) : Type 0 where
     pub given : List ℕ
     pub source : source_bytes o p.source ≡ Some given
-    pub keeps_source : EmptiesSource o p dest → ⊥
-    pub creatable : is_creatable o dest ≡ true
+    pub keeps_source : EmptiesSource o p → ⊥
+    pub creatable : is_creatable o p.dest ≡ true
     -- the source, opened and read, and the destination, begun and written
     pub opened : Source
     pub read : Source
@@ -99,17 +100,17 @@ module _ {Source Dest : Type 0} (left : Source → Option (List ℕ)) (reads : S
     pub all : Bool
     pub there : List ℕ
     pub arrives : Arrives all call.written there
-    pub outside : after ≡ record o { destination = Holds (place_of dest (new_mode (source_id o p.source))) there; said = last_words outcome.fault all }
+    pub outside : after ≡ record o { destination = Holds (place_of p.dest (new_mode (source_id o p.source))) there; said = last_words outcome.fault all }
     pub status_is : status ≡ status_with (last_words outcome.fault all)
     pub samples_are : samples ≡ outcome.report.samples
 
   -- what a test found: the fault of the code, or what is behind the samples that were asked for
-  abbrev pub Judges : PlanView → Outside → List ℕ → ℕ → Option Fault → Result (Option Bool) Fault → Type 0
+  abbrev pub Judges : TestView → Outside → List ℕ → ℕ → Option Fault → Result (Option Bool) Fault → Type 0
   Judges p o given bits (Some fault) found = found ≡ Err fault
   Judges p o given bits None found = Looks reads (is_some p.samples && is_read_again o p.source) bits given found
 
   -- The source of the plan's name was read, nothing was written, and what was found is told.
-  pub record Tests (p : PlanView) (o after : Outside) (status samples : ℕ) : Type 0 where
+  pub record Tests (p : TestView) (o after : Outside) (status samples : ℕ) : Type 0 where
     pub given : List ℕ
     pub source : source_bytes o p.source ≡ Some given
     pub opened : Source
@@ -119,7 +120,7 @@ module _ {Source Dest : Type 0} (left : Source → Option (List ℕ)) (reads : S
     pub call : Call
     pub outcome : Outcome
     pub happens : Happens (left opened) (left read) None None call
-    pub engine : EngineOf p.decode p call outcome
+    pub decodes : Decodes p.setting p.samples call outcome.report outcome.fault
     pub failures : Fails outcome.fault (reads opened) (reads read) 0 0
     pub found : Result (Option Bool) Fault
     pub judges : Judges p o given outcome.report.bits outcome.fault found
@@ -129,14 +130,16 @@ module _ {Source Dest : Type 0} (left : Source → Option (List ℕ)) (reads : S
     pub status_is : status ≡ test_status found told
     pub samples_are : samples ≡ outcome.report.samples
 
-  -- this was done, and the closing line was written, if the plan asks for it
-  abbrev pub Closes : PlanView → (Outside → ℕ → ℕ → Type 0) → Outside → ℕ → Type 0
-  Closes p did after status = (before : Outside) × (samples : ℕ) × did before status samples × (after ≡ closing p.verbose samples before)
+  -- this was done, and the closing line was written, if it is asked for
+  abbrev pub Closes : Bool → (Outside → ℕ → ℕ → Type 0) → Outside → ℕ → Type 0
+  Closes verbose did after status = (before : Outside) × (samples : ℕ) × did before status samples × (after ≡ closing verbose samples before)
 
-  -- the destination of this name was written, if there is one, and else the source was tested
-  abbrev pub Ends : Option (List ℕ) → PlanView → Outside → Outside → ℕ → Type 0
-  Ends (Some dest) p o after status = CreatesNothing p dest o after status ⊎ (WantsMemory o after status ⊎ Closes p (Runs p dest o) after status)
-  Ends None p o after status = Closes p (Tests p o) after status
+  -- the destination was written, or why it was not is told
+  abbrev pub Ends : Bool → PlanView → Outside → Outside → ℕ → Type 0
+  Ends verbose p o after status = CreatesNothing p o after status ⊎ (WantsMemory o after status ⊎ Closes verbose (Runs p o) after status)
 
-  abbrev pub Performs : PlanView → Outside → Outside → ℕ → Type 0
-  Performs p o after status = FindsNoSource p o after status ⊎ Ends p.dest p o after status
+  abbrev pub Performs : Bool → PlanView → Outside → Outside → ℕ → Type 0
+  Performs verbose p o after status = FindsNoSource p.source o after status ⊎ Ends verbose p o after status
+
+  abbrev pub PerformsTest : Bool → TestView → Outside → Outside → ℕ → Type 0
+  PerformsTest verbose p o after status = FindsNoSource p.source o after status ⊎ Closes verbose (Tests p o) after status

@@ -1,7 +1,7 @@
 //! The lines that help, where more than a message is asked for.
 
-use crate::message::Message;
-use aec_command::Plan;
+use crate::message::{Message, StartFault};
+use aec_command::{Plan, TestPlan};
 use rice_samples::Setting;
 use rice_stream::Fault;
 use std::io;
@@ -32,8 +32,11 @@ pub struct Job<'a> {
     padding: u64,
 }
 
-/// Returns how many samples may fill the last segment: fewer than it has.
-fn most_padding(setting: &Setting) -> u64 {
+/// Returns how many samples may fill the last segment, fewer than it has; none do where the samples are counted.
+fn padding_of(setting: &Setting, counted: bool) -> u64 {
+    if counted {
+        return 0;
+    }
     let blocks = setting.interval().min(64) as u64;
     blocks
         .saturating_mul(setting.block() as u64)
@@ -50,28 +53,39 @@ fn reason_for<'a>(name: &'a str, reason: Option<io::Error>) -> Option<Help<'a>> 
 
 impl<'a> Job<'a> {
     /// Returns what help has to know of a plan.
-    pub fn new(plan: &Plan<'a>) -> Self {
+    pub fn of_plan(plan: &Plan<'a>) -> Self {
         let counted = !plan.decode || plan.samples.is_some();
         Job {
             source: plan.source,
-            dest: plan.dest.unwrap_or("-"),
+            dest: plan.dest,
             decode: plan.decode,
-            padding: if counted {
-                0
-            } else {
-                most_padding(&plan.setting)
-            },
+            padding: padding_of(&plan.setting, counted),
+        }
+    }
+
+    /// Returns what help has to know of the plan of a test, which writes to standard output.
+    pub fn of_test(plan: &TestPlan<'a>) -> Self {
+        Job {
+            source: plan.source,
+            dest: "-",
+            decode: true,
+            padding: padding_of(&plan.setting, plan.samples.is_some()),
         }
     }
 
     /// Returns what helps behind a message, whose reason the system may have given.
     pub fn help_behind(self, message: Message<'a>, reason: Option<io::Error>) -> Option<Help<'a>> {
         match message {
-            Message::NoSource { name } => reason_for(name, reason),
-            Message::NoDest { name } => reason_for(name, reason).or(Some(Help::SameFile)),
+            Message::Start(StartFault::NoSource { name }) => reason_for(name, reason),
+            Message::Start(StartFault::NoDest { name }) => {
+                reason_for(name, reason).or(Some(Help::SameFile))
+            }
             Message::Stopped(fault) => self.help_behind_fault(fault, reason),
             Message::Faulty { fault, .. } => self.help_behind_fault(fault, reason),
-            Message::NoMemory | Message::NotUtf8 | Message::Refused(_) => None,
+            Message::Start(StartFault::NoMemory)
+            | Message::NotUtf8
+            | Message::Refused(_)
+            | Message::TestRefused(_) => None,
         }
     }
 

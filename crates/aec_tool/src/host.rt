@@ -10,7 +10,6 @@ use crate::progress::Progress;
 use crate::same_file::{FileId, known_id};
 use crate::source::Stream;
 use crate::system::{CreateFault, OpenFault, System};
-use aec_command::Plan;
 use clap::Error;
 use rice_bits::{FromBufWriter, FromReader, WriteFault};
 use std::alloc::AllocGlobal;
@@ -164,8 +163,8 @@ impl<'a, 'r, R: Runtime + AllocGlobal> System<'a> for Host<'a, 'r, R> {
         }
     }
 
-    fn watch(&self, plan: &Plan<'a>) {
-        self.job.set(Some(Job::new(plan)));
+    fn watch(&self, job: Job<'a>) {
+        self.job.set(Some(job));
         self.progress.watch(self.rt);
     }
 

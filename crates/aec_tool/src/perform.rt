@@ -6,10 +6,10 @@ ghost use Rattle.aec_tool.specs.Performs.{Performs, Ends, Runs, EmptiesSource};
 
 use crate::coding::run;
 use crate::exit_status::{FAILURE, exit_status};
-use crate::message::Message;
+use crate::help::Job;
+use crate::message::{Message, StartFault};
 use crate::same_file::{FileId, are_one_file, mode_for};
 use crate::system::{CreateFault, OpenFault, System};
-use crate::trial::test;
 use aec_command::Plan;
 use rice_stream::Fault;
 
@@ -23,27 +23,23 @@ pub struct Done {
     pub samples: u64,
 }
 
-/// Does what a plan asks, and returns the exit status.
-pub fn perform<'a, S: System<'a>>(system: &mut S, plan: &Plan<'a>) -> u8
-    requires fresh { (o : Outside) → S.told system.old ≡ Some o → IsFresh o }
-    requires decodes { plan.now.dest ≡ None → plan.now.decode ≡ true }
+/// Does what a plan asks, writes a line at the end if that is asked for, and returns the exit status.
+pub fn perform<'a, S: System<'a>>(system: &mut S, plan: &Plan<'a>, verbose: bool) -> u8
+    requires { (o : Outside) → S.told system.old ≡ Some o → IsFresh o }
     ensures { (o : Outside) → S.told system.old ≡ Some o → (after : Outside) ×
         (S.told system.new ≡ Some after)
         × Performs S.Source.left S.Source.failed S.Dest.taken S.Dest.failed
-        (plan_view plan.now) o after result }
+        verbose (plan_view plan.now) o after result }
 {
-    if plan.verbose {
-        system.watch(plan);
+    if verbose {
+        system.watch(Job::of_plan(plan));
     }
     match open(system, plan.source) {
-        Ok((source, id)) => match plan.dest {
-            Some(dest) => create_and_write(system, plan, dest, source, id),
-            None => {
-                let done = test(system, plan, source, id);
-                write_closing_line(system, plan, done)
-            }
-        },
-        Err(_) => fail(system, Message::NoSource { name: plan.source }),
+        Ok((source, id)) => create_and_write(system, plan, verbose, source, id),
+        Err(_) => {
+            let fault = StartFault::NoSource { name: plan.source };
+            fail(system, Message::Start(fault))
+        }
     }
 }
 
@@ -58,14 +54,19 @@ pub fn fail<'a, S: System<'a>>(system: &mut S, message: Message<'a>) -> u8
     FAILURE
 }
 
-/// Writes the closing line, if the plan asks for it, and returns the status.
-fn write_closing_line<'a, S: System<'a>>(system: &mut S, plan: &Plan<'a>, done: Done) -> u8
+/// Writes the closing line, if it is asked for, and returns the status.
+pub fn write_closing_line<'a, S: System<'a>>(
+    system: &mut S,
+    verbose: bool,
+    decode: bool,
+    done: Done,
+) -> u8
     ensures closes { (o : Outside) → S.told system.old ≡ Some o →
-        S.told system.new ≡ Some (closing plan.now.verbose done.samples o) }
+        S.told system.new ≡ Some (closing verbose done.samples o) }
     ensures status { result ≡ done.status }
 {
-    if plan.verbose {
-        system.write_closing_line(plan.decode, done.samples);
+    if verbose {
+        system.write_closing_line(decode, done.samples);
     }
     done.status
 }
@@ -116,7 +117,7 @@ fn create<'a, S: System<'a>>(
 fn create_and_write<'a, S: System<'a>>(
     system: &mut S,
     plan: &Plan<'a>,
-    dest: &'a str,
+    verbose: bool,
     source: S::Source,
     id: Option<FileId>,
 ) -> u8
@@ -129,26 +130,26 @@ fn create_and_write<'a, S: System<'a>>(
     ensures { (o : Outside) → S.told system.old ≡ Some o → (after : Outside) ×
         (S.told system.new ≡ Some after)
         × Ends S.Source.left S.Source.failed S.Dest.taken S.Dest.failed
-        (Some dest.entry.now) (plan_view plan.now) o after result }
+        verbose (plan_view plan.now) o after result }
 {
-    if empties_source(system, dest, id) {
-        return fail(system, Message::NoDest { name: dest });
+    let no_dest = StartFault::NoDest { name: plan.dest };
+    if empties_source(system, plan.dest, id) {
+        return fail(system, Message::Start(no_dest));
     }
-    match create(system, dest, mode_for(id)) {
-        Ok(begun) => {
-            let done = transfer(system, plan, dest, source, begun);
-            write_closing_line(system, plan, done)
+    match create(system, plan.dest, mode_for(id)) {
+        Ok(dest) => {
+            let done = transfer(system, plan, source, dest);
+            write_closing_line(system, verbose, plan.decode, done)
         }
-        Err(CreateFault::NoMemory) => fail(system, Message::NoMemory),
-        Err(CreateFault::Refused) => fail(system, Message::NoDest { name: dest }),
+        Err(CreateFault::NoMemory) => fail(system, Message::Start(StartFault::NoMemory)),
+        Err(CreateFault::Refused) => fail(system, Message::Start(no_dest)),
     }
 }
 
-/// Encodes or decodes from the source to the destination of a name.
+/// Encodes or decodes from the source to the destination.
 fn transfer<'a, S: System<'a>>(
     system: &mut S,
     plan: &Plan<'a>,
-    name: &'a str,
     source: S::Source,
     dest: S::Dest,
 ) -> Done
@@ -159,13 +160,13 @@ fn transfer<'a, S: System<'a>>(
     requires unsaid { (o : Outside) → S.told system.old ≡ Some o → o.said ≡ None }
     ensures { (o : Outside) (given : List ℕ) →
         S.told system.old ≡ Some (begun o
-        (place_of name.entry.now (new_mode (source_id o plan.now.source.now)))) →
+        (place_of plan.now.dest.now (new_mode (source_id o plan.now.source.now)))) →
         source_bytes o plan.now.source.now ≡ Some given → S.Source.left source ≡ Some given →
-        (EmptiesSource o (plan_view plan.now) name.entry.now → ⊥) →
-        is_creatable o name.entry.now ≡ true → (after : Outside) ×
+        (EmptiesSource o (plan_view plan.now) → ⊥) →
+        is_creatable o plan.now.dest.now ≡ true → (after : Outside) ×
         (S.told system.new ≡ Some after)
         × Runs S.Source.left S.Source.failed S.Dest.taken S.Dest.failed
-        (plan_view plan.now) name.entry.now o after result.status result.samples }
+        (plan_view plan.now) o after result.status result.samples }
 {
     let mut dest = dest;
     let (outcome, _) = run(plan, source, &mut dest);

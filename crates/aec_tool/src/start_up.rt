@@ -1,19 +1,20 @@
 //! From the words of the command line to the exit status.
-ghost use Rattle.std.specs.Prelude.{◌≡◌, Some};
-ghost use Rattle.clap.specs.Words.{kind_of};
+ghost use Rattle.std.specs.Prelude.{◌≡◌, Some, None};
+ghost use Rattle.clap.specs.Words.{found_of, kind_of};
 ghost use Rattle.clap.specs.Walk.{texts};
-ghost use Rattle.aec_tool.specs.Outside.{Outside, IsFresh};
-ghost use Rattle.aec_tool.specs.WholeCommand.{Starts, Explains};
+ghost use Rattle.aec_tool.specs.Outside.{Outside, IsFresh, said_of, saying};
+ghost use Rattle.aec_tool.specs.WholeCommand.{Starts, Follows, Explains};
 
 use crate::exit_status::SUCCESS;
 use crate::host::Host;
-use crate::message::Message;
+use crate::message::{Message, StartFault};
 use crate::perform::{fail, perform};
 use crate::progress::Progress;
 use crate::system::System;
-use aec_command::{matches_of, plan_of};
-use clap::Error;
+use crate::trial::perform_test;
+use aec_command::{is_test, is_verbose, matches_of, plan_of, test_plan_of};
 use clap::error::ErrorKind;
+use clap::{ArgMatches, Error};
 use std::alloc::{AllocGlobal, Global};
 use std::rt::Runtime;
 use std::{env, io};
@@ -21,25 +22,57 @@ use std::{env, io};
 /// The status of a command line that is refused.
 const USAGE: u8 = 2;
 
-/// Runs the command with the given words, and returns its exit status.
-pub fn start<'a, S: System<'a>>(system: &mut S, alloc: Global, words: &'a [&'a str]) -> u8
+/// Runs the command with the given words, of which the first is the program's name, and returns its exit status. Standard error is
+/// taken to be no terminal.
+pub fn start<'a, R: Runtime + AllocGlobal>(rt: &R, words: &'a [&'a str]) -> u8 {
+    let progress = Progress::new(false);
+    start_on(&mut Host::new(rt, &progress), rt.alloc(), words)
+}
+
+/// Runs the command with the given words on a system, and returns its exit status.
+pub fn start_on<'a, S: System<'a>>(system: &mut S, alloc: Global, words: &'a [&'a str]) -> u8
     requires { (o : Outside) → S.told system.old ≡ Some o → IsFresh o }
     ensures { (o : Outside) → S.told system.old ≡ Some o → (after : Outside) ×
         (S.told system.new ≡ Some after)
         × Starts S.Source.left S.Source.failed S.Dest.taken S.Dest.failed
         (texts words.entry.now) o after result }
 {
-    let matches = match matches_of(alloc, words) {
-        Ok(matches) => matches,
-        Err(error) => return refuse(system, &error),
-    };
-    match plan_of(&matches) {
-        Ok(plan) => perform(system, &plan),
-        Err(fault) => {
-            system.tell(Message::Refused(fault));
-            USAGE
-        }
+    match matches_of(alloc, words) {
+        Ok(matches) => follow(system, &matches),
+        Err(error) => refuse(system, &error),
     }
+}
+
+/// Does what the matches ask for, and returns the exit status.
+fn follow<'a, S: System<'a>>(system: &mut S, matches: &ArgMatches<'a>) -> u8
+    requires { (o : Outside) → S.told system.old ≡ Some o → IsFresh o }
+    ensures { (o : Outside) → S.told system.old ≡ Some o → (after : Outside) ×
+        (S.told system.new ≡ Some after)
+        × Follows S.Source.left S.Source.failed S.Dest.taken S.Dest.failed
+        (found_of matches.now) o after result }
+{
+    let verbose = is_verbose(matches);
+    if is_test(matches) {
+        return match test_plan_of(matches) {
+            Ok(plan) => perform_test(system, &plan, verbose),
+            Err(fault) => refuse_plan(system, Message::TestRefused(fault)),
+        };
+    }
+    match plan_of(matches) {
+        Ok(plan) => perform(system, &plan, verbose),
+        Err(fault) => refuse_plan(system, Message::Refused(fault)),
+    }
+}
+
+/// Writes why there is no plan, and returns the status of a command line that is refused.
+fn refuse_plan<'a, S: System<'a>>(system: &mut S, message: Message<'a>) -> u8
+    requires { (o : Outside) → S.told system.old ≡ Some o → o.said ≡ None }
+    ensures says { (o : Outside) → S.told system.old ≡ Some o →
+        S.told system.new ≡ Some (saying o (said_of message.entry)) }
+    ensures status { result ≡ 2 }
+{
+    system.tell(message);
+    USAGE
 }
 
 /// Passes on what the parser has to say, and returns the exit status.
@@ -50,7 +83,7 @@ fn refuse<'a, S: System<'a>>(system: &mut S, error: &Error) -> u8
         × Explains (kind_of error.now) o after result }
 {
     match error.kind() {
-        ErrorKind::OutOfMemory => fail(system, Message::NoMemory),
+        ErrorKind::OutOfMemory => fail(system, Message::Start(StartFault::NoMemory)),
         ErrorKind::DisplayHelp | ErrorKind::DisplayVersion => {
             system.show(error);
             SUCCESS
@@ -69,7 +102,7 @@ pub fn start_with_arguments<R: Runtime + AllocGlobal>(rt: &R, terminal: bool) ->
     let words = match env::args(rt) {
         Ok(words) => words,
         Err(error) if error.kind() == io::ErrorKind::OutOfMemory => {
-            return fail(&mut host, Message::NoMemory);
+            return fail(&mut host, Message::Start(StartFault::NoMemory));
         }
         Err(_) => {
             host.tell(Message::NotUtf8);
@@ -79,14 +112,17 @@ pub fn start_with_arguments<R: Runtime + AllocGlobal>(rt: &R, terminal: bool) ->
     let mut all = Vec::new(rt.alloc());
     for word in words {
         if all.push(word).is_err() {
-            return fail(&mut host, Message::NoMemory);
+            return fail(&mut host, Message::Start(StartFault::NoMemory));
         }
     }
     let mut texts = Vec::new(rt.alloc());
     for word in &all {
         if texts.push(word.as_str()).is_err() {
-            return fail(&mut host, Message::NoMemory);
+            return fail(&mut host, Message::Start(StartFault::NoMemory));
         }
     }
-    start(&mut Host::new(rt, &progress), rt.alloc(), texts.as_slice())
+    if terminal {
+        return start_on(&mut Host::new(rt, &progress), rt.alloc(), texts.as_slice());
+    }
+    start(rt, texts.as_slice())
 }

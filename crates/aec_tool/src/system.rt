@@ -4,9 +4,9 @@ ghost use Rattle.clap.specs.Words.{kind_of};
 ghost use Rattle.rice_bits.specs.device.OutletRoom.{Room};
 
 use crate::finding::Finding;
+use crate::help::Job;
 use crate::message::Message;
 use crate::same_file::FileId;
-use aec_command::Plan;
 use clap::Error;
 use rice_bits::{Intake, Outlet, WriteFault};
 
@@ -83,8 +83,8 @@ pub trait System<'a> {
         ensures says { (o : Outside) → told self.old ≡ Some o →
             told self.new ≡ Some (saying o (said_of message.entry)) };
 
-    /// Lets the system show how far it has come with a plan, on a terminal, and write a line that helps behind a message and at the end.
-    fn watch(&self, plan: &Plan<'a>);
+    /// Lets the system show how far it has come with a job, on a terminal, and write a line that helps behind a message and at the end.
+    fn watch(&self, job: Job<'a>);
 
     /// Writes the closing line to standard error: so many samples, the bytes in and out, their ratio, and the time. A failure is
     /// passed over.

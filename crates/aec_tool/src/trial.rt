@@ -1,27 +1,51 @@
 //! The test of a code: it is decoded, and nothing is written.
-ghost use Rattle.std.specs.Prelude.{◌≡◌, ℕ, ◌⊎◌, ◌&&◌, true, List, Some, is_some};
+ghost use Rattle.std.specs.Prelude.{◌≡◌, ℕ, ◌⊎◌, ◌&&◌, List, Some, is_some};
 ghost use Rattle.aec_tool.specs.OneBehind.{Looks};
-ghost use Rattle.aec_command.specs.Plan.{plan_view};
+ghost use Rattle.aec_command.specs.TestPlan.{test_view};
 ghost use Rattle.aec_tool.specs.Outside.{Outside, IsFresh, GivesAll, Stopped, finding, losing, is_read_again, said_of, saying, source_bytes, source_id};
-ghost use Rattle.aec_tool.specs.Performs.{Tests, Judges, faulty};
+ghost use Rattle.aec_tool.specs.Performs.{PerformsTest, Tests, Judges, faulty};
 ghost use Rattle.rice_stream.specs.declared.outcome.Fault.TheVariants as faults;
 
 use crate::exit_status::SUCCESS;
 use crate::finding::Finding;
-use crate::message::Message;
+use crate::help::Job;
+use crate::message::{Message, StartFault};
 use crate::nowhere::Nowhere;
 use crate::one_behind::look_behind;
-use crate::perform::{Done, STANDARD, fail, open};
+use crate::perform::{Done, STANDARD, fail, open, write_closing_line};
 use crate::same_file::FileId;
 use crate::system::System;
-use aec_command::Plan;
+use aec_command::TestPlan;
 use rice_samples::Setting;
 use rice_stream::{Fault, Outcome, Report, decode};
 
+/// Does what the plan of a test asks, writes a line at the end if that is asked for, and returns the exit status.
+pub fn perform_test<'a, S: System<'a>>(system: &mut S, plan: &TestPlan<'a>, verbose: bool) -> u8
+    requires { (o : Outside) → S.told system.old ≡ Some o → IsFresh o }
+    ensures { (o : Outside) → S.told system.old ≡ Some o → (after : Outside) ×
+        (S.told system.new ≡ Some after)
+        × PerformsTest S.Source.left S.Source.failed S.Dest.taken S.Dest.failed
+        verbose (test_view plan.now) o after result }
+{
+    if verbose {
+        system.watch(Job::of_test(plan));
+    }
+    match open(system, plan.source) {
+        Ok((source, id)) => {
+            let done = test(system, plan, source, id);
+            write_closing_line(system, verbose, true, done)
+        }
+        Err(_) => {
+            let fault = StartFault::NoSource { name: plan.source };
+            fail(system, Message::Start(fault))
+        }
+    }
+}
+
 /// Decodes the source and writes nothing, and tells what that found.
-pub fn test<'a, S: System<'a>>(
+fn test<'a, S: System<'a>>(
     system: &mut S,
-    plan: &Plan<'a>,
+    plan: &TestPlan<'a>,
     source: S::Source,
     id: Option<FileId>,
 ) -> Done
@@ -31,11 +55,10 @@ pub fn test<'a, S: System<'a>>(
         GivesAll (source_bytes o plan.now.source.now) (S.Source.left source) }
     requires id { (o : Outside) → S.told system.old ≡ Some o →
         id ≡ source_id o plan.now.source.now }
-    requires decodes { plan.now.decode ≡ true }
     ensures { (o : Outside) → S.told system.old ≡ Some o → (after : Outside) ×
         (S.told system.new ≡ Some after)
         × Tests S.Source.left S.Source.failed S.Dest.taken S.Dest.failed
-        (plan_view plan.now) o after result.status result.samples }
+        (test_view plan.now) o after result.status result.samples }
 {
     let (outcome, _) = decode(&plan.setting, plan.samples, source, &mut Nowhere);
     let report = outcome.report;
@@ -87,7 +110,7 @@ fn at_place<'a>(setting: &Setting, report: &Report, fault: Fault) -> Message<'a>
 /// Returns the fault of a code, or whether a 1 is left behind the samples that were asked for, if that is looked for.
 fn judge<'a, S: System<'a>>(
     system: &S,
-    plan: &Plan<'a>,
+    plan: &TestPlan<'a>,
     id: Option<FileId>,
     outcome: &Outcome,
 ) -> Result<Option<bool>, Fault>
@@ -96,7 +119,7 @@ fn judge<'a, S: System<'a>>(
     ensures { (o : Outside) (given : List ℕ) → S.told system.now ≡ Some o →
         source_bytes o plan.now.source.now ≡ Some given →
         Judges S.Source.left S.Source.failed S.Dest.taken S.Dest.failed
-        (plan_view plan.now) o given outcome.now.report.bits outcome.now.fault result }
+        (test_view plan.now) o given outcome.now.report.bits outcome.now.fault result }
 {
     match outcome.fault {
         Some(fault) => Err(fault),
@@ -105,7 +128,7 @@ fn judge<'a, S: System<'a>>(
 }
 
 /// Returns whether the source can be opened once more, to look behind the samples that were asked for.
-fn is_looked_for(plan: &Plan<'_>, id: Option<FileId>) -> bool
+fn is_looked_for(plan: &TestPlan<'_>, id: Option<FileId>) -> bool
     ensures { (o : Outside) → id ≡ source_id o plan.now.source.now →
         result ≡ (is_some plan.now.samples && is_read_again o plan.now.source.now) }
 {
@@ -118,7 +141,7 @@ fn is_looked_for(plan: &Plan<'_>, id: Option<FileId>) -> bool
 /// Returns whether a 1 is left behind the first `bits` bits of the source, if that is looked for.
 fn look_for_one_behind<'a, S: System<'a>>(
     system: &S,
-    plan: &Plan<'a>,
+    plan: &TestPlan<'a>,
     id: Option<FileId>,
     bits: u64,
 ) -> Result<Option<bool>, Fault>

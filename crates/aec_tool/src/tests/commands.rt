@@ -1,7 +1,5 @@
 //! `start` over a runtime in memory, where devices have so much room and the clock can't be read: what no row of `scripts/rows.txt`
 //! can try with the program.
-use crate::host::Host;
-use crate::progress::Progress;
 use crate::start_up::start;
 use crate::tests::runtime_in_memory::{Memory, Record};
 use std::test::Fail;
@@ -54,9 +52,7 @@ fn told(rt: HostRuntime, words: &str, input: &[u8], room: usize) -> Result<Strin
     }
     let record = Record::new(rt.alloc(), room);
     let memory = Memory::new(rt, input, &record);
-    let progress = Progress::new(false);
-    let mut host = Host::new(&memory, &progress);
-    let status = start(&mut host, rt.alloc(), all.as_slice());
+    let status = start(&memory, all.as_slice());
     record.told(rt.alloc(), status)
 }
 

@@ -1,7 +1,7 @@
-//! `start` over a system that tells what it holds: its contract says what comes of each of these.
+//! `start_on` over a system that tells what it holds: its contract says what comes of each of these.
 use crate::finding::Finding;
 use crate::message::Message;
-use crate::start_up::start;
+use crate::start_up::start_on;
 use crate::tests::told_system::Told;
 use std::test::Fail;
 
@@ -33,7 +33,7 @@ fn reads_the_source_and_writes_the_destination(rt: HostRuntime) -> Result<(), Fa
     ];
     for (words, place, bytes, wanted) in cases {
         let mut system = Told::new(rt.alloc(), b"", "in", SAMPLES, "locked");
-        let status = start(&mut system, rt.alloc(), words);
+        let status = start_on(&mut system, rt.alloc(), words);
         let held = system
             .held
             .as_ref()
@@ -49,7 +49,7 @@ fn reads_the_source_and_writes_the_destination(rt: HostRuntime) -> Result<(), Fa
 #[test]
 fn tells_what_a_test_found(rt: HostRuntime) -> Result<(), Fail> {
     let mut system = Told::new(rt.alloc(), b"", "in", CODE, "locked");
-    let status = start(&mut system, rt.alloc(), TEST);
+    let status = start_on(&mut system, rt.alloc(), TEST);
     let wanted = Finding {
         samples: 8,
         bits: 13,

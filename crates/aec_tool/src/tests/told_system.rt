@@ -4,10 +4,10 @@ ghost use Rattle.std.specs.Str.{bytes_eq};
 ghost use Rattle.rice_bits.specs.device.OutletRoom.{known};
 
 use crate::finding::Finding;
+use crate::help::Job;
 use crate::message::Message;
 use crate::same_file::FileId;
 use crate::system::{CreateFault, OpenFault, System};
-use aec_command::Plan;
 use clap::Error;
 use clap::error::ErrorKind;
 use rice_bits::{Outlet, SliceIn, WriteFault};
@@ -164,7 +164,7 @@ impl<'a> System<'a> for Told<'a> {
         self.said = Some(message);
     }
 
-    fn watch(&self, _plan: &Plan<'a>) {}
+    fn watch(&self, _job: Job<'a>) {}
 
     fn write_closing_line(&mut self, _decode: bool, samples: u64) {
         self.closed = Some(samples);

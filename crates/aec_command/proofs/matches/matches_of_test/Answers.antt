@@ -5,13 +5,13 @@ use Rattle.aec_command.specs.CommandLine.{aec}
 use Rattle.aec_command.proofs.CommandLineLemmas.{asks_of}
 use Rattle.aec_command.proofs.matches.matches_of_test.Goals as goal
 
-pub returns-then-is_used-clause-ok : goal.returns-then-is_used-clause-ok
-returns-then-is_used-clause-ok c =
+pub returns-then-is_test-clause-ok : goal.returns-then-is_test-clause-ok
+returns-then-is_test-clause-ok c =
     let parsed = c.in-Ok.ensures.ok in inr (
       record {
         lack = c.requires.lack;
         in_order = parsed.in_order;
-        asks = sym (asks_of c.in-Ok.matches _ parsed.rows) ∙ (sym c.is_used.ensures ∙ c.if-is_used.true);
+        asks = sym (asks_of c.in-Ok.matches _ parsed.rows) ∙ (sym c.is_test.ensures ∙ c.if-is_test.true);
       },
       parsed.rows,
     )
@@ -21,7 +21,7 @@ returns-in-Ok-clause-err c =
     let parsed = c.in-Ok.ensures.ok in inr (
       subst (λ k. IsAmong k (fault_of aec (texts c.args.words.now))) (sym c.requires.kind) c.requires.lack,
       λ kind asked.
-          let bad : true ≡ false = sym asked.asks ∙ (sym (asks_of c.in-Ok.matches _ parsed.rows) ∙ (sym c.is_used.ensures ∙ c.if-is_used.false)) in
+          let bad : true ≡ false = sym asked.asks ∙ (sym (asks_of c.in-Ok.matches _ parsed.rows) ∙ (sym c.is_test.ensures ∙ c.if-is_test.false)) in
           let contradiction : ⊥ = cc in
           contradiction,
     )

@@ -14,12 +14,12 @@ transfer-done-requires g c κs = (
     (
       c.in-Ok.ensures.sound,
       (
-        (λ x e. holds_after (λ o. HasTakenNothing (g.S.Dest.Outlet.taken c.in-Ok.begun)) _ _ c.create.ensures.silent (λ o told.
+        (λ x e. holds_after (λ o. HasTakenNothing (g.S.Dest.Outlet.taken c.in-Ok.dest)) _ _ c.create.ensures.silent (λ o told.
             let made = c.in-Ok.ensures.creates o told in
-            (begun o (place_of c.args.dest.now c.mode_for.result), made.0, made.2)) x e),
+            (begun o (place_of c.args.plan.now.dest.now c.mode_for.result), made.0, made.2)) x e),
         (λ x e. holds_after (λ o. o.said ≡ None) _ _ c.create.ensures.silent (λ o told.
             let made = c.in-Ok.ensures.creates o told in
-            (begun o (place_of c.args.dest.now c.mode_for.result), made.0, (c.requires.fresh o told).said)) x e),
+            (begun o (place_of c.args.plan.now.dest.now c.mode_for.result), made.0, (c.requires.fresh o told).said)) x e),
       ),
     ),
   ),
@@ -29,23 +29,23 @@ pub returns-in-Ok : goal.returns-in-Ok
 returns-in-Ok g c = λ o told.
     let made = c.in-Ok.ensures.creates o told in
     let all = c.requires.bytes o told in
-    let keeps : EmptiesSource o (plan_view c.args.plan.now) c.args.dest.now → ⊥ = λ e.
-    let one : AreOneFile c.args.id (o.ids c.args.dest.now) = rw (c.requires.id o told) e.1 in
+    let keeps : EmptiesSource o (plan_view c.args.plan.now) → ⊥ = λ e.
+    let one : AreOneFile c.args.id (o.ids c.args.plan.now.dest.now) = rw (c.requires.id o told) e.1 in
     let yes : IsTrue c.empties_source.result = (c.empties_source.ensures o told).1 (e.0, one) in
     let no : c.empties_source.result ≡ false = c.if-empties_source.false in
     let bad : ⊥ = cc in
     bad in
     let mode : c.mode_for.result ≡ new_mode (source_id o c.args.plan.now.source.now) = c.mode_for.ensures ∙ ap new_mode (c.requires.id o told) in
-    let ran = c.transfer-done.ensures o all.0 (begun_with _ o c.args.dest.now c.mode_for.result (new_mode (source_id o c.args.plan.now.source.now)) made.0 mode) all.1 all.2 keeps made.1 in
+    let ran = c.transfer-done.ensures o all.0 (begun_with _ o c.args.plan.now.dest.now c.mode_for.result (new_mode (source_id o c.args.plan.now.source.now)) made.0 mode) all.1 all.2 keeps made.1 in
     let status = sym c.write_closing_line.ensures.status in (
-      closing c.args.plan.now.verbose c.transfer-done.result.samples ran.0,
+      closing c.args.verbose c.transfer-done.result.samples ran.0,
       c.write_closing_line.ensures.closes ran.0 ran.1,
       inr (
           inr (
             ran.0,
             c.transfer-done.result.samples,
             subst (λ n. Runs g.S.Source.Intake.left g.S.Source.Intake.failed g.S.Dest.Outlet.taken g.S.Dest.Outlet.failed (plan_view c.args.plan.now)
-                c.args.dest.now o ran.0 n c.transfer-done.result.samples) status ran.2,
+                o ran.0 n c.transfer-done.result.samples) status ran.2,
             refl,
           )
           ),

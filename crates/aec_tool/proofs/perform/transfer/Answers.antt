@@ -28,7 +28,7 @@ fail-requires-in-None g c κs = (
 -- the engine's fault is told
 pub returns-in-Some : goal.returns-in-Some
 returns-in-Some g c = λ o given told source gives keeps creatable.
-    let place = place_of c.args.name.now (new_mode (source_id o c.args.plan.now.source.now)) in
+    let place = place_of c.args.plan.now.dest.now (new_mode (source_id o c.args.plan.now.source.now)) in
     let done = engine_of (plan_view c.args.plan.now) c.run.result.0 c.run.ensures.encodes c.run.ensures.decodes in
     let words : Some (Stopped c.in-Some.fault) ≡ last_words c.run.result.0.fault (is_ok c.finish-kept.result) = rw c.in-Some.is refl in
     runs_of (record { source = source; sound = c.requires.sound; gives = gives })
@@ -43,7 +43,7 @@ returns-in-Some g c = λ o given told source gives keeps creatable.
 -- that not all arrived is told
 pub returns-in-None : goal.returns-in-None
 returns-in-None g c = λ o given told source gives keeps creatable.
-    let place = place_of c.args.name.now (new_mode (source_id o c.args.plan.now.source.now)) in
+    let place = place_of c.args.plan.now.dest.now (new_mode (source_id o c.args.plan.now.source.now)) in
     let done = engine_of (plan_view c.args.plan.now) c.run.result.0 c.run.ensures.encodes c.run.ensures.decodes in
     let lost : is_ok c.finish-kept.result ≡ false = c.is_err.ensures.negation ∙ ap not c.if-is_err.true in
     let words : Some (Stopped Write) ≡ last_words c.run.result.0.fault (is_ok c.finish-kept.result) = rw (c.in-None.is, lost) refl in
@@ -59,7 +59,7 @@ returns-in-None g c = λ o given told source gives keeps creatable.
 -- nothing is told
 pub returns-in-None-2 : goal.returns-in-None-2
 returns-in-None-2 g c = λ o given told source gives keeps creatable.
-    let place = place_of c.args.name.now (new_mode (source_id o c.args.plan.now.source.now)) in
+    let place = place_of c.args.plan.now.dest.now (new_mode (source_id o c.args.plan.now.source.now)) in
     let done = engine_of (plan_view c.args.plan.now) c.run.result.0 c.run.ensures.encodes c.run.ensures.decodes in
     let all : is_ok c.finish-kept.result ≡ true = c.is_err.ensures.negation ∙ ap not c.if-is_err.false in
     let words : (let none : Option Said = None in none) ≡ last_words c.run.result.0.fault (is_ok c.finish-kept.result) = rw (c.in-None-2.is, all) refl in
