@@ -1,5 +1,7 @@
-//! Worked examples: `start` over a runtime in memory, and `start_on` over a system that tells what it holds.
+//! Worked examples: `run` over memory, `start` over a runtime in memory, and `start_on` over a system that tells what it holds.
+mod columns;
 mod commands;
+mod plans;
 mod runtime_in_memory;
 mod told_commands;
 mod told_system;

@@ -1,6 +1,7 @@
 //! `start` over a runtime in memory, where devices have so much room and the clock can't be read: what no row of `scripts/rows.txt`
 //! can try with the program.
 use crate::start_up::start;
+use crate::tests::columns::Columns;
 use crate::tests::runtime_in_memory::{Memory, Record};
 use std::test::Fail;
 
@@ -27,17 +28,12 @@ fn expect_each(rt: HostRuntime, lines: &str) -> Result<(), Fail> {
 }
 
 fn expect(rt: HostRuntime, line: &str) -> Result<(), Fail> {
-    let Some((words, rest)) = line.split_once(" | ") else {
-        return Err(Fail::new("a line without words"));
-    };
-    let Some((input, rest)) = rest.split_once(" | ") else {
-        return Err(Fail::new("a line without input"));
-    };
-    let Some((room, wanted)) = rest.split_once(" | ") else {
-        return Err(Fail::new("a line without room"));
-    };
-    let told = told(rt, words, input_of(input), room.parse::<usize>()?)?;
-    if told.as_str() == wanted {
+    let mut columns = Columns::of(line);
+    let words = columns.next();
+    let input = input_of(columns.next());
+    let room = columns.next().parse::<usize>()?;
+    let told = told(rt, words, input, room)?;
+    if told.as_str() == columns.next() {
         return Ok(());
     }
     Err(Fail::new(format_args!("{line}: {told}")))
@@ -54,6 +50,22 @@ fn told(rt: HostRuntime, words: &str, input: &[u8], room: usize) -> Result<Strin
     let memory = Memory::new(rt, input, &record);
     let status = start(&memory, all.as_slice());
     record.told(rt.alloc(), status)
+}
+
+const REFUSED: &str =
+    r#"-n 0 - - | equal | 100 | 2, 0 files, "", "", "aec: bits per sample must be 1 to 32\n"
+    -n 33 -j 7 - - | equal | 100 | 2, 0 files, "", "", "aec: bits per sample must be 1 to 32\n"
+    -j 12 -r 0 - - | equal | 100 | 2, 0 files, "", "", "aec: block size must be 8, 16, 32 or 64\n"
+    -r 4097 - out.bin | equal | 100 | 2, 0 files, "", "", "aec: interval must be 1 to 4096\n"
+    --samples 3 -n 0 - - | equal | 100 | 2, 0 files, "", "", "aec: --samples needs -d\n"
+    --test -n 0 - - | equal | 100 | 2, 0 files, "", "", "aec: --test takes no DEST\n"
+    --test -n 0 - | equal | 100 | 2, 0 files, "", "", "aec: bits per sample must be 1 to 32\n"
+    none.bin out.bin | equal | 100 | 1, 0 files, "", "", "aec: cannot open none.bin\n"
+    in.bin none/out.bin | equal | 100 | 1, 0 files, "", "", "aec: cannot create none/out.bin\n""#;
+
+#[test]
+fn tells_why_it_does_not_begin(rt: HostRuntime) -> Result<(), Fail> {
+    expect_each(rt, REFUSED)
 }
 
 const FLUSH: &str =
