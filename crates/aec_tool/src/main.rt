@@ -21,6 +21,8 @@ mod system;
 mod tests;
 mod trial;
 
+pub use aec_command::{Plan, PlanFault, command, plan_of};
+pub use rice_stream::{Fault, Outcome, Report, decode, encode};
 use std::io::IsTerminal;
 use std::process::ExitCode;
 
