@@ -85,8 +85,8 @@ fn expect(
     Err(Fail::new(format_args!("{words}: {taken} bytes, {outcome:?}")))
 }
 
-/// Tries a line: the options, the bytes that the intake gives, `!` where it fails behind them, the room of the outlet, the bytes that
-/// are written, the samples and the bits of the report, and the fault. What was encoded without one is decoded again.
+/// Tries a line: the options, the bytes that the intake gives, `!` where it fails behind them, and the outlet's room. Behind these
+/// stand the bytes that are written, the report's samples and bits, and the fault. What was encoded without one is decoded again.
 fn expect_line(alloc: Global, line: &str) -> Result<(), Fail> {
     let mut columns = Columns::of(line);
     let options = columns.next();
