@@ -15,10 +15,10 @@ use crate::patience::Patience;
 use crate::plain::{ROOM, blocks_wanted, decode_plain, is_plain};
 use crate::plain_decoder::Plain;
 use crate::runs::write_run;
-use crate::write::{write_block, write_counted, write_in_calls};
+use crate::write::{write_counted, write_in_calls};
 use arrayvec::ArrayVec;
 use rice_bits::{BitReader, Intake, Meter, Outlet};
-use rice_code::{CodeFault, FastDecoder, Step, known_or};
+use rice_code::{CodeFault, Decoder, Step, known_or};
 use rice_samples::Setting;
 
 /// Returns how many samples of the next block are wanted after the first `written`.
@@ -127,25 +127,6 @@ pub fn decode<I: Intake, O: Outlet>(
     decode_laid_out::<FastDecoder, I, O, 0, 0>(setting, asked, intake, outlet)
 }
 
-/// As `decode`, by the decoder that gives a block a call.
-pub fn decode_plainly<I: Intake, O: Outlet>(
-    setting: &Setting,
-    asked: Option<u64>,
-    intake: I,
-    outlet: &mut O,
-) -> (Outcome, I)
-    requires reads { I.failed intake + 1 < 2 ^ 64 }
-    requires writes { O.failed outlet.old + 1 < 2 ^ 64 }
-    ensures call { DecodesBetween setting.now asked (I.left intake) (I.left result.1)
-        (O.taken outlet.old) (O.taken outlet.new) result.0.report result.0.fault }
-    ensures failures { Fails result.0.fault (I.failed intake) (I.failed result.1)
-        (O.failed outlet.old) (O.failed outlet.new) }
-    ensures bounds { DecodesWithin asked result.0.report }
-    ensures idle { asked ≡ Some 0 → result.1 ≡ intake }
-{
-    decode_laid_out::<Plain, I, O, 0, 0>(setting, asked, intake, outlet)
-}
-
 /// Returns whether samples have `WIDTH` bytes, and the decoder may give the bytes of a block of them at one stroke. Where they have few
 /// bits, most blocks are in runs or coded in pairs, and it would look in vain.
 pub(crate) fn has_passes<const WIDTH: usize>(setting: &Setting) -> bool
@@ -183,7 +164,7 @@ fn decode_sizes<I: Intake, O: Outlet, const WIDTH: usize>(
 
 /// Decodes blocks of `SIZE` samples, unless that is 0, of `WIDTH` bytes that may be decoded at one stroke, or of any kind where that is 0.
 #[inline(never)]
-fn decode_laid_out<
+pub(crate) fn decode_laid_out<
     D: GivesRows<SIZE, WIDTH>,
     I: Intake,
     O: Outlet,
@@ -440,7 +421,7 @@ fn decode_blocks<
             Step::Done => return ended(end_of(asked, written), written, reader, &meter),
         }
         let block_levels = &levels.as_slice()[..count];
-        match write_block(&own, block_levels, &mut bytes, outlet) {
+        match D::write_block(&own, block_levels, &mut bytes, outlet) {
             Ok(()) => {}
             Err(_) => return ended(Some(Fault::Write), written, reader, &meter),
         }

@@ -15,7 +15,7 @@ ghost use Rattle.rice_code.specs.encode.OpenSegment.{HoldsAnySegment, HasRoomFor
 
 use crate::outcome::{Fault, Outcome, Report};
 use crate::seam::{Seam, take_waiting_number};
-use crate::takes::{OneByOne, TakesLevels};
+use crate::takes::TakesLevels;
 use crate::write::{write_counted, write_whole};
 use rice_bits::{BitSink, Intake, Meter, Outlet, WriteFault};
 use rice_code::{SegmentSink, SizedCoder};
@@ -482,23 +482,6 @@ pub fn encode<I: Intake, O: Outlet>(setting: &Setting, intake: &mut I, outlet: &
     encode_by_sized_coder::<SizedCoder<LONGEST>, I, O>(setting, intake, outlet)
 }
 
-/// As `encode`, by the coder that takes a sample a call.
-pub fn encode_plainly<I: Intake, O: Outlet>(
-    setting: &Setting,
-    intake: &mut I,
-    outlet: &mut O,
-) -> Outcome
-    requires reads { I.failed intake.old + 1 < 2 ^ 64 }
-    requires writes { O.failed outlet.old + 1 < 2 ^ 64 }
-    ensures call { EncodesBetween setting.now (I.left intake.old) (I.left intake.new)
-        (O.taken outlet.old) (O.taken outlet.new) result.report result.fault }
-    ensures failures { Fails result.fault (I.failed intake.old) (I.failed intake.new)
-        (O.failed outlet.old) (O.failed outlet.new) }
-    ensures bounds { EncodesWithin setting.now result.report }
-{
-    encode_by_sized_coder::<OneByOne, I, O>(setting, intake, outlet)
-}
-
 /// Returns whether a short row holds the residuals of each segment.
 pub fn has_short_intervals(setting: &Setting) -> bool
     ensures short { result ≡ true → HoldsAnySegment 128 setting.now }
@@ -511,7 +494,7 @@ pub fn has_short_intervals(setting: &Setting) -> bool
 ///
 /// It is never inlined, so that a call takes the stack of one row.
 #[inline(never)]
-fn encode_by_sized_coder<C: TakesLevels, I: Intake, O: Outlet>(
+pub(crate) fn encode_by_sized_coder<C: TakesLevels, I: Intake, O: Outlet>(
     setting: &Setting,
     intake: &mut I,
     outlet: &mut O,

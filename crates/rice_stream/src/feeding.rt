@@ -40,7 +40,7 @@ pub fn encode_more<O: Outlet>(
 
 /// Encodes as `encode_more` does, where a row of `N` holds the residuals of each segment.
 #[inline(never)]
-fn encode_more_by_sized_coder<C: TakesLevels, O: Outlet>(
+pub(crate) fn encode_more_by_sized_coder<C: TakesLevels, O: Outlet>(
     setting: &Setting,
     seam: &Seam,
     bytes: &[u8],
@@ -89,7 +89,7 @@ pub fn encode_rest<O: Outlet>(
 
 /// Encodes as `encode_rest` does, where a row of `N` holds the residuals of each segment.
 #[inline(never)]
-fn encode_rest_by_sized_coder<C: TakesLevels, O: Outlet>(
+pub(crate) fn encode_rest_by_sized_coder<C: TakesLevels, O: Outlet>(
     setting: &Setting,
     seam: &Seam,
     bytes: &[u8],

@@ -1,15 +1,24 @@
 //! What an engine of decoding asks of a decoder.
-ghost use Rattle.std.specs.Prelude.{◌≡◌, ℕ, ◌+◌, ◌-◌, ◌*◌, ◌^◌, ◌<◌, ◌≤◌, All, [], length, None, Some, IfSome, Ok, true, pos, List, ℤ};
+ghost use Rattle.std.specs.Prelude.{◌≡◌, ℕ, ◌+◌, ◌-◌, ◌*◌, ◌^◌, ◌<◌, ◌≤◌, All, [], length, None, Some, IfSome, Ok, OnOk, OnErr, true, pos, List, ℤ};
+ghost use Rattle.rice_bits.specs.device.OutletRoom.{Appends};
 ghost use Rattle.rice_bits.specs.Limits.{step_limit, most_bits_read};
-ghost use Rattle.rice_samples.specs.Parameters.{value_count, values_at};
+ghost use Rattle.rice_samples.specs.Parameters.{value_count, values_at, width as width_of};
+ghost use Rattle.rice_samples.specs.bytes.Spelling.{spellings};
 ghost use Rattle.rice_code.specs.Limits.{most_samples_of_bit};
 ghost use Rattle.rice_code.specs.decode.BlocksInOnePass.{ArePredicted};
 ghost use Rattle.rice_code.specs.decode.BlocksInRow.{GivesBlocks};
+ghost use Rattle.rice_code.specs.decode.PlainBlocks.{IsPlain};
 ghost use Rattle.rice_code.specs.decode.RowsOfFields.{AreCounted};
+ghost use Rattle.rice_stream.specs.FailedWrites.{TakesPart};
+ghost use Rattle.rice_stream.specs.Pulling.{HasComeTo, TakesStroke, spelled_at};
 
+use crate::pulling::write_at;
+use crate::stand::Stand;
+use crate::strokes::{Stroke, write_next_plain_blocks};
+use crate::write::write_block;
 use arrayvec::ArrayVec;
-use rice_bits::{BitReader, Intake, Meter};
-use rice_code::{CodeFault, FastDecoder, Step};
+use rice_bits::{BitReader, Intake, Meter, Outlet, SliceIn, WriteFault};
+use rice_code::{CodeFault, Decoder, Step};
 use rice_samples::Setting;
 
 /// A decoder of coded data sets, a block a call or several.
@@ -23,6 +32,19 @@ pub trait GivesLevels: Drop {
     fn start(setting: Setting) -> Self
         ensures { state result
             ≡ record { setting = setting; block = 0; before = pos 0; run = 0; stopped = None } };
+
+    /// Returns a decoder that goes on at block `block` of its interval, after the sample `before`, where `run` zero blocks of a
+    /// run are still to come.
+    fn resume(setting: Setting, block: u32, before: i64, run: u32) -> Self
+        requires { IsDecoderState setting block before run None }
+        ensures { state result
+            ≡ record {
+              setting = setting;
+              block = block;
+              before = before;
+              run = run;
+              stopped = None;
+            } };
 
     fn place(&self) -> u32
         ensures place { result ≡ (state self.now).block }
@@ -71,6 +93,36 @@ pub trait GivesLevels: Drop {
         ensures waiting { length levels.new.items + (state self.new).run * (state self.new).setting.block
             ≤ (state self.old).run * (state self.old).setting.block
             + most_samples_of_bit * (reader.new.taken - reader.old.taken) };
+
+    /// Writes the bytes of the samples of a block to an outlet. `bytes` are for what it makes of them first.
+    fn write_block<O: Outlet>(
+        setting: &Setting,
+        levels: &[u32],
+        bytes: &mut [u8; 512],
+        outlet: &mut O,
+    ) -> Result<(), WriteFault>
+        requires legal { All (λ l. l < value_count setting.now) levels.now }
+        requires few { length levels.now ≤ 64 }
+        requires counted { O.failed outlet.old + 1 < 2 ^ 64 }
+        ensures ok { OnOk result (Appends (O.taken outlet.old) (O.taken outlet.new)
+            (spellings setting.now (values_at setting.now levels.now)) ×
+            (O.failed outlet.new ≡ O.failed outlet.old)) }
+        ensures err { OnErr result (TakesPart (O.taken outlet.old) (O.taken outlet.new)
+            (spellings setting.now (values_at setting.now levels.now)) ×
+            (O.failed outlet.new ≡ O.failed outlet.old + 1)) };
+
+    /// Writes the bytes of the samples of a block at a place of memory. `bytes` are for what it makes of them first.
+    fn write_at(
+        setting: &Setting,
+        levels: &[u32],
+        bytes: &mut [u8; 512],
+        at: usize,
+        samples: &mut [u8],
+    )
+        requires legal { All (λ l. l < value_count setting.now) levels.now }
+        requires few { length levels.now ≤ 64 }
+        requires room { at + width_of setting.now * length levels.now ≤ length samples.old }
+        ensures { samples.new ≡ spelled_at setting.now at levels.now samples.old };
 }
 
 /// A decoder that may give the bytes of several blocks at once, of `SIZE` samples each unless that is 0, of `WIDTH` bytes.
@@ -100,6 +152,26 @@ pub trait GivesRows<const SIZE: usize, const WIDTH: usize>: GivesLevels {
         ensures stopped { (Self.state self.new).stopped ≡ None }
         ensures setting { (Self.state self.new).setting ≡ (Self.state self.old).setting }
         ensures steps { AreCounted meter.old meter.new reader.old.taken reader.new.taken };
+
+    /// Writes the samples of the next blocks of a piece at this place, at most `most`, if they are neither predicted nor compressed, and
+    /// wait. Otherwise nothing has happened.
+    fn write_plain_blocks(
+        &mut self,
+        setting: &Setting,
+        stand: &Stand,
+        most: usize,
+        reader: &mut BitReader<SliceIn<'_>>,
+        bytes: &mut [u8; 512],
+        at: usize,
+        samples: &mut [u8],
+    ) -> Option<Stroke>
+        requires plain { IsPlain setting.now WIDTH }
+        requires few { (most ≤ 480) × (WIDTH * setting.now.block * most ≤ 480) }
+        requires come { HasComeTo setting.now stand.now (Self.state self.old) reader.old }
+        requires room { at + width_of setting.now * setting.now.block ≤ length samples.old }
+        ensures did { TakesStroke setting.now stand.now (Self.state self.old) (Self.state self.new) reader.old reader.new
+            at samples.old samples.new result }
+        ensures len { length samples.new ≡ length samples.old };
 }
 
 /// The decoder that gives levels, and the bytes of several blocks at once.
@@ -108,6 +180,10 @@ impl GivesLevels for FastDecoder {
 
     fn start(setting: Setting) -> Self {
         FastDecoder::new(setting)
+    }
+
+    fn resume(setting: Setting, block: u32, before: i64, run: u32) -> Self {
+        Decoder::at(setting, block, before, run)
     }
 
     fn place(&self) -> u32 {
@@ -141,6 +217,27 @@ impl GivesLevels for FastDecoder {
     ) -> Result<Step, CodeFault> {
         self.next_levels(reader, meter, levels)
     }
+
+    #[inline(always)]
+    fn write_block<O: Outlet>(
+        setting: &Setting,
+        levels: &[u32],
+        bytes: &mut [u8; 512],
+        outlet: &mut O,
+    ) -> Result<(), WriteFault> {
+        write_block(setting, levels, bytes, outlet)
+    }
+
+    #[inline(always)]
+    fn write_at(
+        setting: &Setting,
+        levels: &[u32],
+        bytes: &mut [u8; 512],
+        at: usize,
+        samples: &mut [u8],
+    ) {
+        write_at(setting, levels, bytes, at, samples);
+    }
 }
 
 impl<const SIZE: usize, const WIDTH: usize> GivesRows<SIZE, WIDTH> for FastDecoder {
@@ -154,5 +251,19 @@ impl<const SIZE: usize, const WIDTH: usize> GivesRows<SIZE, WIDTH> for FastDecod
         ends: &mut [u32; 64],
     ) -> usize {
         self.next_bytes::<I, SIZE, WIDTH>(most, reader, meter, bytes, ends)
+    }
+
+    #[inline(always)]
+    fn write_plain_blocks(
+        &mut self,
+        setting: &Setting,
+        stand: &Stand,
+        most: usize,
+        reader: &mut BitReader<SliceIn<'_>>,
+        bytes: &mut [u8; 512],
+        at: usize,
+        samples: &mut [u8],
+    ) -> Option<Stroke> {
+        write_next_plain_blocks::<WIDTH>(setting, stand, most, self, reader, bytes, at, samples)
     }
 }

@@ -4,6 +4,7 @@
 
 pub mod decoding;
 pub mod encoding;
+pub mod engines;
 pub mod feeding;
 pub mod gives;
 pub mod laws;
@@ -19,8 +20,9 @@ mod strokes;
 pub mod takes;
 mod write;
 
-pub use decoding::{decode, decode_plainly};
-pub use encoding::{encode, encode_plainly, has_short_intervals};
+pub use decoding::decode;
+pub use encoding::{encode, has_short_intervals};
+pub use engines::{Engines, Fast, Plain};
 pub use feeding::{encode_more, encode_rest};
 pub use outcome::{Fault, Outcome, Report};
 pub use pulling::decode_more;

@@ -3,8 +3,12 @@ ghost use Rattle.std.specs.Prelude.{◌≡◌, ℕ, ◌+◌, ◌-◌, ◌*◌, �
 ghost use Rattle.rice_samples.specs.Parameters.{IsSample, value_count, values_at};
 
 use crate::gives::{GivesLevels, GivesRows};
+use crate::pulling::write_at_of_any_width;
+use crate::stand::Stand;
+use crate::strokes::Stroke;
+use crate::write::write_block_of_any_width;
 use arrayvec::ArrayVec;
-use rice_bits::{BitReader, Intake, Meter};
+use rice_bits::{BitReader, Intake, Meter, Outlet, SliceIn, WriteFault};
 use rice_code::{CodeFault, Decoder, Step};
 use rice_samples::Setting;
 
@@ -24,19 +28,26 @@ fn write_levels_of(setting: &Setting, samples: &[i64], levels: &mut ArrayVec<u32
 
 /// The decoder that gives samples, a block a call.
 #[derive(Drop)]
-pub struct Plain {
+pub struct PlainDecoder {
     setting: Setting,
     decoder: Decoder,
     ghost same: { decoder.setting ≡ setting },
 }
 
-impl GivesLevels for Plain {
+impl GivesLevels for PlainDecoder {
     ghost state = { λ d. d.decoder };
 
     fn start(setting: Setting) -> Self {
-        Plain {
+        PlainDecoder {
             setting,
             decoder: Decoder::new(setting),
+        }
+    }
+
+    fn resume(setting: Setting, block: u32, before: i64, run: u32) -> Self {
+        PlainDecoder {
+            setting,
+            decoder: Decoder::at(setting, block, before, run),
         }
     }
 
@@ -73,9 +84,28 @@ impl GivesLevels for Plain {
         write_levels_of(&self.setting, samples.as_slice(), levels);
         answer
     }
+
+    fn write_block<O: Outlet>(
+        setting: &Setting,
+        levels: &[u32],
+        bytes: &mut [u8; 512],
+        outlet: &mut O,
+    ) -> Result<(), WriteFault> {
+        write_block_of_any_width(setting, levels, bytes, outlet)
+    }
+
+    fn write_at(
+        setting: &Setting,
+        levels: &[u32],
+        bytes: &mut [u8; 512],
+        at: usize,
+        samples: &mut [u8],
+    ) {
+        write_at_of_any_width(setting, levels, bytes, at, samples);
+    }
 }
 
-impl<const SIZE: usize, const WIDTH: usize> GivesRows<SIZE, WIDTH> for Plain {
+impl<const SIZE: usize, const WIDTH: usize> GivesRows<SIZE, WIDTH> for PlainDecoder {
     #[inline(always)]
     fn bytes_at_once<I: Intake>(
         &mut self,
@@ -87,5 +117,20 @@ impl<const SIZE: usize, const WIDTH: usize> GivesRows<SIZE, WIDTH> for Plain {
     ) -> usize {
         let _taken = reader.taken();
         0
+    }
+
+    #[inline(always)]
+    fn write_plain_blocks(
+        &mut self,
+        setting: &Setting,
+        stand: &Stand,
+        most: usize,
+        reader: &mut BitReader<SliceIn<'_>>,
+        bytes: &mut [u8; 512],
+        at: usize,
+        samples: &mut [u8],
+    ) -> Option<Stroke> {
+        let _taken = reader.taken();
+        None
     }
 }

@@ -10,6 +10,7 @@ ghost use Rattle.rice_code.specs.decode.PlainBlocks.{IsPlain};
 ghost use Rattle.rice_stream.specs.Pulling.{Origin, IsStand, IsSomeStand, DecodesOn, GoesOnAt, HasComeTo, TakesNext, ahead, pause_for, spelled_at};
 
 use crate::decoding::{blocks_in_pass, has_passes};
+use crate::gives::{GivesLevels, GivesRows};
 use crate::patience::Patience;
 use crate::plain::{blocks_of_row, is_plain};
 use crate::stand::{Pause, Stand};
@@ -47,21 +48,37 @@ pub fn decode_more(
         return decode_piece_of_sizes::<2>(setting, stand, piece, samples);
     }
     if has_passes::<3>(setting) {
-        return decode_piece::<0, 3, false>(setting, stand, piece, samples);
+        return decode_piece::<Decoder, 0, 3, false>(setting, stand, piece, samples);
     }
     if has_passes::<4>(setting) {
-        return decode_piece::<0, 4, false>(setting, stand, piece, samples);
+        return decode_piece::<Decoder, 0, 4, false>(setting, stand, piece, samples);
     }
     if is_plain::<1>(setting) {
-        return decode_piece::<0, 1, true>(setting, stand, piece, samples);
+        return decode_piece::<Decoder, 0, 1, true>(setting, stand, piece, samples);
     }
     if is_plain::<2>(setting) {
-        return decode_piece::<0, 2, true>(setting, stand, piece, samples);
+        return decode_piece::<Decoder, 0, 2, true>(setting, stand, piece, samples);
     }
     if is_plain::<4>(setting) {
-        return decode_piece::<0, 4, true>(setting, stand, piece, samples);
+        return decode_piece::<Decoder, 0, 4, true>(setting, stand, piece, samples);
     }
-    decode_piece::<0, 0, false>(setting, stand, piece, samples)
+    decode_piece::<Decoder, 0, 0, false>(setting, stand, piece, samples)
+}
+
+/// Does what `decode_more` does, by one loop for all shapes of blocks.
+pub(crate) fn decode_more_by_one_loop<D: GivesRows<0, 0>>(
+    setting: &Setting,
+    stand: &Stand,
+    piece: &[u8],
+    samples: &mut [u8],
+) -> (Stand, Pause)
+    requires { IsSomeStand setting.now stand.now }
+    ensures { DecodesOn setting.now stand.now piece.now samples.old samples.new result.0 result.1 }
+{
+    if !is_too_long(stand.bits, piece.len()) {
+        return decode_piece::<D, 0, 0, false>(setting, stand, piece, samples);
+    }
+    (*stand, Pause::TooLong)
 }
 
 /// Decodes a piece that does not pass the limit of a code, of blocks of samples of `WIDTH` bytes whose bytes may be known at one stroke,
@@ -79,23 +96,23 @@ fn decode_piece_of_sizes<const WIDTH: usize>(
     ensures { DecodesOn setting.now stand.now piece.now samples.old samples.new result.0 result.1 }
 {
     match setting.block() {
-        8 => decode_piece::<8, WIDTH, false>(setting, stand, piece, samples),
-        16 => decode_piece::<16, WIDTH, false>(setting, stand, piece, samples),
-        32 => decode_piece::<32, WIDTH, false>(setting, stand, piece, samples),
-        64 => decode_piece::<64, WIDTH, false>(setting, stand, piece, samples),
-        _ => decode_piece::<0, WIDTH, false>(setting, stand, piece, samples),
+        8 => decode_piece::<Decoder, 8, WIDTH, false>(setting, stand, piece, samples),
+        16 => decode_piece::<Decoder, 16, WIDTH, false>(setting, stand, piece, samples),
+        32 => decode_piece::<Decoder, 32, WIDTH, false>(setting, stand, piece, samples),
+        64 => decode_piece::<Decoder, 64, WIDTH, false>(setting, stand, piece, samples),
+        _ => decode_piece::<Decoder, 0, WIDTH, false>(setting, stand, piece, samples),
     }
 }
 
 /// Decodes a piece that does not pass the limit of a code. `WIDTH`, if it is not 0, is the number of bytes of each sample of blocks whose
 /// bytes may be known at one stroke, and `SIZE`, if it is not 0, that of the samples of each. Where `PLAIN`, samples are not predicted.
 #[inline(never)]
-fn decode_piece<const SIZE: usize, const WIDTH: usize, const PLAIN: bool>(
-    setting: &Setting,
-    stand: &Stand,
-    piece: &[u8],
-    samples: &mut [u8],
-) -> (Stand, Pause)
+fn decode_piece<
+    D: GivesRows<SIZE, WIDTH>,
+    const SIZE: usize,
+    const WIDTH: usize,
+    const PLAIN: bool,
+>(setting: &Setting, stand: &Stand, piece: &[u8], samples: &mut [u8]) -> (Stand, Pause)
     requires size { 0 < SIZE → SIZE ≡ setting.now.block }
     requires samples { PLAIN ≡ false → 0 < WIDTH → ArePredicted setting.now WIDTH }
     requires plain { PLAIN ≡ true → IsPlain setting.now WIDTH }
@@ -105,7 +122,7 @@ fn decode_piece<const SIZE: usize, const WIDTH: usize, const PLAIN: bool>(
 {
     let own = *setting;
     let size = own.width() as usize * own.block() as usize;
-    let mut decoder = FastDecoder::at(own, stand.block, stand.previous, stand.run);
+    let mut decoder = D::resume(own, stand.block, stand.previous, stand.run);
     let mut reader = BitReader::new(SliceIn::new(piece));
     if !skip_bits(&mut reader, piece, (stand.bits % 8) as u32) {
         let _intake = reader.into_inner();
@@ -129,7 +146,7 @@ fn decode_piece<const SIZE: usize, const WIDTH: usize, const PLAIN: bool>(
         if piece.is_empty() && here.run == 0 {
             return (here, Pause::Blank);
         }
-        match next_stroke::<SIZE, WIDTH, PLAIN>(
+        match next_stroke::<D, SIZE, WIDTH, PLAIN>(
             &own,
             &here,
             most,
@@ -157,7 +174,7 @@ fn decode_piece<const SIZE: usize, const WIDTH: usize, const PLAIN: bool>(
         };
         match found {
             Some(next) => {
-                write_at(&own, levels.as_slice(), &mut bytes, at, samples);
+                D::write_at(&own, levels.as_slice(), &mut bytes, at, samples);
                 here = next;
                 at += size;
             }
@@ -200,17 +217,17 @@ fn skip_bits(reader: &mut BitReader<SliceIn<'_>>, piece: &[u8], skipped: u32) ->
 
 /// Restores the samples of the next block, by their levels, and returns where decoding stands behind it, or `None` if no 1 is left.
 #[inline(always)]
-fn restore_next_block(
+fn restore_next_block<D: GivesLevels>(
     setting: &Setting,
     stand: &Stand,
-    decoder: &mut FastDecoder,
+    decoder: &mut D,
     reader: &mut BitReader<SliceIn<'_>>,
     levels: &mut ArrayVec<u32, 64>,
 ) -> Result<Option<Stand>, CodeFault>
-    requires come { HasComeTo setting.now stand.now decoder.old reader.old }
+    requires come { HasComeTo setting.now stand.now (D.state decoder.old) reader.old }
     ensures legal { All (λ l. l < value_count setting.now) levels.new.items }
     ensures goes_on { IfOk result (λ next. IfSome next (λ next.
-        GoesOnAt setting.now stand.now next decoder.new reader.old reader.new ×
+        GoesOnAt setting.now stand.now next (D.state decoder.new) reader.old reader.new ×
         (length levels.new.items ≡ setting.now.block))) }
     ensures takes { (o : Origin) (front : List Bool) (given : List ℤ) →
         IsStand setting.now o stand.now front given →
@@ -221,7 +238,7 @@ fn restore_next_block(
     let before = reader.taken();
     let mut meter = Meter::new();
     meter.tick(stand.steps);
-    match decoder.next_levels(reader, &mut meter, levels)? {
+    match decoder.levels_of_next(reader, &mut meter, levels)? {
         Step::Block => {}
         Step::Done => return Ok(None),
     }
@@ -231,7 +248,13 @@ fn restore_next_block(
 
 /// Writes the spellings of the samples with these levels at this place. `bytes` are for what it makes of them first.
 #[inline(always)]
-fn write_at(setting: &Setting, levels: &[u32], bytes: &mut [u8; 512], at: usize, samples: &mut [u8])
+pub(crate) fn write_at(
+    setting: &Setting,
+    levels: &[u32],
+    bytes: &mut [u8; 512],
+    at: usize,
+    samples: &mut [u8],
+)
     requires legal { All (λ l. l < value_count setting.now) levels.now }
     requires few { length levels.now ≤ 64 }
     requires room { at + width_of setting.now * length levels.now ≤ length samples.old }
@@ -269,12 +292,27 @@ fn write_others_at(
         }
         (4, false, 32) => write_sized_at(setting, 4, false, 32, levels, bytes, at, samples),
         (4, false, 64) => write_sized_at(setting, 4, false, 64, levels, bytes, at, samples),
-        (width, _, count) => {
-            let spelled = &mut bytes[..width as usize * count];
-            write_spellings(setting, levels, spelled);
-            copy_at(spelled, at, samples);
-        }
+        _ => write_at_of_any_width(setting, levels, bytes, at, samples),
     }
+}
+
+/// Does what `write_at` does, whatever the samples are.
+#[inline(never)]
+pub(crate) fn write_at_of_any_width(
+    setting: &Setting,
+    levels: &[u32],
+    bytes: &mut [u8; 512],
+    at: usize,
+    samples: &mut [u8],
+)
+    requires legal { All (λ l. l < value_count setting.now) levels.now }
+    requires few { length levels.now ≤ 64 }
+    requires room { at + width_of setting.now * length levels.now ≤ length samples.old }
+    ensures { samples.new ≡ spelled_at setting.now at levels.now samples.old }
+{
+    let spelled = &mut bytes[..setting.width() as usize * levels.len()];
+    write_spellings(setting, levels, spelled);
+    copy_at(spelled, at, samples);
 }
 
 /// Writes the bytes of `count` samples of three bytes each, whole eights of them, at this place.

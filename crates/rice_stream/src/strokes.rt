@@ -7,6 +7,7 @@ ghost use Rattle.rice_code.specs.decode.DecoderState.{IsDecoderState};
 ghost use Rattle.rice_code.specs.decode.PlainBlocks.{IsPlain};
 ghost use Rattle.rice_stream.specs.Pulling.{HasComeTo, TakesStroke, WritesStroke, stand_at};
 
+use crate::gives::{GivesLevels, GivesRows};
 use crate::patience::Patience;
 use crate::plain::{blocks_wanted, spell_row_ahead};
 use crate::runs::{blocks_at_once, spell_copies_of_sample};
@@ -17,9 +18,9 @@ use rice_samples::Setting;
 
 /// Where decoding stands behind blocks that were given at one stroke, and the number of their bytes.
 #[derive(Clone, Copy)]
-pub(crate) struct Stroke {
-    pub(crate) stand: Stand,
-    pub(crate) len: usize,
+pub struct Stroke {
+    pub stand: Stand,
+    pub len: usize,
 }
 
 /// Copies these bytes to this place.
@@ -50,11 +51,11 @@ fn spell_copies_at(setting: &Setting, sample: i64, count: usize, at: usize, samp
 /// Returns where decoding stands behind `samples` samples more. The reader had taken `before` bits at `stand`, and the steps of those
 /// that it took since are ticked.
 #[inline(always)]
-pub(crate) fn stand_behind(
+pub(crate) fn stand_behind<D: GivesLevels>(
     stand: &Stand,
     samples: u64,
     before: u64,
-    decoder: &FastDecoder,
+    decoder: &D,
     reader: &BitReader<SliceIn<'_>>,
     meter: &Meter,
 ) -> Stand
@@ -63,36 +64,36 @@ pub(crate) fn stand_behind(
     requires bits { stand.now.bits + (reader.now.taken - before) < 2 ^ 64 }
     requires steps { meter.now + samples < 2 ^ 64 }
     ensures numbers { result ≡ stand_at (stand.now.samples + samples)
-        (stand.now.bits + (reader.now.taken - before)) (meter.now + samples) decoder.now }
+        (stand.now.bits + (reader.now.taken - before)) (meter.now + samples) (D.state decoder.now) }
     // What is known of each decoder.
-    ensures state { IsDecoderState decoder.now.setting decoder.now.block decoder.now.before
-        decoder.now.run decoder.now.stopped }
+    ensures state { IsDecoderState (D.state decoder.now).setting (D.state decoder.now).block (D.state decoder.now).before
+        (D.state decoder.now).run (D.state decoder.now).stopped }
 {
     Stand {
         samples: stand.samples + samples,
         bits: stand.bits + (reader.taken() - before),
         steps: meter.steps() + samples,
-        previous: decoder.before(),
-        block: decoder.block(),
-        run: decoder.run(),
+        previous: decoder.sample_before(),
+        block: decoder.place(),
+        run: decoder.blocks_of_run(),
     }
 }
 
 /// Writes the samples of blocks of a run at this place.
 #[inline(never)]
-fn write_next_of_run(
+fn write_next_of_run<D: GivesLevels>(
     setting: &Setting,
     stand: &Stand,
-    decoder: &mut FastDecoder,
+    decoder: &mut D,
     reader: &BitReader<SliceIn<'_>>,
     at: usize,
     samples: &mut [u8],
 ) -> Stroke
-    requires come { HasComeTo setting.now stand.now decoder.old reader.now }
-    requires run { 0 < decoder.old.run }
-    requires preprocess { decoder.old.setting.preprocess ≡ true }
+    requires come { HasComeTo setting.now stand.now (D.state decoder.old) reader.now }
+    requires run { 0 < (D.state decoder.old).run }
+    requires preprocess { (D.state decoder.old).setting.preprocess ≡ true }
     requires room { at + width_of setting.now * setting.now.block ≤ length samples.old }
-    ensures gives { WritesStroke setting.now stand.now result.stand decoder.new
+    ensures gives { WritesStroke setting.now stand.now result.stand (D.state decoder.new)
         reader.now reader.now result.len at samples.old samples.new }
     ensures room { at + result.len ≤ length samples.old }
     ensures len { length samples.new ≡ length samples.old }
@@ -103,9 +104,9 @@ fn write_next_of_run(
     let fit = ((samples.len() - at) as u64 / 4).max(block);
     let mut meter = Meter::new();
     meter.tick(stand.steps);
-    let sample = decoder.before();
-    let blocks = blocks_at_once(setting, Some(fit), 0, decoder.run());
-    decoder.pass_blocks_of_run(blocks);
+    let sample = decoder.sample_before();
+    let blocks = blocks_at_once(setting, Some(fit), 0, decoder.blocks_of_run());
+    decoder.pass_blocks(blocks);
     let count = block * blocks as u64;
     let stand = stand_behind(stand, count, reader.taken(), decoder, reader, &meter);
     let len = width * count as usize;
@@ -115,11 +116,11 @@ fn write_next_of_run(
 
 /// Writes the samples of the next blocks at this place, at most `most`, if they can be decoded in one pass. Otherwise nothing has happened.
 #[inline(always)]
-fn write_next_in_pass<const SIZE: usize, const WIDTH: usize>(
+fn write_next_in_pass<D: GivesRows<SIZE, WIDTH>, const SIZE: usize, const WIDTH: usize>(
     setting: &Setting,
     stand: &Stand,
     most: usize,
-    decoder: &mut FastDecoder,
+    decoder: &mut D,
     reader: &mut BitReader<SliceIn<'_>>,
     bytes: &mut [u8; 512],
     ends: &mut [u32; 64],
@@ -130,9 +131,9 @@ fn write_next_in_pass<const SIZE: usize, const WIDTH: usize>(
     requires samples { ArePredicted setting.now WIDTH }
     requires some { (1 ≤ most) × (most ≤ 64) }
     requires few { WIDTH * setting.now.block * most ≤ 480 }
-    requires come { HasComeTo setting.now stand.now decoder.old reader.old }
+    requires come { HasComeTo setting.now stand.now (D.state decoder.old) reader.old }
     requires room { at + width_of setting.now * setting.now.block ≤ length samples.old }
-    ensures did { TakesStroke setting.now stand.now decoder.old decoder.new reader.old reader.new
+    ensures did { TakesStroke setting.now stand.now (D.state decoder.old) (D.state decoder.new) reader.old reader.new
         at samples.old samples.new result }
     ensures len { length samples.new ≡ length samples.old }
 {
@@ -141,9 +142,7 @@ fn write_next_in_pass<const SIZE: usize, const WIDTH: usize>(
     let before = reader.taken();
     let mut meter = Meter::new();
     meter.tick(stand.steps);
-    let blocks = decoder.next_bytes::<SliceIn<'_>, SIZE, WIDTH>(
-        most, reader, &mut meter, bytes, ends,
-    );
+    let blocks = decoder.bytes_at_once(most, reader, &mut meter, bytes, ends);
     if blocks == 0 {
         return None;
     }
@@ -156,7 +155,7 @@ fn write_next_in_pass<const SIZE: usize, const WIDTH: usize>(
 
 /// Writes the samples of the next blocks at this place, if they are not compressed and wait. Otherwise nothing has happened.
 #[inline(always)]
-fn write_next_plain_blocks<const WIDTH: usize>(
+pub(crate) fn write_next_plain_blocks<const WIDTH: usize>(
     setting: &Setting,
     stand: &Stand,
     most: usize,
@@ -203,12 +202,17 @@ fn write_next_plain_blocks<const WIDTH: usize>(
 /// decoding stands behind them. If none is, nothing has happened to the decoder, the reader and the samples. Outside a run they are at
 /// most `most`.
 #[inline(always)]
-pub(crate) fn next_stroke<const SIZE: usize, const WIDTH: usize, const PLAIN: bool>(
+pub(crate) fn next_stroke<
+    D: GivesRows<SIZE, WIDTH>,
+    const SIZE: usize,
+    const WIDTH: usize,
+    const PLAIN: bool,
+>(
     setting: &Setting,
     stand: &Stand,
     most: usize,
     patience: &mut Patience,
-    decoder: &mut FastDecoder,
+    decoder: &mut D,
     reader: &mut BitReader<SliceIn<'_>>,
     bytes: &mut [u8; 512],
     ends: &mut [u32; 64],
@@ -220,24 +224,22 @@ pub(crate) fn next_stroke<const SIZE: usize, const WIDTH: usize, const PLAIN: bo
     requires plain { PLAIN ≡ true → IsPlain setting.now WIDTH }
     requires some { PLAIN ≡ false → (1 ≤ most) × (most ≤ 64) }
     requires few { (most ≤ 480) × (WIDTH * setting.now.block * most ≤ 480) }
-    requires come { HasComeTo setting.now stand.now decoder.old reader.old }
+    requires come { HasComeTo setting.now stand.now (D.state decoder.old) reader.old }
     requires room { at + width_of setting.now * setting.now.block ≤ length samples.old }
-    ensures did { TakesStroke setting.now stand.now decoder.old decoder.new reader.old reader.new
+    ensures did { TakesStroke setting.now stand.now (D.state decoder.old) (D.state decoder.new) reader.old reader.new
         at samples.old samples.new result }
     ensures len { length samples.new ≡ length samples.old }
 {
-    if decoder.repeats() {
+    if decoder.is_repeating() {
         return Some(write_next_of_run(setting, stand, decoder, reader, at, samples));
     }
     if PLAIN {
-        return write_next_plain_blocks::<WIDTH>(
-            setting, stand, most, decoder, reader, bytes, at, samples,
-        );
+        return decoder.write_plain_blocks(setting, stand, most, reader, bytes, at, samples);
     }
     if WIDTH == 0 || !patience.is_due() {
         return None;
     }
-    let found = write_next_in_pass::<SIZE, WIDTH>(
+    let found = write_next_in_pass::<D, SIZE, WIDTH>(
         setting, stand, most, decoder, reader, bytes, ends, at, samples,
     );
     patience.note(found.is_some());

@@ -141,12 +141,31 @@ fn write_other_samples<O: Outlet>(
         }
         (4, false, 32) => write_sized(setting, 4, false, 32, levels, bytes, outlet),
         (4, false, 64) => write_sized(setting, 4, false, 64, levels, bytes, outlet),
-        (width, _, count) => {
-            let spelled = &mut bytes[..width as usize * count];
-            write_spellings(setting, levels, spelled);
-            write_all(outlet, spelled)
-        }
+        _ => write_block_of_any_width(setting, levels, bytes, outlet),
     }
+}
+
+/// Does what `write_block` does, whatever the samples are.
+#[inline(never)]
+pub fn write_block_of_any_width<O: Outlet>(
+    setting: &Setting,
+    levels: &[u32],
+    bytes: &mut [u8; 512],
+    outlet: &mut O,
+) -> Result<(), WriteFault>
+    requires legal { All (λ l. l < value_count setting.now) levels.now }
+    requires few { length levels.now ≤ 64 }
+    requires counted { O.failed outlet.old + 1 < 2 ^ 64 }
+    ensures ok { OnOk result (Appends (O.taken outlet.old) (O.taken outlet.new)
+        (spellings setting.now (values_at setting.now levels.now)) ×
+        (O.failed outlet.new ≡ O.failed outlet.old)) }
+    ensures err { OnErr result (TakesPart (O.taken outlet.old) (O.taken outlet.new)
+        (spellings setting.now (values_at setting.now levels.now)) ×
+        (O.failed outlet.new ≡ O.failed outlet.old + 1)) }
+{
+    let spelled = &mut bytes[..setting.width() as usize * levels.len()];
+    write_spellings(setting, levels, spelled);
+    write_all(outlet, spelled)
 }
 
 /// Writes the bytes of `count` samples of three bytes each, whole eights of them.

@@ -1,4 +1,4 @@
-use Rattle.std.proofs.Common.{arith, rules, ◌≡◌, ◌+◌, ◌-◌, ◌*◌, ◌/◌, ◌≤◌, length, take, refl, subst, ℕ, Err}
+use Rattle.std.proofs.Common.{arith, ◌≡◌, ◌+◌, ◌-◌, ◌*◌, ◌/◌, ◌≤◌, length, take, refl, subst, ℕ, Err}
 use Rattle.std.proofs.lemmas.List.{length-take}
 use Rattle.std.proofs.lemmas.Result.{err_from_is_err_and}
 use Rattle.rice_samples.specs.Parameters.{width}

@@ -10,16 +10,16 @@ returns-clause-did g c =
     let stand = c.args.stand.now in
     let know = c.requires.come.stand in
     let r = c.args.reader.now in
-    let new = c.next_bytes-blocks.new in
-    let blocks = c.next_bytes-blocks.result in
+    let new = c.bytes_at_once-blocks.new in
+    let blocks = c.bytes_at_once-blocks.result in
     let n = c.block.result * blocks in
     let some : 1 ≤ blocks = omega (arith, c.if-blocks-eq0.false) in
-    let says = c.next_bytes-blocks.ensures.some some in
+    let says = c.bytes_at_once-blocks.ensures.some some in
     let taken : new.reader.taken - c.taken-before.result ≡ new.reader.taken - r.taken = omega (arith, c.taken-before.ensures.value) in
     let steps : c.tick.new.self ≡ stand.steps = omega (arith, c.tick.ensures, c.new-meter.ensures) in
     let s = c.args.setting.now in
     let w = g.row.WIDTH in
-    let most : blocks ≤ c.args.most = omega (arith, c.next_bytes-blocks.ensures.most, c.blocks_wanted-most.ensures.few) in
+    let most : blocks ≤ c.args.most = omega (arith, c.bytes_at_once-blocks.ensures.most, c.blocks_wanted-most.ensures.few) in
     let least = mul-le-mul_left (w * s.block) most in
     let same : w * n ≡ w * s.block * blocks = ap (λ b. w * (b * blocks)) c.block.ensures.value ∙ omega arith in
     let few : w * n ≤ 512 = omega (arith, same, least, c.requires.few) in
@@ -32,8 +32,8 @@ returns-clause-did g c =
       width_some = (let one = some_width s in omega (arith, c.requires.samples.width_is, one));
       block_some = omega (arith, c.block.ensures.range);
       some = some;
-    }) (c.stand_behind-behind.ensures.numbers ∙ (λ i. stand_at (stand.samples + n) (stand.bits + taken i) (new.meter + n) new.self)) in (
-      stroke_written (w * n) c.args.at new.bytes c.args.samples.now c.copy_at.new.samples k (omega (arith, few, c.next_bytes-blocks.auto.bytes, c.told-bytes)) c.copy_at.ensures,
+    }) (c.stand_behind-behind.ensures.numbers ∙ (λ i. stand_at (stand.samples + n) (stand.bits + taken i) (new.meter + n) (g.D.GivesLevels.state new.self))) in (
+      stroke_written (w * n) c.args.at new.bytes c.args.samples.now c.copy_at.new.samples k (omega (arith, few, c.bytes_at_once-blocks.auto.bytes, c.told-bytes)) c.copy_at.ensures,
       row_has_room
-          w c.block.result blocks c.blocks_wanted-most.result c.args.at (length c.args.samples.now) c.next_bytes-blocks.ensures.most fit inside,
+          w c.block.result blocks c.blocks_wanted-most.result c.args.at (length c.args.samples.now) c.bytes_at_once-blocks.ensures.most fit inside,
     )

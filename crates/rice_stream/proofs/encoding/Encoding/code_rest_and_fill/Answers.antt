@@ -1,5 +1,5 @@
 use Rattle.rice_stream.specs.EncodingState.{seen}
-use Rattle.std.proofs.Common.{arith, rules, ◌≡◌, ◌+◌, refl, sym, subst}
+use Rattle.std.proofs.Common.{arith, ◌≡◌, ◌+◌, refl, sym, subst}
 use Rattle.rice_samples.specs.Parameters.{Parameters}
 use Rattle.rice_code.specs.code.Code.{code_bits, complete_samples}
 use Rattle.rice_code.specs.code.Blocks.{fill_count_of}

@@ -1,4 +1,3 @@
-use Rattle.rice_stream.specs.EncodingState.{seen}
 use Rattle.std.proofs.Common.{arith, rules, refl, w64, to_z, of_z, FitsSigned, sym, ◌≡◌, ◌∙◌, subst, ℤ}
 use Rattle.std.proofs.lemmas.Int.{to_z-of_z}
 use Rattle.rice_samples.specs.Parameters.{Parameters}

@@ -1,4 +1,4 @@
-use Rattle.std.proofs.Common.{arith, rules, ◌≡◌, ◌+◌, ◌-◌, ◌*◌, ◌<◌, ◌≤◌, ◌++◌, [], All, List, ℕ, ℤ}
+use Rattle.std.proofs.Common.{arith, ◌≡◌, ◌+◌, ◌-◌, ◌*◌, ◌<◌, ◌≤◌, ◌++◌, [], All, List, ℕ, ℤ}
 use Rattle.std.proofs.Common.{length, take, drop, refl, ap, sym, ◌∙◌, subst, append_assoc, append-nil, length-append, length-drop}
 use Rattle.std.specs.Prelude.{min}
 use Rattle.std.proofs.Math.Nat.{mul-le-mul_left}

@@ -1,5 +1,5 @@
 use Rattle.rice_stream.specs.EncodingState.{seen}
-use Rattle.std.proofs.Common.{arith, inl, rules, ◌<◌, length, take}
+use Rattle.std.proofs.Common.{arith, ◌<◌, length, take}
 use Rattle.std.proofs.lemmas.Result.{err_from_is_err_and}
 use Rattle.rice_samples.specs.Parameters.{values_at}
 use Rattle.rice_samples.proofs.lemmas.setting.ValuesAtLevels.{length-values}

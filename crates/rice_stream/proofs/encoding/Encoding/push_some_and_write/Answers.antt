@@ -1,4 +1,3 @@
-use Rattle.std.proofs.Common.{rules}
 use Rattle.rice_stream.proofs.encoding.Encoding.push_some_and_write.Goals as goal
 
 pub push_row-requires : goal.push_row-requires

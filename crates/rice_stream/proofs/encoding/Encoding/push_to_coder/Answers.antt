@@ -1,4 +1,4 @@
-use Rattle.std.proofs.Common.{arith, rules, ◌≡◌, ◌<◌, ◌∙◌, ◌+◌, ◌++◌, length, length-append, take, refl, ap, sym, subst, ℕ, ℤ, List}
+use Rattle.std.proofs.Common.{arith, ◌≡◌, ◌<◌, ◌∙◌, ◌+◌, ◌++◌, length, length-append, take, refl, ap, sym, subst, ℕ, ℤ, List}
 use Rattle.std.specs.Prelude.{All}
 use Rattle.std.proofs.lemmas.List.{length-take-le, take-take}
 use Rattle.rice_samples.specs.Parameters.{Parameters, value_count, values_at}

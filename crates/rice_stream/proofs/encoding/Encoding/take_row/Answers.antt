@@ -1,6 +1,5 @@
-use Rattle.std.proofs.Common.{arith, rules, ◌≡◌, ◌<◌, ◌≤◌, ◌++◌, zero, suc, refl, length, take, ap, sym, ◌∙◌, subst, inr, append-nil, length-drop, List, ℕ, ℤ}
+use Rattle.std.proofs.Common.{arith, ◌≡◌, ◌<◌, ◌≤◌, ◌++◌, zero, suc, refl, length, take, ap, sym, ◌∙◌, subst, append-nil, length-drop, List, ℕ, ℤ}
 use Rattle.rice_samples.specs.Parameters.{Parameters, values_at}
-use Rattle.rice_code.specs.Bounds.{block_bound}
 use Rattle.rice_stream.specs.EncodingState.{seen, HoldsCode}
 use Rattle.rice_stream.proofs.lemmas.EncodingLemmas.{samples_from}
 use Rattle.rice_stream.proofs.lemmas.RowsOfSegments.{TakesNext, can_take_rest, code_short, goes_on_at_first, row_goes_on, row_inside}

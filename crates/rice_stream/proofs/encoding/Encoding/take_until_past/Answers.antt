@@ -1,4 +1,4 @@
-use Rattle.std.proofs.Common.{arith, rules, ◌≡◌, ◌+◌, ◌/◌, ◌≤◌, ◌++◌, length, take, ap, sym, ◌∙◌, subst, inl, append-nil, length-drop, List, ℤ}
+use Rattle.std.proofs.Common.{arith, ◌≡◌, ◌+◌, ◌/◌, ◌≤◌, ◌++◌, length, take, ap, sym, ◌∙◌, subst, append-nil, length-drop, List, ℤ}
 use Rattle.std.proofs.Math.Seq.{take-length}
 use Rattle.rice_samples.specs.Parameters.{values_at}
 use Rattle.rice_samples.proofs.lemmas.setting.ValuesAtLevels.{length-values}

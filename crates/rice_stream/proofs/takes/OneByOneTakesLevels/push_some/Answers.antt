@@ -1,4 +1,4 @@
-use Rattle.std.proofs.Common.{rules, refl, sym, ap, subst, zero, suc, ◌∙◌, arith, ◌≡◌, ℕ, ◌+◌, ◌*◌, ◌<◌, ◌≤◌, [], ◌∷◌, ◌++◌, length, take, List, ℤ, slice_index_or, w64, to_z, of_z, to_z-of_z}
+use Rattle.std.proofs.Common.{refl, sym, ap, subst, zero, suc, ◌∙◌, arith, ◌≡◌, ℕ, ◌<◌, [], ◌∷◌, ◌++◌, length, take, List, ℤ, slice_index_or, w64, to_z, of_z, to_z-of_z}
 use Rattle.std.proofs.lemmas.List.{append-nil}
 use Rattle.rice_samples.specs.Parameters.{Parameters, value_at, values_at}
 use Rattle.rice_code.specs.code.Code.{complete_samples}

@@ -1,0 +1,189 @@
+//! All ways from samples to their code and back, by one coder and one decoder.
+ghost use Rattle.std.specs.Prelude.{◌≡◌, ◌+◌, ◌^◌, ◌<◌, Some};
+ghost use Rattle.rice_stream.specs.DevicesInCalls.{Fails};
+ghost use Rattle.rice_stream.specs.Encodes.{EncodesBetween, EncodesWithin};
+ghost use Rattle.rice_stream.specs.EncodingState.{PushFails};
+ghost use Rattle.rice_stream.specs.Decodes.{DecodesBetween, DecodesWithin};
+ghost use Rattle.rice_stream.specs.Feeding.{IsSomeSeam, EncodesOn, EncodesToEnd};
+ghost use Rattle.rice_stream.specs.Pulling.{IsSomeStand, DecodesOn};
+
+use crate::decoding::{decode, decode_laid_out};
+use crate::encoding::{LONGEST, encode, encode_by_sized_coder, has_short_intervals};
+use crate::feeding::{
+    encode_more, encode_more_by_sized_coder, encode_rest, encode_rest_by_sized_coder,
+};
+use crate::outcome::{Fault, Outcome};
+use crate::plain_decoder::PlainDecoder;
+use crate::pulling::{decode_more, decode_more_by_one_loop};
+use crate::seam::Seam;
+use crate::stand::{Pause, Stand};
+use crate::takes::OneByOne;
+use rice_bits::{Intake, Outlet};
+use rice_samples::Setting;
+
+/// The ways to encode and to decode, at once and piece by piece. All that meet it give the same code and the same samples.
+pub trait Engines {
+    /// Encodes the samples that the intake's bytes spell, and writes their code to the outlet.
+    fn encode<I: Intake, O: Outlet>(setting: &Setting, intake: &mut I, outlet: &mut O) -> Outcome
+        requires reads { I.failed intake.old + 1 < 2 ^ 64 }
+        requires writes { O.failed outlet.old + 1 < 2 ^ 64 }
+        ensures call { EncodesBetween setting.now (I.left intake.old) (I.left intake.new)
+            (O.taken outlet.old) (O.taken outlet.new) result.report result.fault }
+        ensures failures { Fails result.fault (I.failed intake.old) (I.failed intake.new)
+            (O.failed outlet.old) (O.failed outlet.new) }
+        ensures bounds { EncodesWithin setting.now result.report };
+
+    /// Encodes the next samples, which the bytes spell, and returns where their code ends.
+    fn encode_more<O: Outlet>(
+        setting: &Setting,
+        seam: &Seam,
+        bytes: &[u8],
+        outlet: &mut O,
+    ) -> Result<Seam, Fault>
+        requires seam { IsSomeSeam setting.now seam.now }
+        requires writes { O.failed outlet.old + 1 < 2 ^ 64 }
+        ensures did { EncodesOn setting.now seam.now bytes.now
+            (O.taken outlet.old) (O.taken outlet.new) result }
+        ensures failures { PushFails (O.failed outlet.old) (O.failed outlet.new) result };
+
+    /// Encodes the last samples, which the bytes spell, and writes the rest of the code. The report is that of all samples.
+    fn encode_rest<O: Outlet>(
+        setting: &Setting,
+        seam: &Seam,
+        bytes: &[u8],
+        outlet: &mut O,
+    ) -> Outcome
+        requires seam { IsSomeSeam setting.now seam.now }
+        requires writes { O.failed outlet.old + 1 < 2 ^ 64 }
+        ensures did { EncodesToEnd setting.now seam.now bytes.now
+            (O.taken outlet.old) (O.taken outlet.new) result.report result.fault }
+        ensures failures { Fails result.fault 0 0 (O.failed outlet.old) (O.failed outlet.new) }
+        ensures bounds { EncodesWithin setting.now result.report };
+
+    /// Decodes the code that `intake` gives, and writes its samples to `outlet`: as many as are asked for, or all. Returns what was
+    /// done, and the intake.
+    fn decode<I: Intake, O: Outlet>(
+        setting: &Setting,
+        asked: Option<u64>,
+        intake: I,
+        outlet: &mut O,
+    ) -> (Outcome, I)
+        requires reads { I.failed intake + 1 < 2 ^ 64 }
+        requires writes { O.failed outlet.old + 1 < 2 ^ 64 }
+        ensures call { DecodesBetween setting.now asked (I.left intake) (I.left result.1)
+            (O.taken outlet.old) (O.taken outlet.new) result.0.report result.0.fault }
+        ensures failures { Fails result.0.fault (I.failed intake) (I.failed result.1)
+            (O.failed outlet.old) (O.failed outlet.new) }
+        ensures bounds { DecodesWithin asked result.0.report }
+        // With a count of 0 the intake is not called.
+        ensures idle { asked ≡ Some 0 → result.1 ≡ intake };
+
+    /// Decodes the coded data sets that are whole in a piece of the code, and writes their samples to the front of `samples`. Returns
+    /// where decoding stands then, and why it ends there.
+    fn decode_more(
+        setting: &Setting,
+        stand: &Stand,
+        piece: &[u8],
+        samples: &mut [u8],
+    ) -> (Stand, Pause)
+        requires { IsSomeStand setting.now stand.now }
+        ensures { DecodesOn setting.now stand.now piece.now samples.old samples.new result.0 result.1 };
+}
+
+/// The engines that are fast: several samples or blocks at a time, and a loop for each shape of blocks.
+pub struct Fast;
+
+/// The engines that are small: a sample at a time, or a block, and one loop for all shapes of blocks.
+pub struct Plain;
+
+impl Engines for Fast {
+    #[inline(always)]
+    fn encode<I: Intake, O: Outlet>(setting: &Setting, intake: &mut I, outlet: &mut O) -> Outcome {
+        encode(setting, intake, outlet)
+    }
+
+    #[inline(always)]
+    fn encode_more<O: Outlet>(
+        setting: &Setting,
+        seam: &Seam,
+        bytes: &[u8],
+        outlet: &mut O,
+    ) -> Result<Seam, Fault> {
+        encode_more(setting, seam, bytes, outlet)
+    }
+
+    #[inline(always)]
+    fn encode_rest<O: Outlet>(
+        setting: &Setting,
+        seam: &Seam,
+        bytes: &[u8],
+        outlet: &mut O,
+    ) -> Outcome {
+        encode_rest(setting, seam, bytes, outlet)
+    }
+
+    #[inline(always)]
+    fn decode<I: Intake, O: Outlet>(
+        setting: &Setting,
+        asked: Option<u64>,
+        intake: I,
+        outlet: &mut O,
+    ) -> (Outcome, I) {
+        decode(setting, asked, intake, outlet)
+    }
+
+    #[inline(always)]
+    fn decode_more(
+        setting: &Setting,
+        stand: &Stand,
+        piece: &[u8],
+        samples: &mut [u8],
+    ) -> (Stand, Pause) {
+        decode_more(setting, stand, piece, samples)
+    }
+}
+
+impl Engines for Plain {
+    fn encode<I: Intake, O: Outlet>(setting: &Setting, intake: &mut I, outlet: &mut O) -> Outcome {
+        let _any = has_short_intervals(setting);
+        encode_by_sized_coder::<OneByOne<LONGEST>, I, O>(setting, intake, outlet)
+    }
+
+    fn encode_more<O: Outlet>(
+        setting: &Setting,
+        seam: &Seam,
+        bytes: &[u8],
+        outlet: &mut O,
+    ) -> Result<Seam, Fault> {
+        let _any = has_short_intervals(setting);
+        encode_more_by_sized_coder::<OneByOne<LONGEST>, O>(setting, seam, bytes, outlet)
+    }
+
+    fn encode_rest<O: Outlet>(
+        setting: &Setting,
+        seam: &Seam,
+        bytes: &[u8],
+        outlet: &mut O,
+    ) -> Outcome {
+        let _any = has_short_intervals(setting);
+        encode_rest_by_sized_coder::<OneByOne<LONGEST>, O>(setting, seam, bytes, outlet)
+    }
+
+    fn decode<I: Intake, O: Outlet>(
+        setting: &Setting,
+        asked: Option<u64>,
+        intake: I,
+        outlet: &mut O,
+    ) -> (Outcome, I) {
+        decode_laid_out::<PlainDecoder, I, O, 0, 0>(setting, asked, intake, outlet)
+    }
+
+    fn decode_more(
+        setting: &Setting,
+        stand: &Stand,
+        piece: &[u8],
+        samples: &mut [u8],
+    ) -> (Stand, Pause) {
+        decode_more_by_one_loop::<PlainDecoder>(setting, stand, piece, samples)
+    }
+}
