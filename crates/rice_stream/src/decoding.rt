@@ -13,12 +13,11 @@ use crate::gives::{GivesLevels, GivesRows};
 use crate::outcome::{Fault, Outcome, Report};
 use crate::patience::Patience;
 use crate::plain::{ROOM, blocks_wanted, decode_plain, is_plain};
-use crate::plain_decoder::Plain;
 use crate::runs::write_run;
 use crate::write::{write_counted, write_in_calls};
 use arrayvec::ArrayVec;
 use rice_bits::{BitReader, Intake, Meter, Outlet};
-use rice_code::{CodeFault, Decoder, Step, known_or};
+use rice_code::{CodeFault, FastDecoder, Step, known_or};
 use rice_samples::Setting;
 
 /// Returns how many samples of the next block are wanted after the first `written`.

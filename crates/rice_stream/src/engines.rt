@@ -8,7 +8,7 @@ ghost use Rattle.rice_stream.specs.Feeding.{IsSomeSeam, EncodesOn, EncodesToEnd}
 ghost use Rattle.rice_stream.specs.Pulling.{IsSomeStand, DecodesOn};
 
 use crate::decoding::{decode, decode_laid_out};
-use crate::encoding::{LONGEST, encode, encode_by_sized_coder, has_short_intervals};
+use crate::encoding::{encode, encode_by_sized_coder};
 use crate::feeding::{
     encode_more, encode_more_by_sized_coder, encode_rest, encode_rest_by_sized_coder,
 };
@@ -145,8 +145,7 @@ impl Engines for Fast {
 
 impl Engines for Plain {
     fn encode<I: Intake, O: Outlet>(setting: &Setting, intake: &mut I, outlet: &mut O) -> Outcome {
-        let _any = has_short_intervals(setting);
-        encode_by_sized_coder::<OneByOne<LONGEST>, I, O>(setting, intake, outlet)
+        encode_by_sized_coder::<OneByOne, I, O>(setting, intake, outlet)
     }
 
     fn encode_more<O: Outlet>(
@@ -155,8 +154,7 @@ impl Engines for Plain {
         bytes: &[u8],
         outlet: &mut O,
     ) -> Result<Seam, Fault> {
-        let _any = has_short_intervals(setting);
-        encode_more_by_sized_coder::<OneByOne<LONGEST>, O>(setting, seam, bytes, outlet)
+        encode_more_by_sized_coder::<OneByOne, O>(setting, seam, bytes, outlet)
     }
 
     fn encode_rest<O: Outlet>(
@@ -165,8 +163,7 @@ impl Engines for Plain {
         bytes: &[u8],
         outlet: &mut O,
     ) -> Outcome {
-        let _any = has_short_intervals(setting);
-        encode_rest_by_sized_coder::<OneByOne<LONGEST>, O>(setting, seam, bytes, outlet)
+        encode_rest_by_sized_coder::<OneByOne, O>(setting, seam, bytes, outlet)
     }
 
     fn decode<I: Intake, O: Outlet>(

@@ -18,7 +18,7 @@ use crate::strokes::{Stroke, write_next_plain_blocks};
 use crate::write::write_block;
 use arrayvec::ArrayVec;
 use rice_bits::{BitReader, Intake, Meter, Outlet, SliceIn, WriteFault};
-use rice_code::{CodeFault, Decoder, Step};
+use rice_code::{CodeFault, FastDecoder, Step};
 use rice_samples::Setting;
 
 /// A decoder of coded data sets, a block a call or several.
@@ -183,7 +183,7 @@ impl GivesLevels for FastDecoder {
     }
 
     fn resume(setting: Setting, block: u32, before: i64, run: u32) -> Self {
-        Decoder::at(setting, block, before, run)
+        FastDecoder::at(setting, block, before, run)
     }
 
     fn place(&self) -> u32 {

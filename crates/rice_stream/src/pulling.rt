@@ -48,21 +48,21 @@ pub fn decode_more(
         return decode_piece_of_sizes::<2>(setting, stand, piece, samples);
     }
     if has_passes::<3>(setting) {
-        return decode_piece::<Decoder, 0, 3, false>(setting, stand, piece, samples);
+        return decode_piece::<FastDecoder, 0, 3, false>(setting, stand, piece, samples);
     }
     if has_passes::<4>(setting) {
-        return decode_piece::<Decoder, 0, 4, false>(setting, stand, piece, samples);
+        return decode_piece::<FastDecoder, 0, 4, false>(setting, stand, piece, samples);
     }
     if is_plain::<1>(setting) {
-        return decode_piece::<Decoder, 0, 1, true>(setting, stand, piece, samples);
+        return decode_piece::<FastDecoder, 0, 1, true>(setting, stand, piece, samples);
     }
     if is_plain::<2>(setting) {
-        return decode_piece::<Decoder, 0, 2, true>(setting, stand, piece, samples);
+        return decode_piece::<FastDecoder, 0, 2, true>(setting, stand, piece, samples);
     }
     if is_plain::<4>(setting) {
-        return decode_piece::<Decoder, 0, 4, true>(setting, stand, piece, samples);
+        return decode_piece::<FastDecoder, 0, 4, true>(setting, stand, piece, samples);
     }
-    decode_piece::<Decoder, 0, 0, false>(setting, stand, piece, samples)
+    decode_piece::<FastDecoder, 0, 0, false>(setting, stand, piece, samples)
 }
 
 /// Does what `decode_more` does, by one loop for all shapes of blocks.
@@ -96,11 +96,11 @@ fn decode_piece_of_sizes<const WIDTH: usize>(
     ensures { DecodesOn setting.now stand.now piece.now samples.old samples.new result.0 result.1 }
 {
     match setting.block() {
-        8 => decode_piece::<Decoder, 8, WIDTH, false>(setting, stand, piece, samples),
-        16 => decode_piece::<Decoder, 16, WIDTH, false>(setting, stand, piece, samples),
-        32 => decode_piece::<Decoder, 32, WIDTH, false>(setting, stand, piece, samples),
-        64 => decode_piece::<Decoder, 64, WIDTH, false>(setting, stand, piece, samples),
-        _ => decode_piece::<Decoder, 0, WIDTH, false>(setting, stand, piece, samples),
+        8 => decode_piece::<FastDecoder, 8, WIDTH, false>(setting, stand, piece, samples),
+        16 => decode_piece::<FastDecoder, 16, WIDTH, false>(setting, stand, piece, samples),
+        32 => decode_piece::<FastDecoder, 32, WIDTH, false>(setting, stand, piece, samples),
+        64 => decode_piece::<FastDecoder, 64, WIDTH, false>(setting, stand, piece, samples),
+        _ => decode_piece::<FastDecoder, 0, WIDTH, false>(setting, stand, piece, samples),
     }
 }
 
