@@ -13,12 +13,13 @@ PYTHON_CODES ?= 1000000
 LIBRARY_CODES ?= 1000000
 
 .DEFAULT_GOAL := help
-.PHONY: help library compat python install install-command install-library install-documents install-compat uninstall check clean dist release deb released two-builds test edit rows hostile interop exhaustive any-block refused-memory installed recipes documents options guesses vectors pictures imports lemmas progress bench-others bench examples stack header axioms hostile-library hostile-pulls clients hostile-compat python-tests aarch64 bench-compat wrappers trusted plant
+.PHONY: help library small compat python install install-command install-library install-documents install-compat uninstall check clean dist release deb released two-builds test edit rows hostile interop exhaustive any-block refused-memory installed recipes documents options guesses vectors pictures imports lemmas progress bench-others bench examples stack header axioms hostile-library hostile-pulls clients hostile-compat python-tests aarch64 bench-compat wrappers trusted plant
 
 help:
 	@echo 'make aec                    prove and build the program, as ./aec (some fifteen minutes the first time)'
 	@echo 'make library                prove and build the library for C, as ./librice.a and ./librice.so (as long)'
 	@echo 'make library TARGET=aarch64-unknown-linux-gnu   the same for another processor, in out/TARGET'
+	@echo 'make small                  prove and build the small library for C, as ./librice_small.a (with TARGET=.. too)'
 	@echo 'make compat                 build the interfaces of libaec and szlib over the library, in ./compat/out'
 	@echo 'make python                 build the Python package over ./librice.a, as a wheel and unpacked, in ./out/python'
 	@echo 'make install PREFIX=DIR     install both in DIR (/usr/local), with manual page, completions, header, rice.pc and documents'
@@ -101,6 +102,11 @@ library: $(LIBRARY)librice.a $(LIBRARY)librice.so
 librice.a: crates/rice_c/out/librice_c.a
 	cp $< $@
 
+small: $(LIBRARY)librice_small.a
+
+librice_small.a: crates/rice_small/out/librice_small.a
+	cp $< $@
+
 # The object needs nothing but memcpy, memmove and memset (make header), so the shared library is the static one.
 $(LIBRARY)librice.so: $(LIBRARY)librice.a
 	$(CC) $(LDFLAGS) -shared -Wl,-soname,$(SHARED) -Wl,-z,now,-z,relro -Wl,--whole-archive $< -Wl,--no-whole-archive -o $@
@@ -122,20 +128,25 @@ $(COMPAT)/libsz.so.2: compat/szlib.c compat/szlib.h $(COMPAT)/libaec.so.0
 	$(COMPAT_CC) -Wl,-soname,libsz.so.2 -Wl,-rpath,'$$ORIGIN' compat/szlib.c $(COMPAT)/libaec.so.0 -o $@
 	ln -sf libsz.so.2 $(COMPAT)/libsz.so
 
-crates/rice_c/out/librice_c.a: $(call sources,$(LIBRARIES) rice_c)
-	$(call prove,$(LIBRARIES))
-	cd crates/rice_c && rt lib --jobs $(JOBS) > /dev/null
+# The libraries for C: that of fast engines, and the small one, of plain ones.
+FOR_C := $(LIBRARIES) rice_calls
+
+crates/rice_c/out/librice_c.a crates/rice_small/out/librice_small.a: crates/%.a: $(call sources,$(FOR_C) rice_c rice_small)
+	$(call prove,$(FOR_C))
+	cd crates/$(firstword $(subst /, ,$*)) && rt lib --jobs $(JOBS) > /dev/null
 	touch $@
 
-# `rt lib` leaves the library where that for this machine is, which is put aside and back.
+# `rt lib` leaves a library where that for this machine is, which is put aside and back.
 ifneq ($(TARGET),)
-$(LIBRARY)librice.a: $(call sources,$(LIBRARIES) rice_c)
+$(LIBRARY)librice.a: BUILT := crates/rice_c/out/librice_c.a
+$(LIBRARY)librice_small.a: BUILT := crates/rice_small/out/librice_small.a
+$(LIBRARY)librice.a $(LIBRARY)librice_small.a: $(call sources,$(FOR_C) rice_c rice_small)
 	mkdir -p $(@D)
-	$(call prove,$(LIBRARIES))
-	mv crates/rice_c/out/librice_c.a $(@D)/here.a || true
-	cd crates/rice_c && rt lib --jobs $(JOBS) --target $(TARGET) > /dev/null
-	mv crates/rice_c/out/librice_c.a $@
-	mv $(@D)/here.a crates/rice_c/out/librice_c.a || true
+	$(call prove,$(FOR_C))
+	mv $(BUILT) $(@D)/here.a || true
+	cd $(dir $(BUILT)).. && rt lib --jobs $(JOBS) --target $(TARGET) > /dev/null
+	mv $(BUILT) $@
+	mv $(@D)/here.a $(BUILT) || true
 	touch $@
 endif
 
@@ -242,7 +253,7 @@ two-builds: release
 	scripts/two_builds
 
 clean:
-	rm -rf crates/*/out compat/out python/build python/*.egg-info out dist aec librice.a librice.so
+	rm -rf crates/*/out compat/out python/build python/*.egg-info out dist aec librice.a librice_small.a librice.so
 
 test:
 	rt ci
@@ -347,4 +358,4 @@ lemmas:
 	scripts/lemma_lines.py
 
 plant:
-	for crate in $(LIBRARIES) rice_c aec_command aec_tool; do (cd crates/$$crate && rt plant --max 1000000 --minutes 10000) || exit 1; done
+	for crate in $(FOR_C) rice_c rice_small aec_command aec_tool; do (cd crates/$$crate && rt plant --max 1000000 --minutes 10000) || exit 1; done

@@ -141,7 +141,7 @@ def main():
     library = os.path.abspath(sys.argv[1])
     os.chdir(os.path.join(os.path.dirname(os.path.abspath(__file__)), ".."))
     header = read("include/rice.h")
-    texts = "".join(map(read, sorted(glob.glob("crates/rice_c/src/*.rt")))) + read("crates/rice_stream/src/seam.rt") + read("crates/rice_stream/src/stand.rt")
+    texts = "".join(map(read, sorted(glob.glob("crates/rice_c/src/*.rt") + glob.glob("crates/rice_calls/src/*.rt")))) + read("crates/rice_stream/src/seam.rt") + read("crates/rice_stream/src/stand.rt")
     wrong = [
         *wrong_object(library, set(functions_of_header(header))),
         *wrong_declarations(header, texts),

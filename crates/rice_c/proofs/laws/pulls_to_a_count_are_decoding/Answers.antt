@@ -1,5 +1,0 @@
-use Rattle.rice_c.proofs.lemmas.PulledPieces as pulled
-use Rattle.rice_c.proofs.laws.pulls_to_a_count_are_decoding.Goals as goal
-
-pub returns : goal.returns
-returns c = pulled.pulls_to_a_count_are_decoding

@@ -1,5 +1,0 @@
-use Rattle.rice_c.proofs.lemmas.RoomOfPieceSuffices as fed
-use Rattle.rice_c.proofs.laws.push_room_suffices.Goals as goal
-
-pub returns : goal.returns
-returns c = fed.push_room_suffices

@@ -1,0 +1,22 @@
+use Rattle.std.proofs.Common.{refl, sym, ◌∙◌, subst}
+use Rattle.rice_calls.proofs.lemmas.ReturnedSamples.{decode_suffices}
+use Rattle.rice_calls.specs.AsAsked.{Asked, DecodesAsAsked}
+use Rattle.rice_calls.proofs.coding.decode.Goals as goal
+
+pub returns-in-Ok : goal.returns-in-Ok
+returns-in-Ok g c =
+    let a = c.args in
+    let b = c.decode_into in
+    subst (λ (t : Asked). DecodesAsAsked t a.count a.code.now a.samples.now b.new.samples b.new.report b.result) (sym c.in-Ok.is ∙ c.legal.ensures.answer) (record {
+      ok = b.ensures;
+      refused = tt;
+      room = decode_suffices c.in-Ok.setting a.count a.code.now a.samples.now b.new.samples b.new.report b.result b.ensures;
+    })
+
+pub returns-in-Err : goal.returns-in-Err
+returns-in-Err g c =
+    subst (λ (t : Asked). DecodesAsAsked t c.args.count c.args.code.now c.args.samples.now c.args.samples.now c.refuse.new.self c.refuse.result) (sym c.in-Err.is ∙ c.legal.ensures.answer) (record {
+      ok = tt;
+      refused = record { status = c.refuse.ensures.status; untouched = refl; report = c.refuse.ensures.report };
+      room = tt;
+    })

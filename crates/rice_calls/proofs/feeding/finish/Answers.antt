@@ -1,0 +1,26 @@
+use Rattle.std.proofs.Common.{refl, sym, ◌∙◌, subst, IfOk, List, ℤ}
+use Rattle.rice_stream.specs.Feeding.{IsSeam}
+use Rattle.rice_calls.proofs.lemmas.RoomOfPieceSuffices.{push_room_suffices}
+use Rattle.rice_calls.specs.AsAsked.{Asked, FinishesAsAsked}
+use Rattle.rice_calls.proofs.feeding.finish.Goals as goal
+
+pub returns-in-Ok : goal.returns-in-Ok
+returns-in-Ok g c =
+    let a = c.args in
+    let b = c.finish_into in
+    let same = (sym c.in-Ok.is ∙ c.legal.ensures.answer) in
+    let stands = subst (λ (t : Asked). IfOk t (λ s. (xs : List ℤ) × IsSeam s c.args.feed.now.seam xs)) (sym same) c.requires in
+    let room = (push_room_suffices c.in-Ok.setting c.in-Ok.ensures.legal stands.0 a.samples.now a.code.now b.new.code b.new.report b.result).1 in
+    subst (λ (t : Asked). FinishesAsAsked t a.feed.now a.samples.now a.code.now b.new.code b.new.report b.result) same (record {
+      ok = b.ensures;
+      room = room a.feed.now.seam stands.1 (b.ensures stands.0 stands.1);
+      refused = tt;
+    })
+
+pub returns-in-Err : goal.returns-in-Err
+returns-in-Err g c =
+    subst (λ (t : Asked). FinishesAsAsked t c.args.feed.now c.args.samples.now c.args.code.now c.args.code.now c.refuse.new.self c.refuse.result) (sym c.in-Err.is ∙ c.legal.ensures.answer) (record {
+      ok = tt;
+      room = tt;
+      refused = record { status = c.refuse.ensures.status; untouched = refl; report = c.refuse.ensures.report };
+    })

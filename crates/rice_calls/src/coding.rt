@@ -1,0 +1,151 @@
+//! Encoding and decoding, from memory to memory.
+ghost use Rattle.std.specs.Prelude.{◌≡◌, Option, Some, None};
+ghost use Rattle.rice_bits.specs.device.Slice.{slice_left, slice_state, slice_failures};
+ghost use Rattle.rice_stream.specs.DevicesInCalls.{Fails};
+ghost use Rattle.rice_stream.specs.Encodes.{EncodesBetween, EncodesWithin};
+ghost use Rattle.rice_stream.specs.Decodes.{DecodesBetween, DecodesWithin};
+ghost use Rattle.rice_calls.specs.AsAsked.{DecodesAllAsAsked, DecodesAsAsked, EncodesAsAsked};
+ghost use Rattle.rice_calls.specs.AskedSetting.{setting_asked};
+ghost use Rattle.rice_calls.specs.Calls.{EncodesInto, DecodesInto};
+
+use crate::feeding::finish_into;
+use crate::report::RiceReport;
+use crate::setting::RiceSetting;
+use rice_bits::{SliceIn, SliceOut};
+use rice_samples::{MOST_INPUT, Setting};
+use rice_stream::{Engines, Outcome, Seam};
+
+/// Encodes the samples that the bytes of `samples` spell, and writes their code to the front of `code`.
+pub fn encode<E: Engines>(
+    setting: &RiceSetting,
+    samples: &[u8],
+    code: &mut [u8],
+    report: &mut RiceReport,
+) -> u32
+    ensures { EncodesAsAsked (setting_asked setting.now) samples.now code.old code.new report.new result }
+{
+    match setting.legal() {
+        Ok(setting) => encode_into::<E>(&setting, samples, code, report),
+        Err(fault) => report.refuse(fault),
+    }
+}
+
+/// Encodes from memory to memory: as one piece that begins a code and ends it, which is read where it stands. Longer input goes by
+/// `encode_past_limit`.
+fn encode_into<E: Engines>(
+    setting: &Setting,
+    samples: &[u8],
+    code: &mut [u8],
+    report: &mut RiceReport,
+) -> u32
+    ensures { EncodesInto setting.now samples.now code.old code.new report.new result }
+{
+    if samples.len() as u64 > MOST_INPUT {
+        return encode_past_limit::<E>(setting, samples, code, report);
+    }
+    let seam = Seam::new(setting);
+    finish_into::<E>(setting, &seam, samples, code, report)
+}
+
+/// Encodes from memory to memory by an intake, which gives no more bytes than a code may have: of longer input the samples within that
+/// limit are encoded, where one piece is refused whole. It is never inlined, so that other calls don't take its stack.
+#[inline(never)]
+fn encode_past_limit<E: Engines>(
+    setting: &Setting,
+    samples: &[u8],
+    code: &mut [u8],
+    report: &mut RiceReport,
+) -> u32
+    ensures { EncodesInto setting.now samples.now code.old code.new report.new result }
+{
+    let mut intake = SliceIn::new(samples);
+    let mut outlet = SliceOut::new(code);
+    let outcome = encode_slice_to_slice::<E>(setting, &mut intake, &mut outlet);
+    let written = outlet.taken();
+    report.tell(&outcome, written)
+}
+
+/// Encodes from a slice to a slice.
+fn encode_slice_to_slice<E: Engines>(
+    setting: &Setting,
+    intake: &mut SliceIn<'_>,
+    outlet: &mut SliceOut<'_>,
+) -> Outcome
+    requires { slice_failures outlet.old ≡ 0 }
+    ensures borrow { (slice_state outlet.new).borrow ≡ (slice_state outlet.old).borrow }
+    ensures call { EncodesBetween setting.now
+        (Some (slice_left intake.old)) (Some (slice_left intake.new))
+        (Some (slice_state outlet.old)) (Some (slice_state outlet.new))
+        result.report result.fault }
+    ensures failures { Fails result.fault 0 0 0 (slice_failures outlet.new) }
+    ensures within { EncodesWithin setting.now result.report }
+{
+    E::encode(setting, intake, outlet)
+}
+
+/// Decodes the first `count` samples of the code `code`, and writes their bytes to the front of `samples`.
+pub fn decode<E: Engines>(
+    setting: &RiceSetting,
+    count: u64,
+    code: &[u8],
+    samples: &mut [u8],
+    report: &mut RiceReport,
+) -> u32
+    ensures { DecodesAsAsked (setting_asked setting.now) count code.now samples.old samples.new report.new result }
+{
+    match setting.legal() {
+        Ok(setting) => decode_into::<E>(&setting, Some(count), code, samples, report),
+        Err(fault) => report.refuse(fault),
+    }
+}
+
+/// Decodes all samples of the code `code`, and writes their bytes to the front of `samples`.
+pub fn decode_all<E: Engines>(
+    setting: &RiceSetting,
+    code: &[u8],
+    samples: &mut [u8],
+    report: &mut RiceReport,
+) -> u32
+    ensures { DecodesAllAsAsked (setting_asked setting.now) code.now samples.old samples.new report.new result }
+{
+    match setting.legal() {
+        Ok(setting) => decode_into::<E>(&setting, None, code, samples, report),
+        Err(fault) => report.refuse(fault),
+    }
+}
+
+/// Decodes from memory to memory: as many samples as are asked for, or all.
+fn decode_into<E: Engines>(
+    setting: &Setting,
+    asked: Option<u64>,
+    code: &[u8],
+    samples: &mut [u8],
+    report: &mut RiceReport,
+) -> u32
+    ensures { DecodesInto setting.now asked code.now samples.old samples.new report.new result }
+{
+    let intake = SliceIn::new(code);
+    let mut outlet = SliceOut::new(samples);
+    let (outcome, _) = decode_slice_to_slice::<E>(setting, asked, intake, &mut outlet);
+    let written = outlet.taken();
+    report.tell(&outcome, written)
+}
+
+/// Decodes from a slice to a slice.
+fn decode_slice_to_slice<'a, E: Engines>(
+    setting: &Setting,
+    asked: Option<u64>,
+    intake: SliceIn<'a>,
+    outlet: &mut SliceOut<'_>,
+) -> (Outcome, SliceIn<'a>)
+    requires { slice_failures outlet.old ≡ 0 }
+    ensures borrow { (slice_state outlet.new).borrow ≡ (slice_state outlet.old).borrow }
+    ensures call { DecodesBetween setting.now asked
+        (Some (slice_left intake.entry)) (Some (slice_left result.1))
+        (Some (slice_state outlet.old)) (Some (slice_state outlet.new))
+        result.0.report result.0.fault }
+    ensures failures { Fails result.0.fault 0 0 0 (slice_failures outlet.new) }
+    ensures within { DecodesWithin asked result.0.report }
+{
+    E::decode(setting, asked, intake, outlet)
+}
