@@ -10,7 +10,7 @@ use std::alloc::Global;
 use std::test::Fail;
 
 /// The options, the bytes of the samples, the places where the intake and the outlet fail, the bytes that are written, the fault,
-/// and the report: samples, bits, the least and the most steps.
+/// and the report: samples, bits, and the least and the most steps that their bounds allow.
 const CALLS: &str =
     "          |                  |    |   |                    |          | 0   | 0  | 0    | 0
     N         |                  |    |   |                    |          | 0   | 0  | 0    | 0
