@@ -1,5 +1,5 @@
 //! Encoding and decoding, from memory to memory.
-ghost use Rattle.std.specs.Prelude.{◌≡◌, Option, Some, None};
+ghost use Rattle.std.specs.Prelude.{◌≡◌, Option, Some};
 ghost use Rattle.rice_bits.specs.device.Slice.{slice_left, slice_state, slice_failures};
 ghost use Rattle.rice_stream.specs.DevicesInCalls.{Fails};
 ghost use Rattle.rice_stream.specs.Encodes.{EncodesBetween, EncodesWithin};

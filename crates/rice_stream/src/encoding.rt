@@ -11,7 +11,7 @@ ghost use Rattle.rice_samples.specs.Places.{cut};
 ghost use Rattle.rice_stream.specs.Feeding.{IsSeam, IsSomeSeam, StandsAt, behind};
 ghost use Rattle.rice_code.specs.code.Code.{code, early_output};
 ghost use Rattle.rice_code.specs.encode.Coder.{HasTaken, complete_code};
-ghost use Rattle.rice_code.specs.encode.OpenSegment.{HoldsAnySegment, HasRoomForSegment};
+ghost use Rattle.rice_code.specs.encode.OpenSegment.{HoldsAnySegment};
 
 use crate::outcome::{Fault, Outcome, Report};
 use crate::seam::{Seam, take_waiting_number};

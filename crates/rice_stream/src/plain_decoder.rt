@@ -1,5 +1,5 @@
 //! The decoder that gives the samples of a block a call, as engines ask for one.
-ghost use Rattle.std.specs.Prelude.{◌≡◌, ℕ, ◌+◌, ◌-◌, ◌*◌, ◌^◌, ◌<◌, ◌≤◌, All, length, List, ℤ};
+ghost use Rattle.std.specs.Prelude.{◌≡◌, ◌-◌, ◌<◌, ◌≤◌, All, length};
 ghost use Rattle.rice_samples.specs.Parameters.{IsSample, value_count, values_at};
 
 use crate::gives::{GivesLevels, GivesRows};

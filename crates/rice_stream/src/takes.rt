@@ -1,8 +1,8 @@
 //! What an engine of encoding asks of a coder.
-ghost use Rattle.std.specs.Prelude.{◌≡◌, ℕ, ◌+◌, ◌*◌, ◌^◌, ◌<◌, ◌≤◌, [], ◌∷◌, ◌++◌, length, take, All, List, Bool, ℤ, ⊤};
+ghost use Rattle.std.specs.Prelude.{◌≡◌, ℕ, ◌+◌, ◌*◌, ◌<◌, ◌≤◌, [], length, take, All, List, Bool, ℤ, ⊤};
 ghost use Rattle.rice_bits.specs.Limits.{step_limit};
-ghost use Rattle.rice_samples.specs.Limits.{longest_segment, most_input};
-ghost use Rattle.rice_samples.specs.Parameters.{IsSample, value_count, values_at};
+ghost use Rattle.rice_samples.specs.Limits.{longest_segment};
+ghost use Rattle.rice_samples.specs.Parameters.{value_count, values_at};
 ghost use Rattle.rice_samples.specs.Places.{cut};
 ghost use Rattle.rice_code.specs.CoderSteps.{segment_steps};
 ghost use Rattle.rice_code.specs.encode.OpenSegment.{HoldsAnySegment, HasRoomForSegment, most_before, state_between};

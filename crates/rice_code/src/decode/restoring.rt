@@ -1,5 +1,5 @@
 //! Restores the samples of a block.
-ghost use Rattle.std.specs.Prelude.{◌≡◌, ◌<◌, ◌&&◌, ◌==◌, true, length, All, IfSome, is_some};
+ghost use Rattle.std.specs.Prelude.{◌≡◌, ◌<◌, ◌&&◌, true, length, All, IfSome, is_some};
 ghost use Rattle.rice_samples.specs.Parameters.{IsSample, value_count};
 ghost use Rattle.rice_samples.specs.predict.Residuals.{pattern, last_of};
 ghost use Rattle.rice_code.specs.code.Blocks.{block_data, zero_block};

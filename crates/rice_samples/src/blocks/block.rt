@@ -1,10 +1,8 @@
 //! A block of residuals, which is read only by calls that count their steps.
-ghost use Rattle.std.specs.Prelude.{◌≡◌, All, ℕ, ◌+◌, ◌-◌, ◌*◌, ◌/◌, ◌%◌, ◌^◌, ◌==◌, ◌<◌, ◌≤◌, ◌++◌, drop, flat_map, min, length, slice_index, sum_by};
+ghost use Rattle.std.specs.Prelude.{◌≡◌, ℕ, ◌+◌, ◌-◌, ◌/◌, ◌^◌, ◌==◌, ◌<◌, ◌≤◌, length, slice_index, sum_by};
 ghost use Rattle.std.specs.List.{list_all};
 ghost use Rattle.rice_bits.specs.Limits.{step_limit};
-ghost use Rattle.rice_bits.specs.Bits.{word, IsWholeWidth};
 ghost use Rattle.rice_samples.specs.blocks.Pairs.{pair_codes};
-ghost use Rattle.rice_samples.specs.blocks.Stops.{IsFirstStop};
 ghost use Rattle.rice_samples.specs.Parameters.{IsBlockSize};
 
 use crate::blocks::pair_codeword_lengths::pair_sum;

@@ -1,5 +1,5 @@
 //! The residuals of a segment, in a row that is no longer than its setting asks for.
-ghost use Rattle.std.specs.Prelude.{◌≡◌, ℕ, ◌+◌, ◌*◌, ◌<◌, ◌≤◌, ◌↔◌, IsTrue, [], ◌∷◌, ◌++◌, All, length, map, slice_range};
+ghost use Rattle.std.specs.Prelude.{◌≡◌, ℕ, ◌+◌, ◌*◌, ◌<◌, ◌≤◌, [], ◌∷◌, ◌++◌, All, length, map, slice_range};
 ghost use Rattle.rice_samples.specs.Limits.{longest_segment};
 ghost use Rattle.rice_samples.specs.Parameters.{value_count, values_at};
 ghost use Rattle.rice_samples.specs.predict.Residuals.{pattern, ranks_below};

@@ -5,7 +5,8 @@ use Rattle.rice_calls.proofs.feeding.begin.Goals as goal
 
 pub returns-in-Ok : goal.returns-in-Ok
 returns-in-Ok c =
-    subst (λ (t : Asked). BeginsAsAsked t c.args.setting.now c.args.feed.now (record { setting = c.args.setting.now; seam = c.new.result }) c.number.result) (sym c.in-Ok.is ∙ c.legal.ensures.answer) (record {
+    subst (λ (t : Asked). BeginsAsAsked t c.args.setting.now c.args.feed.now (record { setting = c.args.setting.now; seam = c.new.result }) c.number.result)
+    (sym c.in-Ok.is ∙ c.legal.ensures.answer) (record {
       ok = record { done = c.number.ensures; setting_is = refl; none = c.new.ensures };
       refused = tt;
     })

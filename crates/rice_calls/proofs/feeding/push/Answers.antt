@@ -19,7 +19,8 @@ returns-in-Ok g c =
 
 pub returns-in-Err : goal.returns-in-Err
 returns-in-Err g c =
-    subst (λ (t : Asked). PushesAsAsked t c.args.samples.now c.args.code.now c.args.code.now c.args.feed.now c.args.feed.now c.refuse.new.self c.refuse.result) (sym c.in-Err.is ∙ c.legal.ensures.answer) (record {
+    subst (λ (t : Asked). PushesAsAsked t c.args.samples.now c.args.code.now c.args.code.now c.args.feed.now c.args.feed.now c.refuse.new.self c.refuse.result)
+    (sym c.in-Err.is ∙ c.legal.ensures.answer) (record {
       ok = tt;
       room = tt;
       refused = (record { status = c.refuse.ensures.status; untouched = refl; report = c.refuse.ensures.report }, refl);

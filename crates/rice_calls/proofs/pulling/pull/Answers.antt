@@ -13,7 +13,8 @@ returns-in-Ok g c =
 
 pub returns-in-Err : goal.returns-in-Err
 returns-in-Err g c =
-    subst (λ (t : Asked). PullsAsAsked t c.args.code.now c.args.samples.now c.args.samples.now c.args.drain.now c.args.drain.now c.refuse.new.self c.refuse.result) (sym c.in-Err.is ∙ c.legal.ensures.answer) (record {
+    subst (λ (t : Asked). PullsAsAsked t c.args.code.now c.args.samples.now c.args.samples.now c.args.drain.now c.args.drain.now c.refuse.new.self c.refuse.result)
+    (sym c.in-Err.is ∙ c.legal.ensures.answer) (record {
       ok = tt;
       refused = (record { status = c.refuse.ensures.status; untouched = refl; report = c.refuse.ensures.report }, refl);
     })

@@ -1,19 +1,17 @@
 //! Decodes coded data sets, a block a call or several.
-ghost use Rattle.std.specs.Prelude.{◌≡◌, ◌≢◌, ℕ, ◌+◌, ◌-◌, ◌*◌, ◌%◌, ◌^◌, ◌<◌, ◌≤◌, ◌↔◌, IsTrue, true, false, All, [], length, take, None, Option, Some, IfSome, IfNone, Ok, pos};
+ghost use Rattle.std.specs.Prelude.{◌≡◌, ◌≢◌, ◌+◌, ◌-◌, ◌*◌, ◌%◌, ◌^◌, ◌<◌, ◌≤◌, ◌↔◌, IsTrue, true, false, All, [], length, take, None, Option, Some, IfSome, Ok, pos};
 ghost use Rattle.rice_bits.specs.Limits.{step_limit, most_bits_read};
 ghost use Rattle.rice_samples.specs.Parameters.{id_len, k_max, value_at, value_count, values_at};
 ghost use Rattle.rice_samples.specs.Places.{blocks_left};
 ghost use Rattle.rice_bits.specs.Bits.{word};
 ghost use Rattle.rice_code.specs.Limits.{most_samples_of_bit};
-ghost use Rattle.rice_code.specs.code.Forms.{RunIsSound, blocks_in, zero_blocks};
 ghost use Rattle.rice_code.specs.decode.BlocksInOnePass.{ArePredicted, HasLanes, lanes_of};
 ghost use Rattle.rice_code.specs.decode.BlocksInRow.{GivesBlocks, GivesOneBlock};
 ghost use Rattle.rice_code.specs.decode.RowsOfFields.{AreCounted};
 ghost use Rattle.rice_code.specs.decode.PlainBlocks.{GivesRow, IsPlain, PlainRow};
-ghost use Rattle.rice_code.specs.decode.Decoder.{Skips, answer_to};
-ghost use Rattle.rice_code.specs.decode.DecoderState.{next_block_place, place_after};
+ghost use Rattle.rice_code.specs.decode.Decoder.{Skips};
+ghost use Rattle.rice_code.specs.decode.DecoderState.{next_block_place};
 ghost use Rattle.rice_code.specs.code.Layout.{padding};
-ghost use Rattle.rice_code.specs.code.CodedDataSets.{run_with_zeros};
 
 use crate::decode::call_results::{CodeFault, Step};
 use crate::decode::decoder::{answer_of, next_place, place_behind, run_blocks, skip_padding};

@@ -1,13 +1,10 @@
 //! Reads what follows an identifier: a block by each option, or a run.
-ghost use Rattle.std.specs.Prelude.{◌≡◌, ℕ, ◌+◌, ◌-◌, ◌/◌, ◌^◌, ◌<◌, ◌≤◌, Bool, true, List, ◌++◌, length, take, drop, Option, None, IfOk, IfErr};
+ghost use Rattle.std.specs.Prelude.{◌≡◌, ◌+◌, ◌-◌, ◌/◌, ◌^◌, ◌<◌, ◌≤◌, length, take, drop, None, IfOk, IfErr};
 ghost use Rattle.rice_bits.specs.Limits.{most_bits_read};
-ghost use Rattle.rice_bits.specs.read.Reader.{Takes, Stops};
 ghost use Rattle.rice_samples.specs.Parameters.{k_max};
-ghost use Rattle.rice_samples.specs.Places.{is_reference};
-ghost use Rattle.rice_code.specs.code.CodedDataSets.{NoCompression, SecondExtension, Split, reference_bits, run_tail};
-ghost use Rattle.rice_code.specs.code.Forms.{IsReference};
+ghost use Rattle.rice_code.specs.code.CodedDataSets.{NoCompression, SecondExtension, Split};
 ghost use Rattle.rice_code.specs.decode.RowsOfFields.{HasRoom, AreCounted};
-ghost use Rattle.rice_code.specs.decode.ReadSets.{BlockRead, BlockCut, PartsRead, PartsCut, reference_place};
+ghost use Rattle.rice_code.specs.decode.ReadSets.{BlockRead, BlockCut, PartsRead, PartsCut};
 
 use crate::decode::options::{BlockSummary, read_reference, write_zero_for_reference};
 use crate::fast::decode::high_and_low_parts::read_parts;

@@ -1,6 +1,5 @@
 //! Reads the pairs of second extension.
 ghost use Rattle.std.specs.Prelude.{◌≡◌, ◌+◌, ◌-◌, ◌/◌, ◌<◌, ◌≤◌, Bool, true, List, length, take, sum, All, None, IfOk, IfErr, OnOk};
-ghost use Rattle.rice_bits.specs.Limits.{most_bits_read, step_limit};
 ghost use Rattle.rice_bits.specs.read.Reader.{Stops};
 ghost use Rattle.rice_samples.specs.blocks.Pairs.{pair_codes, pair_code};
 ghost use Rattle.rice_code.specs.decode.RowsOfFields.{HasRoom, AreCounted, PairRow, PairsTaken, ones};

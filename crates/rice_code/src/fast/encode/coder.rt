@@ -1,8 +1,8 @@
 //! The coder, from samples to code.
-ghost use Rattle.std.specs.Prelude.{◌≡◌, ℕ, ◌+◌, ◌*◌, ◌<◌, ◌≤◌, [], ◌∷◌, length, take, All, List, ℤ};
+ghost use Rattle.std.specs.Prelude.{◌≡◌, ℕ, ◌+◌, ◌*◌, ◌<◌, ◌≤◌, [], length, take, All, List, ℤ};
 ghost use Rattle.rice_bits.specs.Limits.{step_limit};
 ghost use Rattle.rice_samples.specs.Limits.{longest_segment};
-ghost use Rattle.rice_samples.specs.Parameters.{IsSample, value_count, values_at};
+ghost use Rattle.rice_samples.specs.Parameters.{value_count, values_at};
 ghost use Rattle.rice_samples.specs.Places.{cut};
 ghost use Rattle.rice_code.specs.CoderSteps.{segment_steps};
 

@@ -50,7 +50,8 @@ returns-in-Err-levels_of_next-clause-call g c =
     let a = decoder_advances mid.meter new.meter (g.D.GivesLevels.state mid.decoder) (g.D.GivesLevels.state new.self) new.levels.items runs.at_block.setting refl
     c.in-Err-levels_of_next.ensures.in_run c.in-Err-levels_of_next.ensures.reads in
     let some = block_is_wanted c.args.asked old.written c.wanted-count.ensures.value c.block-block.ensures.value c.if-count-eq0.false in
-    let tells = reports_as (ap Some (c.fault_of-fault.ensures ∙ ap (refusal_fault c.in-Err-levels_of_next.fault old.written) c.block-block.ensures.value)) c.ended-in-Err-levels_of_next.ensures.reports in
+    let tells = reports_as (ap Some (c.fault_of-fault.ensures ∙ ap (refusal_fault c.in-Err-levels_of_next.fault old.written) c.block-block.ensures.value))
+    c.ended-in-Err-levels_of_next.ensures.reports in
     let legal = c.block-block.ensures.legal in
     refusal_ends c.in-Err-levels_of_next.fault legal runs some (stops_in_no_run legal runs a) c.in-Err-levels_of_next.ensures.steps tells
 
@@ -65,7 +66,8 @@ returns-in-Err-levels_of_next-clause-failures g c =
     let runs = progress_unchanged same.0 same.1 same.2 i.runs in
     let a = decoder_advances mid.meter new.meter (g.D.GivesLevels.state mid.decoder) (g.D.GivesLevels.state new.self) new.levels.items runs.at_block.setting refl
     c.in-Err-levels_of_next.ensures.in_run c.in-Err-levels_of_next.ensures.reads in
-    let tells = reports_as (ap Some (c.fault_of-fault.ensures ∙ ap (refusal_fault c.in-Err-levels_of_next.fault old.written) c.block-block.ensures.value)) c.ended-in-Err-levels_of_next.ensures.reports in
+    let tells = reports_as (ap Some (c.fault_of-fault.ensures ∙ ap (refusal_fault c.in-Err-levels_of_next.fault old.written) c.block-block.ensures.value))
+    c.ended-in-Err-levels_of_next.ensures.reports in
     refusal_fails c.in-Err-levels_of_next.fault runs (stops_in_no_run c.block-block.ensures.legal runs a) i.writes tells
 
 pub returns-in-Done-clause-call : goal.returns-in-Done-clause-call
@@ -157,8 +159,10 @@ decode_all-preserved g c =
     let legal = c.block-block.ensures.legal in
     let at = runs.at_block in
     let block = samples_of_block s at.setting at.going a in
-    let old_run : (g.D.GivesLevels.state mid.decoder).run * (g.D.GivesLevels.state mid.decoder).setting.block ≡ (g.D.GivesLevels.state mid.decoder).run * s.block = ap (λ t. (g.D.GivesLevels.state mid.decoder).run * t.block) at.setting in
-    let new_run : (g.D.GivesLevels.state new.self).run * (g.D.GivesLevels.state new.self).setting.block ≡ (g.D.GivesLevels.state new.self).run * s.block = ap (λ t. (g.D.GivesLevels.state new.self).run * t.block) (c.in-Ok-levels_of_next.ensures.setting ∙ at.setting) in
+    let old_run : (g.D.GivesLevels.state mid.decoder).run * (g.D.GivesLevels.state mid.decoder).setting.block ≡ (g.D.GivesLevels.state mid.decoder).run * s.block = ap
+    (λ t. (g.D.GivesLevels.state mid.decoder).run * t.block) at.setting in
+    let new_run : (g.D.GivesLevels.state new.self).run * (g.D.GivesLevels.state new.self).setting.block ≡ (g.D.GivesLevels.state new.self).run * s.block = ap
+    (λ t. (g.D.GivesLevels.state new.self).run * t.block) (c.in-Ok-levels_of_next.ensures.setting ∙ at.setting) in
     let few : s.block + (g.D.GivesLevels.state new.self).run * s.block ≤ (g.D.GivesLevels.state mid.decoder).run * s.block + 456 * (new.reader.taken - mid.reader.taken) = omega
     (arith, block.len, length-values s new.levels.items, c.in-Ok-levels_of_next.ensures.waiting, old_run, new_run) in
     let put = subst (λ (l : List ℕ). Appends (g.O.Outlet.taken old.outlet) (g.O.Outlet.taken c.write_block.new.outlet) l)
@@ -301,7 +305,8 @@ decode_all-smaller-then-blocks-gt0 g c =
     same row.room c.next_bytes_at_one_stroke-blocks.array_long
     (ap (λ k. k * all) c.block-block.ensures.value) given.1 ok.0 in
     let more = row_takes c.block-block.ensures.legal i.runs given.0 some wrote in
-    let none : (g.D.GivesLevels.state new.decoder).run * (g.D.GivesLevels.state new.decoder).setting.block ≡ 0 = ap (λ n. n * (g.D.GivesLevels.state new.decoder).setting.block) given.1.run ∙ omega arith in
+    let none : (g.D.GivesLevels.state new.decoder).run * (g.D.GivesLevels.state new.decoder).setting.block ≡ 0 = ap
+    (λ n. n * (g.D.GivesLevels.state new.decoder).setting.block) given.1.run ∙ omega arith in
     omega (arith, more, none, row.steps.limit)
 
 pub returns-in-Err-clause-call : goal.returns-in-Err-clause-call

@@ -118,7 +118,8 @@ encode_all-preserved g c =
     let n = c.in-Ok.count in
     let ys = take n (values_at s levels) in
     let gives = subst (λ (s : Parameters). GivesSamples c.encode_all.samples c.next_levels.new.self left new (take n (values_at s levels))) i.runs.setting c.in-Ok.ensures.gives in
-    let holds = subst (λ (l : List ℤ). IsEncodingOf s (afresh start) taken (seen g.C.TakesLevels.state c.push_all_levels.new.self) (i.runs.samples ++ l)) (ap (values_at s) c.front.ensures ∙ sym (take-map (value_at s) n levels))
+    let holds = subst (λ (l : List ℤ). IsEncodingOf s (afresh start) taken (seen g.C.TakesLevels.state c.push_all_levels.new.self) (i.runs.samples ++ l))
+    (ap (values_at s) c.front.ensures ∙ sym (take-map (value_at s) n levels))
     (c.in-Ok-push_all_levels.ensures.ok s (afresh start) i.runs.samples i.runs.holds) in
     record {
       runs = reads_further i.runs gives holds;
@@ -141,7 +142,8 @@ returns-in-Err-push_all_levels-clause-call g c =
     let ys = take n (values_at s levels) in
     let o = c.stopped-in-Err-push_all_levels in
     let gives = subst (λ (s : Parameters). GivesSamples c.encode_all.samples c.next_levels.new.self left new (take n (values_at s levels))) runs.setting says.gives in
-    let fails = subst (λ (l : List ℤ). FailsIn s (afresh start) taken (seen g.C.TakesLevels.state c.push_all_levels.new.self) runs.samples l) (ap (values_at s) c.front.ensures ∙ sym (take-map (value_at s) n levels))
+    let fails = subst (λ (l : List ℤ). FailsIn s (afresh start) taken (seen g.C.TakesLevels.state c.push_all_levels.new.self) runs.samples l)
+    (ap (values_at s) c.front.ensures ∙ sym (take-map (value_at s) n levels))
     (c.in-Err-push_all_levels.ensures.err s (afresh start) runs.samples runs.holds) in
     let count : length ys ≡ n = (taken_count s levels n says.count).1 in
     let piece : width s * n + length c.next_levels.new.self.waiting ≤ 4096 = subst (λ (s : Parameters). width s * n + length c.next_levels.new.self.waiting ≤ 4096) runs.setting says.piece in

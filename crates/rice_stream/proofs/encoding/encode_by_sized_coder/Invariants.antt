@@ -4,7 +4,8 @@ use Rattle.rice_stream.proofs.encoding.encode_by_sized_coder.Given as goal
 
 abbrev pub invariant-encode_all : goal.invariant-encode_all
 invariant-encode_all g l = record {
-  runs : EncodingProgress l.setting (g.I.Intake.left l.fn.intake) (g.I.Intake.left l.intake) (g.O.Outlet.taken l.fn.outlet) (g.O.Outlet.taken l.outlet) (seen g.C.TakesLevels.state l.encoding) l.samples;
+  runs : EncodingProgress l.setting (g.I.Intake.left l.fn.intake) (g.I.Intake.left l.intake) (g.O.Outlet.taken l.fn.outlet) (g.O.Outlet.taken l.outlet)
+      (seen g.C.TakesLevels.state l.encoding) l.samples;
   reads : g.I.Intake.failed l.intake ≡ g.I.Intake.failed l.fn.intake;
   writes : g.O.Outlet.failed l.outlet ≡ g.O.Outlet.failed l.fn.outlet;
 }

@@ -40,7 +40,8 @@ push_samples_of_bytes-requires g c =
     let xs = c.requires.seam.0 in
     let h = c.requires.seam.1 in
     let holds = c.put_bits_of_seam.ensures c.args.setting.now now xs c.resume-encoding.ensures h in
-    let few = c.bytes_left.ensures.few (omega (arith, c.width-width.ensures.range)) in record { ready = (behind c.args.setting.now xs now, xs, holds, omega (arith, few, c.if-bytes-bytes_left.false, c.taken.ensures, holds.counts.samples)); writes = c.requires.writes }
+    let few = c.bytes_left.ensures.few (omega (arith, c.width-width.ensures.range)) in record
+    { ready = (behind c.args.setting.now xs now, xs, holds, omega (arith, few, c.if-bytes-bytes_left.false, c.taken.ensures, holds.counts.samples)); writes = c.requires.writes }
 
 pub returns-in-Err-clause-did : goal.returns-in-Err-clause-did
 returns-in-Err-clause-did g c xs h =
@@ -51,7 +52,8 @@ returns-in-Err-clause-did g c xs h =
     let size : c.width-width.result * c.taken.result ≡ width s * length xs =
     (λ i. c.width-width.ensures.value i * (c.taken.ensures ∙ (c.put_bits_of_seam.ensures c.args.setting.now now xs c.resume-encoding.ensures h).counts.samples) i) in
     let limit : width s * length xs + length c.args.bytes.now ≤ 281474976710656 = omega (arith, size, h.limit, c.bytes_left.ensures.value, c.if-bytes-bytes_left.false) in
-    rest_stops s now new (seen g.C.TakesLevels.state c.push_samples_of_bytes.new.self) o.result.report xs c.args.bytes.now limit c.in-Err.fault o.result.fault o.ensures.fault (λ ys k. o.ensures.told s ys k)
+    rest_stops s now new (seen g.C.TakesLevels.state c.push_samples_of_bytes.new.self) o.result.report xs c.args.bytes.now limit c.in-Err.fault o.result.fault o.ensures.fault
+    (λ ys k. o.ensures.told s ys k)
     (c.in-Err.ensures.did (behind s xs now) xs (c.put_bits_of_seam.ensures c.args.setting.now now xs c.resume-encoding.ensures h))
 
 pub returns-in-Err-clause-failures : goal.returns-in-Err-clause-failures
@@ -78,7 +80,8 @@ returns-then-bytes-width-gt0-clause-did g c xs h =
     let size : c.width-width.result * c.taken.result ≡ width s * length xs =
     (λ i. c.width-width.ensures.value i * (c.taken.ensures ∙ (c.put_bits_of_seam.ensures c.args.setting.now now xs c.resume-encoding.ensures h).counts.samples) i) in
     let limit : width s * length xs + length c.args.bytes.now ≤ 281474976710656 = omega (arith, size, h.limit, c.bytes_left.ensures.value, c.if-bytes-bytes_left.false) in
-    rest_cut s now new (seen g.C.TakesLevels.state c.push_samples_of_bytes.new.self) o.result.report xs bytes limit c.taken-index.result o.result.fault o.ensures.fault c.taken-index.ensures (λ ys k. o.ensures.told s ys k)
+    rest_cut s now new (seen g.C.TakesLevels.state c.push_samples_of_bytes.new.self) o.result.report xs bytes limit c.taken-index.result o.result.fault o.ensures.fault c.taken-index.ensures
+    (λ ys k. o.ensures.told s ys k)
     (c.in-Ok.ensures.did (behind s xs now) xs (c.put_bits_of_seam.ensures c.args.setting.now now xs c.resume-encoding.ensures h)) (omega (arith, same, c.if-bytes-width-gt0.true))
 
 pub finish-requires : goal.finish-requires
@@ -115,7 +118,8 @@ returns-clause-did g c xs h =
     let size : c.width-width.result * c.taken.result ≡ width s * length xs =
     (λ i. c.width-width.ensures.value i * (c.taken.ensures ∙ (c.put_bits_of_seam.ensures c.args.setting.now now xs c.resume-encoding.ensures h).counts.samples) i) in
     let limit : width s * length xs + length c.args.bytes.now ≤ 281474976710656 = omega (arith, size, h.limit, c.bytes_left.ensures.value, c.if-bytes-bytes_left.false) in
-    rest_all s now mid (seen g.C.TakesLevels.state c.push_samples_of_bytes.new.self) c.finish.result.report xs bytes limit c.finish.result.fault t new (omega (arith, same, c.if-bytes-width-gt0.false)) did.0 did.1
+    rest_all s now mid (seen g.C.TakesLevels.state c.push_samples_of_bytes.new.self) c.finish.result.report xs bytes limit c.finish.result.fault t new
+    (omega (arith, same, c.if-bytes-width-gt0.false)) did.0 did.1
 
 pub returns-then-bytes-bytes_left-clause-bounds : goal.returns-then-bytes-bytes_left-clause-bounds
 returns-then-bytes-bytes_left-clause-bounds g c =

@@ -106,7 +106,8 @@ decode_all-preserved g c =
     let new = c.restore_next_block.new.reader in
     let here = c.decode_all.here in
     let next = c.in-Some-found.next in
-    let k = subst (λ (v : Option Stand). IfSome v (λ next. GoesOnAt s here next (g.D.GivesLevels.state c.restore_next_block.new.decoder) r new × (length levels ≡ s.block))) c.in-Some-found.is c.in-Ok.ensures.goes_on in
+    let k = subst (λ (v : Option Stand). IfSome v (λ next. GoesOnAt s here next (g.D.GivesLevels.state c.restore_next_block.new.decoder) r new × (length levels ≡ s.block))) c.in-Some-found.is
+    c.in-Ok.ensures.goes_on in
     let same = c.as_slice.ensures.value in
     let count : c.block.result ≡ length levels = c.block.ensures.value ∙ sym k.1 in
     let size : width s * length c.as_slice.result.now ≡ n = (λ j. sym c.width.ensures.value j * (ap length same ∙ sym count) j) in

@@ -22,7 +22,8 @@ returns-in_err-levels_of_next-clause-takes g c = λ o front given h.
     let a = decoder_advances c.tick.new.self new.meter p (g.D.GivesLevels.state new.self) new.levels.items setting_old refl says.in_run says.reads in
     let r = err_from_is_err_and c.from_residual.result c.from_residual.ensures.1 in
     rw (r.1, r.2) (stops_next s o front given c.requires.come.reads
-    (subst (λ (d : DecoderState). Advances c.args.reader.now new.reader c.tick.new.self new.meter d (g.D.GivesLevels.state new.self) (values_at s new.levels.items) (Err c.in_err-levels_of_next.field-0.0))
+    (subst (λ (d : DecoderState). Advances c.args.reader.now new.reader c.tick.new.self new.meter d (g.D.GivesLevels.state new.self) (values_at s new.levels.items)
+    (Err c.in_err-levels_of_next.field-0.0))
     c.requires.come.state a))
 
 pub returns-in-Done-clause-takes : goal.returns-in-Done-clause-takes

@@ -21,5 +21,6 @@ pub returns : goal.returns
 returns g c s xs same r =
     let seam = c.args.start.now in
     let fits : FitsSigned w64 seam.previous = search rules in
-    let coder : (g.C.TakesLevels.state c.go_back.new.self) ≡ state_between s seam.start seam.previous = c.go_back.ensures ∙ (λ i. state_between (same i) seam.start (to_z-of_z w64 seam.previous fits i)) in
+    let coder : (g.C.TakesLevels.state c.go_back.new.self) ≡ state_between s seam.start seam.previous = c.go_back.ensures ∙
+    (λ i. state_between (same i) seam.start (to_z-of_z w64 seam.previous fits i)) in
     back_at_start r coder c.replace_bits.ensures (omega (arith, c.tick.ensures, c.new-self.ensures)) refl refl

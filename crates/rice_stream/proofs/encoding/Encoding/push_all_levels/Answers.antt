@@ -66,4 +66,5 @@ returns-clause-ok g c s old xs h =
     let samples = values_at s levels in
     let i = c.loop-at.invariant in
     let all : at ≡ length samples = omega (arith, i.within, c.loop-at-test.false, c.len.ensures, length-values s levels) in
-    subst (λ (l : List ℤ). IsEncodingOf s old (g.O.Outlet.taken c.loop-at.outlet) (seen g.C.TakesLevels.state c.loop-at.self) (xs ++ l)) (ap (λ n. take n samples) all ∙ take-length samples) (i.holds s old xs h)
+    subst (λ (l : List ℤ). IsEncodingOf s old (g.O.Outlet.taken c.loop-at.outlet) (seen g.C.TakesLevels.state c.loop-at.self) (xs ++ l)) (ap (λ n. take n samples) all ∙ take-length samples)
+    (i.holds s old xs h)

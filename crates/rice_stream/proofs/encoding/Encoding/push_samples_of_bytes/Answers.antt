@@ -95,7 +95,8 @@ loop-at-preserved g c =
           let taken = ap (λ l. (xs ++ p.0) ++ l) (ap (values_at s) c.front.ensures ∙ sym (take-map (value_at s) f.result f.new.self)) ∙ append_assoc xs p.0 ys in (
             p.0 ++ ys,
             reads_then s bytes (drop at bytes) (drop (at + w * f.result) bytes) p.0 ys p.1 (read_from s bytes at f.result w ys f.ensures.reads c.width-width.ensures.value),
-            subst (λ (l : List ℤ). IsEncodingOf s old (g.O.Outlet.taken c.push_all_levels.new.outlet) (seen g.C.TakesLevels.state c.push_all_levels.new.self) l) taken (c.in-Ok.ensures.ok s old (xs ++ p.0) p.2),
+            subst (λ (l : List ℤ). IsEncodingOf s old (g.O.Outlet.taken c.push_all_levels.new.outlet) (seen g.C.TakesLevels.state c.push_all_levels.new.self) l) taken
+                (c.in-Ok.ensures.ok s old (xs ++ p.0) p.2),
           ));
       failures = c.in-Ok.ensures.calm ∙ i.failures;
     }

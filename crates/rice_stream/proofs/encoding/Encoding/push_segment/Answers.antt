@@ -7,7 +7,12 @@ use Rattle.rice_stream.proofs.lemmas.EncodingLemmas.{can_take_more, can_take_sho
 use Rattle.rice_stream.proofs.encoding.Encoding.push_segment.Goals as goal
 
 pub push_to_coder_in_a_call-taken-requires : goal.push_to_coder_in_a_call-taken-requires
-push_to_coder_in_a_call-taken-requires g c = record { some = c.requires.some; ready = can_take_more c.requires.ready; room = g.met.C.TakesLevels.takes_less_than_a_byte _ _ (can_take_short c.requires.ready) }
+push_to_coder_in_a_call-taken-requires g c = record {
+  some = c.requires.some;
+  ready = can_take_more c.requires.ready;
+  room = g.met.C.TakesLevels.takes_less_than_a_byte _ _
+      (can_take_short c.requires.ready);
+}
 
 pub returns-then-len-lt8-clause-count : goal.returns-then-len-lt8-clause-count
 returns-then-len-lt8-clause-count g c = (c.push_to_coder_in_a_call-taken.ensures.some c.requires.some, c.push_to_coder_in_a_call-taken.ensures.count)

@@ -17,7 +17,8 @@ pub returns-then-len-most-clause-some : goal.returns-then-len-most-clause-some
 returns-then-len-most-clause-some g c some =
     let i = c.loop-at.invariant in
     let short : c.loop-at.at ≡ 0 → length (seen g.C.TakesLevels.state c.loop-at.self).sink ≤ 7 = i.begins in
-    some_taken c.loop-at.at (length (seen g.C.TakesLevels.state c.loop-at.self).sink) c.most_before-most.result short c.most_before-most.ensures.least (omega (arith, c.if-len-most.true, c.len-in-loop-at.ensures.value))
+    some_taken c.loop-at.at (length (seen g.C.TakesLevels.state c.loop-at.self).sink) c.most_before-most.result short c.most_before-most.ensures.least
+    (omega (arith, c.if-len-most.true, c.len-in-loop-at.ensures.value))
   where
     some_taken : (n size most : ℕ) → (n ≡ 0 → size ≤ 7) → 7 ≤ most → most < size → 0 < n
     some_taken zero size most short some over = absurd (omega (arith, short refl, some, over))
@@ -30,7 +31,12 @@ push_to_coder-at-requires g c =
     let holds = i.holds k.setting k.before k.holds in
     let fits = c.most_before-most.ensures.room (seen g.C.TakesLevels.state c.loop-at.self).sink (omega (arith, c.if-len-most.false, c.len-in-loop-at.ensures.value)) in
     let here = subst (λ (t : Parameters). g.C.TakesLevels.is_sink t (seen g.C.TakesLevels.state c.loop-at.self).sink) (k.holds.counts.setting ∙ sym holds.counts.setting) fits in
-    record { some = omega (arith, ap length c.behind.ensures, length-drop c.loop-at.at c.args.levels.now, c.loop-at-test.true, c.len.ensures); ready = can_take_rest k c.loop-at.at i.within c.behind.ensures holds; room = here }
+    record {
+      some = omega (arith, ap length c.behind.ensures, length-drop c.loop-at.at c.args.levels.now, c.loop-at-test.true, c.len.ensures);
+      ready = can_take_rest k c.loop-at.at i.within
+          c.behind.ensures holds;
+      room = here;
+    }
 
 pub loop-at-smaller : goal.loop-at-smaller
 loop-at-smaller g c =
@@ -48,7 +54,8 @@ loop-at-preserved g c =
     let n = c.push_to_coder-at.result in
     let left = ap length c.behind.ensures in
     let some = c.push_to_coder-at.ensures.some (omega (arith, left, length-drop at levels, c.loop-at-test.true, c.len.ensures)) in
-    let next : (s : Parameters) (xs : List ℤ) → HoldsCode s (seen g.C.TakesLevels.state c.args.self.now) xs xs → TakesNext s (seen g.C.TakesLevels.state c.push_to_coder-at.new.self) xs xs (values_at s levels) at n =
+    let next : (s : Parameters) (xs : List ℤ) → HoldsCode s (seen g.C.TakesLevels.state c.args.self.now) xs xs → TakesNext s (seen g.C.TakesLevels.state c.push_to_coder-at.new.self) xs xs
+    (values_at s levels) at n =
     λ s xs h. record {
       more = _;
       takes = c.push_to_coder-at.ensures.took s xs (xs ++ take at (values_at s levels)) (i.holds s xs h);

@@ -22,7 +22,12 @@ push_to_coder_in_a_call-at-requires g c =
     let k = c.requires in
     let i = c.loop-at.invariant in
     let holds = (i.holds k.setting k.before k.holds).0 in
-    record { some = omega (arith, ap length c.behind.ensures, length-drop c.loop-at.at c.args.levels.now, c.loop-at-test.true, c.len.ensures); ready = can_take_rest k c.loop-at.at i.within c.behind.ensures holds; room = g.met.C.TakesLevels.takes_less_than_a_byte _ _ (code_short holds) }
+    record {
+      some = omega (arith, ap length c.behind.ensures, length-drop c.loop-at.at c.args.levels.now, c.loop-at-test.true, c.len.ensures);
+      ready = can_take_rest k c.loop-at.at i.within
+          c.behind.ensures holds;
+      room = g.met.C.TakesLevels.takes_less_than_a_byte _ _ (code_short holds);
+    }
 
 pub returns-then-left-bytes : goal.returns-then-left-bytes
 returns-then-left-bytes g c s xs h enough =

@@ -22,7 +22,8 @@ returns-clause-pushes c =
     let ls = c.args.levels.now in
     let x : to_z w64 (of_z w64 z) ≡ value_at s (slice_index_or ls 0 0) =
     same ∙ c.value_at-x.ensures.value ∙ ap (value_at own) c.first_or.ensures ∙ ap (λ (t : Parameters). value_at t (slice_index_or ls 0 0)) (sym c.args.self.now.same) in
-    subst (λ (ys : List ℤ). PushesSamples c.args.self.now.coder c.push_counted-bits.new.self ys c.args.sink.now c.push_counted-bits.new.sink c.push_counted-bits.result c.args.meter.now c.push_counted-bits.new.meter)
+    subst (λ (ys : List ℤ). PushesSamples c.args.self.now.coder c.push_counted-bits.new.self ys c.args.sink.now c.push_counted-bits.new.sink c.push_counted-bits.result c.args.meter.now
+    c.push_counted-bits.new.meter)
     (ap (λ (v : ℤ). v ∷ []) x ∙ first_value s ls c.requires.some) c.push_counted-bits.ensures
 
 pub returns-clause-before_last : goal.returns-clause-before_last

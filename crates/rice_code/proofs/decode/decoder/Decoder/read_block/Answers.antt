@@ -22,7 +22,8 @@ returns-else-not-sound-clause-reads g c =
     rw (← c.self.view_is, c.go_to_next_block.ensures.block)
     (answers_block c.args.reader.now c.go_to_next_block.new.meter
     (record { setting = st.setting; block = st.block; before = st.before; run = st.run; stopped = st.stopped })
-    (subst (λ r. TakesSet r c.read_set.new.reader c.args.meter.now c.read_set.new.meter st.setting st.block st.before xs 0) marks set) (rw (← c.self.view_is) at c.go_to_next_block.ensures.skips) c.go_to_next_block.ensures.steps
+    (subst (λ r. TakesSet r c.read_set.new.reader c.args.meter.now c.read_set.new.meter st.setting st.block st.before xs 0) marks set)
+    (rw (← c.self.view_is) at c.go_to_next_block.ensures.skips) c.go_to_next_block.ensures.steps
     is_last (λ j. record { setting = (moves j).setting; block = (moves j).block; before = (moves j).before; run = (moves j).run; stopped = (moves j).stopped }))
 
 pub returns-else-not-sound-clause-steps : goal.returns-else-not-sound-clause-steps
