@@ -1,4 +1,4 @@
-use Rattle.std.proofs.Common.{arith, rules, ◌≡◌, ap, ◌∙◌, w64, to_z, of_z, length, take}
+use Rattle.std.proofs.Common.{arith, rules, ◌≡◌, ap, ◌∙◌, w64, to_z, length, take}
 use Rattle.std.proofs.lemmas.Int.{to_z-of_z}
 use Rattle.std.proofs.Math.Seq.{take-length}
 use mir.Val.{SFits}

@@ -1,4 +1,4 @@
-use Rattle.std.proofs.Common.{◌≡◌, ℕ, ◌+◌, ◌-◌, ◌*◌, ◌≤◌, Bool, List, ◌++◌, ◌∙◌, min, arith, ap, sym}
+use Rattle.std.proofs.Common.{◌≡◌, ℕ, ◌+◌, ◌*◌, ◌≤◌, Bool, List, ◌++◌, ◌∙◌, arith, ap, sym}
 use Rattle.rice_samples.specs.Parameters.{Parameters, k_max}
 use Rattle.rice_code.specs.code.Blocks.{BlockData}
 use Rattle.rice_code.specs.code.CodedDataSets.{CodedDataSet, bits_of_set, cost}

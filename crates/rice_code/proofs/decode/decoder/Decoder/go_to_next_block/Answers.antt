@@ -1,7 +1,6 @@
-use Rattle.std.proofs.Common.{arith, ◌∙◌, sym, subst, w64}
+use Rattle.std.proofs.Common.{arith, w64}
 use Rattle.std.proofs.lemmas.Grind.{common_steps}
 use Rattle.std.proofs.lemmas.Int.{to_z-of_z}
-use Rattle.rice_samples.specs.Parameters.{IsSample}
 use Rattle.rice_code.proofs.lemmas.decode.DecoderLemmas.{place_moves}
 use Rattle.rice_code.proofs.decode.decoder.Decoder.go_to_next_block.Goals as goal
 

@@ -1,4 +1,4 @@
-use Rattle.std.proofs.Common.{arith, rules, ◌-◌, ◌∙◌, refl, w64}
+use Rattle.std.proofs.Common.{arith, rules, ◌-◌, refl, w64}
 use Rattle.std.proofs.lemmas.Int.{to_z-of_z}
 use mir.Val.{SFits}
 use Rattle.rice_code.proofs.lemmas.decode.DecoderLemmas.{place_moves, goes_on}

@@ -1,4 +1,4 @@
-use Rattle.std.proofs.Common.{◌∙◌, [], ap, inl, rules, subst, sym}
+use Rattle.std.proofs.Common.{◌∙◌, [], ap, inl, subst, sym}
 use Rattle.rice_code.specs.encode.Coder.{IsCoder, HasTaken}
 use Rattle.rice_code.specs.encode.OpenSegment.{CoderState, empty_state}
 use Rattle.rice_code.proofs.lemmas.encode.PushedCode.{finish_sound, finish_adds, none_taken}

@@ -1,4 +1,4 @@
-use Rattle.std.proofs.Common.{◌≡◌, ◌+◌, ◌*◌, ◌/◌, ◌^◌, ◌<◌, ◌∙◌, ap, arith, rules, subst, sym, ℕ}
+use Rattle.std.proofs.Common.{◌≡◌, ◌+◌, ◌*◌, ◌/◌, ◌^◌, ◌<◌, ◌∙◌, ap, arith, subst, sym, ℕ}
 use Rattle.rice_code.specs.encode.OpenSegment.{CoderState, HasRoomForSegment, HoldsSoundBlocks, blocks_held}
 use Rattle.rice_code.specs.Bounds.{block_bound}
 use Rattle.rice_code.specs.code.SoundBlocks.{AreSoundBlocks}

@@ -1,8 +1,6 @@
-use Rattle.std.proofs.Common.{arith, rules, ◌≡◌, ◌+◌, ◌-◌, ◌*◌, ◌%◌, ◌≤◌, ◌∙◌, ap, length, refl, length-append}
-use Rattle.std.proofs.Math.Nat.{mul-le-mul_left}
+use Rattle.std.proofs.Common.{arith, ◌≡◌, ◌+◌, ◌-◌, ◌%◌, ◌∙◌, ap, length, refl, length-append}
 use Rattle.std.proofs.lemmas.List.{length-replicate}
 use Rattle.rice_samples.specs.Places.{blocks_left}
-use Rattle.rice_samples.proofs.lemmas.setting.PlaceLemmas.{some_left}
 use Rattle.rice_code.proofs.lemmas.encode.OpenSegments.{fill_room, holds_any}
 use Rattle.rice_code.proofs.encode.open_segment.OpenSegment.fill.Goals as goal
 
