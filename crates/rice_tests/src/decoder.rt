@@ -6,7 +6,7 @@ use arrayvec::ArrayVec;
 use rice_base_tests::case_table::{Columns, bytes_of, number_of, samples_of, setting_of};
 use rice_base_tests::cases::Cases;
 use rice_bits::{BitReader, Intake, MemoryIn, Meter};
-use rice_code::{CodeFault, Decoder, Step};
+use rice_code::{CodeFault, Decoder, FastDecoder, Step};
 use rice_samples::Setting;
 use std::alloc::Global;
 use std::test::Fail;
@@ -207,7 +207,7 @@ fn has_eights(setting: &Setting) -> bool
 /// Asks a decoder for the bytes of a block of which all bits wait, which may then be asked once more.
 fn next_eight_bytes<I: Intake>(
     setting: &Setting,
-    decoder: &mut Decoder,
+    decoder: &mut FastDecoder,
     reader: &mut BitReader<I>,
     meter: &mut Meter,
     bytes: &mut [u8; 40],
@@ -239,7 +239,7 @@ fn bytes_of_a_block() -> Result<(), Fail> {
     ];
     let mut reader = BitReader::new(MemoryIn::new(&code, 4096, None));
     let setting = setting_of("")?;
-    let mut decoder = Decoder::new(setting);
+    let mut decoder = FastDecoder::new(setting);
     let mut meter = Meter::new();
     let mut levels = ArrayVec::new();
     let mut bytes = [0; 40];
