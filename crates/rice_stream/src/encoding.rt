@@ -14,6 +14,7 @@ ghost use Rattle.rice_code.specs.encode.Coder.{HasTaken, complete_code};
 ghost use Rattle.rice_code.specs.encode.OpenSegment.{HoldsAnySegment};
 
 use crate::outcome::{Fault, Outcome, Report};
+use crate::rows::ReadsLevels;
 use crate::seam::{Seam, take_waiting_number};
 use crate::takes::TakesLevels;
 use crate::write::{write_counted, write_whole};
@@ -352,11 +353,11 @@ impl<C: TakesLevels> Encoding<C> {
 
     /// Takes the samples that the bytes spell, some at a time, and writes the bytes that they complete. A last sample that is
     /// cut is left. `levels` is scratch space.
-    pub(crate) fn push_samples_of_bytes<O: Outlet>(
+    pub(crate) fn push_samples_of_bytes<R: ReadsLevels, O: Outlet>(
         &mut self,
         setting: &Setting,
         bytes: &[u8],
-        levels: &mut LevelRow,
+        levels: &mut R,
         outlet: &mut O,
     ) -> Result<(), Fault>
         requires ready { CanPush setting.now (O.taken outlet.old) (seen C.state self.old) bytes.now }

@@ -15,6 +15,7 @@ use crate::feeding::{
 use crate::outcome::{Fault, Outcome};
 use crate::plain_decoder::PlainDecoder;
 use crate::pulling::{decode_more, decode_more_by_one_loop};
+use crate::rows::FewLevels;
 use crate::seam::Seam;
 use crate::stand::{Pause, Stand};
 use crate::takes::OneByOne;
@@ -154,7 +155,7 @@ impl Engines for Plain {
         bytes: &[u8],
         outlet: &mut O,
     ) -> Result<Seam, Fault> {
-        encode_more_by_sized_coder::<OneByOne, O>(setting, seam, bytes, outlet)
+        encode_more_by_sized_coder::<OneByOne, FewLevels, O>(setting, seam, bytes, outlet)
     }
 
     fn encode_rest<O: Outlet>(
@@ -163,7 +164,7 @@ impl Engines for Plain {
         bytes: &[u8],
         outlet: &mut O,
     ) -> Outcome {
-        encode_rest_by_sized_coder::<OneByOne, O>(setting, seam, bytes, outlet)
+        encode_rest_by_sized_coder::<OneByOne, FewLevels, O>(setting, seam, bytes, outlet)
     }
 
     fn decode<I: Intake, O: Outlet>(

@@ -9,6 +9,7 @@ ghost use Rattle.rice_stream.specs.Feeding.{IsSomeSeam, EncodesOn, EncodesToEnd}
 
 use crate::encoding::{Encoding, LONGEST, SHORT, has_short_intervals};
 use crate::outcome::{Fault, Outcome};
+use crate::rows::ReadsLevels;
 use crate::seam::Seam;
 use crate::takes::TakesLevels;
 use rice_bits::Outlet;
@@ -32,14 +33,16 @@ pub fn encode_more<O: Outlet>(
     ensures failures { PushFails (O.failed outlet.old) (O.failed outlet.new) result }
 {
     if has_short_intervals(setting) {
-        return encode_more_by_sized_coder::<SizedCoder<SHORT>, O>(setting, seam, bytes, outlet);
+        return encode_more_by_sized_coder::<SizedCoder<SHORT>, LevelRow, O>(
+            setting, seam, bytes, outlet,
+        );
     }
-    encode_more_by_sized_coder::<SizedCoder<LONGEST>, O>(setting, seam, bytes, outlet)
+    encode_more_by_sized_coder::<SizedCoder<LONGEST>, LevelRow, O>(setting, seam, bytes, outlet)
 }
 
 /// Encodes as `encode_more` does, where a row of `N` holds the residuals of each segment.
 #[inline(never)]
-pub(crate) fn encode_more_by_sized_coder<C: TakesLevels, O: Outlet>(
+pub(crate) fn encode_more_by_sized_coder<C: TakesLevels, R: ReadsLevels, O: Outlet>(
     setting: &Setting,
     seam: &Seam,
     bytes: &[u8],
@@ -61,7 +64,7 @@ pub(crate) fn encode_more_by_sized_coder<C: TakesLevels, O: Outlet>(
     let part = &bytes[..width * count as usize];
     let mut encoding = Encoding::<C>::resume(*setting, seam);
     encoding.put_bits_of_seam(seam);
-    let mut levels = LevelRow::new();
+    let mut levels = R::room();
     encoding.push_samples_of_bytes(setting, part, &mut levels, outlet)?;
     Ok(encoding.seam())
 }
@@ -81,14 +84,16 @@ pub fn encode_rest<O: Outlet>(
     ensures bounds { EncodesWithin setting.now result.report }
 {
     if has_short_intervals(setting) {
-        return encode_rest_by_sized_coder::<SizedCoder<SHORT>, O>(setting, seam, bytes, outlet);
+        return encode_rest_by_sized_coder::<SizedCoder<SHORT>, LevelRow, O>(
+            setting, seam, bytes, outlet,
+        );
     }
-    encode_rest_by_sized_coder::<SizedCoder<LONGEST>, O>(setting, seam, bytes, outlet)
+    encode_rest_by_sized_coder::<SizedCoder<LONGEST>, LevelRow, O>(setting, seam, bytes, outlet)
 }
 
 /// Encodes as `encode_rest` does, where a row of `N` holds the residuals of each segment.
 #[inline(never)]
-pub(crate) fn encode_rest_by_sized_coder<C: TakesLevels, O: Outlet>(
+pub(crate) fn encode_rest_by_sized_coder<C: TakesLevels, R: ReadsLevels, O: Outlet>(
     setting: &Setting,
     seam: &Seam,
     bytes: &[u8],
@@ -108,7 +113,7 @@ pub(crate) fn encode_rest_by_sized_coder<C: TakesLevels, O: Outlet>(
     if bytes.len() as u64 > bytes_left(width, encoding.taken()) {
         return encoding.stopped(Fault::TooLong);
     }
-    let mut levels = LevelRow::new();
+    let mut levels = R::room();
     match encoding.push_samples_of_bytes(setting, bytes, &mut levels, outlet) {
         Ok(()) => {}
         Err(fault) => return encoding.stopped(fault),

@@ -13,6 +13,7 @@ mod patience;
 mod plain;
 pub mod plain_decoder;
 pub mod pulling;
+pub mod rows;
 mod runs;
 pub mod seam;
 pub mod stand;

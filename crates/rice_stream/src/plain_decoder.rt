@@ -3,10 +3,10 @@ ghost use Rattle.std.specs.Prelude.{◌≡◌, ◌-◌, ◌<◌, ◌≤◌, All,
 ghost use Rattle.rice_samples.specs.Parameters.{IsSample, value_count, values_at};
 
 use crate::gives::{GivesLevels, GivesRows};
-use crate::pulling::write_at_of_any_width;
+use crate::pulling::write_in_place;
 use crate::stand::Stand;
 use crate::strokes::Stroke;
-use crate::write::write_block_of_any_width;
+use crate::write::write_block_in_own_room;
 use arrayvec::ArrayVec;
 use rice_bits::{BitReader, Intake, Meter, Outlet, SliceIn, WriteFault};
 use rice_code::{CodeFault, Decoder, Step};
@@ -85,15 +85,17 @@ impl GivesLevels for PlainDecoder {
         answer
     }
 
+    #[inline(always)]
     fn write_block<O: Outlet>(
         setting: &Setting,
         levels: &[u32],
         bytes: &mut [u8; 512],
         outlet: &mut O,
     ) -> Result<(), WriteFault> {
-        write_block_of_any_width(setting, levels, bytes, outlet)
+        write_block_in_own_room(setting, levels, outlet)
     }
 
+    #[inline(always)]
     fn write_at(
         setting: &Setting,
         levels: &[u32],
@@ -101,7 +103,7 @@ impl GivesLevels for PlainDecoder {
         at: usize,
         samples: &mut [u8],
     ) {
-        write_at_of_any_width(setting, levels, bytes, at, samples);
+        write_in_place(setting, levels, at, samples);
     }
 }
 

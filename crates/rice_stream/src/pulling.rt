@@ -292,27 +292,24 @@ fn write_others_at(
         }
         (4, false, 32) => write_sized_at(setting, 4, false, 32, levels, bytes, at, samples),
         (4, false, 64) => write_sized_at(setting, 4, false, 64, levels, bytes, at, samples),
-        _ => write_at_of_any_width(setting, levels, bytes, at, samples),
+        (width, _, count) => {
+            let spelled = &mut bytes[..width as usize * count];
+            write_spellings(setting, levels, spelled);
+            copy_at(spelled, at, samples);
+        }
     }
 }
 
-/// Does what `write_at` does, whatever the samples are.
+/// Does what `write_at` does, whatever the samples are, where they belong.
 #[inline(never)]
-pub(crate) fn write_at_of_any_width(
-    setting: &Setting,
-    levels: &[u32],
-    bytes: &mut [u8; 512],
-    at: usize,
-    samples: &mut [u8],
-)
+pub(crate) fn write_in_place(setting: &Setting, levels: &[u32], at: usize, samples: &mut [u8])
     requires legal { All (λ l. l < value_count setting.now) levels.now }
     requires few { length levels.now ≤ 64 }
     requires room { at + width_of setting.now * length levels.now ≤ length samples.old }
     ensures { samples.new ≡ spelled_at setting.now at levels.now samples.old }
 {
-    let spelled = &mut bytes[..setting.width() as usize * levels.len()];
-    write_spellings(setting, levels, spelled);
-    copy_at(spelled, at, samples);
+    let len = setting.width() as usize * levels.len();
+    write_spellings(setting, levels, &mut samples[at..at + len]);
 }
 
 /// Writes the bytes of `count` samples of three bytes each, whole eights of them, at this place.

@@ -141,16 +141,19 @@ fn write_other_samples<O: Outlet>(
         }
         (4, false, 32) => write_sized(setting, 4, false, 32, levels, bytes, outlet),
         (4, false, 64) => write_sized(setting, 4, false, 64, levels, bytes, outlet),
-        _ => write_block_of_any_width(setting, levels, bytes, outlet),
+        (width, _, count) => {
+            let spelled = &mut bytes[..width as usize * count];
+            write_spellings(setting, levels, spelled);
+            write_all(outlet, spelled)
+        }
     }
 }
 
-/// Does what `write_block` does, whatever the samples are.
+/// Does what `write_block` does, whatever the samples are, in room of its own.
 #[inline(never)]
-pub fn write_block_of_any_width<O: Outlet>(
+pub fn write_block_in_own_room<O: Outlet>(
     setting: &Setting,
     levels: &[u32],
-    bytes: &mut [u8; 512],
     outlet: &mut O,
 ) -> Result<(), WriteFault>
     requires legal { All (λ l. l < value_count setting.now) levels.now }
@@ -163,6 +166,7 @@ pub fn write_block_of_any_width<O: Outlet>(
         (spellings setting.now (values_at setting.now levels.now)) ×
         (O.failed outlet.new ≡ O.failed outlet.old + 1)) }
 {
+    let mut bytes = [0; 256];
     let spelled = &mut bytes[..setting.width() as usize * levels.len()];
     write_spellings(setting, levels, spelled);
     write_all(outlet, spelled)

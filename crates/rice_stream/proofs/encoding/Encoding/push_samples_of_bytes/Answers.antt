@@ -56,12 +56,12 @@ push_all_levels-requires g c =
     let f = c.read_first-count in
     let r = c.requires.ready in
     let p = c.loop-at.invariant.part r.0 r.1 r.2 in
-    let ys = take f.result (values_at s f.new.self) in
+    let ys = take f.result (values_at s (g.R.ReadsLevels.levels f.new.self)) in
     let here = read_from s bytes at f.result c.width-width.result ys f.ensures.reads c.width-width.ensures.value in
     let all = reads_then s bytes (drop at bytes) (drop (at + c.width-width.result * f.result) bytes) p.0 ys p.1 here in
     let few = few_more s (p.0 ++ ys) bytes (drop (at + c.width-width.result * f.result) bytes) all (some_width s) in
-    let n : length ys ≡ length (take f.result f.new.self) = length-take f.result (values_at s f.new.self) ∙ ap (min f.result) (length-values s f.new.self)
-    ∙ sym (length-take f.result f.new.self) in record {
+    let n : length ys ≡ length (take f.result (g.R.ReadsLevels.levels f.new.self)) = length-take f.result (values_at s (g.R.ReadsLevels.levels f.new.self)) ∙ ap (min f.result) (length-values s (g.R.ReadsLevels.levels f.new.self))
+    ∙ sym (length-take f.result (g.R.ReadsLevels.levels f.new.self)) in record {
       ready = record {
         setting = s;
         start = r.0;
@@ -91,8 +91,8 @@ loop-at-preserved g c =
     record {
       within = omega (arith, size, f.ensures.within, ap length (from at bytes), length-drop at bytes, i.within);
       part = λ old xs h. (let p = i.part old xs h in
-          let ys = take f.result (values_at s f.new.self) in
-          let taken = ap (λ l. (xs ++ p.0) ++ l) (ap (values_at s) c.front.ensures ∙ sym (take-map (value_at s) f.result f.new.self)) ∙ append_assoc xs p.0 ys in (
+          let ys = take f.result (values_at s (g.R.ReadsLevels.levels f.new.self)) in
+          let taken = ap (λ l. (xs ++ p.0) ++ l) (ap (values_at s) c.front.ensures ∙ sym (take-map (value_at s) f.result (g.R.ReadsLevels.levels f.new.self))) ∙ append_assoc xs p.0 ys in (
             p.0 ++ ys,
             reads_then s bytes (drop at bytes) (drop (at + w * f.result) bytes) p.0 ys p.1 (read_from s bytes at f.result w ys f.ensures.reads c.width-width.ensures.value),
             subst (λ (l : List ℤ). IsEncodingOf s old (g.O.Outlet.taken c.push_all_levels.new.outlet) (seen g.C.TakesLevels.state c.push_all_levels.new.self) l) taken
@@ -108,10 +108,10 @@ returns-in-Err-clause-did g c old xs h =
     let at = c.loop-at.at in
     let f = c.read_first-count in
     let p = c.loop-at.invariant.part old xs h in
-    let ys = take f.result (values_at s f.new.self) in
+    let ys = take f.result (values_at s (g.R.ReadsLevels.levels f.new.self)) in
     let new = g.O.Outlet.taken c.push_all_levels.new.outlet in
     let e = (seen g.C.TakesLevels.state c.push_all_levels.new.self) in
-    let same = ap (values_at s) c.front.ensures ∙ sym (take-map (value_at s) f.result f.new.self) in
+    let same = ap (values_at s) c.front.ensures ∙ sym (take-map (value_at s) f.result (g.R.ReadsLevels.levels f.new.self)) in
     let fails = subst (λ (l : List ℤ). FailsIn s old new e (xs ++ p.0) l) same (c.in-Err.ensures.err s old (xs ++ p.0) p.2) in
     fails_behind p.1 (fails_among (read_from s bytes at f.result c.width-width.result ys f.ensures.reads c.width-width.ensures.value) fails)
 
