@@ -168,10 +168,10 @@ fn waiting_samples() -> Result<(), Fail> {
     cases.check(decoder.waiting() == 0);
     cases.check(next(&mut decoder, &mut reader, &mut meter, &mut block) == Ok(Step::Block));
     cases.check(decoder.waiting() == 8);
-    cases.check(decoder.is_in_run());
+    cases.check(decoder.run() == 1);
     cases.check(next(&mut decoder, &mut reader, &mut meter, &mut block) == Ok(Step::Block));
     cases.check(decoder.waiting() == 0);
-    cases.check(!decoder.is_in_run());
+    cases.check(decoder.run() == 0);
     cases.check(meter.steps() == 17);
     cases.end()
 }
@@ -181,7 +181,7 @@ fn waiting_samples() -> Result<(), Fail> {
 fn repeated_samples() -> Result<(), Fail> {
     let mut cases = Cases::new();
     let mut reader = BitReader::new(MemoryIn::new(&[0x00, 0x00, 0x80], 4096, None));
-    let mut decoder = Decoder::new(setting_of("")?);
+    let mut decoder = FastDecoder::new(setting_of("")?);
     let mut meter = Meter::new();
     let mut levels = ArrayVec::new();
     cases.check(!decoder.repeats());
@@ -190,7 +190,7 @@ fn repeated_samples() -> Result<(), Fail> {
     if decoder.repeats() {
         decoder.pass_blocks_of_run(1);
     }
-    cases.check(decoder.waiting() == 0);
+    cases.check(!decoder.is_in_run());
     cases.check(!decoder.repeats());
     cases.check(meter.steps() == 17);
     cases.end()

@@ -6,4 +6,4 @@ use Rattle.rice_tests.proofs.coder.code.Goals as goal
 pub finish-requires : goal.finish-requires
 finish-requires g c =
     let few = segment_steps_few c.args.setting c.block-block.ensures.legal in
-    (search rules, (search rules, omega (arith, few, ap segment_steps c.loop-x.invariant.setting)))
+    record { room = search rules; meter = omega (arith, few, ap segment_steps c.loop-x.invariant.setting) }

@@ -6,4 +6,4 @@ use Rattle.rice_tests.proofs.coder.push.Goals as goal
 pub push-requires : goal.push-requires
 push-requires g c =
     let few = segment_steps_few c.args.setting.now c.block-block.ensures.legal in
-    (search rules, (search rules, (search rules, omega (arith, few, ap segment_steps c.requires.setting))))
+    record { sample = search rules; room = search rules; meter = omega (arith, few, ap segment_steps c.requires.setting) }
