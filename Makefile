@@ -13,7 +13,7 @@ PYTHON_CODES ?= 1000000
 LIBRARY_CODES ?= 1000000
 
 .DEFAULT_GOAL := help
-.PHONY: help library small compat python install install-command install-library install-documents install-compat uninstall check clean dist release deb released two-builds test edit rows hostile interop exhaustive any-block refused-memory installed recipes documents options guesses vectors pictures imports lemmas progress bench-others bench examples stack header axioms hostile-library hostile-pulls clients hostile-compat python-tests aarch64 bench-compat wrappers trusted plant
+.PHONY: help library small compat python install install-command install-library install-documents install-compat uninstall check clean dist release deb released two-builds test edit rows hostile interop exhaustive any-block refused-memory installed recipes documents options guesses vectors pictures imports lemmas progress bench-others bench examples stack small-sizes compare-small header axioms hostile-library hostile-pulls clients hostile-compat python-tests aarch64 bench-compat wrappers trusted plant
 
 help:
 	@echo 'make aec                    prove and build the program, as ./aec (some fifteen minutes the first time)'
@@ -54,6 +54,8 @@ help:
 	@echo 'make examples               build and run examples/c and examples/cpp, with sanitizers and under valgrind'
 	@echo 'make python-tests           try the Python package against ./aec, and with damaged codes'
 	@echo 'make stack                  measure the stack that a call of the library takes'
+	@echo 'make small-sizes            measure the code and the stack of programs over the small library'
+	@echo 'make compare-small          give both libraries the same samples and codes, at once and in pieces, and compare'
 	@echo 'make header                 compare include/rice.h with the library and its crate'
 	@echo 'make axioms                 compare docs/axioms.txt with the C functions that the proofs rest on'
 	@echo 'make hostile-library        give the library damaged and random codes, and too little room'
@@ -272,11 +274,18 @@ hostile: aec
 interop: aec
 	scripts/interop ./aec
 
-exhaustive: library aec
-	scripts/exhaustive librice.a ./aec
+# The small library with the calls that it lacks, which scripts make.
+out/small_with_all.a: librice.a librice_small.a scripts/small_with_all
+	mkdir -p out
+	scripts/small_with_all librice.a librice_small.a $@
 
-any-block: library
+exhaustive: library aec out/small_with_all.a
+	scripts/exhaustive librice.a ./aec
+	scripts/exhaustive out/small_with_all.a ./aec
+
+any-block: library out/small_with_all.a
 	scripts/any_block librice.a
+	scripts/any_block out/small_with_all.a
 
 refused-memory: aec
 	scripts/refused_memory ./aec
@@ -317,17 +326,25 @@ examples: library
 stack: library
 	scripts/stack librice.a
 
+small-sizes: small
+	scripts/small librice_small.a
+
+compare-small: library small
+	scripts/compare_small librice.a librice_small.a
+
 header: library
 	scripts/header.py librice.a
 
 axioms:
 	scripts/axioms
 
-hostile-library: library aec
+hostile-library: library aec out/small_with_all.a
 	scripts/hostile_library librice.a ./aec $(LIBRARY_CODES)
+	scripts/hostile_library out/small_with_all.a ./aec $(LIBRARY_CODES)
 
-hostile-pulls: library
+hostile-pulls: library out/small_with_all.a
 	scripts/hostile_pulls librice.a 200000
+	scripts/hostile_pulls out/small_with_all.a 200000
 
 clients: compat
 	scripts/clients $(COMPAT)

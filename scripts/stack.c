@@ -1,5 +1,6 @@
 /* How much stack a call takes: it runs on a stack of its own, painted before, with a page behind it that can't be touched.
- * Prints the most that any call took, and then runs all calls again on stacks of the sizes that rice.h states.
+ * Prints the most that any call took, and then runs all calls again on stacks of the sizes that rice.h states, or of ENCODE_STACK and
+ * DECODE_STACK. With SMALL it makes the calls of the small library alone.
  * usage: stack [STEP], where only each STEPth setting is tried */
 #define _GNU_SOURCE
 #include "rice.h"
@@ -8,6 +9,11 @@
 #include <string.h>
 #include <sys/mman.h>
 #include <ucontext.h>
+
+#ifndef ENCODE_STACK
+#define ENCODE_STACK RICE_ENCODE_STACK
+#define DECODE_STACK RICE_DECODE_STACK
+#endif
 
 enum { MOST = 1 << 20, PAGE = 4096, PAINT = 0x5c };
 
@@ -26,9 +32,13 @@ static void decode(void) {
     if (rice_decode(&setting, count, code, room, back, size, &report) != RICE_DONE) abort();
 }
 
+#ifdef SMALL
+#define decode_all decode
+#else
 static void decode_all(void) {
     rice_decode_all(&setting, code, room, back, size, &report);
 }
+#endif
 
 /* Two pieces: each has about half of the samples. */
 static void feed(void) {
@@ -125,7 +135,8 @@ int main(int argc, char **argv) {
     most(limits, found);
     size_t decoding = found[2] > found[3] ? found[2] : found[3];
     printf("feed %zu, encode %zu, decode %zu, drain %zu, of these %zu for a call that does nothing\n", found[0], found[1], decoding, found[4], base);
-    size_t stated[5] = {RICE_ENCODE_STACK, RICE_ENCODE_STACK, RICE_DECODE_STACK, RICE_DECODE_STACK, RICE_DECODE_STACK};
+    fflush(stdout);
+    size_t stated[5] = {ENCODE_STACK, ENCODE_STACK, DECODE_STACK, DECODE_STACK, DECODE_STACK};
     most(stated, found);
     printf("all calls run on stacks of %zu and %zu bytes\n", stated[0], stated[2]);
     return 0;
