@@ -54,14 +54,15 @@ push_all_levels-requires g c =
     let bytes = c.args.bytes.now in
     let at = c.loop-at.at in
     let f = c.read_first-count in
+    let levels = g.R.ReadsLevels.levels f.new.self in
     let r = c.requires.ready in
     let p = c.loop-at.invariant.part r.0 r.1 r.2 in
-    let ys = take f.result (values_at s (g.R.ReadsLevels.levels f.new.self)) in
+    let ys = take f.result (values_at s levels) in
     let here = read_from s bytes at f.result c.width-width.result ys f.ensures.reads c.width-width.ensures.value in
     let all = reads_then s bytes (drop at bytes) (drop (at + c.width-width.result * f.result) bytes) p.0 ys p.1 here in
     let few = few_more s (p.0 ++ ys) bytes (drop (at + c.width-width.result * f.result) bytes) all (some_width s) in
-    let n : length ys ≡ length (take f.result (g.R.ReadsLevels.levels f.new.self)) = length-take f.result (values_at s (g.R.ReadsLevels.levels f.new.self)) ∙ ap (min f.result) (length-values s (g.R.ReadsLevels.levels f.new.self))
-    ∙ sym (length-take f.result (g.R.ReadsLevels.levels f.new.self)) in record {
+    let n : length ys ≡ length (take f.result levels) = length-take f.result (values_at s levels) ∙ ap (min f.result) (length-values s levels)
+    ∙ sym (length-take f.result levels) in record {
       ready = record {
         setting = s;
         start = r.0;
