@@ -207,7 +207,7 @@ struct rice_drain {
     struct rice_setting setting;
     uint64_t samples;  /* the samples so far, counted from the beginning of the code */
     uint64_t bits;     /* the bits of their code, with the padding of intervals: the next piece begins with byte bits / 8 */
-    uint64_t steps;    /* the work so far */
+    uint64_t steps;    /* the work on the coded data sets that were taken */
     int64_t previous;  /* the last sample, or 0 */
     uint32_t block;    /* the place in its interval of the block that comes next */
     uint32_t run;      /* the blocks of a run of zeros that are still to come */
@@ -227,16 +227,16 @@ uint32_t rice_open_at(const struct rice_setting *setting, uint64_t samples, uint
 /* Gives the drain a piece of its code at `code`, which has `code_len` bytes and begins with byte `drain->bits / 8` of the code, and
  * may end anywhere. Decodes what is whole in it, and writes the samples to `samples`, which has `samples_room` bytes: whole blocks,
  * as many as fit. The drain counts them, and says which byte comes first next time: those from that one on come again. `report` has the
- * drain's numbers, `samples` and `bits` from the beginning of the code and `steps` since it was opened; `written` counts the bytes
- * of this call.
+ * drain's numbers: `samples` and `bits` from the beginning of the code, and `steps` since it was opened, without the work on a coded
+ * data set of which a part is missing. `written` counts the bytes of this call.
  * Returns a status of enum rice_status, which says why it ends there:
  *   RICE_NO_ROOM              no block more fits: give room, and call again.
  *   RICE_ONLY_ZEROS           no 1 is left in the piece: the code ends here, or give more of it.
  *   RICE_MORE_CODE            a 1 is left, and no whole coded data set: give more of the code, or it is cut.
  *   RICE_RUN_PAST_SEGMENT, RICE_RESIDUAL_TOO_LARGE
- *                             the code is damaged at block `place`, counted from the beginning of the code. Called again, it
- *                             says the same.
- *   RICE_TOO_LONG             the code so far and this piece have more than 2^52 bits: nothing is done.
+ *                             the code is damaged at block `place`, counted from the beginning of the code. Called again with
+ *                             the same piece, it says the same.
+ *   RICE_TOO_LONG             `drain->bits` and the bits of this piece are more than 2^52 together: nothing is done.
  *   RICE_BAD_...              the drain has no legal setting: nothing is done, and the report is all zeros.
  * With pieces of any lengths and any room for a block at least, the samples of all calls, one after the other, are those of
  * rice_decode_all; and the first `count` of them those of rice_decode, if the last block is cut to that count. A piece that gives
