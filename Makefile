@@ -62,7 +62,7 @@ help:
 	@echo 'make hostile-pulls          give the library such codes in pieces, and compare with all at once'
 	@echo 'make clients                run programs that use libaec on ./compat/out and on Debian'"'"'s libaec'
 	@echo 'make hostile-compat         give the interfaces of libaec and szlib damaged codes in pieces'
-	@echo "make aarch64                build the library for aarch64, and run the examples on it (qemu-user, gcc-aarch64-linux-gnu)"
+	@echo "make aarch64                build the libraries for aarch64, and run the examples on it (qemu-user, gcc-aarch64-linux-gnu)"
 	@echo 'make bench-compat           compare the speed of ./compat/out and of Debian'"'"'s libaec and szlib (libaec-dev)'
 	@echo 'make wrappers               turn the wrappers of readers, writers and the runtime into wrong ones, which the tests refuse'
 	@echo 'make imports                look for imports of definitions that no clause uses'
@@ -356,8 +356,8 @@ python-tests: aec librice.a
 	scripts/python ./aec $(PYTHON_CODES)
 
 aarch64: library
-	$(MAKE) library compat TARGET=aarch64-unknown-linux-gnu CC=aarch64-linux-gnu-gcc
-	scripts/aarch64 out/aarch64-unknown-linux-gnu/librice.a librice.a
+	$(MAKE) library small compat TARGET=aarch64-unknown-linux-gnu CC=aarch64-linux-gnu-gcc
+	scripts/aarch64 out/aarch64-unknown-linux-gnu/librice.a out/aarch64-unknown-linux-gnu/librice_small.a librice.a
 
 bench-compat: compat
 	scripts/bench_compat $(COMPAT) $(LIBRARY)librice.a
