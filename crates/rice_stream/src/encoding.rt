@@ -478,9 +478,9 @@ pub fn encode<I: Intake, O: Outlet>(setting: &Setting, intake: &mut I, outlet: &
     ensures bounds { EncodesWithin setting.now result.report }
 {
     if has_short_intervals(setting) {
-        return encode_by_sized_coder::<SizedCoder<SHORT>, I, O>(setting, intake, outlet);
+        return encode_by::<SizedCoder<SHORT>, I, O>(setting, intake, outlet);
     }
-    encode_by_sized_coder::<SizedCoder<LONGEST>, I, O>(setting, intake, outlet)
+    encode_by::<SizedCoder<LONGEST>, I, O>(setting, intake, outlet)
 }
 
 /// Returns whether a short row holds the residuals of each segment.
@@ -495,7 +495,7 @@ pub fn has_short_intervals(setting: &Setting) -> bool
 ///
 /// It is never inlined, so that a call takes the stack of one row.
 #[inline(never)]
-pub(crate) fn encode_by_sized_coder<C: TakesLevels, I: Intake, O: Outlet>(
+pub(crate) fn encode_by<C: TakesLevels, I: Intake, O: Outlet>(
     setting: &Setting,
     intake: &mut I,
     outlet: &mut O,

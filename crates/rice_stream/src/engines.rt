@@ -8,10 +8,8 @@ ghost use Rattle.rice_stream.specs.Feeding.{IsSomeSeam, EncodesOn, EncodesToEnd}
 ghost use Rattle.rice_stream.specs.Pulling.{IsSomeStand, DecodesOn};
 
 use crate::decoding::{decode, decode_laid_out};
-use crate::encoding::{encode, encode_by_sized_coder};
-use crate::feeding::{
-    encode_more, encode_more_by_sized_coder, encode_rest, encode_rest_by_sized_coder,
-};
+use crate::encoding::{encode, encode_by};
+use crate::feeding::{encode_more, encode_more_by, encode_rest, encode_rest_by};
 use crate::outcome::{Fault, Outcome};
 use crate::plain_decoder::PlainDecoder;
 use crate::pulling::{decode_more, decode_more_by_one_loop};
@@ -146,7 +144,7 @@ impl Engines for Fast {
 
 impl Engines for Plain {
     fn encode<I: Intake, O: Outlet>(setting: &Setting, intake: &mut I, outlet: &mut O) -> Outcome {
-        encode_by_sized_coder::<OneByOne, I, O>(setting, intake, outlet)
+        encode_by::<OneByOne, I, O>(setting, intake, outlet)
     }
 
     fn encode_more<O: Outlet>(
@@ -155,7 +153,7 @@ impl Engines for Plain {
         bytes: &[u8],
         outlet: &mut O,
     ) -> Result<Seam, Fault> {
-        encode_more_by_sized_coder::<OneByOne, FewLevels, O>(setting, seam, bytes, outlet)
+        encode_more_by::<OneByOne, FewLevels, O>(setting, seam, bytes, outlet)
     }
 
     fn encode_rest<O: Outlet>(
@@ -164,7 +162,7 @@ impl Engines for Plain {
         bytes: &[u8],
         outlet: &mut O,
     ) -> Outcome {
-        encode_rest_by_sized_coder::<OneByOne, FewLevels, O>(setting, seam, bytes, outlet)
+        encode_rest_by::<OneByOne, FewLevels, O>(setting, seam, bytes, outlet)
     }
 
     fn decode<I: Intake, O: Outlet>(

@@ -33,16 +33,14 @@ pub fn encode_more<O: Outlet>(
     ensures failures { PushFails (O.failed outlet.old) (O.failed outlet.new) result }
 {
     if has_short_intervals(setting) {
-        return encode_more_by_sized_coder::<SizedCoder<SHORT>, LevelRow, O>(
-            setting, seam, bytes, outlet,
-        );
+        return encode_more_by::<SizedCoder<SHORT>, LevelRow, O>(setting, seam, bytes, outlet);
     }
-    encode_more_by_sized_coder::<SizedCoder<LONGEST>, LevelRow, O>(setting, seam, bytes, outlet)
+    encode_more_by::<SizedCoder<LONGEST>, LevelRow, O>(setting, seam, bytes, outlet)
 }
 
 /// Encodes as `encode_more` does, where a row of `N` holds the residuals of each segment.
 #[inline(never)]
-pub(crate) fn encode_more_by_sized_coder<C: TakesLevels, R: ReadsLevels, O: Outlet>(
+pub(crate) fn encode_more_by<C: TakesLevels, R: ReadsLevels, O: Outlet>(
     setting: &Setting,
     seam: &Seam,
     bytes: &[u8],
@@ -84,16 +82,14 @@ pub fn encode_rest<O: Outlet>(
     ensures bounds { EncodesWithin setting.now result.report }
 {
     if has_short_intervals(setting) {
-        return encode_rest_by_sized_coder::<SizedCoder<SHORT>, LevelRow, O>(
-            setting, seam, bytes, outlet,
-        );
+        return encode_rest_by::<SizedCoder<SHORT>, LevelRow, O>(setting, seam, bytes, outlet);
     }
-    encode_rest_by_sized_coder::<SizedCoder<LONGEST>, LevelRow, O>(setting, seam, bytes, outlet)
+    encode_rest_by::<SizedCoder<LONGEST>, LevelRow, O>(setting, seam, bytes, outlet)
 }
 
 /// Encodes as `encode_rest` does, where a row of `N` holds the residuals of each segment.
 #[inline(never)]
-pub(crate) fn encode_rest_by_sized_coder<C: TakesLevels, R: ReadsLevels, O: Outlet>(
+pub(crate) fn encode_rest_by<C: TakesLevels, R: ReadsLevels, O: Outlet>(
     setting: &Setting,
     seam: &Seam,
     bytes: &[u8],

@@ -29,6 +29,7 @@ pub trait GivesLevels: Drop {
 
     ghost state: { Self → DecoderState };
 
+    /// Returns a decoder at the beginning of a code.
     fn start(setting: Setting) -> Self
         ensures { state result
             ≡ record { setting = setting; block = 0; before = pos 0; run = 0; stopped = None } };
@@ -46,20 +47,25 @@ pub trait GivesLevels: Drop {
               stopped = None;
             } };
 
+    /// Returns the place of the next block in its interval.
     fn place(&self) -> u32
         ensures place { result ≡ (state self.now).block }
         ensures state { IsDecoderState (state self.now).setting (state self.now).block
             (state self.now).before (state self.now).run (state self.now).stopped };
 
+    /// Returns the sample before the next block.
     fn sample_before(&self) -> i64
         ensures { result ≡ (state self.now).before };
 
+    /// Returns how many zero blocks of a run are still to come.
     fn blocks_of_run(&self) -> u32
         ensures { result ≡ (state self.now).run };
 
+    /// Returns whether the next block repeats the sample before it.
     fn is_repeating(&self) -> bool
         ensures { result ≡ true → (0 < (state self.now).run) × ((state self.now).setting.preprocess ≡ true) };
 
+    /// Passes over the next `count` zero blocks of a run, which repeat the sample before them.
     fn pass_blocks(&mut self, count: u32)
         requires run { count ≤ (state self.old).run }
         requires preprocess { (state self.old).setting.preprocess ≡ true }
@@ -69,6 +75,8 @@ pub trait GivesLevels: Drop {
         ensures setting { (state self.new).setting ≡ (state self.old).setting }
         ensures stopped { (state self.new).stopped ≡ (state self.old).stopped };
 
+    /// Reads the next block, and writes the levels of its samples in place of those in `levels`. Once it has stopped, it repeats its
+    /// answer.
     fn levels_of_next<I: Intake>(
         &mut self,
         reader: &mut BitReader<I>,
@@ -127,6 +135,8 @@ pub trait GivesLevels: Drop {
 
 /// A decoder that may give the bytes of several blocks at once, of `SIZE` samples each unless that is 0, of `WIDTH` bytes.
 pub trait GivesRows<const SIZE: usize, const WIDTH: usize>: GivesLevels {
+    /// Reads at most `most` of the next blocks, if they can be had at once, and writes the bytes of their samples at the front of `bytes`
+    /// and where each set ends into `ends`. Returns how many; if 0, nothing has happened.
     fn bytes_at_once<I: Intake>(
         &mut self,
         most: usize,

@@ -29,11 +29,13 @@ pub trait TakesLevels: Drop {
     // The sinks that it may append the code of a segment to.
     ghost is_sink: { Parameters → List Bool → Type 0 };
 
+    /// Returns a coder that has taken no sample.
     fn begin(setting: Setting) -> Self
         requires { has_room setting }
         ensures taken { HasTaken (state result) [] }
         ensures setting { (state result).setting ≡ setting };
 
+    /// Takes some of the samples, at least one, and appends the code of the segments that they complete.
     fn push_some(
         &mut self,
         levels: &Levels<'_>,
@@ -52,11 +54,13 @@ pub trait TakesLevels: Drop {
         ensures before_last { (m : ℕ) → m < result.samples →
             CompletesNone (state self.old) (take m (values_at (state self.old).setting levels.now)) };
 
+    /// Returns a coder that goes on at block `start` of its interval, after the sample `previous`.
     fn resume(setting: Setting, start: u32, previous: i64) -> Self
         requires room { has_room setting }
         requires taken { (xs : List ℤ) × HasTaken (state_between setting start previous) xs }
         ensures { state result ≡ state_between setting start previous };
 
+    /// Forgets the samples of the open segment, which begins at block `start` of its interval, after the sample `previous`.
     fn go_back(&mut self, start: u32, previous: i64)
         requires { (xs : List ℤ) × HasTaken (state_between (state self.old).setting start previous) xs }
         ensures { state self.new ≡ state_between (state self.old).setting start previous };
@@ -64,21 +68,27 @@ pub trait TakesLevels: Drop {
     /// Whether several segments may be coded before their bytes are written.
     fn takes_rows(&self) -> bool;
 
+    /// Returns the most bits that a sink may hold before the code of a segment is appended.
     fn most_before(&self) -> u64
         ensures least { 7 ≤ result }
         ensures room { (bits : List Bool) → length bits ≤ result → is_sink (state self.now).setting bits };
 
+    /// Returns the place in its interval of the first block of the open segment.
     fn start(&self) -> u32
         ensures { result ≡ (state self.now).start };
 
+    /// Returns the sample before the open segment.
     fn previous(&self) -> i64
         ensures { result ≡ (state self.now).previous };
 
+    /// Returns the number of samples that wait for the end of their segment.
     fn pending(&self) -> u32
         ensures value { (xs : List ℤ) → HasTaken (state self.now) xs →
             result + cut (state self.now).setting (length xs) ≡ length xs }
         ensures limit { result < 64 * (state self.now).setting.block };
 
+    /// Appends the code of the samples that wait, fills their last block, and is new again. Returns the bits that it appended,
+    /// without padding.
     fn finish_reset(&mut self, sink: &mut SegmentSink, meter: &mut Meter) -> u64
         requires room { length sink.old ≤ 7 }
         requires meter { meter.old + segment_steps (state self.old).setting < step_limit }

@@ -7,10 +7,11 @@ ghost use Rattle.rice_code.specs.decode.RowsOfFields.{HasRoom, AreCounted};
 ghost use Rattle.rice_code.specs.decode.ReadSets.{BlockRead, BlockCut, PartsRead, PartsCut};
 
 use crate::decode::options::{BlockSummary, read_reference, write_zero_for_reference};
+use crate::decode::sound_residuals::are_below_as_high_parts;
 use crate::fast::decode::high_and_low_parts::read_parts;
 use crate::fast::decode::pairs::read_pairs;
 use crate::fast::decode::rows_of_fields::read_words;
-use crate::fast::decode::sound_residuals::{are_below_as_high_parts, are_sound};
+use crate::fast::decode::sound_residuals::are_sound;
 use rice_bits::{BitFault, BitReader, Intake, Meter};
 use rice_samples::Setting;
 

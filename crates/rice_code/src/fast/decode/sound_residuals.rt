@@ -1,22 +1,7 @@
 //! Says whether residuals are sound, by loops for the sizes of blocks.
-ghost use Rattle.std.specs.Prelude.{◌≡◌, ◌-◌, ◌/◌, ◌^◌, ◌<◌, ◌≤◌, ◌↔◌, IsTrue, true, length, slice_index, OnSome, All};
+ghost use Rattle.std.specs.Prelude.{◌≡◌, ◌^◌, ◌<◌, ◌≤◌, ◌↔◌, IsTrue, true, length, slice_index, OnSome, All};
 
 use crate::decode::sound_residuals::are_below as below;
-
-/// Returns whether all residuals are below 2^`bits`, of which the high parts, without `k` digits, are as small as those of such
-/// numbers.
-#[inline(always)]
-pub fn are_below_as_high_parts(bits: u32, k: u32, residuals: &[u32]) -> bool
-    requires bits { (1 ≤ bits) × (bits ≤ 32) }
-    requires highs { All (λ d. d / 2 ^ k ≤ (2 ^ bits - 1) / 2 ^ k) residuals.now }
-    ensures { IsTrue result ↔ All (λ d. d < 2 ^ bits) residuals.now }
-{
-    // A high part that is small enough makes a residual that is, unless more digits are split off than a sample has.
-    if k <= bits {
-        return true;
-    }
-    are_below(residuals, 1 << bits)
-}
 
 /// Returns whether all residuals are below `count`.
 pub fn are_below(residuals: &[u32], count: u64) -> bool

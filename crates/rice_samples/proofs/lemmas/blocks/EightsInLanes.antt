@@ -245,22 +245,6 @@ narrow_below k i xs total room small below =
     lane : (a b p i : ℕ) → a * p ≤ i * (2 ^ 32 - 1) → b * p ≤ 2 ^ 32 - 1 → (a + b) * p ≤ (i + 1) * (2 ^ 32 - 1)
     lane a b p i h l = omega arith
 
--- a step of a test
-
--- a limit of the digits gathered, with those of the next chunk, is one of all numbers up to the end of this chunk
-pub digits_above : (limit i : ℕ) (xs digits : List ℕ) → length digits ≡ 8 → 8 * i + 8 ≤ length xs → ((limit : ℕ) → Each1 (λ d. d ≤ limit) digits → Each1 (λ d. d ≤ limit) (take (8 * i) xs)) →
-    Each1 (λ d. d ≤ limit) (zip2 bit_or digits (chunk (8 * i) 8 xs)) → Each1 (λ d. d ≤ limit) (take (8 * (i + 1)) xs)
-digits_above limit i xs digits lanes room above h =
-    let parts = parts_below limit digits (chunk (8 * i) 8 xs) (lanes ∙ sym (length-chunk (8 * i) 8 xs room)) h in
-    rw (take_chunk i xs) (Each1-append (λ d. d ≤ limit) (take (8 * i) xs) (chunk (8 * i) 8 xs) (above limit parts.0) parts.1)
-
--- once all chunks are gathered, no number is above the digits of all lanes together
-pub digits_bound : (n : ℕ) (xs digits : List ℕ) → length xs % 8 ≡ 0 → length xs / 8 ≤ n
-    → ((limit : ℕ) → Each1 (λ d. d ≤ limit) digits → Each1 (λ d. d ≤ limit) (take (8 * n) xs)) → All (λ d. d ≤ fold_l bit_or 0 digits) xs
-digits_bound n xs digits e le above = λ k d lt.
-    let all : Each1 (λ d. d ≤ fold_l bit_or 0 digits) xs = rw (take_all n xs e le) at (above (fold_l bit_or 0 digits) (lanes_below_digits digits)) in
-    Each1-get_or (λ d. d ≤ fold_l bit_or 0 digits) xs k d lt all
-
 -- at most 64 numbers below 2^32, each without its k lowest digits, sum up to at most 2^38
 pub sum_limited : (k n : ℕ) (xs total : List ℕ) → length xs ≤ 64 → length xs % 8 ≡ 0 → length xs / 8 ≤ n → ((j : ℕ) → get_or xs j 0 < 2 ^ 32)
     → sum_l total ≡ sum_by (λ d. d / 2 ^ k) (take (8 * n) xs) → fold_l (λ s x. s + x) 0 total ≤ 2 ^ 38

@@ -1,6 +1,6 @@
 use Rattle.std.proofs.Common.{◌≡◌, ◌-◌, ◌^◌}
 use Rattle.rice_stream.specs.EncodingState.{seen, EncodingProgress}
-use Rattle.rice_stream.proofs.encoding.encode_by_sized_coder.Given as goal
+use Rattle.rice_stream.proofs.encoding.encode_by.Given as goal
 
 abbrev pub invariant-encode_all : goal.invariant-encode_all
 invariant-encode_all g l = record {

@@ -10,7 +10,7 @@ use Rattle.rice_stream.specs.Encodes.{fault_at, EncodesBetween}
 use Rattle.rice_stream.specs.declared.outcome.Fault.{Fault}
 use Rattle.rice_stream.proofs.lemmas.EncodingLemmas.{settled_by}
 use Rattle.rice_stream.proofs.lemmas.EncodingEnds.{within_early, within_all, few_given, reads_further, reads_none, reading_ends, reading_fails, finish_ends, writing_ends}
-use Rattle.rice_stream.proofs.encoding.encode_by_sized_coder.Goals as goal
+use Rattle.rice_stream.proofs.encoding.encode_by.Goals as goal
 
 -- so many samples are taken
 taken_count : (s : Parameters) (levels : List ℕ) (n : ℕ) → n ≤ length levels → (length (take n levels) ≡ n) × (length (take n (values_at s levels)) ≡ n)

@@ -6,7 +6,7 @@ use Rattle.rice_stream.specs.Feeding.{behind, EncodesRest}
 use Rattle.rice_stream.proofs.lemmas.EncodingEnds.{push_fails, push_within, within_early, within_all}
 use Rattle.rice_stream.proofs.lemmas.EncodingLemmas.{settled_by}
 use Rattle.rice_stream.proofs.lemmas.Seams.{few_all, rest_stops, rest_cut, rest_all, takes_few}
-use Rattle.rice_stream.proofs.feeding.encode_rest_by_sized_coder.Goals as goal
+use Rattle.rice_stream.proofs.feeding.encode_rest_by.Goals as goal
 
 pub bytes_left-requires-clause-samples : goal.bytes_left-requires-clause-samples
 bytes_left-requires-clause-samples g c =

@@ -8,7 +8,7 @@ use Rattle.rice_samples.proofs.lemmas.bytes.SpellingLengths.{some_width}
 use Rattle.rice_stream.specs.Feeding.{behind}
 use Rattle.rice_stream.proofs.lemmas.EncodingLemmas.{sink_short}
 use Rattle.rice_stream.proofs.lemmas.Seams.{fit_in, few_all, cut_grows, goes_on, more_stops}
-use Rattle.rice_stream.proofs.feeding.encode_more_by_sized_coder.Goals as goal
+use Rattle.rice_stream.proofs.feeding.encode_more_by.Goals as goal
 
 pub overflow_sub-count : goal.overflow_sub-count
 overflow_sub-count g c =
