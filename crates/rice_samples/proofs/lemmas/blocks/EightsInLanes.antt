@@ -1,14 +1,14 @@
 -- Chunks of eight numbers in the lanes of a vector.
 use Rattle.std.proofs.Common.{◌≡◌, ◌≢◌, ℕ, zero, suc, ◌+◌, ◌-◌, ◌*◌, ◌/◌, ◌%◌, ◌^◌, ◌<◌, ◌≤◌, ◌==◌, Bool, true, false, ◌&&◌, List}
 use Rattle.std.proofs.Common.{[], ◌∷◌, ◌++◌, map, length, take, drop, get_or, sum_by, refl, sym, ◌∙◌, ap, subst, arith, inl, inr, Fits, w32}
-use Rattle.std.specs.Prelude.{All, bit_or, replicate, sum}
+use Rattle.std.specs.Prelude.{bit_or, replicate, sum}
 use Rattle.std.specs.List.{list_all}
 use Rattle.std.specs.Simd.Lanes.{zip2, Each1, Each2, chunk, sum_l, fold_l}
 use Rattle.std.proofs.lemmas.Bool.Decides.{nat_tests}
 use Rattle.std.proofs.lemmas.Bool.{cases_lt}
 use Rattle.std.proofs.lemmas.Nat.{le_or_l, le_or_r, pow_pos}
 use Rattle.std.proofs.lemmas.List.Sums.{sum_by-append, sum_by-cons, sum_by-take-le}
-use Rattle.std.proofs.lemmas.Simd.{zip2_splat, sum-zip2, fold-sum, length-zip2, length-chunk, Each1-chunk, Each1-get_or, Each1-from_get_or, Each1-weaker, Each1-zip2, Each2-of}
+use Rattle.std.proofs.lemmas.Simd.{zip2_splat, sum-zip2, fold-sum, length-zip2, length-chunk, Each1-chunk, Each1-from_get_or, Each1-weaker, Each1-zip2, Each2-of}
 use Rattle.std.proofs.Math.Seq.{take-add}
 use Rattle.std.proofs.Math.Nat.{div-mul-le_self, mul-le-mul_right}
 
