@@ -34,7 +34,7 @@ help:
 	@echo 'make two-builds             build and pack all once more in another folder, and compare'
 	@echo 'make clean                  remove what was built, and what was kept of proofs'
 	@echo 'make test                   prove everything, try the edits that must fail, and run all tests: what passed here before is kept'
-	@echo 'make edit NAME=CRATE/EDIT   try one of the edits that must fail, must-fail/CRATE/EDIT.edit'
+	@echo 'make edit NAME=CRATE        try the edits that must fail of a crate, crates/CRATE/must-fail: those that changed since they were tried'
 	@echo 'make rows                   run the cases of scripts/rows.txt with ./aec and the library'
 	@echo 'make hostile                run ./aec on damaged and random codes, and on files and streams that fail'
 	@echo "make interop                exchange codes between ./aec and Debian's aec (libaec-tools)"
@@ -258,11 +258,10 @@ clean:
 	rm -rf crates/*/out compat/out python/build python/*.egg-info out dist aec librice.a librice_small.a librice.so
 
 test:
-	rt ci
-	scripts/edits.py
+	scripts/test
 
 edit:
-	scripts/edits.py $(NAME)
+	rt must-fail $(NAME)
 
 rows: aec library
 	scripts/rows.py ./aec scripts/rows.txt librice.so
