@@ -1,5 +1,5 @@
 -- The lemmas of the proofs, by what they speak of.
 pub mod bits
 pub mod device
-pub mod lanes
+pub mod fast
 pub mod read

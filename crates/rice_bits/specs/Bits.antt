@@ -1,5 +1,5 @@
 -- Lists of bits, the numbers and bytes that they spell, and what contracts see of the sink.
-use Rattle.std.specs.Prelude.{◌≡◌, ℕ, zero, suc, ◌+◌, ◌-◌, ◌*◌, ◌/◌, ◌%◌, ◌^◌, ◌<◌, ◌≤◌, Bool, true, false, ◌⊎◌, List, [], ◌∷◌, ◌++◌, drop, length, replicate, take, ◌==◌, if◌then◌else◌}
+use Rattle.std.specs.Prelude.{◌≡◌, ℕ, zero, suc, ◌+◌, ◌-◌, ◌*◌, ◌/◌, ◌%◌, ◌^◌, ◌<◌, ◌≤◌, Bool, true, false, List, [], ◌∷◌, ◌++◌, drop, length, replicate, take, ◌==◌, if◌then◌else◌}
 use Rattle.std.specs.List.{flat_map}
 
 -- the fundamental sequence of m: m zeros and a one
@@ -59,14 +59,3 @@ pub record Joins (more : List Bool) (count bits all : ℕ) (old new : List ℕ) 
   pub same_len : length new ≡ length old
   pub gathered : IsBitSink (length new) all new
   pub joined : take all (bits_of new) ≡ take bits (bits_of old) ++ more
-
--- the widths of words that are whole bytes, some of which have 64 digits
-abbrev pub IsWholeWidth : ℕ → Type 0
-IsWholeWidth width = (width ≡ 8) ⊎ (width ≡ 16) ⊎ (width ≡ 32)
-
--- `more`, `count` bits, are joined but for the last `left`, which are the last digits of `last`; what is joined ends with a whole byte.
-pub record JoinsAllBut (left last : ℕ) (more : List Bool) (count bits all : ℕ) (old new : List ℕ) : Type 0 where
-  pub front : List Bool
-  pub joins : Joins front (count - left) bits all old new
-  pub spelled : more ≡ front ++ word left last
-  pub whole : all % 8 ≡ 0

@@ -3,5 +3,3 @@
 pub(crate) mod digits;
 pub(crate) mod eight_bytes;
 pub mod sink;
-pub(crate) mod whole_words;
-pub(crate) mod word_pairs;

@@ -1,12 +1,6 @@
-//! Reading bits: the bits of the bytes that an intake gives, taken as words and fundamental sequences, one or many at a time.
+//! Reading bits: the bits of the bytes that an intake gives, taken as words and fundamental sequences.
 
-mod eight_words;
-mod ends_and_gaps;
 pub mod fault;
-mod four_words;
-mod joined_parts;
 pub mod reader;
-mod sequences;
-mod table_of_ends;
-mod window;
-mod words;
+pub(crate) mod window;
+pub(crate) mod words;

@@ -5,7 +5,5 @@ pub mod FrontsOfWords
 pub mod JoinedBits
 pub mod WordsReadInOneWay
 pub mod FieldsAtFront
-pub mod WholeWords
-pub mod WordPairs
 pub mod WordsAndNumbers
 pub mod SinkBytes

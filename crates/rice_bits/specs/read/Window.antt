@@ -1,7 +1,7 @@
 -- The bits that were given and not yet taken.
-use Rattle.std.specs.Prelude.{◌≡◌, ◌+◌, ◌-◌, ◌*◌, ◌/◌, ◌%◌, ◌<◌, ◌≤◌, ℕ, All, Bool, List, ◌++◌, length, drop, flat_map, min, replicate, take, slice_range}
+use Rattle.std.specs.Prelude.{◌≡◌, ◌+◌, ◌-◌, ◌*◌, ◌/◌, ◌%◌, ◌≤◌, ℕ, Bool, List, ◌++◌, length, drop, min, replicate, take, slice_range}
 use Rattle.rice_bits.specs.Limits.{most_bytes_read, most_at_once}
-use Rattle.rice_bits.specs.Bits.{word, fundamental_sequence, bits_of}
+use Rattle.rice_bits.specs.Bits.{bits_of}
 use Rattle.rice_bits.specs.declared.read.window.Window.{Window}
 
 -- the bits of the most bytes that are asked for at a time
@@ -28,10 +28,6 @@ window_taken w = 8 * w.given - (w.end - w.at)
 abbrev pub bits_near : Window → ℕ
 bits_near w = min (64 - w.at % 8) (length (window_bits w))
 
--- the words of `width` bits from bit `at` of some bytes on
-abbrev pub AreWordsFrom : List ℕ → ℕ → ℕ → List ℕ → Type 0
-AreWordsFrom bytes at width words = flat_map (word width) words ≡ take (length words * width) (drop at (bits_of bytes))
-
 pub record IsWindow (w : Window) : Type 0 where
   pub size : length w.buffer ≡ buffer_len
   pub marked : w.marked ≤ w.at
@@ -48,11 +44,3 @@ pub record Passes (old new : Window) (bits : List Bool) : Type 0 where
   pub split : window_bits old ≡ bits ++ window_bits new
   pub passed : window_passed new ≡ window_passed old ++ bits
   pub taken : window_taken new ≡ window_taken old + length bits
-
--- Fundamental sequences were taken from the front of a word, one for each of the numbers that were written to the first places of a list.
-pub record AreParted (front : ℕ) (old new : List ℕ) (used taken : ℕ) : Type 0 where
-  pub within : taken ≤ length new
-  pub each : All (λ m. m < 64) (take taken new)
-  pub rest : drop taken new ≡ drop taken old
-  pub few : used ≤ 64
-  pub bits : flat_map fundamental_sequence (take taken new) ≡ take used (word 64 front)

@@ -1,5 +1,5 @@
 //! Eight bytes at a time.
-ghost use Rattle.std.specs.Prelude.{All, false, ◌≡◌, ℕ, ◌+◌, ◌-◌, ◌*◌, ◌/◌, ◌%◌, ◌^◌, ◌<◌, ◌≤◌, ◌∷◌, ◌++◌, bit_or, drop, flat_map, length, min, replicate, set, take};
+ghost use Rattle.std.specs.Prelude.{All, false, ◌≡◌, ℕ, ◌+◌, ◌-◌, ◌*◌, ◌/◌, ◌%◌, ◌^◌, ◌<◌, ◌≤◌, ◌∷◌, ◌++◌, bit_or, drop, length, min, replicate, set, take};
 ghost use Rattle.std.specs.Int.{to_be_bytes, to_le_bytes, w64};
 ghost use Rattle.std.specs.List.{slice_index};
 ghost use Rattle.rice_bits.specs.Bits.{bits_of, word};
@@ -18,7 +18,7 @@ pub fn front(bytes: &[u8], count: usize) -> &[u8]
 
 /// Returns the eight bytes of `word`, least significant first.
 #[inline(always)]
-fn least_byte_first(word: u64) -> u8x8
+pub fn least_byte_first(word: u64) -> u8x8
     ensures { result ≡ to_le_bytes w64 word }
 {
     u64x1::splat(word).to_le_bytes()
@@ -26,20 +26,11 @@ fn least_byte_first(word: u64) -> u8x8
 
 /// Writes the eight bytes of `word`, least significant first, from the place `at` on.
 #[inline]
-fn store_least_byte_first(bytes: &mut [u8], at: usize, word: u64)
+pub fn store_least_byte_first(bytes: &mut [u8], at: usize, word: u64)
     requires { at + 8 ≤ length bytes.old }
     ensures { bytes.new ≡ take at bytes.old ++ (to_le_bytes w64 word ++ drop (at + 8) bytes.old) }
 {
     least_byte_first(word).copy_to_slice(&mut bytes[at..]);
-}
-
-/// Writes the eight bytes of `digits`, most significant first, from the place `at` on.
-#[inline(always)]
-pub fn store_word(bytes: &mut [u8], at: usize, digits: u64)
-    requires { at + 8 ≤ length bytes.old }
-    ensures { bytes.new ≡ take at bytes.old ++ (to_be_bytes w64 digits ++ drop (at + 8) bytes.old) }
-{
-    store_least_byte_first(bytes, at, digits.swap_bytes());
 }
 
 /// Returns the digits of `byte` and then those of `word`, as the eight bytes that spell them, the first
@@ -169,26 +160,4 @@ pub fn at_least_57_bits_from(bytes: &[u8], at: usize) -> u64
         ≡ take (64 - at % 8) (drop at (bits_of bytes.now)) ++ replicate (at % 8) false }
 {
     load(bytes, at / 8) << (at % 8)
-}
-
-/// Returns the 64 bits from bit `at` on.
-#[inline(always)]
-fn word_of_64_bits_from(bytes: &[u8], at: usize) -> u64
-    requires { at / 8 + 9 ≤ length bytes.now }
-    ensures { word 64 result ≡ take 64 (drop at (bits_of bytes.now)) }
-{
-    // Where the first of them begins a byte, no bit is taken from the ninth.
-    let ninth = bytes[at / 8 + 8] as u64;
-    at_least_57_bits_from(bytes, at) | (ninth >> (8 - at % 8))
-}
-
-/// Returns the eight bytes that the 64 bits from bit `at` on spell.
-#[inline(always)]
-pub fn eight_bytes_from(bytes: &[u8], at: usize) -> u8x8
-    requires { at / 8 + 9 ≤ length bytes.now }
-    ensures len { length result ≡ 8 }
-    ensures fit { All (λ b. b < 2 ^ 8) result }
-    ensures bits { flat_map (word 8) result ≡ take (8 * 8) (drop at (bits_of bytes.now)) }
-{
-    least_byte_first(word_of_64_bits_from(bytes, at).swap_bytes())
 }

@@ -1,21 +1,13 @@
 //! The bytes that an intake gave last, and a place among their bits.
-ghost use Rattle.std.specs.Prelude.{◌≡◌, ◌+◌, ◌-◌, ◌*◌, ◌%◌, ◌^◌, ◌<◌, ◌≤◌, ◌&&◌, false, [], ◌++◌, min, true, replicate, flat_map, length, take, drop, All, IfSome, IfNone};
+ghost use Rattle.std.specs.Prelude.{◌≡◌, ◌+◌, ◌-◌, ◌*◌, ◌^◌, ◌<◌, ◌≤◌, ◌&&◌, false, [], ◌++◌, min, replicate, length, take, IfSome, IfNone};
 ghost use Rattle.rice_bits.specs.Limits.{most_bytes_read, most_at_once};
 ghost use Rattle.rice_bits.specs.Bits.{bits_of, fundamental_sequence, word};
-ghost use Rattle.rice_bits.specs.lanes.Sequences.{BeginWithSequences};
 ghost use Rattle.rice_bits.specs.read.Reader.{is_blank};
 ghost use Rattle.rice_bits.specs.read.Window.{buffer_len, most_waiting};
 
 use crate::bits::digits::front_digits;
 use crate::bits::eight_bytes::{at_least_57_bits_from, store_zeros};
-use crate::lanes::sequences::{Sequences, first_sequences};
-use crate::lanes::wide_words::eight_words_from;
-use crate::lanes::words::sixteen_words_from;
-use crate::read::ends_and_gaps::find_ends;
-use crate::read::joined_parts::write_joined;
-use crate::read::sequences::write_sequences_of_word;
-use crate::read::words::{number_from, words_from};
-use std::simd::prelude::*;
+use crate::read::words::number_from;
 
 /// The most bytes that are asked for at a time.
 pub const PIECE: usize = 4096;
@@ -25,9 +17,6 @@ const ROOM: usize = PIECE + 8;
 
 /// The number of bits that are surely in the eight bytes that any bit is in, from that bit on.
 pub const AHEAD: usize = 57;
-
-/// The most words that are taken together.
-const WORDS: usize = 64;
 
 /// The bytes that an intake gave last, and a place among their bits.
 #[derive(Drop)]
@@ -45,7 +34,6 @@ pub struct Window {
 }
 
 impl Window {
-    ghost use Rattle.rice_bits.specs.read.JoinedParts.{PassesParts};
     ghost use Rattle.rice_bits.specs.read.Window.{IsWindow, Passes, bits_near, window_bits, window_passed, window_taken};
 
     /// Returns a window with no bits, of which none was taken.
@@ -139,7 +127,7 @@ impl Window {
 
     /// Returns the next bits at the front of a word, followed by zeros: all that wait, or at least 57 of them.
     #[inline]
-    fn first_bits_ahead(&self) -> u64
+    pub fn first_bits_ahead(&self) -> u64
         requires { IsWindow self.now }
         ensures { word 64 result
             ≡ take (bits_near self.now) (window_bits self.now)
@@ -209,153 +197,5 @@ impl Window {
         ensures passes { Passes self.old self.new (take count (window_bits self.old)) }
     {
         self.at += count as usize;
-    }
-
-    /// Returns the number that `width` bits behind the first `skip` spell.
-    #[inline(always)]
-    pub fn number_ahead(&self, skip: usize, width: u32) -> u32
-        requires window { IsWindow self.now }
-        requires width { width ≤ 32 }
-        requires there { skip + width ≤ length (window_bits self.now) }
-        ensures below { result < 2 ^ width }
-        ensures bits { word width result ≡ take width (drop skip (window_bits self.now)) }
-    {
-        number_from(&self.buffer, self.at + skip, width) as u32
-    }
-
-    /// Returns the number that the first `width` bits spell.
-    #[inline(always)]
-    pub fn first_number_ahead(&self, width: u32) -> u32
-        requires window { IsWindow self.now }
-        requires width { width ≤ 32 }
-        requires there { 57 ≤ length (window_bits self.now) }
-        ensures below { result < 2 ^ width }
-        ensures bits { word width result ≡ take width (window_bits self.now) }
-    {
-        front_digits(self.first_bits_ahead(), width) as u32
-    }
-
-    /// As `sequences_ahead`, where these bytes end within the first 57 bits.
-    #[inline(always)]
-    pub fn sequences_soon(&self, skip: usize, bytes: usize, count: usize) -> Option<Sequences>
-        requires window { IsWindow self.now }
-        requires bytes { (1 ≤ bytes) × (bytes ≤ 7) }
-        requires count { (1 ≤ count) × (count ≤ 16) }
-        requires within { skip + 8 * bytes ≤ 57 }
-        requires there { 57 ≤ length (window_bits self.now) }
-        ensures { IfSome result (λ s.
-            BeginWithSequences (drop skip (window_bits self.now)) count s.numbers s.len) }
-    {
-        first_sequences(self.first_bits_ahead() << skip, bytes, count)
-    }
-
-    /// Returns the first `count` fundamental sequences behind the first `skip` bits, if they end within so many bytes.
-    #[inline(always)]
-    pub fn sequences_ahead(&self, skip: usize, bytes: usize, count: usize) -> Option<Sequences>
-        requires window { IsWindow self.now }
-        requires bytes { (1 ≤ bytes) × (bytes ≤ 7) }
-        requires count { (1 ≤ count) × (count ≤ 16) }
-        requires there { skip + 64 ≤ length (window_bits self.now) }
-        ensures { IfSome result (λ s.
-            BeginWithSequences (drop skip (window_bits self.now)) count s.numbers s.len) }
-    {
-        first_sequences(
-            at_least_57_bits_from(&self.buffer, self.at + skip),
-            bytes,
-            count,
-        )
-    }
-
-    /// Returns the sixteen words of `width` bits behind the first `skip` bits.
-    #[inline(always)]
-    pub fn words_ahead(&self, skip: usize, width: u32) -> u8x16
-        requires window { IsWindow self.now }
-        requires width { width ≤ 8 }
-        requires there { skip + 128 ≤ length (window_bits self.now) }
-        ensures len { length result ≡ 16 }
-        ensures fit { All (λ v. v < 2 ^ width) result }
-        ensures bits { flat_map (word width) result
-            ≡ take (16 * width) (drop skip (window_bits self.now)) }
-    {
-        sixteen_words_from(&self.buffer, self.at + skip, width)
-    }
-
-    /// Returns the eight words of `width` bits behind the first `skip` bits.
-    #[inline(always)]
-    pub fn wide_words_ahead(&self, skip: usize, width: u32) -> u32x8
-        requires window { IsWindow self.now }
-        requires width { (1 ≤ width) × (width ≤ 24) }
-        requires there { skip + 8 * width + 64 ≤ length (window_bits self.now) }
-        ensures len { length result ≡ 8 }
-        ensures fit { All (λ v. v < 2 ^ width) result }
-        ensures bits { flat_map (word width) result
-            ≡ take (8 * width) (drop skip (window_bits self.now)) }
-    {
-        eight_words_from(&self.buffer, self.at + skip, width)
-    }
-
-    /// Takes words of `width` bits, one for each place of `words`, and returns their number. It takes none if fewer
-    /// wait, or if there are more than 64 places.
-    #[inline(always)]
-    pub fn take_words(&mut self, width: u32, words: &mut [u32]) -> usize
-        requires window { IsWindow self.old }
-        requires width { width ≤ 32 }
-        ensures window { IsWindow self.new }
-        ensures within { result ≤ length words.new }
-        ensures fit { All (λ v. v < 2 ^ width) (take result words.new) }
-        ensures rest { drop result words.new ≡ drop result words.old }
-        ensures passes { Passes self.old self.new (flat_map (word width) (take result words.new)) }
-    {
-        if words.len() > WORDS || words.len() * width as usize > self.end - self.at {
-            return 0;
-        }
-        words_from(&self.buffer, self.at, width, words);
-        self.at += words.len() * width as usize;
-        words.len()
-    }
-
-    /// Takes the fundamental sequences in the bits ahead, at most one for each place of `zeros`, and returns their
-    /// number.
-    #[inline(always)]
-    pub fn take_sequences(&mut self, zeros: &mut [u32]) -> usize
-        requires window { IsWindow self.old }
-        ensures window { IsWindow self.new }
-        ensures within { result ≤ length zeros.new }
-        ensures fit { All (λ m. m < 64) (take result zeros.new) }
-        ensures rest { drop result zeros.new ≡ drop result zeros.old }
-        ensures passes { Passes self.old self.new
-            (flat_map fundamental_sequence (take result zeros.new)) }
-    {
-        let parted = write_sequences_of_word(self.first_bits_ahead(), zeros);
-        self.at += parted.used;
-        parted.taken
-    }
-
-    /// Takes a fundamental sequence for each place of `numbers`, and then a word of `width` bits for each, if all of them
-    /// wait, and the sequences are among the bits ahead. Writes the numbers that have the zeros of the sequences as
-    /// their high parts, and the words as their low parts. Returns whether it took them.
-    #[inline(always)]
-    pub fn take_parts(&mut self, width: u32, numbers: &mut [u32]) -> bool
-        requires window { IsWindow self.old }
-        requires width { (1 ≤ width) × (width ≤ 7) }
-        requires count { (length numbers.old + 1) % 8 ≤ 1 }
-        requires few { length numbers.old ≤ 16 }
-        ensures window { IsWindow self.new }
-        ensures passes { result ≡ true → PassesParts self.old self.new width numbers.new }
-        ensures none { result ≡ false → self.new ≡ self.old }
-    {
-        let mut ends = [0; 64];
-        let found = find_ends(self.first_bits_ahead(), numbers.len(), &mut ends);
-        if found < numbers.len() {
-            return false;
-        }
-        let words = self.at + ends[numbers.len()] as usize;
-        let next = words + numbers.len() * width as usize;
-        if next > self.end {
-            return false;
-        }
-        write_joined(&self.buffer, words, width, &ends, numbers);
-        self.at = next;
-        true
     }
 }

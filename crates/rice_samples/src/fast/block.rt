@@ -2,7 +2,8 @@
 ghost use Rattle.std.specs.Prelude.{◌≡◌, All, ◌+◌, ◌-◌, ◌*◌, ◌%◌, ◌^◌, ◌==◌, ◌<◌, ◌≤◌, ◌++◌, drop, flat_map, min, length, slice_index, sum_by};
 ghost use Rattle.std.specs.List.{list_all};
 ghost use Rattle.rice_bits.specs.Limits.{step_limit};
-ghost use Rattle.rice_bits.specs.Bits.{word, IsWholeWidth};
+ghost use Rattle.rice_bits.specs.Bits.{word};
+ghost use Rattle.rice_bits.specs.fast.bits.WholeWords.{IsWholeWidth};
 ghost use Rattle.rice_samples.specs.blocks.Pairs.{pair_codes};
 ghost use Rattle.rice_samples.specs.blocks.Stops.{IsFirstStop};
 

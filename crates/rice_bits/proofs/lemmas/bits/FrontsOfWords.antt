@@ -3,10 +3,10 @@ use Rattle.std.proofs.Common.{◌≡◌, ℕ, zero, suc, ◌+◌, ◌-◌, ◌*�
 use Rattle.std.proofs.Math.Nat.{pow-suc}
 use Rattle.std.proofs.Math.Seq.{take-append_seam}
 use lib.Count.{count_leading_zeros, leading_of_zero}
-use Rattle.std.proofs.lemmas.Nat.{div-mul-add, leading_top, pow_pos, shr_below}
+use Rattle.std.proofs.lemmas.Nat.{div-mul-add, leading_top, mod-mul-add, mod_below, pow-add, pow_pos, shr_below, shr_split}
 use Rattle.rice_bits.specs.Bits.{word, fundamental_sequence}
 use Rattle.rice_bits.proofs.lemmas.bits.EightBytes.{word-mod}
-use Rattle.rice_bits.proofs.lemmas.bits.WordsAndNumbers.{length-word, word-cat, word-fs, word-split, word-zero}
+use Rattle.rice_bits.proofs.lemmas.bits.WordsAndNumbers.{length-word, shift_fits, word-cat, word-fs, word-split, word-zero}
 
 -- the first digits of a number are a number of so many digits
 pub front_below : (w n v : ℕ) → n ≤ w → v < 2 ^ w → v / 2 ^ (w - n) < 2 ^ n
@@ -52,3 +52,17 @@ first_run (suc m) short fits =
     let z = count_leading_zeros 64 (suc m) in
     let e : 64 - (z + 1) ≡ 63 - z = omega arith in
     ap (λ k. word (z + 1) (suc m / 2 ^ k)) e ∙ (ap (word (z + 1)) (sym (one_high (suc m) (omega arith) fits)) ∙ word-fs z)
+
+add-mul-mul : (q p r s m : ℕ) → p * s ≡ m → (q * p + r) * s ≡ q * m + r * s
+add-mul-mul q p r s m e = rw (← e) (grind arith)
+
+-- digits after the first ones, at the front of 64
+pub moved_up : (a d : ℕ) → a < 64 → d * 2 ^ (64 - a) % 2 ^ 64 ≡ d % 2 ^ a * 2 ^ (64 - a)
+moved_up a d h =
+    let s = 64 - a in
+    let n : a + s ≡ 64 = omega arith in
+    let power : 2 ^ a * 2 ^ s ≡ 2 ^ 64 = sym (pow-add 2 a s) ∙ ap (λ k. 2 ^ k) n in
+    let low : d % 2 ^ a < 2 ^ a = mod_below d (2 ^ a) (pow_pos a) in
+    ap (λ k. k * 2 ^ s % 2 ^ 64) (sym (shr_split d a))
+    ∙ (ap (λ k. k % 2 ^ 64) (add-mul-mul (d / 2 ^ a) (2 ^ a) (d % 2 ^ a) (2 ^ s) (2 ^ 64) power)
+    ∙ mod-mul-add (d / 2 ^ a) (2 ^ 64) (d % 2 ^ a * 2 ^ s) (shift_fits a s (d % 2 ^ a) low (omega arith)))

@@ -19,7 +19,8 @@ use Rattle.rice_code.specs.code.CodedDataSets.{CodedDataSet, NoCompression, Seco
 use Rattle.rice_code.specs.code.Forms.{IsForm, IsReference, IsBlock}
 use Rattle.rice_code.specs.decode.RowsOfFields.{Row, CountRow, WordRow, PairRow, ones}
 use Rattle.rice_code.specs.decode.ReadSets.{BlockRead, BlockCut, PartsRead, PartsCut, reference_place, set_tail}
-use Rattle.rice_bits.specs.read.JoinedParts.{TakesParts, joined_parts}
+use Rattle.rice_bits.specs.fast.read.JoinedParts.{TakesParts}
+use Rattle.rice_bits.specs.read.JoinedParts.{joined_parts}
 use Rattle.rice_samples.proofs.lemmas.blocks.PairNumbers.{count_pairs}
 use Rattle.rice_bits.proofs.lemmas.read.WindowLemmas.{length-words}
 use Rattle.rice_code.proofs.lemmas.decode.RowsOfFields.{put_rest, ones-append, ones-zeros, ones-sequence, ones-sequences}

@@ -9,7 +9,7 @@ use Rattle.std.proofs.lemmas.Nat.{pow_pos}
 use Rattle.std.proofs.lemmas.List.{drop-append-le, drop-drop, get_or-take, length-drop, length-take-le, take-append-le, take_all}
 use Rattle.std.proofs.lemmas.List.Elements.{All-append, All-cons, All-drop, All-nil, All-take}
 use Rattle.rice_bits.specs.Bits.{word, fundamental_sequence}
-use Rattle.rice_bits.specs.lanes.Sequences.{BeginWithSequences}
+use Rattle.rice_bits.specs.fast.lanes.Sequences.{BeginWithSequences}
 use Rattle.rice_bits.specs.read.JoinedParts.{joined_parts}
 use Rattle.rice_bits.proofs.lemmas.read.WindowLemmas.{words-front}
 use Rattle.rice_samples.specs.Parameters.{Parameters, id_len, value_at, value_count, values_at, width}

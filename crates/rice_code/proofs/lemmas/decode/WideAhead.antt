@@ -8,7 +8,7 @@ use Rattle.std.proofs.lemmas.Nat.{pow_pos}
 use Rattle.std.proofs.lemmas.List.{length-drop, length-take-le, take_all}
 use Rattle.std.proofs.lemmas.List.Elements.{All-append, All-drop, All-replicate, All-take}
 use Rattle.rice_bits.specs.Bits.{word, fundamental_sequence}
-use Rattle.rice_bits.specs.lanes.Sequences.{BeginWithSequences}
+use Rattle.rice_bits.specs.fast.lanes.Sequences.{BeginWithSequences}
 use Rattle.rice_bits.specs.read.JoinedParts.{joined_parts}
 use Rattle.rice_bits.proofs.lemmas.read.WindowLemmas.{words-front}
 use Rattle.rice_samples.specs.Parameters.{Parameters, id_len, k_max, value_at, value_count}

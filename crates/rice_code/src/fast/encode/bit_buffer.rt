@@ -1,6 +1,7 @@
 //! A buffer of bits, which puts several fields into a sink at once.
 ghost use Rattle.std.specs.Prelude.{◌≡◌, ◌+◌, ◌*◌, ◌%◌, ◌^◌, ◌<◌, ◌≤◌, ◌++◌, [], flat_map, length};
-ghost use Rattle.rice_bits.specs.Bits.{word, fundamental_sequence, put_width, IsWholeWidth};
+ghost use Rattle.rice_bits.specs.Bits.{word, fundamental_sequence, put_width};
+ghost use Rattle.rice_bits.specs.fast.bits.WholeWords.{IsWholeWidth};
 ghost use Rattle.rice_code.specs.encode.BitBuffer.{HasRoomFor, AddsFields};
 
 use crate::encode::SegmentSink;

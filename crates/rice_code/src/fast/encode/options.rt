@@ -1,6 +1,7 @@
 //! Writing coded data sets: a block by each option, and runs of zero blocks.
 ghost use Rattle.std.specs.Prelude.{◌≡◌, ◌+◌, ◌-◌, ◌*◌, ◌%◌, ◌^◌, ◌<◌, ◌≤◌, ◌↔◌, IsTrue, ◌++◌, None, flat_map, length, IfSome};
-ghost use Rattle.rice_bits.specs.Bits.{word, IsWholeWidth};
+ghost use Rattle.rice_bits.specs.Bits.{word};
+ghost use Rattle.rice_bits.specs.fast.bits.WholeWords.{IsWholeWidth};
 ghost use Rattle.rice_samples.specs.Parameters.{k_max, value_count};
 ghost use Rattle.rice_code.specs.code.CodedDataSets.{NoCompression, SecondExtension, Split, cost as cost_of, reference_bits, reference_len};
 ghost use Rattle.rice_code.specs.encode.BitBuffer.{HasRoomFor, HasRoomForOption, HasRoomForSet, PutsSet};

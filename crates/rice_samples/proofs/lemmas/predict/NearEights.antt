@@ -13,7 +13,7 @@ use Rattle.std.proofs.lemmas.List.{length-take-le, take_all}
 use Rattle.std.proofs.lemmas.Simd.{put_chunk_whole, tops_compared, Each1-get_or, Each1-weaker}
 use Rattle.std.proofs.Math.Nat.{mod-add-mod, add-mod-mod, mod-eq_of_lt, add-mod_right}
 use Rattle.rice_samples.specs.predict.Residuals.{rank_below, ranks_below}
-use Rattle.rice_bits.specs.lanes.RunningSums.{sums_behind}
+use Rattle.rice_bits.specs.fast.lanes.RunningSums.{sums_behind}
 use Rattle.rice_samples.specs.predict.NearNumbers.{way, near_numbers, reach, bound}
 use Rattle.rice_samples.proofs.lemmas.blocks.EightsInLanes.{lanes_below_digits, length-map}
 use Rattle.rice_samples.proofs.lemmas.predict.Ranks.{rank_above, rank_under}

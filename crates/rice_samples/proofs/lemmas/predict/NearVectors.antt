@@ -14,7 +14,7 @@ use Rattle.std.proofs.lemmas.List.{length-replicate, length-take-le}
 use Rattle.std.proofs.lemmas.Simd.{tops_compared, Each1-get_or, pick_l-range_with_len}
 use Rattle.std.proofs.Math.Nat.{mod-eq_of_lt, add-mod_right}
 use Rattle.rice_samples.specs.predict.Residuals.{ranks_below}
-use Rattle.rice_bits.specs.lanes.RunningSums.{running_sums}
+use Rattle.rice_bits.specs.fast.lanes.RunningSums.{running_sums}
 use Rattle.rice_bits.specs.read.JoinedParts.{joined_parts}
 use Rattle.rice_samples.specs.Parameters.{Parameters, value_count}
 use Rattle.rice_samples.specs.predict.LevelsOfParts.{AreLevelsOfParts}

@@ -5,7 +5,7 @@ use Rattle.std.specs.Simd.Lanes.{Each1, zip2}
 use Rattle.std.proofs.Math.Nat.{mul-le-mul_right, pow-le-pow_right}
 use Rattle.std.proofs.lemmas.Simd.{Each1-get_or}
 use Rattle.rice_bits.specs.read.JoinedParts.{joined_parts}
-use Rattle.rice_bits.proofs.lemmas.lanes.WordsInTwoBytes.{map_same}
+use Rattle.rice_bits.proofs.lemmas.fast.lanes.WordsInTwoBytes.{map_same}
 
 -- high and low parts
 

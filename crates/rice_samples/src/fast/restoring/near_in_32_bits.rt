@@ -1,7 +1,7 @@
 //! Eight numbers from their ranks at a time, in lanes of 32 bits.
 ghost use Rattle.std.specs.Prelude.{◌≡◌, ◌+◌, ◌^◌, ◌≤◌, ◌∷◌, All, length, map, true, take};
 ghost use Rattle.rice_samples.specs.predict.Residuals.{ranks_below};
-ghost use Rattle.rice_bits.specs.lanes.RunningSums.{sums_behind};
+ghost use Rattle.rice_bits.specs.fast.lanes.RunningSums.{sums_behind};
 ghost use Rattle.rice_samples.specs.predict.NearNumbers.{near_numbers as near_numbers_of, way, bound};
 
 use std::simd::prelude::*;

@@ -3,7 +3,7 @@ use Rattle.std.specs.Prelude.{bit_or}
 use Rattle.std.specs.Int.Bits.{or_zero_l}
 use Rattle.std.proofs.Math.Nat.{mod-one}
 use Rattle.std.proofs.lemmas.Nat.{mod-mul-add, or_mod, pow-add, pow_pos}
-use Rattle.rice_bits.proofs.lemmas.read.TakenSequences.{moved_up}
+use Rattle.rice_bits.proofs.lemmas.bits.FrontsOfWords.{moved_up}
 use Rattle.rice_bits.proofs.bits.digits.digits_behind.Goals as goal
 
 -- the last digits of a number that is shifted past them are zeros

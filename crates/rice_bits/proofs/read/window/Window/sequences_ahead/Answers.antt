@@ -1,5 +1,5 @@
 use Rattle.std.proofs.Common.{arith}
-use Rattle.rice_bits.proofs.lemmas.lanes.SequencesAhead.{sequences-wait}
+use Rattle.rice_bits.proofs.lemmas.fast.lanes.SequencesAhead.{sequences-wait}
 use Rattle.rice_bits.proofs.lemmas.read.WindowLemmas.{length-window}
 use Rattle.rice_bits.proofs.read.window.Window.sequences_ahead.Goals as goal
 

@@ -1,4 +1,4 @@
-use Rattle.rice_bits.proofs.lemmas.lanes.SequencesAhead.{sequences-soon}
+use Rattle.rice_bits.proofs.lemmas.fast.lanes.SequencesAhead.{sequences-soon}
 use Rattle.rice_bits.proofs.read.window.Window.sequences_soon.Goals as goal
 
 pub returns : goal.returns

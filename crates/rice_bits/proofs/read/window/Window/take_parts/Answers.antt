@@ -2,10 +2,10 @@ use Rattle.std.proofs.Common.{◌≡◌, ◌+◌, ◌*◌, ◌∙◌, arith, ap,
 use Rattle.std.specs.Prelude.{flat_map}
 use Rattle.std.proofs.lemmas.List.{length-take-le, take_all}
 use Rattle.rice_bits.specs.Bits.{fundamental_sequence, word}
-use Rattle.rice_bits.specs.read.EndsAndGaps.{gaps}
+use Rattle.rice_bits.specs.fast.read.EndsAndGaps.{gaps}
 use Rattle.rice_bits.specs.read.JoinedParts.{joined_parts}
-use Rattle.rice_bits.proofs.lemmas.read.EndsAndGapsLemmas.{ends-parted, length-gaps}
-use Rattle.rice_bits.proofs.lemmas.read.TakenSequences.{length-parted, parted-bits}
+use Rattle.rice_bits.proofs.lemmas.fast.read.EndsAndGapsLemmas.{ends-parted, length-gaps}
+use Rattle.rice_bits.proofs.lemmas.fast.read.TakenSequences.{length-parted, parted-bits}
 use Rattle.rice_bits.proofs.lemmas.read.WindowLemmas.{near-there, passes-append, sequences-within, window-front, window-moved, window-passes}
 use Rattle.rice_bits.proofs.read.window.Window.take_parts.Goals as goal
 

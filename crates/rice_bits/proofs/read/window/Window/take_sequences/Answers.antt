@@ -1,7 +1,7 @@
 use Rattle.std.proofs.Common.{arith, sym, ◌∙◌, take}
 use Rattle.std.specs.Prelude.{flat_map}
 use Rattle.rice_bits.specs.Bits.{fundamental_sequence}
-use Rattle.rice_bits.proofs.lemmas.read.TakenSequences.{length-parted, parted-bits}
+use Rattle.rice_bits.proofs.lemmas.fast.read.TakenSequences.{length-parted, parted-bits}
 use Rattle.rice_bits.proofs.lemmas.read.WindowLemmas.{near-there, sequences-within, window-front, window-moved}
 use Rattle.rice_bits.proofs.read.window.Window.take_sequences.Goals as goal
 

@@ -2,7 +2,7 @@ use Rattle.std.proofs.Common.{arith, ◌≡◌, ◌<◌, ◌^◌, ◌∙◌, sym
 use Rattle.std.proofs.lemmas.List.{length-drop, length-take-le}
 use Rattle.std.proofs.lemmas.List.Elements.{All-drop, All-take}
 use Rattle.std.specs.Simd.Lanes.{Each1}
-use Rattle.rice_bits.specs.lanes.RunningSums.{running_sums}
+use Rattle.rice_bits.specs.fast.lanes.RunningSums.{running_sums}
 use Rattle.rice_code.specs.encode.SequencesByPlaces.{ones_at}
 use Rattle.rice_code.proofs.lemmas.encode.SequencesByProducts.{all_of}
 use Rattle.rice_code.proofs.lemmas.encode.SequencesByPlaces.{length-steps, length-sums, sixteen_joined, steps, sums_fit, two_words}

@@ -1,6 +1,6 @@
 use Rattle.std.proofs.Common.{◌∙◌, sym, subst, Fits, w8}
 use Rattle.std.specs.Simd.Lanes.{Each1}
-use Rattle.rice_bits.proofs.lemmas.lanes.WordsInTwoBytes.{map_same}
+use Rattle.rice_bits.proofs.lemmas.fast.lanes.WordsInTwoBytes.{map_same}
 use Rattle.rice_code.proofs.lemmas.encode.SequencesByProducts.{least_of_each, least_fit}
 use Rattle.rice_code.proofs.fast.encode.sequences_by_products.numbers_in_bytes.Goals as goal
 

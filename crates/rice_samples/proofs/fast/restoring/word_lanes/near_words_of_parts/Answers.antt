@@ -1,6 +1,6 @@
 use Rattle.std.proofs.Common.{◌≡◌, ◌+◌, ◌-◌, ◌^◌, ◌∙◌, ap, arith, length, refl, sym}
 use Rattle.rice_bits.specs.read.JoinedParts.{joined_parts}
-use Rattle.rice_bits.proofs.lemmas.lanes.WordsInTwoBytes.{map_same}
+use Rattle.rice_bits.proofs.lemmas.fast.lanes.WordsInTwoBytes.{map_same}
 use Rattle.rice_samples.specs.Parameters.{value_count}
 use Rattle.rice_samples.specs.predict.Residuals.{ranks_below}
 use Rattle.rice_samples.proofs.lemmas.predict.NearEights.{length-near_numbers}

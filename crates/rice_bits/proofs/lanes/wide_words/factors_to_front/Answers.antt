@@ -1,5 +1,0 @@
-use Rattle.rice_bits.proofs.lemmas.lanes.WordsInFourBytes.{wide_factors_are}
-use Rattle.rice_bits.proofs.lanes.wide_words.factors_to_front.Goals as goal
-
-pub returns : goal.returns
-returns c = wide_factors_are c.args.width c.args.before c.requires.before

@@ -1,0 +1,3 @@
+-- Words that are joined several at a time.
+pub mod WholeWords
+pub mod WordPairs

@@ -1,0 +1,6 @@
+-- Words and fundamental sequences that are taken many at a time.
+pub mod EightWordsLemmas
+pub mod EndsAndGapsLemmas
+pub mod FourWordsLemmas
+pub mod JoinedPartsLemmas
+pub mod TakenSequences
