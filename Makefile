@@ -197,7 +197,7 @@ install-documents:
 	cp -r $(DOCUMENTS) $(DOCDIR)
 	rm -rf $(DOCDIR)/recipes/__pycache__
 	chmod -R a+rX $(DOCDIR)
-	sed -Ei 's;\[([^]]*)\]\((\.\./)?(compat|crates|include|python|scripts)[^)]*\);\1;g' $(addprefix $(DOCDIR)/,README.md docs/*.md)
+	sed -Ei 's;\[([^]]*)\]\((\.\./)?(compat|crates|include|man|python|scripts)[^)]*\);\1;g' $(addprefix $(DOCDIR)/,README.md docs/*.md)
 
 # In a folder of their own, so that they stand in for libaec only where a program is told to look there.
 COMPAT_DIR = $(DESTDIR)$(LIBDIR)/rice-compat

@@ -46,7 +46,8 @@ def wrong_names(page, targets):
     """The paths and the targets of make that are none."""
     text = read(page)
     for name in re.findall(rf"(?<![\w/.$-])(?:(?:{FOLDERS})/|\.ci/)[\w./*-]*[\w*]", text):
-        if not glob.glob(name) and not glob.glob(os.path.join(os.path.dirname(page), name)):
+        pattern = name.replace("CRATE", "*")
+        if not glob.glob(pattern) and not glob.glob(os.path.join(os.path.dirname(page), pattern)):
             yield f"{page}: no file {name}"
     for target in re.findall(r"(?m)(?:`|^ {4}|\$ )make ([a-z0-9-]+)", text):
         if target not in targets:
@@ -107,11 +108,11 @@ def wrong_examples(help_text):
 
 
 def wrong_messages():
-    """The messages of docs/COMMAND.md and of the sources that the manual does not explain."""
+    """The messages of scripts/rows.txt and of the sources that the manual does not explain."""
     numbered = lambda text: re.sub(r"\b\d+\b|\{\w+\}", "N", re.sub(r"\{(name|fault|reason)\}", lambda found: found[1].upper(), text))
     explained = {numbered(text) for text in re.findall(r'(?m)^\.It "(.*)"$', read(MANUAL))}
-    table = read("docs/COMMAND.md").partition("| status | when |")[2].partition("\n\n")[0]
-    messages = {text for row in table.splitlines() for text in re.findall(r"`([^`]+)`", row.rpartition("|")[0].rpartition("|")[2])}
+    messages = set(re.findall(r"(?m)^  says aec: (.*)$", read("scripts/rows.txt")))
+    messages = {re.sub(r"^(cannot \w+) .*", r"\1 NAME", re.sub(r"^.*(?= \(block)", "FAULT", text)) for text in messages}
     for crate in ("aec_command", "aec_tool", "rice_stream"):
         for path in glob.glob(f"crates/{crate}/src/**/*.rt", recursive=True):
             messages |= set(re.findall(r'#\[error\("([^"]+)"\)\]', read(path)))
