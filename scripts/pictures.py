@@ -174,10 +174,11 @@ def house():
 
 def memory():
     """The stack of a call, measured and stated."""
-    _, rows = table_of("docs/EMBEDDING.md", "| call | stack")
+    _, table = table_of("docs/C.md", "| of | `librice.a`")
     number = lambda text: int(re.search(r"[\d,]+\d", text)[0].replace(",", ""))
+    rows = [(*row[0].removeprefix("stack of ").split(", stated "), row[1]) for row in table if row[0].startswith("stack of ")]
     figure, axes = pyplot.subplots(figsize=(9, 2.6), layout="constrained")
-    for i, (calls, taken, stated) in enumerate(reversed(rows)):
+    for i, (calls, stated, taken) in enumerate(reversed(rows)):
         axes.barh(i, number(stated), color="white", edgecolor="black", hatch="///", height=0.55)
         axes.barh(i, number(taken), color=MIDDLE, edgecolor="black", height=0.55)
         axes.text(number(stated) + 400, i, f"{number(taken):,} of {number(stated):,}", va="center")

@@ -27,13 +27,11 @@ class Documents(unittest.TestCase):
         self.assertEqual(doctest.testmod(rice121).failed, 0)
         self.assertGreater(tried, 20)
 
-    def test_programs_of_pages(self):
-        for page in ("README.md", "docs/EMBEDDING.md"):
-            programs = re.findall(r"(?ms)^```python\n(.*?)^```$", read(page))
-            self.assertEqual(len(programs), 1)
-            names = {}
-            exec(programs[0], names)
-            self.assertEqual((names["code"].hex(), names["samples"].tobytes()), ("0058f2", bytes([5] * 15 + [4])))
+    def test_program_of_page(self):
+        program, = re.findall(r"(?ms)^```python\n(.*?)^```$", read("docs/PYTHON.md"))
+        names = {}
+        exec(program, names)
+        self.assertEqual((names["code"].hex(), names["samples"].tobytes()), ("105fe7fc", bytes([5] * 15 + [4])))
 
     def test_numbers(self):
         text = read("include/rice.h")
