@@ -7,5 +7,5 @@
 set -euo pipefail
 : "${SLURM_ARRAY_TASK_ID:?usage: sbatch array.slurm}"
 name=$(sed -n "$((SLURM_ARRAY_TASK_ID + 1))p" names)
-aec -n 16 -m -s -j 16 -r 128 "$name" "$name.part"
+aec -n 16 -m -s -j 32 -r 128 "$name" "$name.part"
 mv "$name.part" "$name.aec"

@@ -268,12 +268,12 @@ def others():
 
 
 def choosing():
-    """The options that recipes/choose.py tries, by the table of the cookbook."""
+    """The options that recipes/choose.py tries, by what it prints."""
     sys.path.insert(0, "recipes")
     import choose
 
-    with open("docs/COOKBOOK.md") as file:
-        shown = file.read().partition("$ recipes/choose ./aec\n")[2].partition("```")[0].splitlines()[1:]
+    with open("scripts/recipes.txt") as file:
+        shown = file.read().partition("$ recipes/choose ./aec\n")[2].partition("\n$ ")[0].splitlines()[1:]
     trials = []
     for line in shown:
         options, length, forth, back = re.match(r"(-n.*?)  +(\d+) +[\d.]+% +(\d+) MB/s +(\d+) MB/s", line).groups()

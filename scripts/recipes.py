@@ -2,6 +2,7 @@
 """Runs the recipes of docs/COOKBOOK.md with a program, as users do: in a virtual environment that has the wheel of out/python.
 
 A block of the page that begins with `$ recipes/NAME` shows what that script prints, and others after it; times and speeds may differ.
+scripts/recipes.txt has more such lines.
 They run in a folder that has the recipes, the program as `./aec`, and the files of scripts/recipe_files. Each line of the other blocks has
 to stand in a file of recipes/. Then each recipe is used wrongly, and archive_check is given files of which a byte was flipped.
 
@@ -20,7 +21,7 @@ import venv
 
 import h5py
 
-PAGE = "docs/COOKBOOK.md"
+PAGE, MORE = "docs/COOKBOOK.md", "scripts/recipes.txt"
 FOLDER = "recipes"
 
 
@@ -28,6 +29,12 @@ def blocks_of(page):
     """The lines of each fenced block."""
     with open(page) as file:
         return [block.splitlines() for block in re.findall(r"^```\w+\n(.*?)^```$", file.read(), re.M | re.S)]
+
+
+def more_runs():
+    """The lines of recipes that the page does not show."""
+    with open(MORE) as file:
+        return [line for line in file.read().splitlines() if not line.startswith("#")]
 
 
 def plain(lines):
@@ -77,7 +84,7 @@ def run(command, shown):
     if done.returncode != 0:
         return [f"{command}: status {done.returncode}: {done.stderr.strip()}"]
     if plain(printed) != plain(shown):
-        return [f"{command} prints otherwise than {PAGE} shows:"] + printed
+        return [f"{command} prints otherwise than {PAGE} or {MORE} has it:"] + printed
     return []
 
 
@@ -194,7 +201,7 @@ def wrong_flips():
 def main():
     program = os.path.abspath(sys.argv[1])
     os.chdir(os.path.join(os.path.dirname(os.path.abspath(__file__)), ".."))
-    known, blocks, wrong, count = lines_of_scripts(), blocks_of(PAGE), [], 0
+    known, blocks, wrong, count = lines_of_scripts(), [*blocks_of(PAGE), more_runs()], [], 0
     with tempfile.TemporaryDirectory() as folder:
         prepare(folder, program)
         for block in blocks:
