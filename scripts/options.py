@@ -12,7 +12,7 @@ import sys
 
 LIST, README, MANUAL = "scripts/options.txt", "README.md", "man/aec.1"
 BASH, ZSH = "completions/aec.bash", "completions/_aec"
-HEAD = "| option | meaning | default |\n|---|---|---|\n"
+HEAD = "| option | meaning |\n|---|---|\n"
 
 
 class Option:
@@ -45,14 +45,14 @@ class Option:
         return ("  " + ", ".join(self.names) if self.letter else "      " + self.long) + value
 
     def help_text(self):
-        return self.help + (f" [default: {self.default}]" if self.default.isdigit() else "")
+        return self.help + (f" [default: {self.default}]" if self.default else "")
 
     def row(self):
         """The row of README."""
         names = [f"`{name}`" for name in self.names]
         if self.value:
             names[-1] = f"`{self.names[-1]} {self.value}`"
-        return f"| {', '.join(names)} | {self.meaning or self.lower} |{f' {self.default} ' if self.default else ' '}|\n"
+        return f"| {', '.join(names)} | {self.meaning or self.lower}{f' ({self.default})' if self.default else ''} |\n"
 
     def item(self):
         """The item of the manual."""

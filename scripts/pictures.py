@@ -240,7 +240,7 @@ def ratios():
 
 def others():
     """Sizes and speeds of other compressors on the same samples."""
-    head, rows = table_of("README.md", "| bytes of |")
+    head, rows = table_of("docs/BENCHMARKS.md", "| bytes of |")
     kinds = head[1:-2]
     samples, tools = rows[0], rows[1:]
     number = lambda cell: float(cell.replace(",", "").replace("*", ""))
