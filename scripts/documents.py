@@ -1,6 +1,6 @@
 #!/usr/bin/env python3
 """Tries what the documents and the manual page say: links, paths, targets of make, commands, messages and toolchains.
-(Options: scripts/options.py.)
+(Options: scripts/options.py.) In the pages of FINISHED, it also holds the lengths of sentences and of cells of tables.
 
 Commands that begin with `$` are run with the program, and what they print is compared; of others the first word is looked up.
 
@@ -17,6 +17,10 @@ import tempfile
 
 FOLDERS = "crates|scripts|docs|recipes|man|completions|compat|python|vectors"
 MANUAL = "man/aec.1"
+
+# The pages whose sentences and cells keep to these limits.
+FINISHED = [MANUAL, "README.md", *(f"docs/{name}.md" for name in ("C", "CHANGES", "CODE", "COMPATIBILITY", "COOKBOOK", "PYTHON")), "python/README.md"]
+MOST_WORDS, MOST_CHARACTERS = 30, 200
 
 
 def read(path):
@@ -121,6 +125,28 @@ def wrong_messages():
             yield f"{MANUAL}: the message {message!r} is not explained"
 
 
+def prose(page):
+    """The lines of a page without code: each a heading, a paragraph, an item or a row of a table. Code in a line is one word."""
+    text = re.sub(r"(?ms)^```.*?^```$|^\.Bd.*?^\.Ed$", "", read(page))
+    if page == MANUAL:
+        text = re.sub(r"(?m)^\.(?:Pp|S[hs]|It|Bl|El|Dl)\b.*$", "\n", text.partition(".Sh DESCRIPTION\n")[2])
+        text = re.sub(r"(?<!\n)\n(?!\n)", " ", re.sub(r"(?m)^\.\w\w ?", "", text))
+    text = re.sub(r"`[^`]+`", "code", re.sub(r"!?\[([^]]*)\]\([^)]*\)", r"\1", text))
+    return [line for line in text.splitlines() if not line.startswith("    ")]
+
+
+def wrong_lengths(page):
+    """The sentences and the cells that are too long."""
+    for line in prose(page):
+        if line.startswith("|"):
+            cells = map(str.strip, re.split(r"(?<!\\)\|", line))
+            long = [cell for cell in cells if len(cell) > MOST_CHARACTERS]
+        else:
+            sentences = re.split(r"(?<=[.!?])\s+|(?<=[.!?][\")*])\s+", line)
+            long = [sentence for sentence in sentences if len(re.findall(r"\S*\w\S*", sentence)) > MOST_WORDS]
+        yield from (f"{page}: too long: {text}" for text in long)
+
+
 def wrong_toolchains():
     """The pages that name other versions of the toolchain than those that are known to pass."""
     known = read("docs/toolchains.txt").split()
@@ -137,7 +163,7 @@ def main():
     targets = re.findall(r"(?m)^([a-z0-9-]+):", read("Makefile"))
     help_text = subprocess.run([program, "--help"], capture_output=True, text=True, check=True).stdout
     wrong = [text for page in pages for text in (*wrong_links(page), *wrong_names(page, targets), *wrong_commands(page))]
-    wrong += [*wrong_messages(), *wrong_toolchains()]
+    wrong += [*wrong_messages(), *wrong_toolchains(), *(text for page in FINISHED for text in wrong_lengths(page))]
     with tempfile.TemporaryDirectory() as folder:
         os.symlink(program, os.path.join(folder, "aec"))
         os.environ["PATH"] = folder + ":" + os.environ["PATH"]
