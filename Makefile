@@ -43,7 +43,7 @@ help:
 	@echo 'make refused-memory         refuse each request for memory of ./aec in turn'
 	@echo 'make installed              install ./aec and the library into a folder, and try them there'
 	@echo 'make recipes                run the recipes of docs/COOKBOOK.md with ./aec'
-	@echo 'make documents              try the links, commands and messages of the documents with ./aec'
+	@echo 'make documents              try the links, commands, messages and lengths of sentences of the documents with ./aec'
 	@echo 'make options                compare all lists of the options with scripts/options.txt'
 	@echo 'make progress               look at what ./aec --verbose shows on a terminal (python3-pexpect)'
 	@echo 'make pictures               draw docs/pictures from the tables of the documents (python3-matplotlib)'

@@ -12,7 +12,7 @@ static void fill(uint16_t *samples, size_t count) {
 int main(void) {
     enum { COUNT = 10000 };
     static uint16_t samples[COUNT], back[COUNT];
-    struct rice_setting setting = {.bits = 16, .block = 16, .interval = 128, .preprocess = true};
+    struct rice_setting setting = rice_setting_for(16);
     struct rice_report report;
     fill(samples, COUNT);
 
