@@ -1,5 +1,5 @@
 #!/usr/bin/env python3
-"""Tries what the documents and the manual page say: links, paths, targets of make, commands, messages and toolchains.
+"""Tries what the documents and the manual page say: links, paths, targets of make, commands, messages, figures and toolchains.
 (Options: scripts/options.py.) In the pages of FINISHED, it also holds the lengths of sentences and of cells of tables.
 
 Commands that begin with `$` are run with the program, and what they print is compared; of others the first word is looked up.
@@ -19,7 +19,7 @@ FOLDERS = "crates|scripts|docs|recipes|man|completions|compat|python|vectors"
 MANUAL = "man/aec.1"
 
 # The pages whose sentences and cells keep to these limits.
-FINISHED = [MANUAL, "README.md", *(f"docs/{name}.md" for name in ("C", "CHANGES", "CODE", "COMPATIBILITY", "COOKBOOK", "PYTHON")), "python/README.md"]
+FINISHED = [MANUAL, "README.md", *(f"docs/{name}.md" for name in ("BENCHMARKS", "C", "CHANGES", "CODE", "COMPATIBILITY", "COOKBOOK", "PYTHON")), "python/README.md"]
 MOST_WORDS, MOST_CHARACTERS = 30, 200
 
 
@@ -147,6 +147,17 @@ def wrong_lengths(page):
         yield from (f"{page}: too long: {text}" for text in long)
 
 
+def wrong_figures():
+    """The rows of tables of compressors that have other figures than the file of these."""
+    rows = [line.split("\t") for line in read("docs/benchmarks/others.tsv").splitlines()]
+    figures = {name: cells for name, *cells in rows}
+    for page in ("README.md", "docs/BENCHMARKS.md"):
+        for line in re.findall(r"(?m)^\|.*\|$", read(page)):
+            name, *cells = map(str.strip, line.strip("|").split("|"))
+            wrong = [cell for cell in cells if cell not in figures.get(name, cells)]
+            yield from (f"{page}: docs/benchmarks/others.tsv does not have {cell} for {name}" for cell in wrong)
+
+
 def wrong_toolchains():
     """The pages that name other versions of the toolchain than those that are known to pass."""
     known = read("docs/toolchains.txt").split()
@@ -163,7 +174,7 @@ def main():
     targets = re.findall(r"(?m)^([a-z0-9-]+):", read("Makefile"))
     help_text = subprocess.run([program, "--help"], capture_output=True, text=True, check=True).stdout
     wrong = [text for page in pages for text in (*wrong_links(page), *wrong_names(page, targets), *wrong_commands(page))]
-    wrong += [*wrong_messages(), *wrong_toolchains(), *(text for page in FINISHED for text in wrong_lengths(page))]
+    wrong += [*wrong_messages(), *wrong_figures(), *wrong_toolchains(), *(text for page in FINISHED for text in wrong_lengths(page))]
     with tempfile.TemporaryDirectory() as folder:
         os.symlink(program, os.path.join(folder, "aec"))
         os.environ["PATH"] = folder + ":" + os.environ["PATH"]

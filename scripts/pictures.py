@@ -1,6 +1,6 @@
 #!/usr/bin/python3
-"""Draws the pictures of the documents, into docs/pictures. Those of measurements are drawn from the tables that the documents have, so
-that a picture and its table say the same. Drawn twice they are the same byte for byte.
+"""Draws the pictures of the documents, into docs/pictures. Those of measurements are drawn from docs/benchmarks and from the tables of
+pages, so that a picture and its table say the same. Drawn twice they are the same byte for byte.
 
 They are black and grey on white, so that they are read in print, and are a light panel on a dark page.
 
@@ -139,6 +139,13 @@ def table_of(page, head):
     return [cell.strip() for cell in lines[at].strip("|").split("|")], rows
 
 
+def figures_of(name):
+    """The head and the rows of a file of docs/benchmarks, as lists of cells."""
+    with open(f"docs/benchmarks/{name}.tsv") as file:
+        head, *rows = (line.rstrip("\n").split("\t") for line in file)
+    return head, rows
+
+
 def house():
     """The way of the data through the crates, in both directions, and which crate stands on which."""
     axes = canvas(900, 470)
@@ -215,7 +222,7 @@ def places():
 
 def ratios():
     """How many times as fast as Debian's aec, by CPU time and by instructions, of each row."""
-    _, rows = table_of("docs/BENCHMARKS.md", "| data, options | aec here")
+    _, rows = figures_of("programs")
     rate = lambda cell: float(cell.split("(")[1].split()[0])
     figure, panels = pyplot.subplots(1, 2, figsize=(10, 6), sharex=True, sharey=True, layout="constrained")
     for panel, way_ in zip(panels, ("encode", "decode")):
@@ -240,7 +247,7 @@ def ratios():
 
 def others():
     """Sizes and speeds of other compressors on the same samples."""
-    head, rows = table_of("docs/BENCHMARKS.md", "| bytes of |")
+    head, rows = figures_of("others")
     kinds = head[1:-2]
     samples, tools = rows[0], rows[1:]
     number = lambda cell: float(cell.replace(",", "").replace("*", ""))
@@ -307,7 +314,7 @@ def main():
         names = sorted({*os.listdir(OUT), *os.listdir(FOLDER)})
         _, other, missing = filecmp.cmpfiles(OUT, FOLDER, names, shallow=False)
     for name in other + missing:
-        print(f"pictures: {name} is not what the documents' tables give: scripts/pictures.py")
+        print(f"pictures: {name} is not what the tables and docs/benchmarks give: scripts/pictures.py")
     print(f"pictures: {len(names)}, {len(other + missing)} wrong")
     sys.exit(len(other + missing) > 0)
 
