@@ -46,7 +46,7 @@ help:
 	@echo 'make documents              try the links, commands, messages and lengths of sentences of the documents with ./aec'
 	@echo 'make options                compare all lists of the options with scripts/options.txt'
 	@echo 'make progress               look at what ./aec --verbose shows on a terminal (python3-pexpect)'
-	@echo 'make pictures               draw docs/pictures from the tables of the documents (python3-matplotlib)'
+	@echo 'make pictures               draw docs/pictures from docs/benchmarks and the tables of pages (python3-matplotlib)'
 	@echo 'make bench-others           compare sizes and speeds with zstd, xz, lz4, bzip2, fpack, blosc and libaec'
 	@echo "make vectors                try the files of vectors/ with ./aec and with Debian's aec"
 	@echo 'make guesses                have recipes/guess.py find the options of codes (minutes)'
