@@ -2,4 +2,5 @@
 pub mod setting
 pub mod bytes
 pub mod predict
+pub mod lanes
 pub mod blocks

@@ -1,12 +1,14 @@
 //! What the fast coder and the fast decoder ask for: rows of levels, residuals in rows, and samples restored several at a time.
 
 pub mod block;
+pub mod lanes;
 pub mod level_row;
 pub mod levels;
 pub mod pattern_lanes;
 pub mod residuals;
 pub(crate) mod residuals_of_levels;
 pub mod restoring;
+pub mod spelling_lanes;
 mod stops;
 mod tests_and_sums;
 pub mod three_bytes;

@@ -19,19 +19,25 @@ pub use bytes::sample_reader::{MOST_INPUT, SampleReader};
 pub use bytes::spelling::{bytes_of, sample_of};
 pub use bytes::unused_bits::set_unused_bits;
 pub use bytes::writing::{write_spellings, write_spellings_by_eights, write_spellings_laid_out};
+pub use fast::lanes::Lanes;
+pub use fast::lanes::bytes::Bytes;
+pub use fast::lanes::halves::Halves;
+pub use fast::lanes::words::Words;
 pub use fast::level_row::LevelRow;
 pub use fast::levels::Levels;
 pub use fast::pattern_lanes::bytes_of_patterns;
 pub use fast::residuals::Residuals;
 pub use fast::residuals_of_levels::from_levels::pattern_of_level;
-pub use fast::restoring::byte_lanes::{LevelLanes, near_levels_of_parts, spelled_in_one_byte};
-pub use fast::restoring::bytes_in_turn::{levels_in_turn, levels_of_parts_in_turn};
-pub use fast::restoring::half_lanes::{LevelHalves, near_halves_of_parts, spelled_in_two_bytes};
-pub use fast::restoring::halves_in_turn::halves_of_parts_in_turn;
 pub use fast::restoring::levels::{
     has_few_near, level_of_pattern, levels_of_patterns, restore_by_selection, restore_near_first,
 };
-pub use fast::restoring::word_lanes::{LevelWords, near_words_of_parts};
+pub use fast::restoring::parts::{
+    LevelHalves, near_halves_of_parts, near_levels_of_parts, near_words_of_parts,
+};
+pub use fast::restoring::parts_in_turn::{
+    halves_of_parts_in_turn, levels_in_turn, levels_of_parts_in_turn,
+};
+pub use fast::spelling_lanes::{spelled_in_one_byte, spelled_in_two_bytes};
 pub use fast::three_bytes::write_threes;
 pub use predict::preprocessor::{from_pattern, pattern, residual, restore};
 pub use setting::{Setting, SettingFault};

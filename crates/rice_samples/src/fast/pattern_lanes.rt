@@ -3,7 +3,7 @@ ghost use Rattle.std.specs.Prelude.{◌≡◌, ◌⊎◌, ◌^◌, ◌<◌, All,
 ghost use Rattle.rice_samples.specs.bytes.PatternLanes.{OrdersWords, turned_in_fours};
 
 use crate::Setting;
-use crate::fast::restoring::half_lanes::byte_pairs_swapped;
+use crate::fast::spelling_lanes::byte_pairs_swapped;
 use std::simd::prelude::*;
 
 /// Returns the bytes that spell samples of `WIDTH` bytes, all bits of which they use. Their patterns stand in sixteen bytes, one

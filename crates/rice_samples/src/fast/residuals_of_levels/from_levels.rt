@@ -4,9 +4,10 @@ ghost use Rattle.rice_samples.specs.Parameters.{value_at, value_count, values_at
 ghost use Rattle.rice_samples.specs.predict.Residuals.{pattern as pattern_of, ranks_below};
 
 use crate::Setting;
+use crate::fast::lanes::bytes::Bytes;
+use crate::fast::lanes::halves::Halves;
 use crate::fast::levels::{LevelSlice, Levels, widen, widen_halves};
-use crate::fast::residuals_of_levels::byte_ranks::write_ranks_by_sixteens;
-use crate::fast::residuals_of_levels::rank_lanes::write_ranks_by_eights;
+use crate::fast::residuals_of_levels::ranks::write_ranks;
 use crate::predict::preprocessor::rank_of;
 
 /// Writes the residuals of the samples with these levels: of the first one after the sample at level `p`, and of each other
@@ -43,8 +44,8 @@ fn write_residuals_by_sixteens(setting: &Setting, p: u32, levels: &[u8], residua
     requires len { length residuals.old ≡ length levels.now }
     ensures { residuals.new ≡ ranks_below (value_count setting.now) p levels.now }
 {
-    write_ranks_by_sixteens(setting, p, levels, residuals);
-    let end = 16 * (levels.len() / 16);
+    let greatest = (setting.number_of_values() - 1) as u32;
+    let end = write_ranks::<Bytes>(greatest, p, levels, residuals);
     if end < levels.len() {
         let last = Levels::of_bytes(&levels[..end]).last_or(p);
         write_last_residuals(setting, last, &levels[end..], &mut residuals[end..]);
@@ -74,8 +75,8 @@ fn write_residuals_by_eights(setting: &Setting, p: u32, levels: &[u16], residual
     requires len { length residuals.old ≡ length levels.now }
     ensures { residuals.new ≡ ranks_below (value_count setting.now) p levels.now }
 {
-    write_ranks_by_eights(setting, p, levels, residuals);
-    let end = 8 * (levels.len() / 8);
+    let greatest = (setting.number_of_values() - 1) as u32;
+    let end = write_ranks::<Halves>(greatest, p, levels, residuals);
     if end < levels.len() {
         let last = Levels::of_halves(&levels[..end]).last_or(p);
         let rest = &mut residuals[end..];

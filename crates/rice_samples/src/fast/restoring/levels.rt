@@ -5,9 +5,11 @@ ghost use Rattle.rice_samples.specs.predict.Residuals.{pattern as pattern_of};
 ghost use Rattle.rice_samples.specs.predict.RestoredLevels.{CanRestore, Restores};
 
 use crate::Setting;
-use crate::fast::restoring::eight_in_turn::write_numbers_in_turn;
-use crate::fast::restoring::near_in_16_bits;
-use crate::fast::restoring::near_in_32_bits::{are_near, near_numbers, near_ways};
+use crate::fast::lanes::Lanes;
+use crate::fast::lanes::halves::Halves;
+use crate::fast::lanes::words::Words;
+use crate::fast::restoring::near::{near_levels, near_ways};
+use crate::fast::restoring::turns::write_in_turn;
 use crate::predict::preprocessor::{number_above_along, number_with};
 use std::simd::prelude::*;
 
@@ -91,13 +93,11 @@ fn restore_eight_narrow(setting: &Setting, before: u32, residuals: &[u32], level
     requires eight { length residuals.now ≡ 8 }
     ensures { Restores setting.now before residuals.now levels.new }
 {
-    let greatest = (setting.number_of_values() - 1) as u16;
-    let ranks = u32x8::from_slice(residuals).cast::<u16>();
-    let numbers = near_in_16_bits::near_numbers(before as u16, ranks);
-    if near_in_16_bits::are_near(greatest, before as u16, ranks, numbers) {
-        numbers.cast::<u32>().copy_to_slice(levels);
-    } else {
-        restore_eight_not_all_near(setting, before, residuals, levels);
+    let greatest = (setting.number_of_values() - 1) as u32;
+    let ranks = Halves::of(u32x8::from_slice(residuals).cast::<u16>());
+    match near_levels(greatest, before, ranks) {
+        Some(near) => near.write(levels, 0),
+        None => restore_eight_not_all_near(setting, before, residuals, levels),
     }
 }
 
@@ -109,12 +109,9 @@ fn restore_eight_of_any_width(setting: &Setting, before: u32, residuals: &[u32],
     ensures { Restores setting.now before residuals.now levels.new }
 {
     let greatest = (setting.number_of_values() - 1) as u32;
-    let ranks = u32x8::from_slice(residuals);
-    let numbers = near_numbers(before, ranks);
-    if are_near(greatest, before, ranks, numbers) {
-        numbers.copy_to_slice(levels);
-    } else {
-        restore_eight_not_all_near(setting, before, residuals, levels);
+    match near_levels(greatest, before, Words::read(residuals)) {
+        Some(near) => near.write(levels, 0),
+        None => restore_eight_not_all_near(setting, before, residuals, levels),
     }
 }
 
@@ -168,7 +165,7 @@ fn restore_with_sum_in_range(setting: &Setting, before: u32, residuals: &[u32], 
     ensures { Restores setting.now before residuals.now levels.new }
 {
     let _values = setting.number_of_values();
-    let ways = near_ways(u32x8::from_slice(residuals)).to_array();
+    let ways = near_ways(Words::read(residuals)).lanes.to_array();
     let mut level = before;
     for i in 0..8 {
         level = number_above_along(level, residuals[i], ways[i]);
@@ -184,7 +181,7 @@ fn restore_eight_in_turn(setting: &Setting, before: u32, residuals: &[u32], leve
     ensures { Restores setting.now before residuals.now levels.new }
 {
     let greatest = (setting.number_of_values() - 1) as u32;
-    write_numbers_in_turn(greatest, before, residuals, levels);
+    write_in_turn::<Words, 8>(greatest, before, Words::read(residuals), false, levels);
 }
 
 /// Writes eight levels one at a time. It is never inlined: in a loop, branches would be made of its selections.

@@ -1,5 +1,0 @@
-use Rattle.rice_samples.proofs.lemmas.predict.HalfLanes.{last_eight}
-use Rattle.rice_samples.proofs.fast.restoring.half_lanes.last_eight_widened.Goals as goal
-
-pub returns : goal.returns
-returns c = last_eight c.args.numbers c.requires

@@ -1,0 +1,5 @@
+-- Vectors of numbers.
+pub mod OneVector
+pub mod NearLanes
+pub mod RankedLanes
+pub mod SumsInLanes

@@ -1,0 +1,112 @@
+//! Levels of samples from their residuals, or from the parts of these, one after another: of samples of which many are far from the one
+//! before.
+ghost use Rattle.std.specs.Prelude.{◌≡◌, ◌+◌, ◌^◌, ◌<◌, ◌≤◌, ◌++◌, All, IfSome, drop, length, replicate, true};
+ghost use Rattle.rice_samples.specs.Parameters.{value_count};
+ghost use Rattle.rice_samples.specs.predict.Residuals.{ranks_below};
+ghost use Rattle.rice_samples.specs.predict.LevelsOfParts.{AreLevelsOfParts};
+
+use crate::Setting;
+use crate::fast::lanes::Lanes;
+use crate::fast::lanes::bytes::Bytes;
+use crate::fast::lanes::halves::Halves;
+use crate::fast::restoring::parts::{
+    LevelHalves, first_eight_widened, join_parts, last_eight_widened,
+};
+use crate::fast::restoring::turns::numbers_in_turn;
+use std::simd::prelude::*;
+
+/// Returns the levels of the sixteen samples with these residuals: the first after a sample at level `before`, and each other after the
+/// one before it.
+#[inline(always)]
+pub fn levels_in_turn(setting: &Setting, before: u32, residuals: Bytes) -> Bytes
+    requires narrow { setting.now.bits ≤ 8 }
+    requires before { before < value_count setting.now }
+    requires residuals { All (λ d. d < value_count setting.now) residuals.lanes }
+    ensures legal { All (λ l. l < value_count setting.now) result.lanes }
+    ensures ranked { ranks_below (value_count setting.now) before result.lanes ≡ residuals.lanes }
+{
+    let greatest = (setting.number_of_values() - 1) as u32;
+    let eight = last_eight_are_zeros(residuals);
+    numbers_in_turn::<Bytes, 16>(greatest, before, residuals, eight)
+}
+
+/// Returns the levels of sixteen samples, of which the residuals have these high parts and these low parts of `width` bits: the first
+/// after a sample at level `before`, and each other after the one before it. `None` if a residual is too large.
+#[inline(never)]
+pub fn levels_of_parts_in_turn(
+    setting: &Setting,
+    before: u32,
+    highs: Bytes,
+    lows: Bytes,
+    width: u32,
+) -> Option<Bytes>
+    requires narrow { setting.now.bits ≤ 8 }
+    requires before { before < value_count setting.now }
+    requires width { width ≤ 7 }
+    requires lows { All (λ v. v < 2 ^ width) lows.lanes }
+    ensures { IfSome result (λ l.
+        AreLevelsOfParts setting.now before width highs.lanes lows.lanes l.lanes) }
+{
+    let greatest = (setting.number_of_values() - 1) as u32;
+    let residuals = join_parts(highs, lows, width);
+    let high = highs.above(Bytes::splat(255 >> width));
+    let large = residuals.above(Bytes::splat(greatest));
+    if !high.or(large).is_zero() {
+        return None;
+    }
+    Some(levels_in_turn(setting, before, residuals))
+}
+
+/// As `levels_of_parts_in_turn`, of samples of at most 16 bits.
+#[inline(never)]
+pub fn halves_of_parts_in_turn(
+    setting: &Setting,
+    before: u32,
+    highs: u8x16,
+    lows: u8x16,
+    width: u32,
+) -> Option<LevelHalves>
+    requires narrow { setting.now.bits ≤ 16 }
+    requires before { before < value_count setting.now }
+    requires width { width ≤ 8 }
+    requires len { (length highs ≡ 16) × (length lows ≡ 16) }
+    requires lows { All (λ v. v < 2 ^ width) lows }
+    ensures { IfSome result (λ l.
+        AreLevelsOfParts setting.now before width highs lows (l.first.lanes ++ l.second.lanes)) }
+{
+    let greatest = (setting.number_of_values() - 1) as u32;
+    let first_ranks = join_parts(first_eight_widened(highs), first_eight_widened(lows), width);
+    let second_ranks = join_parts(last_eight_widened(highs), last_eight_widened(lows), width);
+    let first_large = first_ranks.above(Halves::splat(greatest));
+    let second_large = second_ranks.above(Halves::splat(greatest));
+    if !first_large.or(second_large).is_zero() {
+        return None;
+    }
+    let first = eight_in_turn(greatest, before, first_ranks);
+    let second = eight_in_turn(greatest, first.last(), second_ranks);
+    Some(LevelHalves { first, second })
+}
+
+/// Returns eight numbers up to `greatest` with these ranks: the first from `p`, and each other from the one before it.
+#[inline(always)]
+fn eight_in_turn(greatest: u32, p: u32, ranks: Halves) -> Halves
+    requires greatest { greatest < 2 ^ 16 }
+    requires before { p ≤ greatest }
+    requires ranks { All (λ d. d ≤ greatest) ranks.lanes }
+    ensures fit { All (λ x. x ≤ greatest) result.lanes }
+    ensures ranks { ranks_below (greatest + 1) p result.lanes ≡ ranks.lanes }
+{
+    // So it is behind a block of eight.
+    if ranks.is_zero() {
+        return Halves::splat(p);
+    }
+    numbers_in_turn::<Halves, 8>(greatest, p, ranks, false)
+}
+
+/// Returns whether the last eight numbers are zeros, as they are behind a block of eight.
+#[inline(always)]
+fn last_eight_are_zeros(numbers: Bytes) -> bool
+    ensures { result ≡ true → drop 8 numbers.lanes ≡ replicate 8 0 }
+{
+    last_eight_widened(numbers.lanes).is_zero()
+}
