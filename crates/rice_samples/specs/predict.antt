@@ -3,3 +3,4 @@ pub mod LevelsOfParts
 pub mod NearNumbers
 pub mod Residuals
 pub mod RestoredLevels
+pub mod RunningSums

@@ -31,6 +31,7 @@ pub use fast::residuals_of_levels::from_levels::pattern_of_level;
 pub use fast::restoring::levels::{
     has_few_near, level_of_pattern, levels_of_patterns, restore_by_selection, restore_near_first,
 };
+pub use fast::restoring::near::running_sums;
 pub use fast::restoring::parts::{
     LevelHalves, near_halves_of_parts, near_levels_of_parts, near_words_of_parts,
 };

@@ -3,4 +3,3 @@ pub mod Ends
 pub mod Sequences
 pub mod WordPlaces
 pub mod WideWordPlaces
-pub mod RunningSums

@@ -2,7 +2,6 @@
 
 mod ends;
 pub mod gaps;
-pub mod running_sums;
 pub mod sequences;
 mod tables_of_ends;
 pub mod wide_words;

@@ -2,4 +2,5 @@
 pub mod OneVector
 pub mod NearLanes
 pub mod RankedLanes
+pub mod RanksForTurns
 pub mod SumsInLanes

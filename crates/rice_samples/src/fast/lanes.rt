@@ -39,12 +39,6 @@ pub trait Lanes: Copy {
         requires { length from.now ≡ COUNT }
         ensures { numbers result ≡ map number from.now };
 
-    /// Writes the numbers to memory.
-    fn store(self, to: &mut [Self::Number])
-        requires { length to.old ≡ COUNT }
-        ensures len { length to.new ≡ COUNT }
-        ensures value { map number to.new ≡ numbers self };
-
     /// Returns a number in memory.
     fn number_of(x: u32) -> Self::Number
         requires { x < 2 ^ bits }

@@ -4,4 +4,4 @@ pub mod GapsInLanes
 pub mod WordsInTwoBytes
 pub mod WordsInFourBytes
 pub mod SequencesAhead
-pub mod RunningSums
+pub mod SixteenLanes

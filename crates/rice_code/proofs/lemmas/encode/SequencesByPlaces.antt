@@ -6,8 +6,8 @@ use Rattle.std.specs.Simd.Lanes.{zip2, Each1, number_l}
 use Rattle.std.proofs.lemmas.Nat.{mod_below, one_shl}
 use Rattle.std.proofs.lemmas.List.{take-append-drop}
 use Rattle.rice_bits.specs.Bits.{fundamental_sequence}
-use Rattle.rice_bits.specs.fast.lanes.RunningSums.{running_sums}
-use Rattle.rice_bits.proofs.lemmas.fast.lanes.RunningSums.{sixteen_lanes}
+use Rattle.rice_samples.specs.predict.RunningSums.{running_sums}
+use Rattle.rice_bits.proofs.lemmas.fast.lanes.SixteenLanes.{sixteen_lanes}
 use Rattle.rice_bits.proofs.lemmas.bits.WordsAndNumbers.{length-fundamental_sequence}
 use Rattle.rice_code.specs.encode.GatheredSequences.{HasDigits}
 use Rattle.rice_code.specs.encode.SequencesByPlaces.{ones_at}

@@ -10,7 +10,7 @@ use crate::fast::decode::split_in_sixteens::{
     behind_omitted, head_ahead, low_parts_ahead, row_len,
 };
 use rice_bits::{BitReader, Intake};
-use rice_samples::{Setting, levels_in_turn, spelled_in_one_byte};
+use rice_samples::{Bytes, Setting, levels_in_turn, spelled_in_one_byte};
 use std::simd::prelude::*;
 
 /// The bits before the words of a block, and those behind them that are looked at with them, at most.
@@ -56,9 +56,9 @@ fn restore_and_spell_lanes(
     ensures len { length bytes.new ≡ length bytes.old }
 {
     let _bits = setting.bits();
-    let turned = levels_in_turn(setting, from, residuals);
-    spelled_in_one_byte(setting, turned.levels).copy_to_slice(bytes);
-    turned.levels.to_array()[size - 1] as u32
+    let turned = levels_in_turn(setting, from, Bytes::of(residuals));
+    spelled_in_one_byte(setting, turned).copy_to_slice(bytes);
+    turned.lanes.to_array()[size - 1] as u32
 }
 
 /// Writes the bytes of the block of one row whose words wait behind the first `skip` bits, less those that are omitted, one or none. Its

@@ -8,7 +8,7 @@ ghost use Rattle.rice_code.specs.decode.BlocksInOnePass.{HasLanes, HasWidth, Par
 
 use rice_bits::{BitReader, Intake, zero_and_all_but_last};
 use rice_samples::{
-    LevelHalves, LevelLanes, Setting, halves_of_parts_in_turn, level_of_pattern,
+    Bytes, LevelHalves, Setting, halves_of_parts_in_turn, level_of_pattern,
     levels_of_parts_in_turn, near_halves_of_parts, near_levels_of_parts, spelled_in_one_byte,
     spelled_in_two_bytes,
 };
@@ -217,18 +217,18 @@ fn row_levels<const TURNS: bool>(
     highs: u8x16,
     lows: u8x16,
     k: u32,
-) -> Option<LevelLanes>
+) -> Option<Bytes>
     requires narrow { setting.now.bits ≤ 8 }
     requires begins { from < value_count setting.now }
     requires split { k ≤ 7 }
     requires sixteen { (length highs ≡ 16) × (length lows ≡ 16) }
     requires low { All (λ l. l < 2 ^ k) lows }
-    ensures { IfSome result (λ l. AreLevelsOfParts setting.now from k highs lows l.levels) }
+    ensures { IfSome result (λ l. AreLevelsOfParts setting.now from k highs lows l.lanes) }
 {
     if TURNS {
-        return levels_of_parts_in_turn(setting, from, highs, lows, k);
+        return levels_of_parts_in_turn(setting, from, Bytes::of(highs), Bytes::of(lows), k);
     }
-    near_levels_of_parts(setting, from, highs, lows, k)
+    near_levels_of_parts(setting, from, Bytes::of(highs), Bytes::of(lows), k)
 }
 
 /// Returns the levels of sixteen samples of at most 16 bits, the first after one at level `from`, whose residuals have these parts, as
@@ -246,9 +246,8 @@ fn row_halves<const TURNS: bool>(
     requires split { k ≤ 8 }
     requires sixteen { (length highs ≡ 16) × (length lows ≡ 16) }
     requires low { All (λ l. l < 2 ^ k) lows }
-    ensures levels { IfSome result (λ l.
-        AreLevelsOfParts setting.now from k highs lows (l.first ++ l.second)) }
-    ensures halves { IfSome result (λ l. (length l.first ≡ 8) × (length l.second ≡ 8)) }
+    ensures { IfSome result (λ l.
+        AreLevelsOfParts setting.now from k highs lows (l.first.lanes ++ l.second.lanes)) }
 {
     if TURNS {
         return halves_of_parts_in_turn(setting, from, highs, lows, k);
@@ -279,8 +278,8 @@ fn spell_parts_in_one_byte<const TURNS: bool>(
 {
     let _bits = setting.bits();
     let near = row_levels::<TURNS>(setting, from, highs, lows, k)?;
-    spelled_in_one_byte(setting, near.levels).copy_to_slice(bytes);
-    Some(near.levels.to_array()[size - 1] as u32)
+    spelled_in_one_byte(setting, near).copy_to_slice(bytes);
+    Some(near.lanes.to_array()[size - 1] as u32)
 }
 
 /// As `spell_parts`, of samples of two bytes.
@@ -307,8 +306,8 @@ fn spell_parts_in_two_bytes<const TURNS: bool>(
     let near = row_halves::<TURNS>(setting, from, highs, lows, k)?;
     spelled_in_two_bytes(setting, near.first).copy_to_slice(bytes);
     if size <= 8 {
-        return Some(near.first.to_array()[size - 1] as u32);
+        return Some(near.first.lanes.to_array()[size - 1] as u32);
     }
     spelled_in_two_bytes(setting, near.second).copy_to_slice(&mut bytes[16..]);
-    Some(near.second.to_array()[size - 9] as u32)
+    Some(near.second.lanes.to_array()[size - 9] as u32)
 }

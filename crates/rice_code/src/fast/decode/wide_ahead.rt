@@ -120,9 +120,9 @@ fn restore_eight_ahead<I: Intake>(
     let highs = eight_behind_omitted(sequences.numbers, omitted);
     let lows = words_behind_omitted(reader.wide_words_ahead(words, k), omitted);
     let near = near_words_of_parts(setting, from, highs, lows, k)?;
-    near.levels.copy_to_slice(levels);
+    near.lanes.copy_to_slice(levels);
     Some(SpelledBlock {
-        last: near.levels.to_array()[7],
+        last: near.lanes.to_array()[7],
         len: words + (8 - omitted) * k as usize,
     })
 }
@@ -151,8 +151,8 @@ fn restore_eight_of_parts_at(
         (take 8 (drop at highs.now)) lows levels.old levels.new l) }
 {
     let near = near_words_of_parts(setting, from, u8x8::from_slice(&highs[at..]), lows, k)?;
-    near.levels.copy_to_slice(&mut levels[at..]);
-    Some(near.levels.to_array()[7])
+    near.lanes.copy_to_slice(&mut levels[at..]);
+    Some(near.lanes.to_array()[7])
 }
 
 /// Writes the levels of a block of whole eights of samples, the first after one at level `from`, whose residuals have these high parts and

@@ -5,7 +5,7 @@ ghost use Rattle.rice_bits.specs.Bits.{fundamental_sequence};
 ghost use Rattle.rice_code.specs.encode.GatheredSequences.{HasDigits};
 ghost use Rattle.rice_code.specs.encode.SequencesByPlaces.{ones_at};
 
-use rice_bits::running_sums;
+use rice_samples::{Bytes, running_sums};
 use std::simd::prelude::*;
 
 /// Returns the number whose digits are the fundamental sequences of 16 numbers: `total` bits.
@@ -17,7 +17,7 @@ pub fn joined_by_places(numbers: u8x16, total: u32) -> u64
     ensures { HasDigits (flat_map fundamental_sequence numbers) result total }
 {
     // The place of a one is that of the one before it less a number and 1. Below 0 it wraps, as places in a word do.
-    let places = running_sums(0, u8x16::splat(255) - numbers);
+    let places = running_sums(0, Bytes::of(u8x16::splat(255) - numbers)).lanes;
     let [first, second] = u64x2::from_le_bytes(places).to_array();
     with_eight_ones(with_eight_ones(0, first), second) >> (64 - total)
 }

@@ -11,7 +11,7 @@ use Rattle.rice_samples.specs.predict.Residuals.{pattern, twos_complement}
 use Rattle.rice_samples.specs.bytes.PatternLanes.{OrdersWords, turned_in_fours, swapped}
 use Rattle.rice_samples.specs.bytes.Spelling.{spelling, spellings, ordered_bytes}
 use Rattle.rice_samples.proofs.lemmas.predict.InverseRanksAndPatterns.{has_pattern}
-use Rattle.rice_bits.proofs.lemmas.fast.lanes.RunningSums.{sixteen_lanes}
+use Rattle.rice_bits.proofs.lemmas.fast.lanes.SixteenLanes.{sixteen_lanes}
 
 -- the bytes of each word in the given order: of one byte, of two, and of four
 abbrev in_pairs : Bool → List ℕ → List ℕ

@@ -1,20 +1,17 @@
 -- Near numbers in lanes.
-use Rattle.std.proofs.Common.{◌≡◌, ℕ, zero, suc, ◌+◌, ◌-◌, ◌*◌, ◌/◌, ◌%◌, ◌^◌, ◌<◌, ◌≤◌, min, List, [], ◌∷◌, ◌++◌, map, length, get_or, take, replicate, refl, sym, ◌∙◌, ap, subst, arith}
-use Rattle.std.specs.Prelude.{All, bit_and, bit_or, slice_range}
+use Rattle.std.proofs.Common.{◌≡◌, ℕ, zero, suc, ◌+◌, ◌-◌, ◌*◌, ◌/◌, ◌%◌, ◌^◌, ◌<◌, ◌≤◌, min, List, [], ◌∷◌, map, length, get_or, take, replicate, refl, sym, ◌∙◌, ap, subst, arith}
+use Rattle.std.specs.Prelude.{All, bit_and, bit_or}
 use Rattle.std.specs.Int.Bits.{bit_xor}
 use Rattle.std.specs.Simd.Lanes.{Each1, zip2, put_chunk}
 use Rattle.rice_samples.proofs.lemmas.blocks.EightsInLanes.{parts_below}
 use Rattle.rice_samples.proofs.lemmas.lanes.OneVector.{zeros_below, each_zero}
-use Rattle.std.proofs.lemmas.List.Elements.{All-append}
-use Rattle.std.proofs.lemmas.Simd.{length-put_chunk, take_more_put_chunk}
+use Rattle.std.proofs.lemmas.Simd.{put_chunk_whole}
 use Rattle.std.proofs.lemmas.List.{get_or-replicate}
 use Rattle.rice_samples.specs.predict.Residuals.{ranks_below, last_number}
-use Rattle.std.proofs.lemmas.Nat.{pow_pos, pow-add}
-use Rattle.std.proofs.Math.Nat.{div-lt_iff_lt-mul, mod-eq_of_lt, mul-le-mul_right}
+use Rattle.std.proofs.lemmas.Nat.{le-div, pow_pos, pow-add}
+use Rattle.std.proofs.Math.Nat.{div-lt_iff_lt-mul, mod-eq_of_lt, mul-le-mul_right, pow-le-pow_right}
 use Rattle.rice_bits.specs.read.JoinedParts.{joined_parts}
 use Rattle.rice_samples.specs.predict.NearNumbers.{way, near_numbers, bound}
-use Rattle.rice_samples.proofs.lemmas.predict.LaneRanks.{next_row, last_of_row}
-use Rattle.rice_samples.proofs.lemmas.predict.RestoredLevels.{ranks_below-append}
 use Rattle.rice_samples.proofs.lemmas.predict.NearEights.{way_lane}
 use Rattle.rice_samples.proofs.lemmas.predict.NearVectors.{vector_is_near}
 
@@ -51,22 +48,6 @@ pub record Restored (g p at : ℕ) (ds levels : List ℕ) (last : ℕ) : Type 0 
   pub fit : All (λ x. x ≤ g) (take at levels)
   pub ranked : ranks_below (g + 1) p (take at levels) ≡ take at ds
 
--- and so with one row more
-pub row_restored : (n g p at : ℕ) (ds levels row : List ℕ) (last : ℕ) {ranks after : List ℕ} {next : ℕ} → Restored g p at ds levels last → 0 < n → at + n ≤ length ds → length row ≡ n
-    → ranks ≡ slice_range ds at (at + n) → All (λ x. x ≤ g) row → ranks_below (g + 1) last row ≡ ranks → after ≡ put_chunk at levels row → next ≡ get_or row (n - 1) 0
-    → Restored g p (at + n) ds after next
-row_restored n g p at ds levels row last {after} {next} so_far some room long read fit ranked stored end = record {
-  len = ap length stored ∙ (length-put_chunk at levels row ∙ so_far.len);
-  low = let f = fit (n - 1) 0 (omega arith) in omega (arith, f, end);
-  last_is = end ∙ (last_of_row (n - 1) p (take at levels) row (omega (arith, long, some)) ∙ ap (last_number p) (sym cut));
-  fit = subst (All (λ x. x ≤ g)) (sym cut) (All-append (λ x. x ≤ g) (take at levels) row so_far.fit fit);
-  ranked = ap (ranks_below (g + 1) p) cut ∙ (ranks_below-append (g + 1) p (take at levels) row
-      ∙ ((λ j. so_far.ranked j ++ (ap (λ q. ranks_below (g + 1) q row) (sym so_far.last_is) ∙ (ranked ∙ read)) j) ∙ sym (next_row n at (at + n) ds refl)));
-}
-  where
-    cut : take (at + n) after ≡ take at levels ++ row
-    cut = ap (take (at + n)) stored ∙ take_more_put_chunk at levels row (at + n) (omega (arith, long)) (omega (arith, so_far.len))
-
 -- where the digits of two vectors together are 0, both are zeros
 pub both_zeros : (n : ℕ) (xs ys : List ℕ) {zs : List ℕ} → length xs ≡ n → length ys ≡ n → zs ≡ zip2 bit_or xs ys → zs ≡ replicate n 0 → (xs ≡ replicate n 0) × (ys ≡ replicate n 0)
 both_zeros n xs ys h k e none =
@@ -90,3 +71,22 @@ lanes_joined k w (m ∷ ms) (l ∷ ls) h e few low =
     let first = one_joined k w m l h (few 0 0 (omega arith)) (low 0 0 (omega arith)) in
     let rest = lanes_joined k w ms ls h (omega arith) (λ i d lt. few (suc i) d (omega (arith, lt))) (λ i d lt. low (suc i) d (omega (arith, lt))) in
     λ j. first j ∷ rest j
+
+-- high parts of a byte fit lanes that have eight bits more than the low parts
+pub bytes_raised : (k w : ℕ) (ms : List ℕ) → w + 8 ≤ k → All (λ m. m < 256) ms → All (λ m. m ≤ (2 ^ k - 1) / 2 ^ w) ms
+bytes_raised k w ms room small = λ i d lt. one (get_or ms i d) (small i d lt)
+  where
+    one : (m : ℕ) → m < 256 → m ≤ (2 ^ k - 1) / 2 ^ w
+    one m h =
+        let some = pow_pos w in
+        let part : (m + 1) * 2 ^ w ≤ 256 * 2 ^ w = mul-le-mul_right (2 ^ w) (omega (arith, h)) in
+        let most : 2 ^ (w + 8) ≤ 2 ^ k = pow-le-pow_right {n = 2} (omega arith) {i = w + 8} {j = k} room in
+        let same : 2 ^ (w + 8) ≡ 2 ^ w * 256 = pow-add 2 w 8 in
+        le-div m (2 ^ k - 1) (2 ^ w) some (omega (arith, some, part, most, same))
+
+-- levels that fill their places are those of the samples
+pub row_stored : {count : ℕ} (g p : ℕ) (levels row : List ℕ) {ds after : List ℕ} → g + 1 ≡ count → length levels ≡ length row → after ≡ put_chunk 0 levels row
+    → All (λ x. x ≤ g) row → ranks_below (g + 1) p row ≡ ds → All (λ l. l < count) after × (ranks_below count p after ≡ ds)
+row_stored {count} g p levels row above many is fit ranked =
+    let stored = is ∙ put_chunk_whole levels row many in
+    (subst (All (λ l. l < count)) (sym stored) (λ k d lt. let x = fit k d lt in omega (arith, x, above)), (λ j. ranks_below (sym above j) p (stored j)) ∙ ranked)

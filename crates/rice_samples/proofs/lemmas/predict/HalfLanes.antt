@@ -17,7 +17,7 @@ use Rattle.rice_samples.specs.bytes.ValueRange.{offset}
 use Rattle.rice_samples.proofs.lemmas.bytes.LevelPatterns.{word_of_level}
 use Rattle.rice_samples.proofs.lemmas.bytes.SpellingLemmas.{offset_limit}
 use Rattle.rice_samples.proofs.lemmas.predict.JoinedPartsInLanes.{bytes_of, parted}
-use Rattle.rice_bits.proofs.lemmas.fast.lanes.RunningSums.{sixteen_lanes}
+use Rattle.rice_bits.proofs.lemmas.fast.lanes.SixteenLanes.{sixteen_lanes}
 use Rattle.rice_samples.proofs.lemmas.predict.RestoredLevels.{ranks_below-append}
 
 -- high and low parts

@@ -65,11 +65,6 @@ pub each_below : (n g : ℕ) (xs : List ℕ) → g + 1 ≡ n → Each1 (λ x. x 
 each_below n g [] e h = tt
 each_below n g (x ∷ xs) e h = (omega (arith, h.0), each_below n g xs e h.1)
 
--- so are the last number of one row and the first m numbers of the next, which stand one lane on
-pub shifted_below : (m n g : ℕ) (before levels : List ℕ) → g + 1 ≡ n → length before ≡ suc m → Each1 (λ x. x < n) before → Each1 (λ x. x < n) levels
-    → Each1 (λ x. x ≤ g) (get_or before m 0 ∷ take m levels)
-shifted_below m n g before levels e len h k = let b = each_get n m before h (omega arith) in (omega (arith, b), each_below n g (take m levels) e (each_taken n m levels k))
-
 -- as many of the first list as the second has
 zip2_taken : (f : ℕ → ℕ → ℕ) (n : ℕ) (xs ys : List ℕ) → length ys ≡ n → zip2 f (take n xs) ys ≡ zip2 f xs ys
 zip2_taken f zero xs [] e = by_list xs
@@ -85,10 +80,6 @@ zip2_taken f (suc n) (x ∷ xs) (y ∷ ys) e = ap (λ v. f x y ∷ v) (zip2_take
 ranked_each : (n b : ℕ) (xs : List ℕ) → zip2 (rank_below n) (b ∷ xs) xs ≡ ranks_below n b xs
 ranked_each n b [] = refl
 ranked_each n b (x ∷ xs) = ap (λ v. rank_below n b x ∷ v) (ranked_each n x xs)
-
--- ranks taken lane by lane, from b and from the numbers moved one lane on, are those from one number to the next
-pub ranked_row : (m n b : ℕ) (xs : List ℕ) → length xs ≡ suc m → zip2 (rank_below n) (b ∷ take m xs) xs ≡ ranks_below n b xs
-ranked_row m n b xs len = zip2_taken (rank_below n) (suc m) (b ∷ xs) xs len ∙ ranked_each n b xs
 
 last-append : (p : ℕ) (xs ys : List ℕ) → last_number p (xs ++ ys) ≡ last_number (last_number p xs) ys
 last-append p [] ys = refl

@@ -1,26 +1,23 @@
 -- Near numbers, as many at a time as a vector has lanes.
-use Rattle.std.proofs.Common.{◌≡◌, inl, inr, ℕ, zero, suc, ◌+◌, ◌-◌, ◌/◌, ◌%◌, ◌^◌, ◌<◌, ◌≤◌, min, max, cond, Bool, true, List}
-use Rattle.std.proofs.Common.{[], ◌∷◌, map, length, take, drop, get_or, replicate, refl, sym, ◌∙◌, ap, subst, arith, Fits, nat_lt, ◌==◌}
-use Rattle.std.specs.Prelude.{All, bit_and, bit_or}
+use Rattle.std.proofs.Common.{◌≡◌, inl, inr, ℕ, zero, suc, ◌+◌, ◌-◌, ◌/◌, ◌%◌, ◌^◌, ◌<◌, ◌≤◌, min, max, cond, Bool, List}
+use Rattle.std.proofs.Common.{[], ◌∷◌, map, length, take, drop, get_or, replicate, refl, sym, ◌∙◌, ap, subst, arith, Fits, nat_lt}
+use Rattle.std.specs.Prelude.{All, bit_and}
 use Rattle.std.specs.Int.{Width}
 use mir.Val.{bits, hbits}
 use Rattle.std.specs.Int.Bits.{bit_xor}
-use Rattle.std.specs.List.{range_with_len}
-use Rattle.std.specs.Simd.Lanes.{zip2, Each1, Each2, fold_l, pick_l, sel_l, top}
-use Rattle.std.proofs.lemmas.Bool.Decides.{nat_tests}
+use Rattle.std.specs.Simd.Lanes.{zip2, Each1, Each2, sel_l, top}
 use Rattle.std.proofs.lemmas.Bool.{cases_lt}
-use Rattle.std.proofs.lemmas.Nat.{mod_below, pow_pos}
 use Rattle.std.proofs.lemmas.List.{length-replicate, length-take-le}
-use Rattle.std.proofs.lemmas.Simd.{tops_compared, Each1-get_or, pick_l-range_with_len}
+use Rattle.std.proofs.lemmas.Simd.{tops_compared, Each1-get_or}
 use Rattle.std.proofs.Math.Nat.{mod-eq_of_lt, add-mod_right}
 use Rattle.rice_samples.specs.predict.Residuals.{ranks_below}
-use Rattle.rice_bits.specs.fast.lanes.RunningSums.{running_sums}
+use Rattle.rice_samples.specs.predict.RunningSums.{running_sums}
 use Rattle.rice_bits.specs.read.JoinedParts.{joined_parts}
 use Rattle.rice_samples.specs.Parameters.{Parameters, value_count}
 use Rattle.rice_samples.specs.predict.LevelsOfParts.{AreLevelsOfParts}
-use Rattle.rice_samples.specs.predict.NearNumbers.{way, near_numbers, reach, bound}
-use Rattle.rice_samples.proofs.lemmas.blocks.EightsInLanes.{lanes_below_digits, length-map, parts_below}
-use Rattle.rice_samples.proofs.lemmas.predict.NearEights.{select_max, select_min, length-near_numbers, near_ranks, way_lane}
+use Rattle.rice_samples.specs.predict.NearNumbers.{way, near_numbers, bound}
+use Rattle.rice_samples.proofs.lemmas.blocks.EightsInLanes.{length-map}
+use Rattle.rice_samples.proofs.lemmas.predict.NearEights.{select_max, length-near_numbers, near_ranks, way_lane}
 
 -- ways
 
@@ -38,10 +35,6 @@ pub sums_of_ways : (m p : ℕ) (ds : List ℕ) → running_sums m p (map (way m)
 sums_of_ways m p [] = refl
 sums_of_ways m p (d ∷ ds) = ap (λ xs. (p + way m d) % m ∷ xs) (sums_of_ways m ((p + way m d) % m) ds)
 
--- a number before all, and all but the last
-pub before_are : (p n : ℕ) (xs : List ℕ) → length xs ≡ suc n → p ∷ pick_l 0 xs (range_with_len 0 n) ≡ take (suc n) (p ∷ xs)
-before_are p n xs e = ap (λ z. p ∷ z) (pick_l-range_with_len 0 xs 0 n (omega (arith, e)))
-
 -- bounds
 
 abbrev masks : Width → List ℕ → List ℕ → List Bool
@@ -54,15 +47,6 @@ of_least : (n m g : ℕ) (xs : List ℕ) → length xs ≡ n → zip2 (λ x y. (
 of_least n m g [] e = refl
 of_least zero m g (x ∷ xs) e = absurd (omega arith)
 of_least (suc n) m g (x ∷ xs) e = ap (λ z. bound m g x ∷ z) (of_least n m g xs (omega arith))
-
--- in n lanes, the lesser of each number and what is left from it up to g, twice, is its bound
-pub vector_of_bounds : (w : Width) (n g : ℕ) (xs : List ℕ) → length xs ≡ n →
-    (let reaches = sel_l (masks w xs (up_to_greatest n (2 ^ bits w) g xs)) xs (up_to_greatest n (2 ^ bits w) g xs) in
-    zip2 (λ x y. (x + y) % 2 ^ bits w) reaches reaches) ≡ map (bound (2 ^ bits w) g) xs
-vector_of_bounds w n g xs e =
-    let ys = up_to_greatest n (2 ^ bits w) g xs in
-    let least : sel_l (masks w xs ys) xs ys ≡ zip2 min xs ys = ap (λ ms. sel_l ms xs ys) (tops_compared w nat_lt xs ys) ∙ select_min xs ys in
-    (λ j. zip2 (λ x y. (x + y) % 2 ^ bits w) (least j) (least j)) ∙ of_least n (2 ^ bits w) g xs e
 
 -- the tests
 
@@ -121,34 +105,10 @@ none_above n most ms over are len test = λ i d lt. Each1-get_or (λ m. m ≤ mo
     each zero (m ∷ ms) e h = absurd (omega arith)
     each (suc n) (m ∷ ms) e h = (h.0, each n ms (omega arith) h.1)
 
--- where all digits of two vectors, joined by or, are 0, each lane of both is 0
-pub zeros-each : (n : ℕ) (xs ys : List ℕ) → length xs ≡ n → length ys ≡ n → (fold_l bit_or 0 (zip2 bit_or xs ys) == 0) ≡ true → (xs ≡ replicate n 0) × (ys ≡ replicate n 0)
-zeros-each n xs ys h k test =
-    let none : fold_l bit_or 0 (zip2 bit_or xs ys) ≡ 0 = grind (arith, nat_tests) in
-    let both = parts_below 0 xs ys (h ∙ sym k) (subst (λ (m : ℕ). Each1 (λ x. x ≤ m) (zip2 bit_or xs ys)) none (lanes_below_digits (zip2 bit_or xs ys))) in
-    (all n xs h both.0, all n ys k both.1)
-  where
-    all : (n : ℕ) (xs : List ℕ) → length xs ≡ n → Each1 (λ x. x ≤ 0) xs → xs ≡ replicate n 0
-    all zero [] e h = refl
-    all (suc n) [] e h = absurd (omega arith)
-    all zero (x ∷ xs) e h = absurd (omega arith)
-    all (suc n) (x ∷ xs) e h =
-        let first : x ≡ 0 = omega (arith, h.0) in
-        let rest = all n xs (omega arith) h.1 in
-        λ j. first j ∷ rest j
-
 -- a number that fits a lane fits all lanes of a vector
 pub splat-fits : (w : Width) (n x : ℕ) → Fits w x → Each1 (Fits w) (replicate n x)
 splat-fits w zero x h = tt
 splat-fits w (suc n) x h = (h, splat-fits w n x h)
-
--- bounds, which wrap at as many values as a lane has, fit the lanes
-pub bounds-fit : (w : Width) (g : ℕ) (xs bs : List ℕ) → bs ≡ map (bound (2 ^ bits w) g) xs → Each1 (Fits w) bs
-bounds-fit w g xs bs e = subst (λ (ys : List ℕ). Each1 (Fits w) ys) (sym e) (each xs)
-  where
-    each : (xs : List ℕ) → Each1 (Fits w) (map (bound (2 ^ bits w) g) xs)
-    each [] = tt
-    each (x ∷ xs) = (record { fits = mod_below (reach (2 ^ bits w) g x + reach (2 ^ bits w) g x) (2 ^ bits w) (pow_pos (bits w)) }, each xs)
 
 -- levels that are legal, and near to one another, are those of the parts
 pub near_levels_are : {s : Parameters} (m : ℕ) {before width : ℕ} (greatest : ℕ) {highs lows ranks levels : List ℕ} → greatest + 1 ≡ value_count s

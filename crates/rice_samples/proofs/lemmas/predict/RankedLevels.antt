@@ -1,8 +1,7 @@
 -- The ranks of levels in a row.
 use Rattle.std.proofs.Common.{◌≡◌, ℕ, zero, suc, ◌-◌, ◌<◌, ◌≤◌, List, [], ◌∷◌, ◌++◌, length, take, drop, All, refl, ap, sym, subst, arith, ◌∙◌, append-nil, get_or, Some}
-use Rattle.std.specs.Prelude.{slice_get, slice_range}
+use Rattle.std.specs.Prelude.{slice_get}
 use Rattle.std.proofs.lemmas.List.{drop_all, length-drop, take-append-drop, take_all}
-use Rattle.std.proofs.lemmas.List.Elements.{All-drop, All-take}
 use Rattle.std.proofs.lemmas.Option.{get_or_from_slice_get, slice_get_within}
 use borrow.Rule.Slice.PartMut.{put_mid}
 use Rattle.rice_samples.specs.predict.Residuals.{ranks_below, last_number}
@@ -31,10 +30,6 @@ last_legal count p (suc n) (x ∷ xs) hp h = last_legal count x n xs (h 0 x (ome
 -- and the last of all
 pub last_below : (count p : ℕ) (xs : List ℕ) → p < count → All (λ l. l < count) xs → last_number p xs < count
 last_below count p xs hp h = subst (λ (l : List ℕ). last_number p l < count) (take_all (length xs) xs (omega arith)) (last_legal count p (length xs) xs hp h)
-
--- where all numbers are below a count, so are those from one place to another
-pub legal_row : (count i n : ℕ) (xs : List ℕ) → All (λ l. l < count) xs → All (λ l. l < count) (slice_range xs i n)
-legal_row count i n xs h = All-take (λ l. l < count) (n - i) (drop i xs) (All-drop (λ l. l < count) i xs h)
 
 -- ranks of the first, and of the rest
 pub ranks_of_rest : (count p : ℕ) {q n : ℕ} (xs first : List ℕ) {rest : List ℕ} → length first ≡ length xs → n ≤ length xs → take n first ≡ ranks_below count p (take n xs)

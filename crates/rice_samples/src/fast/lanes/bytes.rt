@@ -65,11 +65,6 @@ impl Lanes for Bytes {
     }
 
     #[inline(always)]
-    fn store(self, to: &mut [u8]) {
-        self.lanes.copy_to_slice(to);
-    }
-
-    #[inline(always)]
     fn number_of(x: u32) -> u8 {
         x as u8
     }

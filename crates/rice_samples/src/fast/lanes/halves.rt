@@ -65,11 +65,6 @@ impl Lanes for Halves {
     }
 
     #[inline(always)]
-    fn store(self, to: &mut [u16]) {
-        self.lanes.copy_to_slice(to);
-    }
-
-    #[inline(always)]
     fn number_of(x: u32) -> u16 {
         x as u16
     }

@@ -65,11 +65,6 @@ impl Lanes for Words {
     }
 
     #[inline(always)]
-    fn store(self, to: &mut [u32]) {
-        self.lanes.copy_to_slice(to);
-    }
-
-    #[inline(always)]
     fn number_of(x: u32) -> u32 {
         x
     }

@@ -9,7 +9,7 @@ use crate::fast::lanes::Lanes;
 use crate::fast::lanes::halves::Halves;
 use crate::fast::lanes::words::Words;
 use crate::fast::restoring::near::{near_levels, near_ways};
-use crate::fast::restoring::turns::write_in_turn;
+use crate::fast::restoring::turns::write_words_in_turn;
 use crate::predict::preprocessor::{number_above_along, number_with};
 use std::simd::prelude::*;
 
@@ -181,7 +181,7 @@ fn restore_eight_in_turn(setting: &Setting, before: u32, residuals: &[u32], leve
     ensures { Restores setting.now before residuals.now levels.new }
 {
     let greatest = (setting.number_of_values() - 1) as u32;
-    write_in_turn::<Words, 8>(greatest, before, Words::read(residuals), false, levels);
+    write_words_in_turn(greatest, before, residuals, levels);
 }
 
 /// Writes eight levels one at a time. It is never inlined: in a loop, branches would be made of its selections.

@@ -1,6 +1,6 @@
 //! Levels of samples from their residuals, or from the parts of these, one after another: of samples of which many are far from the one
 //! before.
-ghost use Rattle.std.specs.Prelude.{◌≡◌, ◌+◌, ◌^◌, ◌<◌, ◌≤◌, ◌++◌, All, IfSome, drop, length, replicate, true};
+ghost use Rattle.std.specs.Prelude.{◌≡◌, ◌^◌, ◌<◌, ◌≤◌, ◌++◌, All, IfSome, length};
 ghost use Rattle.rice_samples.specs.Parameters.{value_count};
 ghost use Rattle.rice_samples.specs.predict.Residuals.{ranks_below};
 ghost use Rattle.rice_samples.specs.predict.LevelsOfParts.{AreLevelsOfParts};
@@ -12,7 +12,7 @@ use crate::fast::lanes::halves::Halves;
 use crate::fast::restoring::parts::{
     LevelHalves, first_eight_widened, join_parts, last_eight_widened,
 };
-use crate::fast::restoring::turns::numbers_in_turn;
+use crate::fast::restoring::turns::{bytes_in_turn, halves_in_turn};
 use std::simd::prelude::*;
 
 /// Returns the levels of the sixteen samples with these residuals: the first after a sample at level `before`, and each other after the
@@ -26,8 +26,7 @@ pub fn levels_in_turn(setting: &Setting, before: u32, residuals: Bytes) -> Bytes
     ensures ranked { ranks_below (value_count setting.now) before result.lanes ≡ residuals.lanes }
 {
     let greatest = (setting.number_of_values() - 1) as u32;
-    let eight = last_eight_are_zeros(residuals);
-    numbers_in_turn::<Bytes, 16>(greatest, before, residuals, eight)
+    bytes_in_turn(greatest, before, residuals)
 }
 
 /// Returns the levels of sixteen samples, of which the residuals have these high parts and these low parts of `width` bits: the first
@@ -82,31 +81,7 @@ pub fn halves_of_parts_in_turn(
     if !first_large.or(second_large).is_zero() {
         return None;
     }
-    let first = eight_in_turn(greatest, before, first_ranks);
-    let second = eight_in_turn(greatest, first.last(), second_ranks);
+    let first = halves_in_turn(greatest, before, first_ranks);
+    let second = halves_in_turn(greatest, first.last(), second_ranks);
     Some(LevelHalves { first, second })
-}
-
-/// Returns eight numbers up to `greatest` with these ranks: the first from `p`, and each other from the one before it.
-#[inline(always)]
-fn eight_in_turn(greatest: u32, p: u32, ranks: Halves) -> Halves
-    requires greatest { greatest < 2 ^ 16 }
-    requires before { p ≤ greatest }
-    requires ranks { All (λ d. d ≤ greatest) ranks.lanes }
-    ensures fit { All (λ x. x ≤ greatest) result.lanes }
-    ensures ranks { ranks_below (greatest + 1) p result.lanes ≡ ranks.lanes }
-{
-    // So it is behind a block of eight.
-    if ranks.is_zero() {
-        return Halves::splat(p);
-    }
-    numbers_in_turn::<Halves, 8>(greatest, p, ranks, false)
-}
-
-/// Returns whether the last eight numbers are zeros, as they are behind a block of eight.
-#[inline(always)]
-fn last_eight_are_zeros(numbers: Bytes) -> bool
-    ensures { result ≡ true → drop 8 numbers.lanes ≡ replicate 8 0 }
-{
-    last_eight_widened(numbers.lanes).is_zero()
 }

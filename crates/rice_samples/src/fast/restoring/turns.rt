@@ -4,70 +4,92 @@ ghost use Rattle.rice_samples.specs.predict.Residuals.{last_number, rank_below, 
 ghost use Rattle.rice_samples.specs.predict.NearNumbers.{way as way_of};
 
 use crate::fast::lanes::Lanes;
+use crate::fast::lanes::bytes::Bytes;
+use crate::fast::lanes::halves::Halves;
+use crate::fast::lanes::words::Words;
 use crate::fast::restoring::near::near_ways;
+use crate::fast::restoring::parts::last_eight_widened;
+use std::simd::prelude::*;
 
-/// What numbers are selected from, by their ranks: the rank, the way to a number that is near, half the rank, and how far the rank
-/// is below the greatest number.
-#[derive(Clone, Copy)]
-struct Turns<T: Copy, const N: usize> {
-    ranks: [T; N],
-    ways: [T; N],
-    half_ranks: [T; N],
-    highs: [T; N],
+/// Returns sixteen numbers up to `greatest` with these ranks: the first from `p`, and each other from the one before it.
+#[inline(always)]
+pub(crate) fn bytes_in_turn(greatest: u32, p: u32, ranks: Bytes) -> Bytes
+    requires greatest { greatest < 2 ^ 8 }
+    requires before { p ≤ greatest }
+    requires ranks { All (λ d. d ≤ greatest) ranks.lanes }
+    ensures fit { All (λ x. x ≤ greatest) result.lanes }
+    ensures ranks { ranks_below (greatest + 1) p result.lanes ≡ ranks.lanes }
+{
+    let all = ranks.lanes.to_array();
+    let ways = near_ways(ranks).lanes.to_array();
+    let half_ranks = half_ranks(ranks).lanes.to_array();
+    let highs = distances_below(greatest, ranks).lanes.to_array();
+    if !last_eight_are_zeros(ranks) {
+        let mut numbers = [0; 16];
+        write_selected::<Bytes, 16>(greatest, p, &all, &ways, &half_ranks, &highs, &mut numbers);
+        return Bytes::of(u8x16::from_array(numbers));
+    }
+    let mut first = [0; 8];
+    let last = write_selected::<Bytes, 8>(
+        greatest,
+        p,
+        &all[..8],
+        &ways[..8],
+        &half_ranks[..8],
+        &highs[..8],
+        &mut first,
+    );
+    let mut numbers = [last as u8; 16];
+    numbers[..8].copy_from_slice(&first);
+    Bytes::of(u8x16::from_array(numbers))
 }
 
-/// Returns the numbers up to `greatest` with these ranks: the first from `p`, and each other from the one before it. `eight` says that
-/// all ranks but the first eight are 0.
+/// Returns whether the last eight numbers are zeros, as they are behind a block of eight.
 #[inline(always)]
-pub(crate) fn numbers_in_turn<L: Lanes, const N: usize>(
-    greatest: u32,
-    p: u32,
-    ranks: L,
-    eight: bool,
-) -> L
-    requires lanes { N ≡ L.COUNT }
-    requires greatest { greatest < 2 ^ L.bits }
-    requires before { p ≤ greatest }
-    requires ranks { All (λ d. d ≤ greatest) (L.numbers ranks) }
-    requires eight { eight ≡ true → drop 8 (L.numbers ranks) ≡ replicate (L.COUNT - 8) 0 }
-    ensures fit { All (λ x. x ≤ greatest) (L.numbers result) }
-    ensures ranks { ranks_below (greatest + 1) p (L.numbers result) ≡ L.numbers ranks }
+fn last_eight_are_zeros(numbers: Bytes) -> bool
+    ensures { result ≡ true → drop 8 numbers.lanes ≡ replicate 8 0 }
 {
-    let mut numbers = [L::number_of(0); N];
-    write_in_turn::<L, N>(greatest, p, ranks, eight, &mut numbers);
-    L::read(&numbers)
+    last_eight_widened(numbers.lanes).is_zero()
 }
 
-/// Writes the numbers, as `numbers_in_turn`.
+/// Returns eight numbers up to `greatest` with these ranks: the first from `p`, and each other from the one before it.
 #[inline(always)]
-pub(crate) fn write_in_turn<L: Lanes, const N: usize>(
-    greatest: u32,
-    p: u32,
-    ranks: L,
-    eight: bool,
-    numbers: &mut [L::Number],
-)
-    requires lanes { N ≡ L.COUNT }
-    requires greatest { greatest < 2 ^ L.bits }
+pub(crate) fn halves_in_turn(greatest: u32, p: u32, ranks: Halves) -> Halves
+    requires greatest { greatest < 2 ^ 16 }
     requires before { p ≤ greatest }
-    requires ranks { All (λ d. d ≤ greatest) (L.numbers ranks) }
-    requires eight { eight ≡ true → drop 8 (L.numbers ranks) ≡ replicate (L.COUNT - 8) 0 }
-    requires len { length numbers.old ≡ L.COUNT }
-    ensures len { length numbers.new ≡ L.COUNT }
-    ensures fit { All (λ x. x ≤ greatest) (map L.number numbers.new) }
-    ensures ranks { ranks_below (greatest + 1) p (map L.number numbers.new) ≡ L.numbers ranks }
+    requires ranks { All (λ d. d ≤ greatest) ranks.lanes }
+    ensures fit { All (λ x. x ≤ greatest) result.lanes }
+    ensures ranks { ranks_below (greatest + 1) p result.lanes ≡ ranks.lanes }
 {
-    let mut turns = Turns::<L::Number, N> {
-        ranks: [L::number_of(0); N],
-        ways: [L::number_of(0); N],
-        half_ranks: [L::number_of(0); N],
-        highs: [L::number_of(0); N],
-    };
-    ranks.store(&mut turns.ranks);
-    near_ways(ranks).store(&mut turns.ways);
-    half_ranks(ranks).store(&mut turns.half_ranks);
-    distances_below(greatest, ranks).store(&mut turns.highs);
-    write_selected::<L, N>(greatest, p, &turns, eight, numbers);
+    // So it is behind a block of eight.
+    if ranks.is_zero() {
+        return Halves::splat(p);
+    }
+    let ways = near_ways(ranks).lanes.to_array();
+    let half_ranks = half_ranks(ranks).lanes.to_array();
+    let highs = distances_below(greatest, ranks).lanes.to_array();
+    let all = ranks.lanes.to_array();
+    let mut numbers = [0; 8];
+    write_selected::<Halves, 8>(greatest, p, &all, &ways, &half_ranks, &highs, &mut numbers);
+    Halves::of(u16x8::from_array(numbers))
+}
+
+/// Writes eight numbers up to `greatest` with these ranks: the first from `p`, and each other from the one before it.
+#[inline(always)]
+pub(crate) fn write_words_in_turn(greatest: u32, p: u32, ranks: &[u32], numbers: &mut [u32])
+    requires before { p ≤ greatest }
+    requires ranks { All (λ d. d ≤ greatest) ranks.now }
+    requires eight { length ranks.now ≡ 8 }
+    requires len { length numbers.old ≡ 8 }
+    ensures len { length numbers.new ≡ 8 }
+    ensures fit { All (λ x. x ≤ greatest) numbers.new }
+    ensures ranks { ranks_below (greatest + 1) p numbers.new ≡ ranks.now }
+{
+    let words = Words::read(ranks);
+    let ways = near_ways(words).lanes.to_array();
+    let half_ranks = half_ranks(words).lanes.to_array();
+    let highs = distances_below(greatest, words).lanes.to_array();
+    write_selected::<Words, 8>(greatest, p, ranks, &ways, &half_ranks, &highs, numbers);
 }
 
 /// Returns half of each rank, up.
@@ -88,43 +110,46 @@ fn distances_below<L: Lanes>(greatest: u32, ranks: L) -> L
     L::splat(greatest).minus(ranks)
 }
 
-/// Writes the numbers, from what they are selected from. It is never inlined: in a loop, branches would be made of its selections.
+/// Writes `N` numbers up to `greatest` with these ranks: the first from `p`, and each other from the one before it. Of each rank there
+/// are the way to a number that is near, half of it, and how far it is below `greatest`. Returns the last number. It is never inlined:
+/// in a loop, branches would be made of its selections.
 #[inline(never)]
 fn write_selected<L: Lanes, const N: usize>(
     greatest: u32,
     p: u32,
-    turns: &Turns<L::Number, N>,
-    eight: bool,
+    ranks: &[L::Number],
+    ways: &[L::Number],
+    half_ranks: &[L::Number],
+    highs: &[L::Number],
     numbers: &mut [L::Number],
-)
+) -> u32
     requires greatest { greatest < 2 ^ L.bits }
     requires before { p ≤ greatest }
-    requires ranks { All (λ d. d ≤ greatest) (map L.number turns.now.ranks) }
-    requires ways { map L.number turns.now.ways ≡ map (way_of (2 ^ L.bits)) (map L.number turns.now.ranks) }
-    requires half_ranks { map L.number turns.now.half_ranks ≡ map (λ d. (d + 1) / 2) (map L.number turns.now.ranks) }
-    requires highs { map L.number turns.now.highs ≡ map (λ d. greatest - d) (map L.number turns.now.ranks) }
-    requires eight { eight ≡ true → drop 8 (map L.number turns.now.ranks) ≡ replicate (N - 8) 0 }
+    requires ranks { All (λ d. d ≤ greatest) (map L.number ranks.now) }
+    requires ways { map L.number ways.now ≡ map (way_of (2 ^ L.bits)) (map L.number ranks.now) }
+    requires half_ranks { map L.number half_ranks.now ≡ map (λ d. (d + 1) / 2) (map L.number ranks.now) }
+    requires highs { map L.number highs.now ≡ map (λ d. greatest - d) (map L.number ranks.now) }
+    requires count { length ranks.now ≡ N }
     requires len { length numbers.old ≡ N }
     ensures len { length numbers.new ≡ N }
     ensures fit { All (λ x. x ≤ greatest) (map L.number numbers.new) }
-    ensures ranks { ranks_below (greatest + 1) p (map L.number numbers.new) ≡ map L.number turns.now.ranks }
+    ensures ranks { ranks_below (greatest + 1) p (map L.number numbers.new) ≡ map L.number ranks.now }
+    ensures last { result ≡ last_number p (map L.number numbers.new) }
+    ensures within { result ≤ greatest }
 {
     let mut number = p;
     for i in 0..N {
-        if i == 8 && eight {
-            numbers[8..].fill(L::number_of(number));
-            return;
-        }
         number = selected(
             greatest,
             number,
-            L::value(turns.ranks[i]),
-            L::widened_way(turns.ways[i]),
-            L::value(turns.half_ranks[i]),
-            L::value(turns.highs[i]),
+            L::value(ranks[i]),
+            L::widened_way(ways[i]),
+            L::value(half_ranks[i]),
+            L::value(highs[i]),
         );
         numbers[i] = L::number_of(number);
     }
+    number
 }
 
 /// Returns the number up to `greatest` with rank `d` from `p`: `way` away from `p` if it is near, `d` if `p` is too low for that, and

@@ -6,13 +6,15 @@ use Rattle.rice_samples.proofs.fast.spelling_lanes.spelled_in_two_bytes.Goals as
 pub returns-then-msb-clause-value : goal.returns-then-msb-clause-value
 returns-then-msb-clause-value c =
     let s = c.args.setting.now in
+    let levels = c.args.levels in
     let offset = c.offset.ensures in
-    c.byte_pairs_swapped.ensures ∙ (ap swapped (words_parted c.offset.result c.args.levels c.requires.len)
-    ∙ high-spelled s c.args.levels offset.legal.bits_from c.requires.wide c.requires.narrow (sym c.msb.ensures ∙ c.if-msb.true) offset.value c.requires.len c.requires.legal)
+    c.byte_pairs_swapped.ensures ∙ (ap swapped (words_parted c.offset.result levels.lanes levels.len)
+    ∙ high-spelled s levels.lanes offset.legal.bits_from c.requires.wide c.requires.narrow (sym c.msb.ensures ∙ c.if-msb.true) offset.value levels.len c.requires.legal)
 
 pub returns-clause-value : goal.returns-clause-value
 returns-clause-value c =
     let s = c.args.setting.now in
+    let levels = c.args.levels in
     let offset = c.offset.ensures in
-    words_parted c.offset.result c.args.levels c.requires.len
-    ∙ low-spelled s c.args.levels offset.legal.bits_from c.requires.wide c.requires.narrow (sym c.msb.ensures ∙ c.if-msb.false) offset.value c.requires.len c.requires.legal
+    words_parted c.offset.result levels.lanes levels.len
+    ∙ low-spelled s levels.lanes offset.legal.bits_from c.requires.wide c.requires.narrow (sym c.msb.ensures ∙ c.if-msb.false) offset.value levels.len c.requires.legal

@@ -5,11 +5,11 @@ pub returns-clause-spelled : goal.returns-clause-spelled
 returns-clause-spelled c =
     let a = c.args in
     let turned = c.levels_in_turn-turned in
-    row_spelled_in_turn turned.result.levels a.bytes.now c.bits-bits.ensures.legal.bits_from c.requires.width c.requires.size (record {
+    row_spelled_in_turn turned.result.lanes a.bytes.now c.bits-bits.ensures.legal.bits_from c.requires.width c.requires.size (record {
       residuals_are = c.requires.sixteen;
-      len = turned.ensures.len;
+      len = turned.result.len;
       legal = turned.ensures.legal;
-      ranks = turned.ensures.ranked;
+      ranks = turned.ensures.ranked ∙ c.of.ensures;
     })
     (record {
       room = c.requires.bytes;

@@ -15,7 +15,7 @@ returns-clause-some g c =
     let highs = c.eight_behind_omitted-highs in
     let words = c.wide_words_ahead in
     let lows = c.words_behind_omitted-lows in
-    let levels = c.in_ok-near.near.levels in
+    let levels = c.in_ok-near.near.lanes in
     let high = eight-behind a.omitted sequences.numbers highs.result c.requires.omitted (omega (arith, found.lanes)) highs.ensures in
     let eight : length levels ≡ 8 = c.in_ok-near.ensures.len ∙ high.2 in
     subst (λ ls. RestoredAhead waiting s a.from a.k a.skip a.omitted ls (slice_index_or levels 7 0) (a.skip + sequences.len + (8 - a.omitted) * a.k))

@@ -7,7 +7,7 @@ use Rattle.rice_code.proofs.fast.decode.wide_ahead.restore_eight_of_parts_at.Goa
 pub returns-clause-some : goal.returns-clause-some
 returns-clause-some c =
     let a = c.args in
-    let levels = c.in_ok-near.near.levels in
+    let levels = c.in_ok-near.near.lanes in
     let high = take 8 (drop a.at a.highs.now) in
     let eight = length-take-le 8 (drop a.at a.highs.now) (omega (arith, c.requires.highs, length-drop a.at a.highs.now)) in
     let near = c.in_ok-near.ensures in

@@ -2,7 +2,7 @@ use Rattle.std.proofs.Common.{arith, ◌≡◌, ◌<◌, ◌^◌, ◌∙◌, sym
 use Rattle.std.proofs.lemmas.List.{length-drop, length-take-le}
 use Rattle.std.proofs.lemmas.List.Elements.{All-drop, All-take}
 use Rattle.std.specs.Simd.Lanes.{Each1}
-use Rattle.rice_bits.specs.fast.lanes.RunningSums.{running_sums}
+use Rattle.rice_samples.specs.predict.RunningSums.{running_sums}
 use Rattle.rice_code.specs.encode.SequencesByPlaces.{ones_at}
 use Rattle.rice_code.proofs.lemmas.encode.SequencesByProducts.{all_of}
 use Rattle.rice_code.proofs.lemmas.encode.SequencesByPlaces.{length-steps, length-sums, sixteen_joined, steps, sums_fit, two_words}
@@ -10,8 +10,8 @@ use Rattle.rice_code.proofs.fast.encode.sequences_by_places.joined_by_places.Goa
 
 pub returns : goal.returns
 returns c =
-    let places = c.running_sums-places.result in
-    let are : places ≡ running_sums (2 ^ 8) 0 (steps 16 c.args.numbers) = c.running_sums-places.ensures in
+    let places = c.running_sums.result.lanes in
+    let are : places ≡ running_sums (2 ^ 8) 0 (steps 16 c.args.numbers) = c.running_sums.ensures ∙ ap (running_sums (2 ^ 8) 0) c.of.ensures in
     let len : length places ≡ 16 = ap length are ∙ (length-sums 0 (steps 16 c.args.numbers) ∙ length-steps 16 c.args.numbers c.requires.len) in
     let fit : Each1 (λ p. p < 256) places = subst (Each1 (λ p. p < 256)) (sym are) (sums_fit 0 (steps 16 c.args.numbers)) in
     let below = all_of (λ p. p < 256) places fit in

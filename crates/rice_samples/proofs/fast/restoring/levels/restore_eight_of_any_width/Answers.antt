@@ -1,18 +1,16 @@
-use Rattle.std.proofs.Common.{arith, ◌≡◌, ◌+◌, ◌-◌, ◌^◌}
+use Rattle.std.proofs.Common.{arith, ◌≡◌, ◌+◌, ◌-◌, ◌∙◌, sym}
 use Rattle.rice_samples.specs.Parameters.{value_count}
-use Rattle.rice_samples.proofs.lemmas.predict.NearEights.{near_restored}
+use Rattle.rice_samples.proofs.lemmas.blocks.EightsInLanes.{map_same}
+use Rattle.rice_samples.proofs.lemmas.lanes.NearLanes.{row_stored}
 use Rattle.rice_samples.proofs.fast.restoring.levels.restore_eight_of_any_width.Goals as goal
 
-pub returns-then-are_near : goal.returns-then-are_near
-returns-then-are_near c =
-    let count = value_count c.args.setting.now in
-    let above : c.number_of_values.result - 1 + 1 ≡ count = omega arith in
-    let near = c.if-are_near.true in
-    let restored = near_restored (c.number_of_values.result - 1) (2 ^ 32) c.args.before c.args.levels.now
-    (record { same = c.requires.can.len; eight = c.requires.eight }) above c.near_numbers-numbers.ensures
-    (c.are_near.ensures.fit near) (c.are_near.ensures.ranks near)
-    in
+pub returns-in-Some : goal.returns-in-Some
+returns-in-Some c =
+    let near = c.in-Some.near in
+    let above : c.number_of_values.result - 1 + 1 ≡ value_count c.args.setting.now = omega arith in
+    let stored = row_stored (c.number_of_values.result - 1) c.args.before c.args.levels.now near.lanes above (c.requires.can.len ∙ (c.requires.eight ∙ sym near.len)) c.write.ensures
+    c.in-Some.ensures.fit (c.in-Some.ensures.ranks ∙ (c.read.ensures ∙ map_same c.args.residuals.now)) in
     record {
-      legal = restored.0;
-      ranks = restored.1;
+      legal = stored.0;
+      ranks = stored.1;
     }

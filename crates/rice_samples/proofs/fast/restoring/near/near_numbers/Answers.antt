@@ -1,5 +1,5 @@
 use Rattle.std.proofs.Common.{◌^◌, ap, ◌∙◌}
-use Rattle.rice_bits.specs.fast.lanes.RunningSums.{running_sums}
+use Rattle.rice_samples.specs.predict.RunningSums.{running_sums}
 use Rattle.rice_samples.proofs.lemmas.predict.NearVectors.{sums_of_ways}
 use Rattle.rice_samples.proofs.fast.restoring.near.near_numbers.Goals as goal
 

@@ -1,0 +1,83 @@
+-- What is computed of ranks in lanes before their numbers are found one after another.
+use Rattle.std.proofs.Common.{◌≡◌, ℕ, zero, suc, ◌+◌, ◌-◌, ◌/◌, ◌%◌, ◌^◌, ◌<◌, ◌≤◌, if◌then◌else◌, List, [], ◌∷◌, ◌++◌, ◌∙◌, ◌*◌, map, length, take, drop, get_or, refl, subst, sym, ap, arith, All, nat_lt}
+use Rattle.std.specs.Prelude.{replicate, bit_and}
+use Rattle.std.specs.Simd.Lanes.{zip2}
+use Rattle.std.proofs.lemmas.Bool.Decides.{nat_tests}
+use Rattle.std.proofs.lemmas.List.{get_or-map, get_or-replicate, length-replicate, take-append-drop}
+use Rattle.std.proofs.lemmas.Nat.{and_mask, pow-add}
+use Rattle.rice_samples.specs.predict.NearNumbers.{way}
+use Rattle.rice_samples.specs.predict.Residuals.{last_number, rank_below, ranks_below}
+use Rattle.rice_samples.proofs.lemmas.predict.RestoredLevels.{ranks_below-append}
+use Rattle.std.proofs.lemmas.List.Elements.{All-append, All-head, All-tail}
+use Rattle.std.proofs.Math.Nat.{add-mod_right, mod-eq_of_lt, pow-le-pow_right}
+
+-- how far each rank is below the greatest number
+pub lanes_below : (m greatest n : ℕ) (ds : List ℕ) → greatest < m → length ds ≡ n → All (λ d. d ≤ greatest) ds
+    → zip2 (λ a b. (a + (m - b)) % m) (replicate n greatest) ds ≡ map (λ d. greatest - d) ds
+lanes_below m greatest zero [] fits e h = refl
+lanes_below m greatest zero (d ∷ ds) fits e h = absurd (omega arith)
+lanes_below m greatest (suc n) [] fits e h = absurd (omega arith)
+lanes_below m greatest (suc n) (d ∷ ds) fits e h =
+    let one : (greatest + (m - d)) % m ≡ greatest - d = wrapped d (All-head (λ d. d ≤ greatest) d ds h) in
+    let others = lanes_below m greatest n ds fits (omega arith) (All-tail (λ d. d ≤ greatest) d ds h) in
+    λ j. one j ∷ others j
+  where
+    wrapped : (d : ℕ) → d ≤ greatest → (greatest + (m - d)) % m ≡ greatest - d
+    wrapped d below = ap (λ x. x % m) (let e : greatest + (m - d) ≡ greatest - d + m = omega (arith, below, fits) in e)
+        ∙ (add-mod_right (greatest - d) m ∙ mod-eq_of_lt (omega (arith, below, fits)))
+
+-- half of each rank, up
+pub lanes_halved : (m n : ℕ) (ds : List ℕ) → 1 < m → length ds ≡ n → ((i : ℕ) → get_or ds i 0 < m)
+    → zip2 (λ a b. (a + b) % m) (map (λ a. a / 2) ds) (zip2 bit_and ds (replicate n 1)) ≡ map (λ d. (d + 1) / 2) ds
+lanes_halved m n [] some e fits = refl
+lanes_halved m zero (d ∷ ds) some e fits = absurd (omega arith)
+lanes_halved m (suc n) (d ∷ ds) some e fits =
+    let one : (d / 2 + bit_and d 1) % m ≡ (d + 1) / 2 = half_up d (fits 0) in
+    let others = lanes_halved m n ds some (omega arith) (λ i. fits (suc i)) in
+    λ j. one j ∷ others j
+  where
+    half_up : (d : ℕ) → d < m → (d / 2 + bit_and d 1) % m ≡ (d + 1) / 2
+    half_up d lt =
+        let odd : bit_and d 1 ≡ d % 2 = and_mask d 1 in
+        let sum : d / 2 + d % 2 ≡ (d + 1) / 2 = omega arith in
+        ap (λ x. (d / 2 + x) % m) odd ∙ (ap (λ x. x % m) sum ∙ mod-eq_of_lt (omega (arith, lt, some)))
+
+-- an element of a list, by what is made of it
+pub element : {X : Type 0} (f : X → ℕ) (xs : List X) (i : ℕ) (x : X) {v : ℕ} → i < length xs → x ≡ get_or xs i x → v ≡ f x → v ≡ get_or (map f xs) i 0
+element f xs i x h is e = e ∙ (ap f is ∙ sym (get_or-map f xs i x 0 h))
+
+-- an element of a list that is made of another
+pub made : (f : ℕ → ℕ) (xs : List ℕ) {ys : List ℕ} (i : ℕ) {y x : ℕ} → i < length xs → ys ≡ map f xs → y ≡ get_or ys i 0 → x ≡ get_or xs i 0 → y ≡ f x
+made f xs i h e is from = is ∙ (ap (λ ys. get_or ys i 0) e ∙ (get_or-map f xs i 0 0 h ∙ ap f (sym from)))
+
+-- a way that wraps at 2 m is one that wraps at 2^32, with ones in front of it where its first digit is 1
+way_is : (m d : ℕ) → d < 2 * m → 2 * m ≤ 2 ^ 32 → (if nat_lt (way (2 * m) d) m then way (2 * m) d else way (2 * m) d + (2 ^ 32 - 2 * m)) ≡ way (2 ^ 32) d
+way_is m d small most = grind (arith, nat_tests)
+
+pub way_widened : (k d : ℕ) → 1 < 2 ^ k → k ≤ 32 → d < 2 ^ k → (if nat_lt (way (2 ^ k) d) (2 ^ (k - 1)) then way (2 ^ k) d else way (2 ^ k) d + (2 ^ 32 - 2 ^ k)) ≡ way (2 ^ 32) d
+way_widened zero d some few small = absurd (omega arith)
+way_widened (suc k) d some few small =
+    let most : 2 ^ suc k ≤ 2 ^ 32 = pow-le-pow_right {n = 2} (omega arith) {i = suc k} {j = 32} few in
+    let e : suc k ≡ 1 + k = omega arith in
+    let two : 2 ^ suc k ≡ 2 * 2 ^ k = ap (λ n. 2 ^ n) e ∙ pow-add 2 1 k in
+    let last : k ≡ suc k - 1 = omega arith in
+    subst (λ q. (if nat_lt (way (2 ^ suc k) d) (2 ^ q) then way (2 ^ suc k) d else way (2 ^ suc k) d + (2 ^ 32 - 2 ^ suc k)) ≡ way (2 ^ 32) d) last
+    (subst (λ n. (if nat_lt (way n d) (2 ^ k) then way n d else way n d + (2 ^ 32 - n)) ≡ way (2 ^ 32) d) (sym two) (way_is (2 ^ k) d (omega (arith, small, two)) (omega (arith, most, two))))
+
+-- a number is no way from itself
+pub none_away : (count q n : ℕ) → q < count → ranks_below count q (replicate n q) ≡ replicate n 0
+none_away count q zero h = refl
+none_away count q (suc n) h =
+    let one : rank_below count q q ≡ 0 = grind (arith, nat_tests) in
+    let others = none_away count q n h in
+    λ j. one j ∷ others j
+
+-- where all ranks but the first are 0, all numbers but the first are as the last of these
+pub repeated : (g p n last : ℕ) (ranks first : List ℕ) → last ≤ g → last ≡ last_number p first → ranks_below (g + 1) p first ≡ take 8 ranks → drop 8 ranks ≡ replicate n 0
+    → ranks_below (g + 1) p (first ++ replicate n last) ≡ ranks
+repeated g p n last ranks first within is ranked none =
+    ranks_below-append (g + 1) p first (replicate n last)
+    ∙ ((λ j. ranked j ++ (ap (λ q. ranks_below (g + 1) q (replicate n last)) (sym is) ∙ (none_away (g + 1) last n (omega arith) ∙ sym none)) j) ∙ take-append-drop 8 ranks)
+
+pub repeated_fit : (g n last : ℕ) (first : List ℕ) → last ≤ g → All (λ x. x ≤ g) first → All (λ x. x ≤ g) (first ++ replicate n last)
+repeated_fit g n last first within fit = All-append (λ x. x ≤ g) first (replicate n last) fit (λ i d lt. rw (get_or-replicate n i last d (omega (arith, lt, length-replicate n last))) within)
