@@ -3,6 +3,6 @@
 mod ends;
 pub mod gaps;
 pub mod sequences;
-mod tables_of_ends;
+pub(crate) mod tables_of_ends;
 pub mod wide_words;
 pub mod words;

@@ -5,5 +5,4 @@ pub(crate) mod ends_and_gaps;
 mod four_words;
 pub(crate) mod joined_parts;
 pub(crate) mod sequences;
-mod table_of_ends;
 pub(crate) mod words;

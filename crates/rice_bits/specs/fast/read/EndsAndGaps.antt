@@ -1,5 +1,5 @@
 -- The places of the ones among bits.
-use Rattle.std.specs.Prelude.{◌≡◌, ℕ, ◌+◌, ◌-◌, ◌≤◌, Bool, true, false, List, [], ◌∷◌, ◌++◌, length, replicate, take}
+use Rattle.std.specs.Prelude.{◌≡◌, ℕ, ◌+◌, ◌-◌, ◌≤◌, Bool, true, false, List, [], ◌∷◌, length, take}
 use Rattle.rice_bits.specs.Bits.{word}
 
 -- for each 1 among the bits, how many bits stand up to and including it, together with those before all
@@ -7,10 +7,6 @@ abbrev pub ends_after : ℕ → List Bool → List ℕ
 ends_after before [] = []
 ends_after before (true ∷ bits) = (before + 1) ∷ ends_after (before + 1) bits
 ends_after before (false ∷ bits) = ends_after (before + 1) bits
-
--- the ends of the ones of a byte, and zeros up to eight numbers
-abbrev pub end_row : ℕ → List ℕ
-end_row byte = ends_after 0 (word 8 byte) ++ replicate (8 - length (ends_after 0 (word 8 byte))) 0
 
 -- how many numbers stand between each of the numbers and the next
 abbrev pub gaps : List ℕ → List ℕ

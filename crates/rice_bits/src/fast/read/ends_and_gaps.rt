@@ -4,7 +4,7 @@ ghost use Rattle.std.specs.Simd.Lanes.{zip2};
 ghost use Rattle.rice_bits.specs.Bits.{bits_of, word};
 ghost use Rattle.rice_bits.specs.fast.read.EndsAndGaps.{IsSearched, ends_after, gaps};
 
-use crate::fast::read::table_of_ends::ends_of_byte;
+use crate::fast::lanes::tables_of_ends::row_of_byte_at;
 use std::simd::prelude::*;
 
 /// Returns the number of ones of `byte`.
@@ -27,7 +27,7 @@ fn write_ends_of_byte(byte: u8, before: u8, found: usize, ends: &mut [u8]) -> us
     ensures ends { take (result + 1) ends.new
         ≡ take (found + 1) ends.old ++ ends_after before (word 8 byte) }
 {
-    let row = u8x8::from_array(ends_of_byte(byte)) + u8x8::splat(before);
+    let row = u8x8::from_array(row_of_byte_at(0, byte)) + u8x8::splat(before);
     row.copy_to_slice(&mut ends[found + 1..]);
     found + count_ones_of_byte(byte)
 }

@@ -1,5 +1,5 @@
 -- A vector of sixteen lanes.
-use Rattle.std.proofs.Common.{◌≡◌, ℕ, ◌+◌, List, [], ◌∷◌, length, arith}
+use Rattle.std.proofs.Common.{◌≡◌, ℕ, List, [], ◌∷◌, length, arith}
 
 -- what holds of any sixteen numbers in a row holds of each list of sixteen
 pub sixteen_lanes : (P : List ℕ → Type 0)

@@ -13,20 +13,13 @@ use Rattle.std.proofs.lemmas.List.FromFn.{get_or-map-range_with_len}
 use Rattle.std.proofs.lemmas.Simd.{length-put_chunk, take_more_put_chunk, zip2_splat}
 use Rattle.std.proofs.Math.Seq.{take-add, take-append-add, take-append_seam}
 use Rattle.rice_bits.specs.Bits.{bits_of, fundamental_sequence, word}
-use Rattle.rice_bits.specs.declared.fast.read.table_of_ends.TheConstants.{ENDS}
-use Rattle.rice_bits.specs.fast.read.EndsAndGaps.{IsSearched, end_row, ends_after, gaps}
+use Rattle.rice_bits.specs.fast.lanes.Ends.{row_of_place}
+use Rattle.rice_bits.specs.fast.read.EndsAndGaps.{IsSearched, ends_after, gaps}
 use Rattle.rice_bits.specs.fast.read.Sequences.{AreParted}
 use Rattle.rice_bits.proofs.lemmas.bits.EightBytes.{bits_of-eight}
 use Rattle.rice_bits.proofs.lemmas.read.WindowLemmas.{take-bits_of}
 use Rattle.rice_bits.proofs.lemmas.bits.BytesAndBits.{bits_of-append, length-bits_of}
 use Rattle.rice_bits.proofs.lemmas.bits.WordsAndNumbers.{length-fundamental_sequence, length-word}
-
--- the table's rows
-pub row_of : (byte : ℕ) (d : List ℕ) → byte < 256 → get_or ENDS byte d ≡ end_row byte
-unfolding word
-row_of byte d h =
-    let all : map end_row (range_with_len 0 256) ≡ ENDS = refl in
-    ap (λ xs. get_or xs byte d) (sym all) ∙ get_or-map-range_with_len end_row 0 256 byte byte d h (omega arith)
 
 -- a byte has as many ones as there are ends of them
 pub ones_are_ends : (byte : ℕ) → byte < 256 → ones byte ≡ length (ends_after 0 (word 8 byte))
@@ -63,7 +56,7 @@ abbrev pub added : ℕ → ℕ → ℕ
 added x y = (x + y) % 256
 
 -- a row has eight numbers
-pub length-row : (byte : ℕ) → length (end_row byte) ≡ 8
+pub length-row : (byte : ℕ) → length (row_of_place 0 byte) ≡ 8
 length-row byte =
     let bits = word 8 byte in
     let es = ends_after 0 bits in
@@ -72,7 +65,7 @@ length-row byte =
 
 -- the ends of the ones of a byte after others, in lanes
 pub ends-lanes : (byte before : ℕ) → before ≤ 56
-    → take (length (ends_after before (word 8 byte))) (zip2 added (end_row byte) (replicate 8 before)) ≡ ends_after before (word 8 byte)
+    → take (length (ends_after before (word 8 byte))) (zip2 added (row_of_place 0 byte) (replicate 8 before)) ≡ ends_after before (word 8 byte)
 ends-lanes byte before h =
     let bits = word 8 byte in
     let es = ends_after 0 bits in

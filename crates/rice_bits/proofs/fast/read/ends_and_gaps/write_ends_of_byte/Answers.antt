@@ -12,10 +12,10 @@ returns-clause-found c = omega (arith, c.count_ones_of_byte.ensures.value, ends-
 pub returns-clause-ends : goal.returns-clause-ends
 returns-clause-ends c =
     let same = c.count_ones_of_byte.ensures.value ∙ ends-count 0 c.args.before (word 8 c.args.byte) in
-    let row : length c.ends_of_byte.result ≡ 8 = ap length c.ends_of_byte.ensures ∙ length-row c.args.byte in
-    let lanes = zip2 added c.ends_of_byte.result (replicate 8 c.args.before) in
+    let row : length c.row_of_byte_at.result ≡ 8 = ap length c.row_of_byte_at.ensures ∙ length-row c.args.byte in
+    let lanes = zip2 added c.row_of_byte_at.result (replicate 8 c.args.before) in
     let front = take (c.args.found + 1) c.args.ends.now in
-    lanes-behind c.args.ends.now lanes c.args.found c.count_ones_of_byte.result (length-zip2 added c.ends_of_byte.result (replicate 8 c.args.before) row
+    lanes-behind c.args.ends.now lanes c.args.found c.count_ones_of_byte.result (length-zip2 added c.row_of_byte_at.result (replicate 8 c.args.before) row
     ∙ row) c.count_ones_of_byte.ensures.few c.requires.room
-    ∙ ap (λ z. front ++ z) (ap (λ n. take n lanes) same ∙ (ap (λ row. take (length (ends_after c.args.before (word 8 c.args.byte))) (zip2 added row (replicate 8 c.args.before))) c.ends_of_byte.ensures
+    ∙ ap (λ z. front ++ z) (ap (λ n. take n lanes) same ∙ (ap (λ row. take (length (ends_after c.args.before (word 8 c.args.byte))) (zip2 added row (replicate 8 c.args.before))) c.row_of_byte_at.ensures
     ∙ ends-lanes c.args.byte c.args.before c.requires.before))
