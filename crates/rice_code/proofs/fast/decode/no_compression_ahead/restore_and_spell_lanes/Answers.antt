@@ -1,3 +1,4 @@
+use Rattle.std.proofs.Common.{◌∙◌}
 use Rattle.rice_code.proofs.lemmas.decode.NoCompressionAhead.{row_spelled_in_turn}
 use Rattle.rice_code.proofs.fast.decode.no_compression_ahead.restore_and_spell_lanes.Goals as goal
 
