@@ -1,6 +1,5 @@
 -- Words and fundamental sequences that are taken many at a time.
 pub mod EightWordPlaces
 pub mod EndsAndGaps
-pub mod JoinedParts
 pub mod Sequences
 pub mod Words

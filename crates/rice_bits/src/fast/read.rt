@@ -3,6 +3,5 @@
 mod eight_words;
 pub(crate) mod ends_and_gaps;
 mod four_words;
-pub(crate) mod joined_parts;
 pub(crate) mod sequences;
 pub(crate) mod words;

@@ -3,7 +3,6 @@ ghost use Rattle.std.specs.Prelude.{◌≡◌, ◌+◌, ◌-◌, ◌*◌, ◌%�
 ghost use Rattle.rice_bits.specs.Limits.{step_limit, most_bits_read};
 ghost use Rattle.rice_bits.specs.Bits.{fundamental_sequence, word};
 ghost use Rattle.rice_bits.specs.fast.lanes.Sequences.{BeginWithSequences};
-ghost use Rattle.rice_bits.specs.fast.read.JoinedParts.{TakesParts};
 
 use crate::device::Intake;
 use crate::fast::lanes::sequences::Sequences;
@@ -58,31 +57,6 @@ impl<I: Intake> BitReader<I> {
     {
         let before = self.window.waiting();
         let taken = self.window.take_sequences(zeros);
-        meter.tick((before - self.window.waiting()) as u64);
-        taken
-    }
-
-    /// Takes a fundamental sequence for each place of `numbers`, and then a word of `width` digits for each, if they wait
-    /// together, and writes the numbers that have the zeros of the sequences as their high parts and the words as their
-    /// low parts. There are 7, 8, 15 or 16 places. Returns whether it took them, and ticks once for each bit.
-    ///
-    /// It never calls the intake, so it never fails. It may take nothing even if all of them wait, and then the contents of
-    /// `numbers` are unspecified.
-    #[inline(always)]
-    pub fn take_waiting_parts(&mut self, width: u32, numbers: &mut [u32], meter: &mut Meter) -> bool
-        requires going { self.old.refusal ≡ None }
-        requires width { (1 ≤ width) × (width ≤ 7) }
-        requires count { (length numbers.old + 1) % 8 ≤ 1 }
-        requires few { length numbers.old ≤ 16 }
-        requires meter { meter.old + (most_bits_read - self.old.taken) < step_limit }
-        ensures takes { result ≡ true → TakesParts self.old self.new width numbers.new }
-        ensures none { result ≡ false → (self.new ≡ self.old) × (meter.new ≡ meter.old) }
-        ensures idle { self.new.intake ≡ self.old.intake }
-        ensures steps { meter.new + self.old.taken ≡ meter.old + self.new.taken }
-        ensures limit { self.new.taken ≤ most_bits_read }
-    {
-        let before = self.window.waiting();
-        let taken = self.window.take_parts(width, numbers);
         meter.tick((before - self.window.waiting()) as u64);
         taken
     }

@@ -8,8 +8,6 @@ use crate::bits::eight_bytes::at_least_57_bits_from;
 use crate::fast::lanes::sequences::{Sequences, first_sequences};
 use crate::fast::lanes::wide_words::eight_words_from;
 use crate::fast::lanes::words::sixteen_words_from;
-use crate::fast::read::ends_and_gaps::find_ends;
-use crate::fast::read::joined_parts::write_joined;
 use crate::fast::read::sequences::write_sequences_of_word;
 use crate::fast::read::words::words_from;
 use crate::read::window::Window;
@@ -20,7 +18,6 @@ use std::simd::prelude::*;
 const WORDS: usize = 64;
 
 impl Window {
-    ghost use Rattle.rice_bits.specs.fast.read.JoinedParts.{PassesParts};
     ghost use Rattle.rice_bits.specs.read.Window.{IsWindow, Passes, window_bits};
 
     /// Returns the number that `width` bits behind the first `skip` spell.
@@ -141,33 +138,5 @@ impl Window {
         let parted = write_sequences_of_word(self.first_bits_ahead(), zeros);
         self.at += parted.used;
         parted.taken
-    }
-
-    /// Takes a fundamental sequence for each place of `numbers`, and then a word of `width` bits for each, if all of them
-    /// wait, and the sequences are among the bits ahead. Writes the numbers that have the zeros of the sequences as
-    /// their high parts, and the words as their low parts. Returns whether it took them.
-    #[inline(always)]
-    pub fn take_parts(&mut self, width: u32, numbers: &mut [u32]) -> bool
-        requires window { IsWindow self.old }
-        requires width { (1 ≤ width) × (width ≤ 7) }
-        requires count { (length numbers.old + 1) % 8 ≤ 1 }
-        requires few { length numbers.old ≤ 16 }
-        ensures window { IsWindow self.new }
-        ensures passes { result ≡ true → PassesParts self.old self.new width numbers.new }
-        ensures none { result ≡ false → self.new ≡ self.old }
-    {
-        let mut ends = [0; 64];
-        let found = find_ends(self.first_bits_ahead(), numbers.len(), &mut ends);
-        if found < numbers.len() {
-            return false;
-        }
-        let words = self.at + ends[numbers.len()] as usize;
-        let next = words + numbers.len() * width as usize;
-        if next > self.end {
-            return false;
-        }
-        write_joined(&self.buffer, words, width, &ends, numbers);
-        self.at = next;
-        true
     }
 }

@@ -2,5 +2,4 @@
 pub mod EightWordsLemmas
 pub mod EndsAndGapsLemmas
 pub mod FourWordsLemmas
-pub mod JoinedPartsLemmas
 pub mod TakenSequences

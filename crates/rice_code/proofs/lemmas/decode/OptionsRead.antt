@@ -19,12 +19,11 @@ use Rattle.rice_code.specs.code.CodedDataSets.{CodedDataSet, NoCompression, Seco
 use Rattle.rice_code.specs.code.Forms.{IsForm, IsReference, IsBlock}
 use Rattle.rice_code.specs.decode.RowsOfFields.{Row, CountRow, WordRow, PairRow, ones}
 use Rattle.rice_code.specs.decode.ReadSets.{BlockRead, BlockCut, PartsRead, PartsCut, reference_place, set_tail}
-use Rattle.rice_bits.specs.fast.read.JoinedParts.{TakesParts}
 use Rattle.rice_bits.specs.read.JoinedParts.{joined_parts}
 use Rattle.rice_samples.proofs.lemmas.blocks.PairNumbers.{count_pairs}
 use Rattle.rice_bits.proofs.lemmas.read.WindowLemmas.{length-words}
 use Rattle.rice_code.proofs.lemmas.decode.RowsOfFields.{put_rest, ones-append, ones-zeros, ones-sequence, ones-sequences}
-use Rattle.rice_code.proofs.lemmas.decode.JoinedResiduals.{high_pieces, highs_of_joined, joined_below, low_pieces, highs_small, joined_highs}
+use Rattle.rice_code.proofs.lemmas.decode.JoinedResiduals.{high_pieces, low_pieces, highs_small, joined_highs}
 use Rattle.rice_bits.proofs.lemmas.read.JoinedPartsLemmas.{length-joined}
 use Rattle.std.proofs.lemmas.Nat.{pow_pos}
 use borrow.Rule.Slice.PartMut.{put_mid}
@@ -275,30 +274,6 @@ counts_read old new most small count told high =
       takes = subst (λ bits. Takes old new bits) (sym (ap (λ bits. flat_map fundamental_sequence ms ++ bits) (no_digits lows) ∙ append-nil (flat_map fundamental_sequence ms))) high.takes;
       told = λ e. ((high.told_are e).1, (high.told_are e).0 ∙ sym (joined_without_low ms));
       refused = high.refused;
-    }
-
--- high and low parts that waited together
-pub parts_waited : {I : Type 0} (old new : Reader I) (most k : ℕ) (small : Bool) (residuals : List ℕ) → TakesParts old new k residuals
-    → (small ≡ true → (63 ≤ most) ⊎ All (λ d. d < (most + 1) * 2 ^ k) residuals) → (small ≡ false → All (λ d. d < (most + 1) * 2 ^ k) residuals → ⊥)
-    → PartsRead old new most k small (length residuals) residuals
-parts_waited old new most k small residuals t below not_below =
-    let p = t.parts in
-    let same : length t.lows ≡ length t.highs = p.as_many_lows ∙ sym p.as_many_highs in
-    record {
-      highs = t.highs;
-      lows = t.lows;
-      as_many_highs = p.as_many_highs;
-      as_many_lows = p.as_many_lows;
-      low = p.low;
-      takes = t.takes;
-      told = λ e. (
-        elim (below e) [
-          | inl many ↦ λ i d lt. omega (arith, many, p.few i d lt)
-          | inr all ↦ highs_of_joined k most t.highs t.lows same p.low (subst (All (λ d. d < (most + 1) * 2 ^ k)) p.joined all)
-        ],
-        p.joined,
-      );
-      refused = λ e highs. not_below e (subst (All (λ d. d < (most + 1) * 2 ^ k)) (sym p.joined) (joined_below k most t.highs t.lows same p.low highs));
     }
 
 ones-high : (k : ℕ) (ds : List ℕ) → ones (flat_map (λ d. fundamental_sequence (d / 2 ^ k)) ds) ≡ length ds

@@ -5,7 +5,7 @@ use Rattle.rice_code.specs.decode.RowsOfFields.{CountRow, ones}
 use Rattle.rice_code.specs.decode.ReadSets.{PartsCut, PartsRead}
 use Rattle.rice_code.proofs.lemmas.decode.OptionsRead.{counts_read, parts_read, parts_cut_high, parts_cut_low}
 use Rattle.std.proofs.lemmas.Result.{err_from_is_err_and}
-use Rattle.rice_code.proofs.fast.decode.high_and_low_parts.read_any_number_of_parts.Goals as goal
+use Rattle.rice_code.proofs.fast.decode.high_and_low_parts.read_parts.Goals as goal
 
 pub returns-then-k-eq0-clause-ok : goal.returns-then-k-eq0-clause-ok
 returns-then-k-eq0-clause-ok g c =
