@@ -555,7 +555,10 @@ impl FastDecoder {
         // A copy stays in registers.
         let setting = self.setting;
         let own = &mut levels[..setting.block() as usize];
-        let restored = match restore_wide_ahead(&setting, self.block, self.before, k, reader, own) {
+        let (block, before) = (self.block, self.before);
+        let restored = match restore_wide_ahead::<I, WIDTH>(
+            &setting, block, before, k, reader, own,
+        ) {
             Some(restored) => restored,
             None => return false,
         };

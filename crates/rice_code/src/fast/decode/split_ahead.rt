@@ -81,14 +81,16 @@ pub fn spell_ahead<I: Intake, const SIZE: usize, const WIDTH: usize, const TURNS
     ensures none { IfNone result (bytes.new ≡ bytes.old) }
 {
     if has_rows::<SIZE>(size) {
-        return spell_in_rows::<I, WIDTH, TURNS>(setting, size, block, before, k, reader, bytes);
+        return spell_in_rows::<I, SIZE, WIDTH, TURNS>(
+            setting, size, block, before, k, reader, bytes,
+        );
     }
-    spell_in_one::<I, WIDTH, TURNS>(setting, size, block, before, k, reader, bytes)
+    spell_in_one::<I, SIZE, WIDTH, TURNS>(setting, size, block, before, k, reader, bytes)
 }
 
-/// As `spell_ahead`, of a block of one row.
+/// As `spell_ahead`, of a block of one row. There is one for each `SIZE`: it is inlined only where it has one caller.
 #[inline(always)]
-fn spell_in_one<I: Intake, const WIDTH: usize, const TURNS: bool>(
+fn spell_in_one<I: Intake, const SIZE: usize, const WIDTH: usize, const TURNS: bool>(
     setting: &Setting,
     size: usize,
     block: u64,
@@ -127,7 +129,7 @@ fn spell_in_one<I: Intake, const WIDTH: usize, const TURNS: bool>(
 
 /// As `spell_ahead`, of a block of several rows.
 #[inline(always)]
-fn spell_in_rows<I: Intake, const WIDTH: usize, const TURNS: bool>(
+fn spell_in_rows<I: Intake, const SIZE: usize, const WIDTH: usize, const TURNS: bool>(
     setting: &Setting,
     size: usize,
     block: u64,

@@ -231,8 +231,10 @@ fn restore_rows_ahead<I: Intake>(
 
 /// Writes the levels of the samples of the block that waits, by split `k`, after a sample at level `before`, if its
 /// fundamental sequences are short and all samples are near to those before them. It takes nothing.
+///
+/// There is one for each `WIDTH` of samples in bytes: it is inlined only where it has one caller.
 #[inline(always)]
-pub fn restore_wide_ahead<I: Intake>(
+pub fn restore_wide_ahead<I: Intake, const WIDTH: usize>(
     setting: &Setting,
     block: u64,
     before: u32,

@@ -56,7 +56,9 @@ fn code_block_not_zero<const SIZE: usize, const REFERENCE: bool>(
     match choice {
         Choice::NoCompression => put_no_compression::<SIZE>(&own, &block, sink, &mut steps),
         Choice::SecondExtension => put_second_extension(&own, bits, &block, sink, &mut steps),
-        Choice::Split(k) => put_split(&own, k, bits, &block, sink, &mut steps),
+        Choice::Split(k) => {
+            put_split::<SIZE, REFERENCE>(&own, k, bits, &block, sink, &mut steps)
+        }
     }
     meter.tick(steps.steps());
 }

@@ -146,9 +146,10 @@ pub fn put_second_extension(
     fields.put(sink, meter);
 }
 
-/// Appends the block, coded by split `k`, which takes `cost` bits without the head.
+/// Appends the block, coded by split `k`, which takes `cost` bits without the head. There is one for each size of blocks, with a reference
+/// and without: it is inlined only where it has one caller.
 #[inline(always)]
-pub fn put_split(
+pub fn put_split<const SIZE: usize, const REFERENCE: bool>(
     setting: &PreparedSetting,
     k: u32,
     cost: u64,

@@ -7,7 +7,7 @@ use Rattle.rice_code.proofs.lemmas.encode.OptionTexts.{no_digits, sent_are, spli
 use Rattle.rice_code.proofs.fast.encode.options.put_split.Goals as goal
 
 pub put_low-requires-clause-room : goal.put_low-requires-clause-room
-put_low-requires-clause-room c =
+put_low-requires-clause-room g c =
     let sent = sent_are (sent_residuals c.args.block.now) c.args.block.now.residuals c.residuals-residuals.result.now c.first_coded-from.result c.args.k
     c.args.k c.first_coded-from.ensures.coded c.residuals-residuals.ensures in
     let len = ap length c.residuals-residuals.ensures in
@@ -18,7 +18,7 @@ put_low-requires-clause-room c =
     }
 
 pub put-requires : goal.put-requires
-put-requires c =
+put-requires g c =
     let sent = sent_are (sent_residuals c.args.block.now) c.args.block.now.residuals c.residuals-residuals.result.now c.first_coded-from.result c.args.k
     c.args.k c.first_coded-from.ensures.coded c.residuals-residuals.ensures in
     let len = ap length c.residuals-residuals.ensures in
@@ -29,7 +29,7 @@ put-requires c =
     }
 
 pub put-requires-2 : goal.put-requires-2
-put-requires-2 c =
+put-requires-2 g c =
     let sent = sent_are (sent_residuals c.args.block.now) c.args.block.now.residuals c.residuals-residuals.result.now c.first_coded-from.result c.args.k
     c.args.k c.first_coded-from.ensures.coded c.residuals-residuals.ensures in
     let len = ap length c.residuals-residuals.ensures in
@@ -40,7 +40,7 @@ put-requires-2 c =
     }
 
 pub returns : goal.returns
-returns c =
+returns g c =
     let sent = sent_are (sent_residuals c.args.block.now) c.args.block.now.residuals c.residuals-residuals.result.now c.first_coded-from.result c.args.k
     c.args.k c.first_coded-from.ensures.coded c.residuals-residuals.ensures in
     let s = c.args.setting.now in
@@ -59,7 +59,7 @@ returns c =
     }
 
 pub returns-then-k-eq0 : goal.returns-then-k-eq0
-returns-then-k-eq0 c =
+returns-then-k-eq0 g c =
     let sent = sent_are (sent_residuals c.args.block.now) c.args.block.now.residuals c.residuals-residuals.result.now c.first_coded-from.result c.args.k
     c.args.k c.first_coded-from.ensures.coded c.residuals-residuals.ensures in
     let s = c.args.setting.now in
@@ -84,7 +84,7 @@ returns-then-k-eq0 c =
     }
 
 pub put_high-requires-clause-total : goal.put_high-requires-clause-total
-put_high-requires-clause-total c =
+put_high-requires-clause-total g c =
     let sent = sent_are (sent_residuals c.args.block.now) c.args.block.now.residuals c.residuals-residuals.result.now c.first_coded-from.result c.args.k
     c.args.k c.first_coded-from.ensures.coded c.residuals-residuals.ensures in
     let len = ap length c.residuals-residuals.ensures in
@@ -94,7 +94,7 @@ put_high-requires-clause-total c =
     omega (arith, more, same, sent.count, sent.digits, sent.parts, len, ref, c.requires.sound.len, c.requires.cost)
 
 pub put_short_low-requires-clause-room : goal.put_short_low-requires-clause-room
-put_short_low-requires-clause-room c =
+put_short_low-requires-clause-room g c =
     let sent = sent_are (sent_residuals c.args.block.now) c.args.block.now.residuals c.residuals-residuals.result.now c.first_coded-from.result c.args.k
     c.args.k c.first_coded-from.ensures.coded c.residuals-residuals.ensures in
     let len = ap length c.residuals-residuals.ensures in
