@@ -8,7 +8,7 @@ use crate::Setting;
 use crate::fast::lanes::Lanes;
 use crate::fast::lanes::halves::Halves;
 use crate::fast::lanes::words::Words;
-use crate::fast::restoring::near::{excess_over_near, near_levels, near_numbers};
+use crate::fast::restoring::near::{excess_over_near, near_numbers};
 use std::simd::prelude::*;
 
 /// Joins high parts and low parts of `width` digits, if the high parts are small enough.
@@ -106,7 +106,11 @@ pub fn near_words_of_parts(
 {
     let greatest = (setting.number_of_values() - 1) as u32;
     let ranks = join_parts(Words::of(highs.cast::<u32>()), Words::of(lows), width);
-    near_levels(greatest, before, ranks)
+    let levels = near_numbers(before, ranks);
+    if !excess_over_near(greatest, before, ranks, levels).is_zero() {
+        return None;
+    }
+    Some(levels)
 }
 
 /// Returns the first eight numbers, in lanes of 16 bits.
