@@ -82,26 +82,55 @@ pub fn write_spellings_by_eights<const WIDTH: usize>(
         write_threes(setting, levels, bytes);
         return;
     }
+    if setting.msb() {
+        write_eights::<WIDTH, true>(setting, levels, bytes);
+    } else {
+        write_eights::<WIDTH, false>(setting, levels, bytes);
+    }
+}
+
+/// As `write_spellings_by_eights`, of samples in an order of bytes that the compiler knows.
+#[inline(always)]
+fn write_eights<const WIDTH: usize, const MSB: bool>(
+    setting: &Setting,
+    levels: &[u32],
+    bytes: &mut [u8],
+)
+    requires legal { All (λ l. l < value_count setting.now) levels.now }
+    requires width { WIDTH ≡ width_of setting.now }
+    requires order { MSB ≡ setting.now.msb }
+    requires eights { length levels.now % 8 ≡ 0 }
+    requires few { length levels.now ≤ 64 }
+    requires room { WIDTH * length levels.now + 8 ≤ length bytes.old }
+    ensures spelled { take (WIDTH * length levels.now) bytes.new
+        ≡ spellings setting.now (values_at setting.now levels.now) }
+    ensures len { length bytes.new ≡ length bytes.old }
+{
     // A copy stays in registers.
     let setting = *setting;
     for i in 0..levels.len() / 8 {
         let own = &mut bytes[8 * WIDTH * i..8 * WIDTH * i + 8 * WIDTH];
-        write_eight::<WIDTH>(&setting, &levels[8 * i..8 * i + 8], own);
+        write_eight::<WIDTH, MSB>(&setting, &levels[8 * i..8 * i + 8], own);
     }
 }
 
-/// Writes the spellings of eight samples, as `write_spellings` does. It is laid out for either order of bytes.
+/// Writes the spellings of eight samples, as `write_spellings` does.
 #[inline(always)]
-fn write_eight<const WIDTH: usize>(setting: &Setting, levels: &[u32], bytes: &mut [u8])
+fn write_eight<const WIDTH: usize, const MSB: bool>(
+    setting: &Setting,
+    levels: &[u32],
+    bytes: &mut [u8],
+)
     requires legal { All (λ l. l < value_count setting.now) levels.now }
     requires width { WIDTH ≡ width_of setting.now }
+    requires order { MSB ≡ setting.now.msb }
     requires eight { length levels.now ≡ 8 }
     requires len { length bytes.old ≡ WIDTH * length levels.now }
     ensures { bytes.new ≡ spellings setting.now (values_at setting.now levels.now) }
 {
-    if setting.msb() {
-        write_spellings_laid_out(setting, WIDTH, true, levels, bytes);
-        return;
-    }
-    write_spellings_laid_out(setting, WIDTH, false, levels, bytes);
+    let _width = setting.width();
+    // The compiler knows that what it writes here are not the levels.
+    let mut spelled = [0; 32];
+    write_spellings_laid_out(setting, WIDTH, MSB, levels, &mut spelled[..8 * WIDTH]);
+    bytes.copy_from_slice(&spelled[..8 * WIDTH]);
 }

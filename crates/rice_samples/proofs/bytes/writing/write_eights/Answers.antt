@@ -5,7 +5,7 @@ use Rattle.std.proofs.lemmas.Slice.{take-put_mid}
 use Rattle.rice_samples.specs.Parameters.{values_at}
 use Rattle.rice_samples.specs.bytes.Spelling.{spellings}
 use Rattle.rice_samples.proofs.lemmas.bytes.ThreeBytes.{next_eight}
-use Rattle.rice_samples.proofs.bytes.writing.write_spellings_by_eights.Goals as goal
+use Rattle.rice_samples.proofs.bytes.writing.write_eights.Goals as goal
 
 pub loop-i-preserved : goal.loop-i-preserved
 loop-i-preserved g c =
