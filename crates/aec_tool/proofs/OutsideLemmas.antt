@@ -9,8 +9,8 @@ use Rattle.rice_stream.specs.Decodes.{DecodesBetween}
 use Rattle.rice_stream.specs.declared.outcome.Fault.{Fault}
 use Rattle.rice_stream.specs.declared.outcome.Outcome.{Outcome}
 use Rattle.aec_command.specs.Plan.{PlanView}
-use Rattle.aec_tool.specs.Outside.{Outside, Place, Said, Holds, HasTakenNothing, Finishes, begun, holding, new_mode, source_bytes, source_id, place_of, is_creatable}
-use Rattle.aec_tool.specs.Performs.{EngineOf, Arrives, EmptiesSource, Runs, last_words, status_with}
+use Rattle.aec_tool.specs.Outside.{Outside, Place, HasTakenNothing, Finishes, begun, held, new_mode, source_bytes, source_id, place_of, is_creatable}
+use Rattle.aec_tool.specs.Performs.{EngineOf, Arrives, EmptiesSource, Runs, last_words, losses_with, status_with}
 
 -- What holds of what a system tells after a call, where it told something before, holds of all that it tells.
 pub holds_after : (P : Outside → Type 0) (old new : Option Outside) → (old ≡ None → new ≡ None)
@@ -44,16 +44,20 @@ pub engine_of : (p : PlanView) {decode : Bool} {left left' : Option (List ℕ)} 
 engine_of p {decode = true} done encodes decodes = decodes refl
 engine_of p {decode = false} done encodes decodes = encodes refl
 
+-- these bytes have arrived, all that were written or a front
+abbrev pub arrived : Bool → Outside → List ℕ → Outside
+arrived all o there = record o { destination = held o.destination there; losses = losses_with all o.losses }
+
 -- once writing is finished, all that was written has arrived, or a front of it
 finished_bytes_arrive : (bytes written : List ℕ) (o : Outside) (new : Option Outside) (kept : Result (Unit {0}) WriteFault) → bytes ≡ written
-    → Finishes bytes o new kept → (there : List ℕ) × Arrives (is_ok kept) written there × (new ≡ Some (holding o there))
+    → Finishes bytes o new kept → (there : List ℕ) × Arrives (is_ok kept) written there × (new ≡ Some (arrived (is_ok kept) o there))
 finished_bytes_arrive bytes written o new (Ok _) e h = (bytes, e, h)
 finished_bytes_arrive bytes written o new (Err _) e h = (h.0, (h.1, sym e ∙ h.2), h.3)
 
 -- what has arrived of what an outlet took
 pub arrives_of : {old new : Option Room} → HasTakenNothing old → (bytes : List ℕ) → Appends old new bytes
     → (o : Outside) {told : Option Outside} (kept : Result (Unit {0}) WriteFault) → ((room : Room) → new ≡ Some room → Finishes room.bytes o told kept)
-    → (there : List ℕ) × Arrives (is_ok kept) bytes there × (told ≡ Some (holding o there))
+    → (there : List ℕ) × Arrives (is_ok kept) bytes there × (told ≡ Some (arrived (is_ok kept) o there))
 arrives_of {old} {new} nothing bytes took o {told} kept finishes =
     let all = took_all old new nothing bytes took in
     finished_bytes_arrive all.0.bytes bytes o told kept all.2 (finishes all.0 all.1)
@@ -77,26 +81,25 @@ pub record IsBegun {Dest : Type 0} (taken : Dest → Option Room) (writes : Dest
   pub empty : HasTakenNothing (taken begins)
 
 -- what an outlet took, or a front of it, has arrived at this place, and then the last words came
-pub record IsFinished (outlet : Option Room) (place : Place) (fault : Option Fault) (kept : Result (Unit {0}) WriteFault) (o : Outside) (told new : Option Outside)
-    (words : Option Said) (status : ℕ) : Type 0 where
+pub record IsFinished (outlet : Option Room) (place : Place) (fault : Option Fault) (kept : Result (Unit {0}) WriteFault) (o : Outside) (told new : Option Outside) (status : ℕ) : Type 0 where
   pub finishes : (room : Room) → outlet ≡ Some room → Finishes room.bytes (begun o place) told kept
-  pub says : (there : List ℕ) → told ≡ Some (record o { destination = Holds place there }) → new ≡ Some (record o { destination = Holds place there; said = words })
-  pub words_are : words ≡ last_words fault (is_ok kept)
-  pub status_is : status ≡ status_with words
+  pub says : (x : Outside) → told ≡ Some x → new ≡ Some (record x { said = last_words fault (is_ok kept) })
+  pub status_is : status ≡ status_with (last_words fault (is_ok kept))
 
 -- The source was read, what the engine wrote has arrived, and then the last words came.
 pub runs_of : {Source Dest : Type 0} {left : Source → Option (List ℕ)} {reads : Source → ℕ} {taken : Dest → Option Room} {writes : Dest → ℕ}
     {p : PlanView} {o : Outside} {status samples : ℕ} {given : List ℕ} {opened read : Source} {begins written : Dest} {done : Outcome}
-    {kept : Result (Unit {0}) WriteFault} {told new : Option Outside} {words : Option Said}
+    {kept : Result (Unit {0}) WriteFault} {told new : Option Outside}
     → IsOpened left reads p.source o given opened → IsBegun taken writes p o begins
     → EngineRan p (left opened) (left read) (taken begins) (taken written) (reads opened) (reads read) (writes begins) (writes written) done
-    → IsFinished (taken written) (place_of p.dest (new_mode (source_id o p.source))) done.fault kept o told new words status → samples ≡ done.report.samples
+    → IsFinished (taken written) (place_of p.dest (new_mode (source_id o p.source))) done.fault kept o told new status → samples ≡ done.report.samples
     → (after : Outside) × (new ≡ Some after) × Runs left reads taken writes p o after status samples
-runs_of {p} {o} {given} {opened} {read} {begins} {written} {done} {kept} {words} source destination ran finished samples_are =
+runs_of {p} {o} {given} {opened} {read} {begins} {written} {done} {kept} source destination ran finished samples_are =
     let place = place_of p.dest (new_mode (source_id o p.source)) in
-    let got = arrives_of destination.empty ran.did.0.written ran.did.1.took (begun o place) kept finished.finishes in (
-      record o { destination = Holds place got.0; said = words },
-      finished.says got.0 got.2,
+    let got = arrives_of destination.empty ran.did.0.written ran.did.1.took (begun o place) kept finished.finishes in
+    let there = arrived (is_ok kept) (begun o place) got.0 in (
+      record there { said = last_words done.fault (is_ok kept) },
+      finished.says there got.2,
       record {
         given = given;
         source = source.source;
@@ -118,8 +121,8 @@ runs_of {p} {o} {given} {opened} {read} {begins} {written} {done} {kept} {words}
         all = is_ok kept;
         there = got.0;
         arrives = got.1;
-        outside = ap (λ w. record o { destination = Holds place got.0; said = w }) finished.words_are;
-        status_is = finished.status_is ∙ ap status_with finished.words_are;
+        outside = refl;
+        status_is = finished.status_is;
         samples_are = samples_are;
       },
     )

@@ -1,5 +1,5 @@
 -- Whether a 1 is left behind the first bits of a code.
-use Rattle.std.specs.Prelude.{◌≡◌, ℕ, ◌+◌, ◌<◌, Bool, true, false, not, List, length, drop, Option, Some, None, Result, Ok, Err}
+use Rattle.std.specs.Prelude.{◌≡◌, ℕ, ◌+◌, ◌<◌, Bool, true, false, not, List, length, drop, Option, Some, Result, Ok, Err}
 use Rattle.rice_bits.specs.Limits.{most_bytes_read}
 use Rattle.rice_bits.specs.Bits.{bits_of}
 use Rattle.rice_bits.specs.read.Reader.{is_blank}
@@ -28,10 +28,3 @@ abbrev pub StoppedBy : {I : Type 0} → (I → ℕ) → ℕ → BitFault → Res
 StoppedBy failed count (bit_faults.End blank) result = result ≡ Ok false
 StoppedBy {I} failed count bit_faults.Read result = (result ≡ Err Read) × ((after : I) × (failed after ≡ count))
 StoppedBy failed count bit_faults.TooLong result = result ≡ Err TooLong
-
--- What was found behind so many bits of these bytes, if that was looked for, in a new source.
-abbrev pub Looks : {Source : Type 0} → (Source → ℕ) → Bool → ℕ → List ℕ → Result (Option Bool) Fault → Type 0
-Looks reads false bits given found = found ≡ Ok None
-Looks reads true bits given (Ok None) = ⊥
-Looks reads true bits given (Ok (Some more)) = more ≡ has_one_behind bits given
-Looks reads true bits given (Err fault) = StopsLooking reads 0 (Some given) fault

@@ -70,11 +70,14 @@ pub record Outside : Type 0 where
   pub shown : Option ErrorKind
   -- what was told of a code on standard output
   pub found : Option Finding
-  -- the samples that the closing line told of, if there was one
-  pub closed : Option ℕ
-  -- how many lines standard output did not take, and how many requests for memory were refused
+  -- the closing line, if there was one: whether a code was read, and the samples that it told of
+  pub closed : Option (Bool × ℕ)
+  -- how often standard output did not take a line, or not all bytes arrived at a destination
   pub losses : ℕ
+  -- how many requests for memory were refused
   pub refusals : ℕ
+  -- a file could not be opened once more
+  pub missed : Bool
 
 -- the command has done nothing yet
 pub record IsFresh (o : Outside) : Type 0 where
@@ -82,6 +85,7 @@ pub record IsFresh (o : Outside) : Type 0 where
   pub said : o.said ≡ None
   pub shown : o.shown ≡ None
   pub found : o.found ≡ None
+  pub missed : o.missed ≡ false
 
 -- what a source gives is told, and it is these bytes
 abbrev pub GivesAll : Option (List ℕ) → Option (List ℕ) → Type 0
@@ -112,14 +116,17 @@ showing o kind = record o { shown = Some kind }
 abbrev pub finding : Outside → Finding → Outside
 finding o it = record o { found = Some it }
 
-abbrev pub closing : Bool → ℕ → Outside → Outside
-closing told samples o = record o { closed = if told then Some samples else o.closed }
+abbrev pub closing : Bool → Bool → ℕ → Outside → Outside
+closing told decoded samples o = record o { closed = if told then Some (decoded, samples) else o.closed }
 
 abbrev pub losing : Outside → Outside
 losing o = record o { losses = o.losses + 1 }
 
 abbrev pub refusing : Outside → Outside
 refusing o = record o { refusals = o.refusals + 1 }
+
+abbrev pub missing : Outside → Outside
+missing o = record o { missed = true }
 
 -- the name of a standard stream
 abbrev pub is_standard : List ℕ → Bool
@@ -161,6 +168,11 @@ abbrev pub Opens : {Source : Type 0} → (Source → Option (List ℕ)) → Opti
 Opens left bytes id (Ok opened) = GivesAll bytes (left opened.0) × (opened.1 ≡ id)
 Opens left bytes id (Err _) = bytes ≡ None
 
+-- A file with these bytes was opened once more, or it could not be.
+abbrev pub Reopens : {Source : Type 0} → (Source → Option (List ℕ)) → Option (List ℕ) → Outside → Option Outside → Result Source OpenFault → Type 0
+Reopens left bytes o new (Ok source) = (new ≡ Some o) × GivesAll bytes (left source)
+Reopens left bytes o new (Err _) = new ≡ Some (missing o)
+
 -- A destination was begun at this place, or there is no memory for it, or it can't be created.
 abbrev pub Creates : {Dest : Type 0} → (Dest → Option Room) → Place → Bool → Outside → Option Outside → Result Dest CreateFault → Type 0
 Creates taken place can o new (Ok dest) = (new ≡ Some (begun o place)) × (can ≡ true) × HasTakenNothing (taken dest)
@@ -172,10 +184,10 @@ abbrev pub Tells : Finding → Outside → Option Outside → Result (Unit {0}) 
 Tells it o new (Ok _) = new ≡ Some (finding o it)
 Tells it o new (Err _) = new ≡ Some (losing o)
 
--- Of these bytes all stand at the destination, or a front.
+-- Of these bytes all stand at the destination, or a front, and the rest is lost.
 abbrev pub Finishes : List ℕ → Outside → Option Outside → Result (Unit {0}) WriteFault → Type 0
 Finishes bytes o new (Ok _) = new ≡ Some (holding o bytes)
-Finishes bytes o new (Err _) = (there : List ℕ) × (lost : List ℕ) × (bytes ≡ there ++ lost) × (new ≡ Some (holding o there))
+Finishes bytes o new (Err _) = (there : List ℕ) × (lost : List ℕ) × (bytes ≡ there ++ lost) × (new ≡ Some (losing (holding o there)))
 
 -- The destination of a place, with no name and permissions where it is standard output, and of the bytes that stand there once it is finished.
 abbrev pub destination_of : Option (Option (List ℕ × Option ℕ)) → Option (List ℕ) → Destination

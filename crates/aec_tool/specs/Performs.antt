@@ -1,5 +1,5 @@
 -- What the command has done for a plan, by what the system tells before and after.
-use Rattle.std.specs.Prelude.{◌≡◌, ℕ, ◌-◌, ◌/◌, Bool, true, false, ◌&&◌, List, ◌++◌, Option, Some, None, is_some, Result, Ok, Err, ◌⊎◌}
+use Rattle.std.specs.Prelude.{◌≡◌, ℕ, ◌+◌, ◌-◌, ◌/◌, Bool, true, false, ◌&&◌, List, ◌++◌, Option, Some, None, is_some, Result, Ok, Err, ◌⊎◌}
 use Rattle.rice_bits.specs.device.OutletRoom.{Room}
 use Rattle.rice_samples.specs.Parameters.{Parameters}
 use Rattle.rice_stream.specs.DevicesInCalls.{Call, Happens, Fails}
@@ -8,12 +8,12 @@ use Rattle.rice_stream.specs.Decodes.{Decodes}
 use Rattle.rice_stream.specs.declared.outcome.Outcome.{Outcome}
 use Rattle.rice_stream.specs.declared.outcome.Report.{Report}
 use Rattle.rice_stream.specs.declared.outcome.Fault.{Fault}
-use Rattle.rice_stream.specs.declared.outcome.Fault.TheVariants.{Write}
-use Rattle.aec_tool.specs.OneBehind.{Looks}
+use Rattle.rice_stream.specs.declared.outcome.Fault.TheVariants.{Read, Write}
+use Rattle.aec_tool.specs.OneBehind.{StopsLooking, has_one_behind}
 use Rattle.aec_command.specs.Plan.{PlanView}
 use Rattle.aec_command.specs.TestPlan.{TestView}
 use Rattle.aec_tool.specs.Outside.{Outside, Said, CannotOpen, CannotCreate, LacksMemory, Stopped, Faulty, Holds, HasTakenNothing, closing, finding}
-use Rattle.aec_tool.specs.Outside.{losing, new_mode, refusing, saying, is_standard, is_read_again, source_bytes, source_id, place_of, is_creatable, AreOneFile}
+use Rattle.aec_tool.specs.Outside.{losing, missing, new_mode, refusing, saying, is_standard, is_read_again, source_bytes, source_id, place_of, is_creatable, AreOneFile}
 
 -- what the engine that the plan asks for has done
 abbrev pub EngineOf : Bool → PlanView → Call → Outcome → Type 0
@@ -24,6 +24,11 @@ EngineOf false p c done = Encodes p.setting c done.report done.fault
 abbrev pub Arrives : Bool → List ℕ → List ℕ → Type 0
 Arrives true written there = there ≡ written
 Arrives false written there = (lost : List ℕ) × (written ≡ there ++ lost)
+
+-- the losses are one more where not all has arrived
+abbrev pub losses_with : Bool → ℕ → ℕ
+losses_with true losses = losses
+losses_with false losses = losses + 1
 
 -- the message at the end: the engine's fault comes first
 abbrev pub last_words : Option Fault → Bool → Option Said
@@ -75,6 +80,17 @@ abbrev pub test_status : Result (Option Bool) Fault → Bool → ℕ
 test_status (Ok more) true = 0
 test_status _ _ = 1
 
+-- Whether a 1 is behind so many bits of these bytes was not found out: the source could not be opened once more, or the look at it stopped.
+abbrev pub LooksInVain : {Source : Type 0} → (Source → ℕ) → List ℕ → Outside → Option Outside → Fault → Type 0
+LooksInVain reads given o new fault = ((new ≡ Some (missing o)) × (fault ≡ Read)) ⊎ ((new ≡ Some o) × StopsLooking reads 0 (Some given) fault)
+
+-- What was found behind so many bits of these bytes, if that was looked for, in a source that was opened once more.
+abbrev pub Looks : {Source : Type 0} → (Source → ℕ) → Bool → ℕ → List ℕ → Outside → Option Outside → Result (Option Bool) Fault → Type 0
+Looks reads false bits given o new found = (new ≡ Some o) × (found ≡ Ok None)
+Looks reads true bits given o new (Ok None) = ⊥
+Looks reads true bits given o new (Ok (Some more)) = (new ≡ Some o) × (more ≡ has_one_behind bits given)
+Looks reads true bits given o new (Err fault) = LooksInVain reads given o new fault
+
 module _ {Source Dest : Type 0} (left : Source → Option (List ℕ)) (reads : Source → ℕ) (taken : Dest → Option Room) (writes : Dest → ℕ) where
   -- The source of the plan's name was read, and what the engine wrote stands at the destination of the plan's name.
   pub record Runs (p : PlanView) (o after : Outside) (status samples : ℕ) : Type 0 where
@@ -96,18 +112,22 @@ module _ {Source Dest : Type 0} (left : Source → Option (List ℕ)) (reads : S
     pub happens : Happens (left opened) (left read) (taken begun) (taken written) call
     pub engine : EngineOf p.decode p call outcome
     pub failures : Fails outcome.fault (reads opened) (reads read) (writes begun) (writes written)
-    -- whether all that was written arrived, and what did
+    -- whether all that was written arrived, as the losses tell, and what did
     pub all : Bool
     pub there : List ℕ
     pub arrives : Arrives all call.written there
-    pub outside : after ≡ record o { destination = Holds (place_of p.dest (new_mode (source_id o p.source))) there; said = last_words outcome.fault all }
+    pub outside : after ≡ record o {
+      destination = Holds (place_of p.dest (new_mode (source_id o p.source))) there;
+      said = last_words outcome.fault all;
+      losses = losses_with all o.losses;
+    }
     pub status_is : status ≡ status_with (last_words outcome.fault all)
     pub samples_are : samples ≡ outcome.report.samples
 
   -- what a test found: the fault of the code, or what is behind the samples that were asked for
-  abbrev pub Judges : TestView → Outside → List ℕ → ℕ → Option Fault → Result (Option Bool) Fault → Type 0
-  Judges p o given bits (Some fault) found = found ≡ Err fault
-  Judges p o given bits None found = Looks reads (is_some p.samples && is_read_again o p.source) bits given found
+  abbrev pub Judges : TestView → Outside → List ℕ → ℕ → Option Fault → Option Outside → Result (Option Bool) Fault → Type 0
+  Judges p o given bits (Some fault) new found = (new ≡ Some o) × (found ≡ Err fault)
+  Judges p o given bits None new found = Looks reads (is_some p.samples && is_read_again o p.source) bits given o new found
 
   -- The source of the plan's name was read, nothing was written, and what was found is told.
   pub record Tests (p : TestView) (o after : Outside) (status samples : ℕ) : Type 0 where
@@ -123,23 +143,25 @@ module _ {Source Dest : Type 0} (left : Source → Option (List ℕ)) (reads : S
     pub decodes : Decodes p.setting p.samples call outcome.report outcome.fault
     pub failures : Fails outcome.fault (reads opened) (reads read) 0 0
     pub found : Result (Option Bool) Fault
-    pub judges : Judges p o given outcome.report.bits outcome.fault found
+    -- what the system tells once that was found
+    pub looked : Outside
+    pub judges : Judges p o given outcome.report.bits outcome.fault (Some looked) found
     -- whether standard output took what was found
     pub told : Bool
-    pub outside : after ≡ tested p.setting outcome.report found told o
+    pub outside : after ≡ tested p.setting outcome.report found told looked
     pub status_is : status ≡ test_status found told
     pub samples_are : samples ≡ outcome.report.samples
 
   -- this was done, and the closing line was written, if it is asked for
-  abbrev pub Closes : Bool → (Outside → ℕ → ℕ → Type 0) → Outside → ℕ → Type 0
-  Closes verbose did after status = (before : Outside) × (samples : ℕ) × did before status samples × (after ≡ closing verbose samples before)
+  abbrev pub Closes : Bool → Bool → (Outside → ℕ → ℕ → Type 0) → Outside → ℕ → Type 0
+  Closes verbose decoded did after status = (before : Outside) × (samples : ℕ) × did before status samples × (after ≡ closing verbose decoded samples before)
 
   -- the destination was written, or why it was not is told
   abbrev pub Ends : Bool → PlanView → Outside → Outside → ℕ → Type 0
-  Ends verbose p o after status = CreatesNothing p o after status ⊎ (WantsMemory o after status ⊎ Closes verbose (Runs p o) after status)
+  Ends verbose p o after status = CreatesNothing p o after status ⊎ (WantsMemory o after status ⊎ Closes verbose p.decode (Runs p o) after status)
 
   abbrev pub Performs : Bool → PlanView → Outside → Outside → ℕ → Type 0
   Performs verbose p o after status = FindsNoSource p.source o after status ⊎ Ends verbose p o after status
 
   abbrev pub PerformsTest : Bool → TestView → Outside → Outside → ℕ → Type 0
-  PerformsTest verbose p o after status = FindsNoSource p.source o after status ⊎ Closes verbose (Tests p o) after status
+  PerformsTest verbose p o after status = FindsNoSource p.source o after status ⊎ Closes verbose true (Tests p o) after status

@@ -109,6 +109,11 @@ impl<'a, 'r, R: Runtime + AllocGlobal> System<'a> for Host<'a, 'r, R> {
         }
     }
 
+    fn reopen(&mut self, name: &str) -> Result<Self::Source, OpenFault> {
+        let (source, _) = self.open(name)?;
+        Ok(source)
+    }
+
     fn find(&self, name: &str) -> Option<FileId> {
         known_id(fs::metadata(self.rt, name))
     }

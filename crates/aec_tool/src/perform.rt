@@ -2,7 +2,7 @@
 ghost use Rattle.std.specs.Prelude.{◌≡◌, ℕ, ◌↔◌, true, false, List, Some, None, IfOk, IsTrue};
 ghost use Rattle.aec_command.specs.Plan.{plan_view};
 ghost use Rattle.aec_tool.specs.Outside.{Outside, Untouched, IsFresh, GivesAll, HasTakenNothing, Opens, Creates, begun, closing, new_mode, saying, said_of, is_standard, source_bytes, source_id, place_of, is_creatable, AreOneFile};
-ghost use Rattle.aec_tool.specs.Performs.{Performs, Ends, Runs, EmptiesSource};
+ghost use Rattle.aec_tool.specs.Performs.{Performs, Ends, Runs, EmptiesSource, last_words, status_with};
 
 use crate::coding::run;
 use crate::exit_status::{FAILURE, exit_status};
@@ -11,7 +11,7 @@ use crate::message::{Message, StartFault};
 use crate::same_file::{FileId, are_one_file, mode_for};
 use crate::system::{CreateFault, OpenFault, System};
 use aec_command::Plan;
-use rice_stream::Fault;
+use rice_stream::{Fault, Outcome};
 
 /// The name of a standard stream.
 pub const STANDARD: &str = "-";
@@ -62,7 +62,7 @@ pub fn write_closing_line<'a, S: System<'a>>(
     done: Done,
 ) -> u8
     ensures closes { (o : Outside) → S.told system.old ≡ Some o →
-        S.told system.new ≡ Some (closing verbose done.samples o) }
+        S.told system.new ≡ Some (closing verbose decode done.samples o) }
     ensures status { result ≡ done.status }
 {
     if verbose {
@@ -171,19 +171,22 @@ fn transfer<'a, S: System<'a>>(
     let mut dest = dest;
     let (outcome, _) = run(plan, source, &mut dest);
     let kept = system.finish(dest);
-    let samples = outcome.report.samples;
+    Done {
+        status: tell_end(system, &outcome, kept.is_ok()),
+        samples: outcome.report.samples,
+    }
+}
+
+/// Writes why not all was done, if so, where `kept` says whether all that was written has arrived. Returns the exit status.
+fn tell_end<'a, S: System<'a>>(system: &mut S, outcome: &Outcome, kept: bool) -> u8
+    requires { (o : Outside) → S.told system.old ≡ Some o → o.said ≡ None }
+    ensures says { (o : Outside) → S.told system.old ≡ Some o →
+        S.told system.new ≡ Some (record o { said = last_words outcome.now.fault kept }) }
+    ensures status { result ≡ status_with (last_words outcome.now.fault kept) }
+{
     match outcome.fault {
-        Some(fault) => Done {
-            status: fail(system, Message::Stopped(fault)),
-            samples,
-        },
-        None if kept.is_err() => Done {
-            status: fail(system, Message::Stopped(Fault::Write)),
-            samples,
-        },
-        None => Done {
-            status: exit_status(&outcome),
-            samples,
-        },
+        Some(fault) => fail(system, Message::Stopped(fault)),
+        None if !kept => fail(system, Message::Stopped(Fault::Write)),
+        None => exit_status(outcome),
     }
 }

@@ -25,7 +25,7 @@ pub enum CreateFault {
 
 /// The files and streams of a system. Contracts see them where the system tells them.
 pub trait System<'a> {
-    ghost use Rattle.aec_tool.specs.Outside.{Outside, StandardOutput, Named, Untouched, Opens, Creates, Finishes, Tells, closing, saying, showing, said_of};
+    ghost use Rattle.aec_tool.specs.Outside.{Outside, StandardOutput, Named, Untouched, Opens, Reopens, Creates, Finishes, Tells, closing, saying, showing, said_of};
 
     type Source: Intake + Drop;
 
@@ -46,6 +46,13 @@ pub trait System<'a> {
         ensures sound { IfOk result (λ r. Self.Source.failed r.0 ≡ 0) }
         ensures opens { (o : Outside) → told self.now ≡ Some o →
             Opens Self.Source.left (o.files name.now) (o.ids name.now) result };
+
+    /// Opens a file once more, to read the same bytes again. It may be gone.
+    fn reopen(&mut self, name: &str) -> Result<Self::Source, OpenFault>
+        ensures sound { IfOk result (λ source. Self.Source.failed source ≡ 0) }
+        ensures silent { told self.old ≡ None → told self.new ≡ None }
+        ensures reopens { (o : Outside) → told self.old ≡ Some o →
+            Reopens Self.Source.left (o.files name.now) o (told self.new) result };
 
     /// Returns which file has a name, where the system knows.
     fn find(&self, name: &str) -> Option<FileId>
@@ -86,12 +93,12 @@ pub trait System<'a> {
     /// Lets the system show how far it has come with a job, on a terminal, and write a line that helps behind a message and at the end.
     fn watch(&self, job: Job<'a>);
 
-    /// Writes the closing line to standard error: so many samples, the bytes in and out, their ratio, and the time. A failure is
-    /// passed over.
+    /// Writes the closing line to standard error: so many samples, the bytes in and out, the ratio of the samples' bytes to the code's,
+    /// and the time. The bytes that were read are the code where it was decoded. A failure is passed over.
     fn write_closing_line(&mut self, decode: bool, samples: u64)
         ensures silent { told self.old ≡ None → told self.new ≡ None }
         ensures closes { (o : Outside) → told self.old ≡ Some o →
-            told self.new ≡ Some (closing true samples o) };
+            told self.new ≡ Some (closing true decode samples o) };
 
     /// Writes what a test found to standard output, as a line.
     fn report(&mut self, it: Finding) -> Result<(), WriteFault>

@@ -1,9 +1,8 @@
 //! The test of a code: it is decoded, and nothing is written.
-ghost use Rattle.std.specs.Prelude.{◌≡◌, ℕ, ◌⊎◌, ◌&&◌, List, Some, is_some};
-ghost use Rattle.aec_tool.specs.OneBehind.{Looks};
+ghost use Rattle.std.specs.Prelude.{◌≡◌, ℕ, ◌⊎◌, ◌&&◌, List, Some, None, is_some};
 ghost use Rattle.aec_command.specs.TestPlan.{test_view};
 ghost use Rattle.aec_tool.specs.Outside.{Outside, IsFresh, GivesAll, Stopped, finding, losing, is_read_again, said_of, saying, source_bytes, source_id};
-ghost use Rattle.aec_tool.specs.Performs.{PerformsTest, Tests, Judges, faulty};
+ghost use Rattle.aec_tool.specs.Performs.{PerformsTest, Tests, Judges, Looks, faulty};
 ghost use Rattle.rice_stream.specs.declared.outcome.Fault.TheVariants as faults;
 
 use crate::exit_status::SUCCESS;
@@ -83,7 +82,8 @@ fn test<'a, S: System<'a>>(
 
 /// Writes what was found to standard output, and returns the exit status.
 fn tell_finding<'a, S: System<'a>>(system: &mut S, it: Finding) -> u8
-    requires fresh { (o : Outside) → S.told system.old ≡ Some o → IsFresh o }
+    requires unsaid { (o : Outside) → S.told system.old ≡ Some o → o.said ≡ None }
+    requires untold { (o : Outside) → S.told system.old ≡ Some o → o.found ≡ None }
     ensures { (o : Outside) → S.told system.old ≡ Some o →
         ((S.told system.new ≡ Some (finding o it)) × (result ≡ 0)) ⊎
         ((S.told system.new ≡ Some (saying (losing o) (Stopped faults.Write))) × (result ≡ 1)) }
@@ -109,17 +109,20 @@ fn at_place<'a>(setting: &Setting, report: &Report, fault: Fault) -> Message<'a>
 
 /// Returns the fault of a code, or whether a 1 is left behind the samples that were asked for, if that is looked for.
 fn judge<'a, S: System<'a>>(
-    system: &S,
+    system: &mut S,
     plan: &TestPlan<'a>,
     id: Option<FileId>,
     outcome: &Outcome,
 ) -> Result<Option<bool>, Fault>
-    requires id { (o : Outside) → S.told system.now ≡ Some o →
+    requires fresh { (o : Outside) → S.told system.old ≡ Some o → IsFresh o }
+    requires id { (o : Outside) → S.told system.old ≡ Some o →
         id ≡ source_id o plan.now.source.now }
-    ensures { (o : Outside) (given : List ℕ) → S.told system.now ≡ Some o →
+    ensures silent { S.told system.old ≡ None → S.told system.new ≡ None }
+    ensures judges { (o : Outside) (given : List ℕ) → S.told system.old ≡ Some o →
         source_bytes o plan.now.source.now ≡ Some given →
         Judges S.Source.left S.Source.failed S.Dest.taken S.Dest.failed
-        (test_view plan.now) o given outcome.now.report.bits outcome.now.fault result }
+        (test_view plan.now) o given outcome.now.report.bits outcome.now.fault
+        (S.told system.new) result }
 {
     match outcome.fault {
         Some(fault) => Err(fault),
@@ -140,23 +143,25 @@ fn is_looked_for(plan: &TestPlan<'_>, id: Option<FileId>) -> bool
 
 /// Returns whether a 1 is left behind the first `bits` bits of the source, if that is looked for.
 fn look_for_one_behind<'a, S: System<'a>>(
-    system: &S,
+    system: &mut S,
     plan: &TestPlan<'a>,
     id: Option<FileId>,
     bits: u64,
 ) -> Result<Option<bool>, Fault>
-    requires id { (o : Outside) → S.told system.now ≡ Some o →
+    requires fresh { (o : Outside) → S.told system.old ≡ Some o → IsFresh o }
+    requires id { (o : Outside) → S.told system.old ≡ Some o →
         id ≡ source_id o plan.now.source.now }
-    ensures { (o : Outside) (given : List ℕ) → S.told system.now ≡ Some o →
+    ensures silent { S.told system.old ≡ None → S.told system.new ≡ None }
+    ensures looks { (o : Outside) (given : List ℕ) → S.told system.old ≡ Some o →
         source_bytes o plan.now.source.now ≡ Some given →
         Looks S.Source.failed (is_some plan.now.samples && is_read_again o plan.now.source.now)
-        bits given result }
+        bits given o (S.told system.new) result }
 {
     if !is_looked_for(plan, id) {
         return Ok(None);
     }
-    let (source, _) = match open(system, plan.source) {
-        Ok(opened) => opened,
+    let source = match system.reopen(plan.source) {
+        Ok(source) => source,
         Err(_) => return Err(Fault::Read),
     };
     let more = look_behind(source, bits)?;

@@ -112,6 +112,17 @@ fn tells_that_what_was_found_was_not_written(rt: HostRuntime) -> Result<(), Fail
     expect_each(rt, FINDING)
 }
 
+// The code has 59 bits, and zeros behind them. Where a file is gone, nobody can tell what is behind.
+const GONE: &str =
+    r#"-Nn7 --test --samples 8 in.bin | code | 100 | 0, 0 files, "8 samples, 59 bits; no 1 is left\n", "", ""
+    -Nn7 --test --samples 8 once.bin | code | 100 | 1, 0 files, "", "", "aec: read failed (block 1, bit 58, byte 7 of the code)\n"
+    -Nn7 --test once.bin | code | 100 | 0, 0 files, "8 samples, 64 bits\n", "", """#;
+
+#[test]
+fn tells_that_a_file_can_not_be_opened_once_more(rt: HostRuntime) -> Result<(), Fail> {
+    expect_each(rt, GONE)
+}
+
 const CLOSING: &str =
     r#"--verbose - - | equal | 100 | 0, 0 files, "\0T", "", "aec: 16 samples, 16 bytes in, 2 bytes out, ratio 8.00\n"
     --verbose - - | nothing | 100 | 0, 0 files, "", "", "aec: 0 samples, 0 bytes in, 0 bytes out\n""#;

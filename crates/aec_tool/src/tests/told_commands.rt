@@ -60,3 +60,45 @@ fn tells_what_a_test_found(rt: HostRuntime) -> Result<(), Fail> {
     }
     Err(Fail::new(format_args!("{status}, {:?}", system.found)))
 }
+
+#[test]
+fn tells_that_the_source_of_a_test_is_gone(rt: HostRuntime) -> Result<(), Fail> {
+    let mut system = Told::new(rt.alloc(), b"", "in", CODE, "locked");
+    system.opens_once = true;
+    let status = start_on(&mut system, rt.alloc(), TEST);
+    let said = match system.said {
+        Some(message) => message.to_string(rt.alloc())?,
+        None => String::new(rt.alloc()),
+    };
+    let wanted = "read failed (block 1, bit 12, byte 1 of the code)";
+    if said.as_str() == wanted && system.missed && system.found.is_none() && status == 1 {
+        return Ok(());
+    }
+    Err(Fail::new(format_args!("{status}, {said}, {:?}", system.found)))
+}
+
+#[test]
+fn closes_with_the_side_of_the_code(rt: HostRuntime) -> Result<(), Fail> {
+    // The words, and whether a code is read.
+    let cases: [(&[&str], &[u8], bool); 3] = [
+        (&["aec", "--verbose", "in", "out"], SAMPLES, false),
+        (
+            &["aec", "-d", "--samples", "8", "--verbose", "in", "out"],
+            CODE,
+            true,
+        ),
+        (
+            &["aec", "--test", "--samples", "8", "--verbose", "in"],
+            CODE,
+            true,
+        ),
+    ];
+    for (words, file, decode) in cases {
+        let mut system = Told::new(rt.alloc(), b"", "in", file, "locked");
+        let status = start_on(&mut system, rt.alloc(), words);
+        if system.closed != Some((decode, 8)) || status != 0 {
+            return Err(Fail::new(format_args!("{status}, {:?}", system.closed)));
+        }
+    }
+    Ok(())
+}

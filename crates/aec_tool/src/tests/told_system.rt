@@ -1,5 +1,5 @@
 //! A system in memory that tells all that it holds.
-ghost use Rattle.std.specs.Prelude.{◌≡◌, None, Some, true, if◌then◌else◌, not, option_map};
+ghost use Rattle.std.specs.Prelude.{◌≡◌, None, Some, true, false, if◌then◌else◌, not, option_map};
 ghost use Rattle.std.specs.Str.{bytes_eq};
 ghost use Rattle.rice_bits.specs.device.OutletRoom.{known};
 
@@ -62,7 +62,10 @@ pub struct Told<'a> {
     pub said: Option<Message<'a>>,
     pub shown: Option<ErrorKind>,
     pub found: Option<Finding>,
-    pub closed: Option<u64>,
+    pub closed: Option<(bool, u64)>,
+    // Whether the file can be opened only once, and whether that was found out.
+    pub opens_once: bool,
+    pub missed: bool,
 }
 
 impl<'a> Told<'a> {
@@ -77,6 +80,7 @@ impl<'a> Told<'a> {
         ensures said { result.said ≡ None }
         ensures shown { result.shown ≡ None }
         ensures found { result.found ≡ None }
+        ensures missed { result.missed ≡ false }
     {
         Told {
             alloc,
@@ -90,6 +94,8 @@ impl<'a> Told<'a> {
             shown: None,
             found: None,
             closed: None,
+            opens_once: false,
+            missed: false,
         }
     }
 }
@@ -114,6 +120,7 @@ impl<'a> System<'a> for Told<'a> {
       closed = s.closed;
       losses = 0;
       refusals = 0;
+      missed = s.missed;
     }) };
 
     fn input(&self) -> (SliceIn<'a>, Option<FileId>) {
@@ -124,6 +131,14 @@ impl<'a> System<'a> for Told<'a> {
         if name == self.name {
             return Ok((SliceIn::new(self.file), Some(ID)));
         }
+        Err(OpenFault)
+    }
+
+    fn reopen(&mut self, name: &str) -> Result<SliceIn<'a>, OpenFault> {
+        if !self.opens_once && name == self.name {
+            return Ok(SliceIn::new(self.file));
+        }
+        self.missed = true;
         Err(OpenFault)
     }
 
@@ -166,8 +181,8 @@ impl<'a> System<'a> for Told<'a> {
 
     fn watch(&self, _job: Job<'a>) {}
 
-    fn write_closing_line(&mut self, _decode: bool, samples: u64) {
-        self.closed = Some(samples);
+    fn write_closing_line(&mut self, decode: bool, samples: u64) {
+        self.closed = Some((decode, samples));
     }
 
     fn report(&mut self, it: Finding) -> Result<(), WriteFault> {

@@ -38,7 +38,7 @@ returns-in-Ok g c = λ o told.
     let mode : c.mode_for.result ≡ new_mode (source_id o c.args.plan.now.source.now) = c.mode_for.ensures ∙ ap new_mode (c.requires.id o told) in
     let ran = c.transfer-done.ensures o all.0 (begun_with _ o c.args.plan.now.dest.now c.mode_for.result (new_mode (source_id o c.args.plan.now.source.now)) made.0 mode) all.1 all.2 keeps made.1 in
     let status = sym c.write_closing_line.ensures.status in (
-      closing c.args.verbose c.transfer-done.result.samples ran.0,
+      closing c.args.verbose c.args.plan.now.decode c.transfer-done.result.samples ran.0,
       c.write_closing_line.ensures.closes ran.0 ran.1,
       inr (
           inr (

@@ -1,5 +1,5 @@
 use Rattle.std.proofs.lemmas.Grind.{common_steps}
-use Rattle.std.proofs.Common.{arith, inr, refl, subst, sym}
+use Rattle.std.proofs.Common.{arith, true, inr, refl, subst, sym}
 use Rattle.aec_command.specs.TestPlan.{test_view}
 use Rattle.aec_tool.specs.Outside.{closing}
 use Rattle.aec_tool.specs.Performs.{Tests}
@@ -13,7 +13,7 @@ returns-in-Ok g c = λ o told.
     let ran = c.test-done.ensures o told in
     let tests = subst (λ n. Tests g.S.Source.Intake.left g.S.Source.Intake.failed g.S.Dest.Outlet.taken g.S.Dest.Outlet.failed p o ran.0 n done.samples)
     (sym c.write_closing_line.ensures.status) ran.2 in
-    (closing c.args.verbose done.samples ran.0, c.write_closing_line.ensures.closes ran.0 ran.1, inr (ran.0, done.samples, tests, refl))
+    (closing c.args.verbose true done.samples ran.0, c.write_closing_line.ensures.closes ran.0 ran.1, inr (ran.0, done.samples, tests, refl))
 
 pub returns-in-Err : goal.returns-in-Err
 returns-in-Err g c = grind (arith, common_steps)
