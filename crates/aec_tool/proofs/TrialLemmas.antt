@@ -12,13 +12,13 @@ use Rattle.aec_tool.specs.Performs.{Judges, Looks, Tests, test_status, tested}
 use Rattle.aec_tool.proofs.OutsideLemmas.{IsOpened}
 
 -- what a system tells after a look
-looked_of : {Source : Type 0} (reads : Source → ℕ) (wanted : Bool) (bits : ℕ) (given : List ℕ) (o : Outside) (new : Option Outside) (found : Result (Option Bool) Fault)
-    → Looks reads wanted bits given o new found → IsFresh o → (looked : Outside) × (new ≡ Some looked) × (looked.said ≡ None) × (looked.found ≡ None)
-looked_of reads false bits given o new found looks fresh = (o, looks.0, fresh.said, fresh.found)
-looked_of reads true bits given o new (Ok None) looks fresh = absurd looks
-looked_of reads true bits given o new (Ok (Some more)) looks fresh = (o, looks.0, fresh.said, fresh.found)
-looked_of reads true bits given o new (Err fault) looks fresh = elim looks [
-  | inl missed ↦ (missing o, missed.0, fresh.said, fresh.found)
+looked_of : {Source : Type 0} (reads : Source → ℕ) (wanted : Bool) (bits : ℕ) (source given : List ℕ) (o : Outside) (new : Option Outside) (found : Result (Option Bool) Fault)
+    → Looks reads wanted bits source given o new found → IsFresh o → (looked : Outside) × (new ≡ Some looked) × (looked.said ≡ None) × (looked.found ≡ None)
+looked_of reads false bits source given o new found looks fresh = (o, looks.0, fresh.said, fresh.found)
+looked_of reads true bits source given o new (Ok None) looks fresh = absurd looks
+looked_of reads true bits source given o new (Ok (Some more)) looks fresh = (o, looks.0, fresh.said, fresh.found)
+looked_of reads true bits source given o new (Err fault) looks fresh = elim looks [
+  | inl missed ↦ (missing source o, missed.0, fresh.said, fresh.found)
   | inr stopped ↦ (o, stopped.0, fresh.said, fresh.found)
 ]
 
@@ -28,7 +28,7 @@ pub judged_of : {Source Dest : Type 0} (left : Source → Option (List ℕ)) (re
     → Judges left reads taken writes p o given bits fault new found → IsFresh o → (looked : Outside) × (new ≡ Some looked) × (looked.said ≡ None) × (looked.found ≡ None)
 judged_of left reads taken writes p o given bits (Some fault) new found judges fresh = (o, judges.0, fresh.said, fresh.found)
 judged_of left reads taken writes p o given bits None new found judges fresh =
-    looked_of reads (is_some p.samples && is_read_again o p.source) bits given o new found judges fresh
+    looked_of reads (is_some p.samples && is_read_again o p.source) bits p.source given o new found judges fresh
 
 -- The source was decoded, and what was found is told.
 pub tests_of : {Source Dest : Type 0} {left : Source → Option (List ℕ)} {reads : Source → ℕ} {taken : Dest → Option Room} {writes : Dest → ℕ}

@@ -1,5 +1,6 @@
--- What contracts of the command cite: its words, its plan, what it does, and the system outside.
+-- What contracts of the command cite: its words, its plan, what it does, the system outside, and its streams.
 pub mod OneBehind
 pub mod Outside
 pub mod Performs
+pub mod Streams
 pub mod WholeCommand

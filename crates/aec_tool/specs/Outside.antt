@@ -76,8 +76,8 @@ pub record Outside : Type 0 where
   pub losses : ℕ
   -- how many requests for memory were refused
   pub refusals : ℕ
-  -- a file could not be opened once more
-  pub missed : Bool
+  -- the file that could not be opened once more, if there was one
+  pub missed : Option (List ℕ)
 
 -- the command has done nothing yet
 pub record IsFresh (o : Outside) : Type 0 where
@@ -85,7 +85,7 @@ pub record IsFresh (o : Outside) : Type 0 where
   pub said : o.said ≡ None
   pub shown : o.shown ≡ None
   pub found : o.found ≡ None
-  pub missed : o.missed ≡ false
+  pub missed : o.missed ≡ None
 
 -- what a source gives is told, and it is these bytes
 abbrev pub GivesAll : Option (List ℕ) → Option (List ℕ) → Type 0
@@ -125,8 +125,8 @@ losing o = record o { losses = o.losses + 1 }
 abbrev pub refusing : Outside → Outside
 refusing o = record o { refusals = o.refusals + 1 }
 
-abbrev pub missing : Outside → Outside
-missing o = record o { missed = true }
+abbrev pub missing : List ℕ → Outside → Outside
+missing name o = record o { missed = Some name }
 
 -- the name of a standard stream
 abbrev pub is_standard : List ℕ → Bool
@@ -168,10 +168,10 @@ abbrev pub Opens : {Source : Type 0} → (Source → Option (List ℕ)) → Opti
 Opens left bytes id (Ok opened) = GivesAll bytes (left opened.0) × (opened.1 ≡ id)
 Opens left bytes id (Err _) = bytes ≡ None
 
--- A file with these bytes was opened once more, or it could not be.
-abbrev pub Reopens : {Source : Type 0} → (Source → Option (List ℕ)) → Option (List ℕ) → Outside → Option Outside → Result Source OpenFault → Type 0
-Reopens left bytes o new (Ok source) = (new ≡ Some o) × GivesAll bytes (left source)
-Reopens left bytes o new (Err _) = new ≡ Some (missing o)
+-- The file of a name was opened once more, or it could not be.
+abbrev pub Reopens : {Source : Type 0} → (Source → Option (List ℕ)) → List ℕ → Outside → Option Outside → Result Source OpenFault → Type 0
+Reopens left name o new (Ok source) = (new ≡ Some o) × GivesAll (o.files name) (left source)
+Reopens left name o new (Err _) = new ≡ Some (missing name o)
 
 -- A destination was begun at this place, or there is no memory for it, or it can't be created.
 abbrev pub Creates : {Dest : Type 0} → (Dest → Option Room) → Place → Bool → Outside → Option Outside → Result Dest CreateFault → Type 0

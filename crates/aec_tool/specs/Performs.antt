@@ -81,15 +81,15 @@ test_status (Ok more) true = 0
 test_status _ _ = 1
 
 -- Whether a 1 is behind so many bits of these bytes was not found out: the source could not be opened once more, or the look at it stopped.
-abbrev pub LooksInVain : {Source : Type 0} → (Source → ℕ) → List ℕ → Outside → Option Outside → Fault → Type 0
-LooksInVain reads given o new fault = ((new ≡ Some (missing o)) × (fault ≡ Read)) ⊎ ((new ≡ Some o) × StopsLooking reads 0 (Some given) fault)
+abbrev pub LooksInVain : {Source : Type 0} → (Source → ℕ) → List ℕ → List ℕ → Outside → Option Outside → Fault → Type 0
+LooksInVain reads source given o new fault = ((new ≡ Some (missing source o)) × (fault ≡ Read)) ⊎ ((new ≡ Some o) × StopsLooking reads 0 (Some given) fault)
 
--- What was found behind so many bits of these bytes, if that was looked for, in a source that was opened once more.
-abbrev pub Looks : {Source : Type 0} → (Source → ℕ) → Bool → ℕ → List ℕ → Outside → Option Outside → Result (Option Bool) Fault → Type 0
-Looks reads false bits given o new found = (new ≡ Some o) × (found ≡ Ok None)
-Looks reads true bits given o new (Ok None) = ⊥
-Looks reads true bits given o new (Ok (Some more)) = (new ≡ Some o) × (more ≡ has_one_behind bits given)
-Looks reads true bits given o new (Err fault) = LooksInVain reads given o new fault
+-- What was found behind so many bits of the bytes of a source, if that was looked for, once it was opened once more.
+abbrev pub Looks : {Source : Type 0} → (Source → ℕ) → Bool → ℕ → List ℕ → List ℕ → Outside → Option Outside → Result (Option Bool) Fault → Type 0
+Looks reads false bits source given o new found = (new ≡ Some o) × (found ≡ Ok None)
+Looks reads true bits source given o new (Ok None) = ⊥
+Looks reads true bits source given o new (Ok (Some more)) = (new ≡ Some o) × (more ≡ has_one_behind bits given)
+Looks reads true bits source given o new (Err fault) = LooksInVain reads source given o new fault
 
 module _ {Source Dest : Type 0} (left : Source → Option (List ℕ)) (reads : Source → ℕ) (taken : Dest → Option Room) (writes : Dest → ℕ) where
   -- The source of the plan's name was read, and what the engine wrote stands at the destination of the plan's name.
@@ -127,7 +127,7 @@ module _ {Source Dest : Type 0} (left : Source → Option (List ℕ)) (reads : S
   -- what a test found: the fault of the code, or what is behind the samples that were asked for
   abbrev pub Judges : TestView → Outside → List ℕ → ℕ → Option Fault → Option Outside → Result (Option Bool) Fault → Type 0
   Judges p o given bits (Some fault) new found = (new ≡ Some o) × (found ≡ Err fault)
-  Judges p o given bits None new found = Looks reads (is_some p.samples && is_read_again o p.source) bits given o new found
+  Judges p o given bits None new found = Looks reads (is_some p.samples && is_read_again o p.source) bits p.source given o new found
 
   -- The source of the plan's name was read, nothing was written, and what was found is told.
   pub record Tests (p : TestView) (o after : Outside) (status samples : ℕ) : Type 0 where

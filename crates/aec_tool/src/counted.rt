@@ -30,6 +30,8 @@ impl<'r, R, T: Drop> Counted<'r, R, T> {
 }
 
 impl<R: Clock + Eprint, T: Read> Read for Counted<'_, R, T> {
+    ghost remaining = { λ s. T.remaining s.inner };
+
     fn read(&mut self, buf: &mut [u8]) -> io::Result<usize> {
         match self.inner.read(buf) {
             Ok(count) => {
@@ -45,6 +47,8 @@ impl<R: Clock + Eprint, T: Read> Read for Counted<'_, R, T> {
 }
 
 impl<R, T: Write> Write for Counted<'_, R, T> {
+    ghost contents = { λ s. T.contents s.inner };
+
     fn write(&mut self, buf: &[u8]) -> io::Result<usize> {
         match self.inner.write(buf) {
             Ok(count) => {

@@ -18,6 +18,10 @@ impl<O: Drop, F: Drop> Sink<O, F> {
 }
 
 impl<O: Write, F: Write> Write for Sink<O, F> {
+    ghost use Rattle.aec_tool.specs.Streams.{sink_contents};
+
+    ghost contents = { sink_contents O.contents F.contents };
+
     fn write(&mut self, buf: &[u8]) -> io::Result<usize> {
         match self {
             Sink::Pending => Err(io::Error::from(ErrorKind::NotFound)),

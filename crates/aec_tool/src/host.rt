@@ -109,7 +109,7 @@ impl<'a, 'r, R: Runtime + AllocGlobal> System<'a> for Host<'a, 'r, R> {
         }
     }
 
-    fn reopen(&mut self, name: &str) -> Result<Self::Source, OpenFault> {
+    fn reopen(&mut self, name: &'a str) -> Result<Self::Source, OpenFault> {
         let (source, _) = self.open(name)?;
         Ok(source)
     }

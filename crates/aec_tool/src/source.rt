@@ -10,6 +10,10 @@ pub enum Stream<I, F> {
 }
 
 impl<I: Read, F: Read> Read for Stream<I, F> {
+    ghost use Rattle.aec_tool.specs.Streams.{stream_remaining};
+
+    ghost remaining = { stream_remaining I.remaining F.remaining };
+
     fn read(&mut self, buf: &mut [u8]) -> io::Result<usize> {
         match self {
             Stream::Input(input) => input.read(buf),

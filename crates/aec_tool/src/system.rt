@@ -48,11 +48,11 @@ pub trait System<'a> {
             Opens Self.Source.left (o.files name.now) (o.ids name.now) result };
 
     /// Opens a file once more, to read the same bytes again. It may be gone.
-    fn reopen(&mut self, name: &str) -> Result<Self::Source, OpenFault>
+    fn reopen(&mut self, name: &'a str) -> Result<Self::Source, OpenFault>
         ensures sound { IfOk result (λ source. Self.Source.failed source ≡ 0) }
         ensures silent { told self.old ≡ None → told self.new ≡ None }
         ensures reopens { (o : Outside) → told self.old ≡ Some o →
-            Reopens Self.Source.left (o.files name.now) o (told self.new) result };
+            Reopens Self.Source.left name.entry.now o (told self.new) result };
 
     /// Returns which file has a name, where the system knows.
     fn find(&self, name: &str) -> Option<FileId>

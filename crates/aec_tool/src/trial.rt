@@ -155,7 +155,7 @@ fn look_for_one_behind<'a, S: System<'a>>(
     ensures looks { (o : Outside) (given : List ℕ) → S.told system.old ≡ Some o →
         source_bytes o plan.now.source.now ≡ Some given →
         Looks S.Source.failed (is_some plan.now.samples && is_read_again o plan.now.source.now)
-        bits given o (S.told system.new) result }
+        bits plan.now.source.now given o (S.told system.new) result }
 {
     if !is_looked_for(plan, id) {
         return Ok(None);

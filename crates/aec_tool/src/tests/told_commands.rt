@@ -71,7 +71,11 @@ fn tells_that_the_source_of_a_test_is_gone(rt: HostRuntime) -> Result<(), Fail> 
         None => String::new(rt.alloc()),
     };
     let wanted = "read failed (block 1, bit 12, byte 1 of the code)";
-    if said.as_str() == wanted && system.missed && system.found.is_none() && status == 1 {
+    if said.as_str() == wanted
+        && system.missed == Some("in")
+        && system.found.is_none()
+        && status == 1
+    {
         return Ok(());
     }
     Err(Fail::new(format_args!("{status}, {said}, {:?}", system.found)))

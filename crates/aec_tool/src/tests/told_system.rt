@@ -1,5 +1,5 @@
 //! A system in memory that tells all that it holds.
-ghost use Rattle.std.specs.Prelude.{◌≡◌, None, Some, true, false, if◌then◌else◌, not, option_map};
+ghost use Rattle.std.specs.Prelude.{◌≡◌, None, Some, true, if◌then◌else◌, not, option_map};
 ghost use Rattle.std.specs.Str.{bytes_eq};
 ghost use Rattle.rice_bits.specs.device.OutletRoom.{known};
 
@@ -63,9 +63,9 @@ pub struct Told<'a> {
     pub shown: Option<ErrorKind>,
     pub found: Option<Finding>,
     pub closed: Option<(bool, u64)>,
-    // Whether the file can be opened only once, and whether that was found out.
+    // Whether the file can be opened only once, and the name that could not be opened once more.
     pub opens_once: bool,
-    pub missed: bool,
+    pub missed: Option<&'a str>,
 }
 
 impl<'a> Told<'a> {
@@ -80,7 +80,7 @@ impl<'a> Told<'a> {
         ensures said { result.said ≡ None }
         ensures shown { result.shown ≡ None }
         ensures found { result.found ≡ None }
-        ensures missed { result.missed ≡ false }
+        ensures missed { result.missed ≡ None }
     {
         Told {
             alloc,
@@ -95,7 +95,7 @@ impl<'a> Told<'a> {
             found: None,
             closed: None,
             opens_once: false,
-            missed: false,
+            missed: None,
         }
     }
 }
@@ -120,7 +120,7 @@ impl<'a> System<'a> for Told<'a> {
       closed = s.closed;
       losses = 0;
       refusals = 0;
-      missed = s.missed;
+      missed = option_map (λ name. name.now) s.missed;
     }) };
 
     fn input(&self) -> (SliceIn<'a>, Option<FileId>) {
@@ -134,11 +134,11 @@ impl<'a> System<'a> for Told<'a> {
         Err(OpenFault)
     }
 
-    fn reopen(&mut self, name: &str) -> Result<SliceIn<'a>, OpenFault> {
+    fn reopen(&mut self, name: &'a str) -> Result<SliceIn<'a>, OpenFault> {
         if !self.opens_once && name == self.name {
             return Ok(SliceIn::new(self.file));
         }
-        self.missed = true;
+        self.missed = Some(name);
         Err(OpenFault)
     }
 
