@@ -53,6 +53,8 @@ FLUSH = """\
         }
 """
 FLUSH_UNSEEN = "        let _ = dest.into_inner().flush();\n        Ok(())\n"
+REOPEN = "        let (source, _) = self.open(name)?;\n        Ok(source)\n"
+FAIL_REOPEN = "        Err(OpenFault)\n"
 
 # The bodies that are wrong in one copy, with the crate of the tests: of each what is wrong, the file, the body as it stands, the wrong
 # one, and a test that refuses it. Each of these tests refuses one of them alone.
@@ -65,7 +67,10 @@ WRONG = [
     ("rice_base_tests", [("FromReader tries again", WRAP, READ, READ_TWICE, "bits::devices_over_readers")]),
     ("aec_tool", [("Host opens the root", HOST, "open_to_read(self.rt, name)", 'open_to_read(self.rt, "/")', "tests::commands::reads_and_writes_files")]),
     ("aec_tool", [("Host creates no file", HOST, "options.open(self.rt, name)", "File::open(self.rt, name)", "tests::commands::reads_and_writes_files")]),
-    ("aec_tool", [("Host passes over a failed flush", HOST, FLUSH, FLUSH_UNSEEN, "tests::commands::tells_that_the_flush_failed")]),
+    ("aec_tool", [
+        ("Host passes over a failed flush", HOST, FLUSH, FLUSH_UNSEEN, "tests::commands::tells_that_the_flush_failed"),
+        ("Host opens no file once more", HOST, REOPEN, FAIL_REOPEN, "tests::commands::tells_that_a_file_can_not_be_opened_once_more"),
+    ]),
 ]
 
 
