@@ -1,5 +1,5 @@
 //! Calls of a reader for the fast decoder: what waits is looked at, and taken together.
-ghost use Rattle.std.specs.Prelude.{◌≡◌, ◌+◌, ◌-◌, ◌*◌, ◌%◌, ◌^◌, ◌<◌, ◌≤◌, true, false, length, All, drop, flat_map, take, IfSome, Option, None};
+ghost use Rattle.std.specs.Prelude.{◌≡◌, ◌+◌, ◌-◌, ◌*◌, ◌^◌, ◌<◌, ◌≤◌, length, All, drop, flat_map, take, IfSome, Option, None};
 ghost use Rattle.rice_bits.specs.Limits.{step_limit, most_bits_read};
 ghost use Rattle.rice_bits.specs.Bits.{fundamental_sequence, word};
 ghost use Rattle.rice_bits.specs.fast.lanes.Sequences.{BeginWithSequences};

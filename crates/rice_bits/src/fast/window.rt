@@ -1,5 +1,5 @@
 //! Calls of a window for the fast decoder: words and sequences that wait together.
-ghost use Rattle.std.specs.Prelude.{◌≡◌, ◌+◌, ◌-◌, ◌*◌, ◌%◌, ◌^◌, ◌<◌, ◌≤◌, false, true, flat_map, length, take, drop, All, IfSome};
+ghost use Rattle.std.specs.Prelude.{◌≡◌, ◌+◌, ◌-◌, ◌*◌, ◌^◌, ◌<◌, ◌≤◌, flat_map, length, take, drop, All, IfSome};
 ghost use Rattle.rice_bits.specs.Bits.{fundamental_sequence, word};
 ghost use Rattle.rice_bits.specs.fast.lanes.Sequences.{BeginWithSequences};
 

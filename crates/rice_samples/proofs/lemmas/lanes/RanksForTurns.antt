@@ -1,5 +1,6 @@
 -- What is computed of ranks in lanes before their numbers are found one after another.
-use Rattle.std.proofs.Common.{◌≡◌, ℕ, zero, suc, ◌+◌, ◌-◌, ◌/◌, ◌%◌, ◌^◌, ◌<◌, ◌≤◌, if◌then◌else◌, List, [], ◌∷◌, ◌++◌, ◌∙◌, ◌*◌, map, length, take, drop, get_or, refl, subst, sym, ap, arith, All, nat_lt}
+use Rattle.std.proofs.Common.{◌≡◌, ℕ, zero, suc, ◌+◌, ◌-◌, ◌/◌, ◌%◌, ◌^◌, ◌<◌, ◌≤◌, if◌then◌else◌, List, [], ◌∷◌}
+use Rattle.std.proofs.Common.{◌++◌, ◌∙◌, ◌*◌, map, length, take, drop, get_or, refl, subst, sym, ap, arith, All, nat_lt}
 use Rattle.std.specs.Prelude.{replicate, bit_and}
 use Rattle.std.specs.Simd.Lanes.{zip2}
 use Rattle.std.proofs.lemmas.Bool.Decides.{nat_tests}
@@ -54,6 +55,7 @@ made f xs i h e is from = is ∙ (ap (λ ys. get_or ys i 0) e ∙ (get_or-map f 
 way_is : (m d : ℕ) → d < 2 * m → 2 * m ≤ 2 ^ 32 → (if nat_lt (way (2 * m) d) m then way (2 * m) d else way (2 * m) d + (2 ^ 32 - 2 * m)) ≡ way (2 ^ 32) d
 way_is m d small most = grind (arith, nat_tests)
 
+-- so it is for any number of bits up to 32
 pub way_widened : (k d : ℕ) → 1 < 2 ^ k → k ≤ 32 → d < 2 ^ k → (if nat_lt (way (2 ^ k) d) (2 ^ (k - 1)) then way (2 ^ k) d else way (2 ^ k) d + (2 ^ 32 - 2 ^ k)) ≡ way (2 ^ 32) d
 way_widened zero d some few small = absurd (omega arith)
 way_widened (suc k) d some few small =
@@ -79,5 +81,6 @@ repeated g p n last ranks first within is ranked none =
     ranks_below-append (g + 1) p first (replicate n last)
     ∙ ((λ j. ranked j ++ (ap (λ q. ranks_below (g + 1) q (replicate n last)) (sym is) ∙ (none_away (g + 1) last n (omega arith) ∙ sym none)) j) ∙ take-append-drop 8 ranks)
 
+-- where the last of some numbers is repeated, all of them stay as small
 pub repeated_fit : (g n last : ℕ) (first : List ℕ) → last ≤ g → All (λ x. x ≤ g) first → All (λ x. x ≤ g) (first ++ replicate n last)
 repeated_fit g n last first within fit = All-append (λ x. x ≤ g) first (replicate n last) fit (λ i d lt. rw (get_or-replicate n i last d (omega (arith, lt, length-replicate n last))) within)

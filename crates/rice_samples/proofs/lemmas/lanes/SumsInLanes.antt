@@ -43,7 +43,8 @@ joined m a b s t w h k e =
 doubled : (m n k : ℕ) (xs ys : List ℕ) → Windows m n k xs ys → Windows m n (k + k) xs (with_those_before m n k ys)
 doubled m n k xs ys h = record {
   len = length-zip2 (λ a b. (a + b) % m) ys zs (h.len ∙ sym len) ∙ h.len;
-  sums = λ i lt. ap (λ z. z % m) (get_or-zip2 (λ a b. (a + b) % m) ys zs i 0 0 0 (omega (arith, h.len)) (omega (arith, len))) ∙ (ap (λ z. (get_or ys i 0 + z) % m % m) (get_or-take n moved i 0 lt) ∙ each i lt);
+  sums = λ i lt. ap (λ z. z % m) (get_or-zip2 (λ a b. (a + b) % m) ys zs i 0 0 0 (omega (arith, h.len)) (omega (arith, len))) ∙
+      (ap (λ z. (get_or ys i 0 + z) % m % m) (get_or-take n moved i 0 lt) ∙ each i lt);
 }
   where
     moved : List ℕ

@@ -17,5 +17,6 @@ returns-clause-ends c =
     let front = take (c.args.found + 1) c.args.ends.now in
     lanes-behind c.args.ends.now lanes c.args.found c.count_ones_of_byte.result (length-zip2 added c.row_of_byte_at.result (replicate 8 c.args.before) row
     ∙ row) c.count_ones_of_byte.ensures.few c.requires.room
-    ∙ ap (λ z. front ++ z) (ap (λ n. take n lanes) same ∙ (ap (λ row. take (length (ends_after c.args.before (word 8 c.args.byte))) (zip2 added row (replicate 8 c.args.before))) c.row_of_byte_at.ensures
+    ∙ ap (λ z. front ++ z) (ap (λ n. take n lanes) same ∙ (ap (λ row. take (length (ends_after c.args.before (word 8 c.args.byte)))
+    (zip2 added row (replicate 8 c.args.before))) c.row_of_byte_at.ensures
     ∙ ends-lanes c.args.byte c.args.before c.requires.before))

@@ -25,4 +25,5 @@ returns-else-end-levels c =
     let levels = c.args.levels.now in
     let ranks = c.write_ranks-end in
     let above : c.number_of_values.result - 1 + 1 ≡ count = omega (arith, c.number_of_values.ensures.value, c.number_of_values.ensures.range) in
-    all_ranked count c.args.p ranks.result levels ranks.new.residuals ranks.ensures.len (omega (arith, c.if-end-levels.false)) (first_ranked (c.number_of_values.result - 1) c.args.p ranks.result levels ranks.new.residuals above ranks.ensures.value)
+    all_ranked count c.args.p ranks.result levels ranks.new.residuals ranks.ensures.len (omega (arith, c.if-end-levels.false))
+    (first_ranked (c.number_of_values.result - 1) c.args.p ranks.result levels ranks.new.residuals above ranks.ensures.value)

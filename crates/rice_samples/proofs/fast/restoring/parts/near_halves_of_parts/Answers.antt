@@ -35,8 +35,10 @@ returns c =
     let last = c.last-last in
     let inside : last.result ≤ greatest = let l = small 7 0 (omega (arith, first.len)) in omega (arith, l, last.ensures) in
     let bytes = all_fit a.highs c.fits-highs.1 in
-    let front = c.join_parts-first_ranks.ensures (subst (All (λ m. m ≤ (2 ^ 16 - 1) / 2 ^ a.width)) (sym c.first_eight_widened.ensures) (bytes_raised 16 a.width (take 8 a.highs) (omega (arith, c.requires.width)) (All-take (λ m. m < 256) 8 a.highs bytes))) in
-    let back = c.join_parts-second_ranks.ensures (subst (All (λ m. m ≤ (2 ^ 16 - 1) / 2 ^ a.width)) (sym c.last_eight_widened.ensures) (bytes_raised 16 a.width (drop 8 a.highs) (omega (arith, c.requires.width)) (All-drop (λ m. m < 256) 8 a.highs bytes))) in
+    let front = c.join_parts-first_ranks.ensures (subst (All (λ m. m ≤ (2 ^ 16 - 1) / 2 ^ a.width)) (sym c.first_eight_widened.ensures)
+    (bytes_raised 16 a.width (take 8 a.highs) (omega (arith, c.requires.width)) (All-take (λ m. m < 256) 8 a.highs bytes))) in
+    let back = c.join_parts-second_ranks.ensures (subst (All (λ m. m ≤ (2 ^ 16 - 1) / 2 ^ a.width)) (sym c.last_eight_widened.ensures)
+    (bytes_raised 16 a.width (drop 8 a.highs) (omega (arith, c.requires.width)) (All-drop (λ m. m < 256) 8 a.highs bytes))) in
     halves_are greatest first.lanes second.lanes count (record {
       highs_are = c.requires.len.0;
       lows_are = c.requires.len.1;

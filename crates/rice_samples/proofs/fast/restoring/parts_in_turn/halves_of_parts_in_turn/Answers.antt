@@ -25,12 +25,14 @@ large {g} ds {over} len is bound none = none_above 8 g ds over (is ∙ ap (zip2 
 
 pub halves_in_turn-first-requires-clause-ranks : goal.halves_in_turn-first-requires-clause-ranks
 halves_in_turn-first-requires-clause-ranks c =
-    let none = both_zeros 8 c.above-first_large.result.lanes c.above-second_large.result.lanes c.above-first_large.result.len c.above-second_large.result.len c.or.ensures (c.if-not-is_zero.ensures refl) in
+    let none = both_zeros 8 c.above-first_large.result.lanes c.above-second_large.result.lanes c.above-first_large.result.len c.above-second_large.result.len c.or.ensures
+    (c.if-not-is_zero.ensures refl) in
     large c.join_parts-first_ranks.result.lanes c.join_parts-first_ranks.result.len c.above-first_large.ensures c.splat.ensures none.0
 
 pub halves_in_turn-second-requires-clause-ranks : goal.halves_in_turn-second-requires-clause-ranks
 halves_in_turn-second-requires-clause-ranks c =
-    let none = both_zeros 8 c.above-first_large.result.lanes c.above-second_large.result.lanes c.above-first_large.result.len c.above-second_large.result.len c.or.ensures (c.if-not-is_zero.ensures refl) in
+    let none = both_zeros 8 c.above-first_large.result.lanes c.above-second_large.result.lanes c.above-first_large.result.len c.above-second_large.result.len c.or.ensures
+    (c.if-not-is_zero.ensures refl) in
     large c.join_parts-second_ranks.result.lanes c.join_parts-second_ranks.result.len c.above-second_large.ensures c.splat-2.ensures none.1
 
 pub returns : goal.returns
@@ -42,8 +44,10 @@ returns c =
     let first = c.halves_in_turn-first in
     let second = c.halves_in_turn-second in
     let bytes = all_fit a.highs c.fits-highs.1 in
-    let front = c.join_parts-first_ranks.ensures (subst (All (λ m. m ≤ (2 ^ 16 - 1) / 2 ^ a.width)) (sym c.first_eight_widened.ensures) (bytes_raised 16 a.width (take 8 a.highs) (omega (arith, c.requires.width)) (All-take (λ m. m < 256) 8 a.highs bytes))) in
-    let back = c.join_parts-second_ranks.ensures (subst (All (λ m. m ≤ (2 ^ 16 - 1) / 2 ^ a.width)) (sym c.last_eight_widened.ensures) (bytes_raised 16 a.width (drop 8 a.highs) (omega (arith, c.requires.width)) (All-drop (λ m. m < 256) 8 a.highs bytes))) in
+    let front = c.join_parts-first_ranks.ensures (subst (All (λ m. m ≤ (2 ^ 16 - 1) / 2 ^ a.width)) (sym c.first_eight_widened.ensures)
+    (bytes_raised 16 a.width (take 8 a.highs) (omega (arith, c.requires.width)) (All-take (λ m. m < 256) 8 a.highs bytes))) in
+    let back = c.join_parts-second_ranks.ensures (subst (All (λ m. m ≤ (2 ^ 16 - 1) / 2 ^ a.width)) (sym c.last_eight_widened.ensures)
+    (bytes_raised 16 a.width (drop 8 a.highs) (omega (arith, c.requires.width)) (All-drop (λ m. m < 256) 8 a.highs bytes))) in
     halves_are greatest first.result.lanes second.result.lanes count (record {
       highs_are = c.requires.len.0;
       lows_are = c.requires.len.1;
