@@ -463,11 +463,3 @@ window-front {w} at r xs rest h near e short place =
     let front : xs ≡ take n (window_bits w) =
     sym (take-append_seam xs rest) ∙ (ap (take n) (sym e ∙ near) ∙ (take-append-le n (take (bits_near w) (window_bits w)) _ short ∙ take-take n (bits_near w) (window_bits w) few)) in
     window-passes w at n xs h place (omega (arith, there)) (front ∙ front-waits w n (omega (arith, there)))
-
--- bits are taken, and then others
-pub passes-append : (old mid new : Window) (xs ys : List Bool) → Passes old mid xs → Passes mid new ys → Passes old new (xs ++ ys)
-passes-append old mid new xs ys p q = record {
-  split = p.split ∙ (ap (λ z. xs ++ z) q.split ∙ sym (append_assoc xs ys (window_bits new)));
-  passed = q.passed ∙ (ap (λ z. z ++ ys) p.passed ∙ append_assoc (window_passed old) xs ys);
-  taken = omega (arith, p.taken, q.taken, length-append xs ys);
-}

@@ -41,25 +41,6 @@ below_by_high bits k d h le =
     let below : d < 2 ^ (bits - k) * 2 ^ k = (div-lt_iff_lt-mul {k = 2 ^ k} {x = d} {y = 2 ^ (bits - k)} (pow_pos k)).0 (omega (arith, le, small)) in
     omega (arith, whole, below)
 
--- the high parts are small where those of joined parts are
-pub highs_of_joined : (k most : ℕ) (ms ls : List ℕ) → length ls ≡ length ms → All (λ l. l < 2 ^ k) ls → All (λ d. d < (most + 1) * 2 ^ k) (joined_parts k ms ls) → All (λ m. m ≤ most) ms
-highs_of_joined k most ms ls same lows joined = λ i d lt.
-    let n : length (joined_parts k ms ls) ≡ length ms = length-joined k ms ls same in
-    let m = get_or ms i 0 in
-    let x = m * 2 ^ k + get_or ls i 0 in
-    let high : x / 2 ^ k ≡ m = div-mul-add m (2 ^ k) (get_or ls i 0) (lows i 0 (omega (arith, same, lt))) in
-    let below : x < (most + 1) * 2 ^ k = subst (λ y. y < (most + 1) * 2 ^ k) (joined-at k ms ls i lt same) (joined i 0 (omega (arith, n, lt))) in
-    let small : x / 2 ^ k < most + 1 = (div-lt_iff_lt-mul {k = 2 ^ k} {x = x} {y = most + 1} (pow_pos k)).1 below in
-    subst (λ y. y ≤ most) (sym (get_or_default_zero ms i d lt)) (omega (arith, high, small))
-
--- joined parts are small where the high parts are
-pub joined_below : (k most : ℕ) (ms ls : List ℕ) → length ls ≡ length ms → All (λ l. l < 2 ^ k) ls → All (λ m. m ≤ most) ms → All (λ d. d < (most + 1) * 2 ^ k) (joined_parts k ms ls)
-joined_below k most ms ls same lows highs = λ i d lt.
-    let x = get_or (joined_parts k ms ls) i 0 in
-    let high : x / 2 ^ k ≤ most = joined_highs k most ms ls same lows highs i 0 lt in
-    let below : x < (most + 1) * 2 ^ k = (div-lt_iff_lt-mul {k = 2 ^ k} {x = x} {y = most + 1} (pow_pos k)).0 (omega (arith, high)) in
-    subst (λ y. y < (most + 1) * 2 ^ k) (sym (get_or_default_zero (joined_parts k ms ls) i d lt)) below
-
 -- the pieces of joined parts
 pub high_pieces : (k : ℕ) (ms ls : List ℕ) → length ls ≡ length ms → All (λ l. l < 2 ^ k) ls →
     flat_map (λ d. fundamental_sequence (d / 2 ^ k)) (joined_parts k ms ls) ≡ flat_map fundamental_sequence ms
