@@ -17,9 +17,7 @@ fn put_and_pad() -> Result<(), Fail> {
     let mut cases = Cases::new();
     let mut sink = BitSink::<8>::new();
     let mut meter = Meter::new();
-    cases.check(sink.is_empty());
     sink.put(0, 4, &mut meter);
-    cases.check(!sink.is_empty());
     sink.put(5, 8, &mut meter);
     sink.put_fs(0, &mut meter);
     cases.check(sink.len() == 13);

@@ -1,5 +1,5 @@
 //! A list of bits that is gathered into bytes.
-ghost use Rattle.std.specs.Prelude.{◌≡◌, ◌+◌, ◌-◌, ◌*◌, ◌%◌, ◌^◌, ◌<◌, ◌≤◌, ◌↔◌, IsTrue, Bool, false, List, [], ◌++◌, length, drop, replicate};
+ghost use Rattle.std.specs.Prelude.{◌≡◌, ◌+◌, ◌-◌, ◌*◌, ◌%◌, ◌^◌, ◌<◌, ◌≤◌, Bool, false, List, [], ◌++◌, length, drop, replicate};
 ghost use Rattle.rice_bits.specs.Limits.{step_limit};
 ghost use Rattle.rice_bits.specs.Bits.{fundamental_sequence, word, whole_bytes, bits_in_bytes, bits_to_byte, put_width, IsBitSink, Joins, Puts};
 
@@ -49,14 +49,6 @@ impl<const N: usize> BitSink<N> {
         ensures fits { result ≤ 8 * N }
     {
         self.bits
-    }
-
-    /// Returns whether there are no bits.
-    #[inline]
-    pub fn is_empty(&self) -> bool
-        ensures { IsTrue result ↔ (length self.now ≡ 0) }
-    {
-        self.len() == 0
     }
 
     /// Returns the number of bits that there is still room for.
