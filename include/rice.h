@@ -1,29 +1,27 @@
 /*
  * rice.h - lossless compression of samples by the adaptive Rice coder of CCSDS 121.0-B-3.
  *
- * The library encodes and decodes from memory to memory. It allocates nothing, keeps nothing between calls but what a feed
- * or a drain of the caller's holds, calls nothing but memcpy, memmove and memset, and writes nowhere but in the memory that it is
- * given, whatever the bytes are.
- * Calls may run in several threads at once, each with an output, a report and a feed of its own.
+ * The library encodes and decodes from memory to memory. It allocates nothing, and calls nothing but memcpy, memmove and memset.
+ * It keeps nothing between calls but the caller's feeds and drains. It writes only in the memory that it is given, whatever the
+ * input. Calls may run in several threads at once, each with an output, a report and a feed or drain of its own.
  * This header is for C99, C++98 and later, on machines with pointers of eight bytes and the least significant byte first.
  *
- * What a caller has to keep, and nothing checks:
- *   - a pointer to a setting, a feed, a drain or a report points to one, and each bool of a setting is true or false;
- *   - a feed is zeros, or another feed, before rice_begin; rice_push and rice_finish are given one that is as rice_begin or
- *     the last rice_push left it, or a copy of such a one;
- *   - a drain is zeros, or another drain, before rice_open and rice_open_at; rice_pull is given one that is as these or the last
- *     rice_pull left it, or a copy of such a one;
- *   - a pointer to bytes and its length name memory that is there, at most PTRDIFF_MAX bytes, and every byte of it has a value,
- *     that of the output too: write it once before, by calloc or memset for example. In practice bytes of malloc do, since the
- *     library reads no byte of an output that it hasn't written; but what is proved of it is said of memory with values, and
- *     the bytes after those written are as they were only if they were something. With the length 0 the pointer may be
- *     NULL, in C and C++ with this header; who calls the library by other means gives the address of any byte there;
- *   - the output, the report, and the feed or drain where a call changes it, overlap with nothing else that the call is given, and
- *     nobody else touches them meanwhile;
- *   - the stack has the room stated below.
+ * The library does not check what follows. The caller ensures it:
+ *   - A pointer to a setting, feed, drain or report points to one. Each bool of a setting is true or false.
+ *   - A feed is all zeros, or another feed, before rice_begin. rice_push and rice_finish get a feed as rice_begin or the last
+ *     rice_push left it, or a copy of one.
+ *   - A drain is all zeros, or another drain, before rice_open and rice_open_at. rice_pull gets a drain as these or the last
+ *     rice_pull left it, or a copy of one.
+ *   - A pointer and a length name memory that exists, at most PTRDIFF_MAX bytes. With the length 0 the pointer may be NULL, in C
+ *     and C++ with this header. Callers by other means pass the address of any byte then.
+ *   - Every byte of that memory is initialised, in outputs too: by calloc or memset, for example. In practice malloc does, since
+ *     the library reads no byte of an output before it writes it. The proof, though, speaks of initialised memory alone.
+ *   - The output, the report, and a feed or drain that a call changes overlap with nothing else that the call gets. No other
+ *     thread touches them meanwhile.
+ *   - The stack has the room stated below.
  *
- * What the library holds while a call runs is on the stack, and is the same whatever the input: RICE_ENCODE_STACK bytes are
- * enough to encode, and RICE_DECODE_STACK to decode (measured, and tried on stacks of just that size, on x86-64 and aarch64 Linux).
+ * A running call holds its data on the stack, as much for any input: RICE_ENCODE_STACK bytes are enough to encode, and
+ * RICE_DECODE_STACK to decode. Both were measured, and tried on stacks of that size, on x86-64 and aarch64 Linux.
  */
 #ifndef RICE_H
 #define RICE_H
@@ -36,7 +34,7 @@
 extern "C" {
 #endif
 
-/* The version of this header, which is that of the library that it was made for. */
+/* The version of this header and of its library. */
 #define RICE_VERSION_MAJOR 1
 #define RICE_VERSION_MINOR 0
 #define RICE_VERSION_PATCH 0
@@ -45,10 +43,10 @@ extern "C" {
 
 enum { RICE_ENCODE_STACK = 48 * 1024, RICE_DECODE_STACK = 12 * 1024, RICE_FEED_SIZE = 72, RICE_DRAIN_SIZE = 64 };
 
-/* What coder and decoder are set to. The code doesn't say it: decode with the setting that encoded. */
+/* The setting of coder and decoder. A code does not contain it: decode with the setting that encoded. */
 struct rice_setting {
     uint32_t bits;     /* the bits of a sample, 1 to 32 */
-    uint32_t block;    /* the samples of a block: 8, 16, 32 or 64, which are the standard's, unless any_block is set */
+    uint32_t block;    /* the samples of a block: 8, 16, 32 or 64, as in the standard, unless any_block is set */
     uint32_t interval; /* the blocks of a reference interval, 1 to 4096 */
     bool is_signed;    /* samples are signed */
     bool msb;          /* the most significant byte of a sample comes first */
@@ -58,193 +56,193 @@ struct rice_setting {
     bool any_block;    /* any even number of samples from 2 to 64 makes a block */
 };
 
-/* Returns the setting that suits most samples of so many bits: predicted, in blocks of 32 and intervals of 128. The rest is false. */
+/* Returns the setting that suits most samples of `bits` bits: preprocess, block 32 and interval 128. All else is false. */
 static inline struct rice_setting rice_setting_for(uint32_t bits) {
     struct rice_setting setting = {bits, 32, 128, false, false, false, true, false, false};
     return setting;
 }
 
-/* How a call ended. Where one is named by a number, the number stands in `place` of the report, and counts from 0. */
+/* How a call ended. Where `place` is mentioned, the report has it. It counts from 0. */
 enum rice_status {
     RICE_DONE = 0,               /* all was done */
     RICE_BAD_BITS = 1,           /* the bits of a sample are not 1 to 32 */
-    RICE_BAD_BLOCK = 2,          /* the block size is not 8, 16, 32 or 64, or with any_block no even number from 2 to 64 */
+    RICE_BAD_BLOCK = 2,          /* the block size is not 8, 16, 32 or 64; with any_block, not even or not 2 to 64 */
     RICE_BAD_INTERVAL = 3,       /* the interval is not 1 to 4096 */
-    RICE_SAMPLE_OUT_OF_RANGE = 4, /* the bytes of sample `place` are no sample: unused high bits must be 0, or equal its sign */
+    RICE_SAMPLE_OUT_OF_RANGE = 4, /* sample `place` is out of range: its unused high bits must be 0, or copies of its sign */
     RICE_INPUT_CUT = 5,          /* the input ends inside sample `place` */
-    RICE_CODE_ENDS = 6,          /* the code ends after `place` samples, inside a block or before all that were asked for */
+    RICE_CODE_ENDS = 6,          /* the code ends after `place` samples, inside a block or before the asked number */
     RICE_RUN_PAST_SEGMENT = 7,   /* the code is damaged: the run of zeros at block `place` is too long */
     RICE_RESIDUAL_TOO_LARGE = 8, /* the code is damaged: a value of block `place` doesn't fit */
-    RICE_NO_ROOM = 9,            /* the output is full, and all of it is written; of rice_pull, no block more fits */
+    RICE_NO_ROOM = 9,            /* the output is full, and all of it is written; rice_pull: no further block fits */
     RICE_TOO_LONG = 10,          /* the input has more than 2^48 bytes of samples, or 2^49 of code */
-    RICE_ONLY_ZEROS = 11,        /* of rice_pull: no 1 is left in the piece */
-    RICE_MORE_CODE = 12,         /* of rice_pull: the rest of the piece has a 1, and no whole coded data set */
-    RICE_BAD_PLACE = 13          /* of rice_open_at: no interval can begin there */
+    RICE_ONLY_ZEROS = 11,        /* rice_pull: no 1 is left in the piece */
+    RICE_MORE_CODE = 12,         /* rice_pull: the rest of the piece has a 1, and no whole coded data set */
+    RICE_BAD_PLACE = 13          /* rice_open_at: no interval can begin there */
 };
 
-/* What a call has done. */
+/* A report: what a call did. */
 struct rice_report {
     uint64_t samples; /* the samples that were encoded, or decoded and written */
-    uint64_t bits;    /* the bits of code: those that were put, without padding, or those that were taken, with it (below) */
-    uint64_t steps;   /* the work: bits, samples, and looks at residuals or, decoding, turns of the search for a pair */
-    uint64_t written; /* the bytes written, which are the first of the output; those after them are as they were */
-    uint64_t place;   /* the number that the status names, or 0 where it names none */
+    uint64_t bits;    /* the bits of code: written, without padding, or read, with padding (see below) */
+    uint64_t steps;   /* the work: bits, samples, and looks at residuals; in decoding, turns of the search for a pair */
+    uint64_t written; /* the bytes written, from the start of the output; those after them are unchanged */
+    uint64_t place;   /* the number of the sample or block that the status mentions, or 0 */
 };
 
-/* What `bits` counts. Encoding: the bits of all coded data sets, without the padding of intervals and the zeros that fill the
- * last byte; so it isn't the place where the code ends, which is `written`. Decoding with RICE_DONE: the bits up to the end of
- * the last coded data set that was asked for, with its padding, or of rice_decode_all those of the whole code. With
- * RICE_CODE_ENDS and RICE_TOO_LONG: all bits of the code, so it does not tell where the last whole coded data set ended;
- * rice_decode of the first `samples` samples of the same code does. With RICE_RUN_PAST_SEGMENT and RICE_RESIDUAL_TOO_LARGE the
- * coded data set that is damaged is counted too, and with RICE_NO_ROOM that of the block that doesn't fit. */
+/* What `bits` counts.
+ * Encoding: the bits of all coded data sets, without the padding of intervals and the zeros that fill the last byte. The length
+ * of the code in bytes is `written`.
+ * Decoding with RICE_DONE: the bits up to the end of the last coded data set that was needed, with its padding. For
+ * rice_decode_all, those of the whole code.
+ * With RICE_CODE_ENDS and RICE_TOO_LONG: all bits of the code. To learn where the last whole coded data set ended, decode the
+ * first `samples` samples of the same code by rice_decode.
+ * With RICE_RUN_PAST_SEGMENT and RICE_RESIDUAL_TOO_LARGE the damaged coded data set counts too. With RICE_NO_ROOM, the coded
+ * data set of the block that does not fit counts too. */
 
-/* The version of the library, as RICE_VERSION has it. */
+/* Returns the version of the library, in the form of RICE_VERSION. */
 uint32_t rice_version(void);
 
-/* RICE_DONE if the setting is legal, or else what is wrong with it: RICE_BAD_BITS, RICE_BAD_BLOCK or RICE_BAD_INTERVAL. */
+/* Returns RICE_DONE if the setting is legal; else RICE_BAD_BITS, RICE_BAD_BLOCK or RICE_BAD_INTERVAL. */
 uint32_t rice_check(const struct rice_setting *setting);
 
-/* The bytes of a sample, 1 to 4, or 0 if the setting is not legal: up to 8 bits take one byte, up to 16 two, up to 24 three if
- * `three` is set, and more four. */
+/* Returns the bytes of a sample: 1 for up to 8 bits, 2 for up to 16, 3 for up to 24 if `three` is set, else 4. Returns 0 if the
+ * setting is not legal. */
 uint32_t rice_sample_width(const struct rice_setting *setting);
 
-/* A number of bytes that is always enough for the code of `samples` samples, whatever they are: for what rice_encode writes, and
- * for what rice_push and rice_finish write together. 0 if the setting is not legal, or there are more than 2^48 samples. */
+/* Returns a number of bytes that is enough for the code of any `samples` samples: for the output of rice_encode, and for all
+ * outputs of rice_push and rice_finish together. Returns 0 if the setting is not legal, or `samples` is above 2^48. */
 uint64_t rice_code_room(const struct rice_setting *setting, uint64_t samples);
 
-/* A number of bytes that hold any coded data set which this library writes, wherever in a byte it begins, and the padding
- * after it: who reads its code in parts, and has so many bytes from the byte on in which a block's code begins, has all of
- * that code. At most 259. 0 if the setting is not legal. Other coders may write longer ones. */
+/* Returns a number of bytes that hold any coded data set of this library with its padding, at most 259. The count begins with
+ * the byte in which the coded data set begins, at any bit. Returns 0 if the setting is not legal. Coded data sets of other
+ * coders may be longer. */
 uint32_t rice_set_room(const struct rice_setting *setting);
 
-/* The report of rice_encode, or of rice_finish, never has more steps for `samples` samples. 0 as above. A report of decoding
- * never has more than 2 * bits + samples. */
+/* Returns a bound of `steps` in the reports of rice_encode and rice_finish for `samples` samples. Returns 0 as rice_code_room.
+ * In decoding, `steps` is at most 2 * bits + samples. */
 uint64_t rice_step_bound(const struct rice_setting *setting, uint64_t samples);
 
-/* Spells the samples at `samples`, which has `samples_len` bytes, as rice_encode wants them: their lowest `bits` bits stay, and the
- * others, whatever they are, become 0 or, where samples are signed, copies of the sign. So no sample is out of range. Bytes at the end
- * that are too few for a sample stay. Returns RICE_DONE; or RICE_BAD_..., and all is as it was. */
+/* Brings the `samples_len` bytes at `samples` into the form that rice_encode wants. The lowest `bits` bits of each sample stay.
+ * The others become 0, or copies of the sign where samples are signed, so that no sample is out of range. Bytes at the end that
+ * are too few for a sample stay. Returns RICE_DONE; or RICE_BAD_..., and nothing changes. */
 uint32_t rice_spell(const struct rice_setting *setting, uint8_t *samples, size_t samples_len);
 
-/* Encodes the samples at `samples`, which has `samples_len` bytes, to `code`, which has `code_room` bytes. Returns a
- * status of enum rice_status:
- *   RICE_DONE                 the code of all samples is written: `report->written` bytes.
+/* Encodes the samples in the `samples_len` bytes at `samples`. Writes their code to `code`, which has room for `code_room`
+ * bytes. Returns a status of enum rice_status:
+ *   RICE_DONE                 The code of all samples is written: `report->written` bytes.
  *   RICE_SAMPLE_OUT_OF_RANGE, RICE_INPUT_CUT
- *                             the whole bytes of the code of the complete segments (64 blocks, or the rest of an interval)
- *                             among the samples before that place are written.
- *   RICE_TOO_LONG             the same for the samples in the first 2^48 bytes. `report->place` is 0.
- *   RICE_NO_ROOM              the code doesn't fit. Never with rice_code_room(setting, samples_len / width) bytes, where that
- *                             is not 0: for up to 2^48 samples.
- *   RICE_BAD_...              nothing is written, and the report is all zeros. */
+ *                             The code of the whole segments before sample `place` is written, in whole bytes. A segment is 64
+ *                             blocks, or the rest of an interval.
+ *   RICE_TOO_LONG             The same for the samples in the first 2^48 bytes. `report->place` is 0.
+ *   RICE_NO_ROOM              The code does not fit. With rice_code_room(setting, samples_len / width) bytes it always fits,
+ *                             where that is not 0: for up to 2^48 samples.
+ *   RICE_BAD_...              Nothing is written, and the report is all zeros. */
 uint32_t rice_encode(const struct rice_setting *setting, const uint8_t *samples, size_t samples_len, uint8_t *code,
                      size_t code_room, struct rice_report *report);
 
-/* Decodes the first `count` samples of the code at `code`, which has `code_len` bytes, to `samples`, which has
- * `samples_room` bytes. What follows their code has no part in what it does. Returns a status of enum rice_status:
- *   RICE_DONE                 all `count` samples are written.
+/* Decodes the first `count` samples of the `code_len` bytes of code at `code`. Writes them to `samples`, which has room for
+ * `samples_room` bytes. The bits behind their code have no effect. Returns a status of enum rice_status:
+ *   RICE_DONE                 All `count` samples are written.
  *   RICE_CODE_ENDS, RICE_RUN_PAST_SEGMENT, RICE_RESIDUAL_TOO_LARGE
- *                             all samples before that place are written.
- *   RICE_TOO_LONG             the first 2^49 bytes are not enough; the samples that they give are written. `report->place` is 0.
- *   RICE_NO_ROOM              the samples don't fit. Never with count times rice_sample_width(setting) bytes.
- *   RICE_BAD_...              nothing is written, and the report is all zeros. */
+ *                             All samples before that place are written.
+ *   RICE_TOO_LONG             The first 2^49 bytes are not enough. Their samples are written. `report->place` is 0.
+ *   RICE_NO_ROOM              The samples do not fit. With count * rice_sample_width(setting) bytes they always fit.
+ *   RICE_BAD_...              Nothing is written, and the report is all zeros. */
 uint32_t rice_decode(const struct rice_setting *setting, uint64_t count, const uint8_t *code, size_t code_len,
                      uint8_t *samples, size_t samples_room, struct rice_report *report);
 
-/* Decodes all of a code whose number of samples isn't known. It also gives the samples that filled the last block, or the
- * last run of blocks: of what rice_encode wrote, fewer than a segment. Returns RICE_DONE where no 1 is left in the code, and
- * else what rice_decode returns. A bit of code gives at most 456 samples. */
+/* Decodes all of a code of which the number of samples is not known. The samples that fill the last block, or the last run of
+ * blocks, come too: for a code of rice_encode, fewer than a segment. Returns RICE_DONE where no 1 is left in the code; else a
+ * status as rice_decode. Each bit of code gives at most 456 samples. */
 uint32_t rice_decode_all(const struct rice_setting *setting, const uint8_t *code, size_t code_len, uint8_t *samples,
                          size_t samples_room, struct rice_report *report);
 
-/* A coder that is fed piece by piece, in memory of the caller's own, RICE_FEED_SIZE bytes: its setting, and where its code ends.
- * It keeps no samples: those of a segment that is not whole yet stay with the caller. It may be copied and kept, to go on
- * from there again. Read its numbers, and write none. */
+/* A coder that encodes piece by piece, in RICE_FEED_SIZE bytes of the caller's: its setting, and where its code ends. It keeps
+ * no samples: those of an unfinished segment stay with the caller. A copy of a feed goes on from the same place. Read its
+ * numbers, and write none. */
 struct rice_feed {
     struct rice_setting setting;
-    uint64_t samples;      /* the samples taken so far, which make whole segments */
+    uint64_t samples;      /* the samples encoded so far, in whole segments */
     uint64_t bits;         /* the bits of their code, without padding */
     uint64_t steps;        /* the work so far */
     int64_t previous;      /* the last sample, or 0 */
-    uint32_t start;        /* the place in its interval of the block that comes next */
-    uint32_t waiting;      /* the bits of the byte of code that is not whole, as a number */
+    uint32_t start;        /* the place of the next block in its interval */
+    uint32_t waiting;      /* the bits of the unfinished byte of code, as a number */
     uint32_t waiting_bits; /* how many these are, 0 to 7 */
 };
 
-/* Begins a code of no samples. Returns RICE_DONE; or RICE_BAD_..., and the feed is as it was. */
+/* Begins a code without samples. Returns RICE_DONE; or RICE_BAD_..., and the feed does not change. */
 uint32_t rice_begin(const struct rice_setting *setting, struct rice_feed *feed);
 
-/* A number of bytes that is always enough for one rice_push or rice_finish with this feed and up to `samples` samples, whatever
- * they are. 0 if the feed has no legal setting, or there are more than 2^48 samples. */
+/* Returns a number of bytes that is enough for one rice_push or rice_finish with this feed and any `samples` samples or fewer.
+ * Returns 0 if the feed has no legal setting, or `samples` is above 2^48. */
 uint64_t rice_push_room(const struct rice_feed *feed, uint64_t samples);
 
-/* Gives the feed the samples at `samples`, which has `samples_len` bytes: those that come after the `feed->samples` samples
- * taken so far. It takes all that make whole segments (64 blocks, or the rest of an interval), counts them in
- * `feed->samples`, and writes to `code` the bytes that their code completes. It takes none of the others, fewer than a
- * segment: give them again, with more after them. What it takes depends on the number of samples alone. `report` counts
- * all samples since rice_begin, but for `written`, which counts the bytes of this call. Returns a status of enum
- * rice_status:
- *   RICE_DONE                 all of that is done. The bytes written by all calls are the front of what rice_encode writes.
- *   RICE_SAMPLE_OUT_OF_RANGE  of a sample among those to take; `place` counts from rice_begin on.
- *   RICE_NO_ROOM              the bytes don't fit. Never with rice_push_room(feed, samples_len / width) bytes, where that is
- *                             not 0.
- *   RICE_TOO_LONG             more than 2^48 bytes of samples since rice_begin.
- *   RICE_BAD_...              the feed has no legal setting.
- * Unless RICE_DONE is returned the feed is as it was: forget what this call wrote, and give the samples again. */
+/* Encodes the next samples, in the `samples_len` bytes at `samples`: those after the first `feed->samples` samples. It takes
+ * all whole segments of them, of 64 blocks or the rest of an interval, and counts these samples in `feed->samples`. It writes
+ * the whole bytes of their code to `code`. The other samples, fewer than a segment, are not taken: give them again, with more
+ * after them. The number of samples alone decides how many are taken. `report` counts from rice_begin on, but `written` counts
+ * the bytes of this call. Returns a status of enum rice_status:
+ *   RICE_DONE                 All of that is done. The outputs of all calls, joined, begin the output of rice_encode.
+ *   RICE_SAMPLE_OUT_OF_RANGE  A sample in a whole segment is out of range. `place` counts from rice_begin on.
+ *   RICE_NO_ROOM              The bytes do not fit. With rice_push_room(feed, samples_len / width) bytes they always fit, where
+ *                             that is not 0.
+ *   RICE_TOO_LONG             There are more than 2^48 bytes of samples since rice_begin.
+ *   RICE_BAD_...              The feed has no legal setting.
+ * Unless it returns RICE_DONE, the feed does not change: forget the output of this call, and give the samples again. */
 uint32_t rice_push(struct rice_feed *feed, const uint8_t *samples, size_t samples_len, uint8_t *code, size_t code_room,
                    struct rice_report *report);
 
-/* Encodes the last samples, whether they make whole segments or not, and writes the rest of the code to `code`: with it the
- * bytes written by all calls are those that rice_encode writes for all samples. `report` counts all samples since rice_begin,
- * but for `written`. The feed stays as it is: finish a copy of the code, and go on feeding. Returns what rice_push returns, or
- * RICE_INPUT_CUT. Unless RICE_DONE is returned, forget what this call wrote. */
+/* Encodes the last samples, in whole segments or not, and writes the rest of the code to `code`. The outputs of all calls,
+ * joined, are then the output of rice_encode for all samples. `report` counts from rice_begin on, but `written` counts the
+ * bytes of this call. The feed does not change: encoding can go on from it. Returns a status as rice_push, or RICE_INPUT_CUT.
+ * Unless it returns RICE_DONE, forget the output of this call. */
 uint32_t rice_finish(const struct rice_feed *feed, const uint8_t *samples, size_t samples_len, uint8_t *code,
                      size_t code_room, struct rice_report *report);
 
-/* A decoder that is fed piece by piece, in memory of the caller's own, RICE_DRAIN_SIZE bytes: its setting, and where it stands in
- * its code. It keeps no code and no samples, so it may be copied and kept, to go on from there again. Read its numbers, and
- * write none. */
+/* A decoder that decodes piece by piece, in RICE_DRAIN_SIZE bytes of the caller's: its setting, and its place in the code. It
+ * keeps no code and no samples. A copy of a drain goes on from the same place. Read its numbers, and write none. */
 struct rice_drain {
     struct rice_setting setting;
-    uint64_t samples;  /* the samples so far, counted from the beginning of the code */
-    uint64_t bits;     /* the bits of their code, with the padding of intervals: the next piece begins with byte bits / 8 */
-    uint64_t steps;    /* the work on the coded data sets that were taken */
+    uint64_t samples;  /* the samples from the beginning of the code on */
+    uint64_t bits;     /* the bits of their code, with padding: the next piece begins with byte bits / 8 */
+    uint64_t steps;    /* the work since the drain was opened */
     int64_t previous;  /* the last sample, or 0 */
-    uint32_t block;    /* the place in its interval of the block that comes next */
+    uint32_t block;    /* the place of the next block in its interval */
     uint32_t run;      /* the blocks of a run of zeros that are still to come */
 };
 
-/* Opens a code at its front. Returns RICE_DONE; or RICE_BAD_..., and the drain is as it was. */
+/* Opens a code at its front. Returns RICE_DONE; or RICE_BAD_..., and the drain does not change. */
 uint32_t rice_open(const struct rice_setting *setting, struct rice_drain *drain);
 
-/* Opens a code where one of its intervals begins: after `samples` samples and `bits` bits. These two numbers are the caller's:
- * a drain has them in `samples` and `bits` wherever its `block` and `run` are 0. While encoding, an interval begins wherever a
- * feed's `start` is 0, after `samples` samples and 8 times the bytes written so far and `waiting_bits` bits. What is pulled from
- * there is what the whole code gives behind those samples. Returns RICE_DONE; RICE_BAD_PLACE, if `samples` is above 2^62 or `bits`
- * above 2^52, or the place is in a byte and intervals are padded; or RICE_BAD_.... Unless RICE_DONE is returned the drain is as it
- * was. */
+/* Opens a code at the beginning of an interval: after `samples` samples and `bits` bits. rice_pull then gives the samples of
+ * the code behind that place. The caller has kept these two numbers:
+ *   - from a drain with `block` and `run` 0: its `samples` and `bits`;
+ *   - from a feed with `start` 0: its `samples`, and 8 times the bytes written so far plus `waiting_bits`.
+ * Returns RICE_DONE; RICE_BAD_PLACE if `samples` is above 2^62 or `bits` above 2^52, or if intervals are padded and `bits` is
+ * not a multiple of 8; or RICE_BAD_.... Unless it returns RICE_DONE, the drain does not change. */
 uint32_t rice_open_at(const struct rice_setting *setting, uint64_t samples, uint64_t bits, struct rice_drain *drain);
 
-/* Gives the drain a piece of its code at `code`, which has `code_len` bytes and begins with byte `drain->bits / 8` of the code, and
- * may end anywhere. Decodes what is whole in it, and writes the samples to `samples`, which has `samples_room` bytes: whole blocks,
- * as many as fit. The drain counts them, and says which byte comes first next time: those from that one on come again. `report` has the
- * drain's numbers: `samples` and `bits` from the beginning of the code, and `steps` since it was opened, without the work on a coded
- * data set of which a part is missing. `written` counts the bytes of this call.
- * Returns a status of enum rice_status, which says why it ends there:
- *   RICE_NO_ROOM              no block more fits: give room, and call again.
- *   RICE_ONLY_ZEROS           no 1 is left in the piece: the code ends here, or give more of it.
- *   RICE_MORE_CODE            a 1 is left, and no whole coded data set: give more of the code, or it is cut.
+/* Decodes a piece of the code: the `code_len` bytes at `code`, which begin with byte `drain->bits / 8` of the code, and may end
+ * anywhere. Writes the samples of its whole coded data sets to `samples`, which has room for `samples_room` bytes: whole
+ * blocks, as many as fit. The drain counts the samples and the bits. The next piece begins with the byte that the drain says
+ * then. `report` has the drain's `samples`, `bits` and `steps`. `written` counts the bytes of this call.
+ * Returns why it ended, a status of enum rice_status:
+ *   RICE_NO_ROOM              No further block fits: call again with more room.
+ *   RICE_ONLY_ZEROS           No 1 is left in the piece: the code ends here, or the next piece goes on.
+ *   RICE_MORE_CODE            A 1 is left, and no whole coded data set: the code goes on, or it is cut.
  *   RICE_RUN_PAST_SEGMENT, RICE_RESIDUAL_TOO_LARGE
- *                             the code is damaged at block `place`, counted from the beginning of the code. Called again with
- *                             the same piece, it says the same.
- *   RICE_TOO_LONG             `drain->bits` and the bits of this piece are more than 2^52 together: nothing is done.
- *   RICE_BAD_...              the drain has no legal setting: nothing is done, and the report is all zeros.
- * With pieces of any lengths and any room for a block at least, the samples of all calls, one after the other, are those of
- * rice_decode_all; and the first `count` of them those of rice_decode, if the last block is cut to that count. A piece that gives
- * nothing has to be longer next time. */
+ *                             The code is damaged at block `place`, counted from the beginning of the code. A second call with
+ *                             the same piece returns the same.
+ *   RICE_TOO_LONG             `drain->bits` and the bits of this piece together are above 2^52. Nothing is done.
+ *   RICE_BAD_...              The drain has no legal setting. Nothing is done, and the report is all zeros.
+ * With pieces of any lengths, and room for at least a block, the outputs of all calls, joined, are the output of
+ * rice_decode_all. The first `count` samples of them are the output of rice_decode. A piece that gave nothing has to be longer
+ * next time. */
 uint32_t rice_pull(struct rice_drain *drain, const uint8_t *code, size_t code_len, uint8_t *samples, size_t samples_room,
                    struct rice_report *report);
 
-/* The calls above with NULL where its length is 0: the library is given the address of a byte, which it doesn't touch. */
+/* The calls above, with NULL allowed where the length is 0: the library gets the address of a byte, which it does not touch. */
 static inline const uint8_t *rice_from(const uint8_t *bytes, size_t length) {
     static const uint8_t none = 0;
     return bytes || length ? bytes : &none;
@@ -298,7 +296,7 @@ static inline uint32_t rice_pull_here(struct rice_drain *drain, const uint8_t *c
 #define rice_finish rice_finish_here
 #define rice_pull rice_pull_here
 
-/* What the library was built for, and how it has the structs in memory. */
+/* The machine that the library is for, and the layout of its structs. */
 #if __BYTE_ORDER__ != __ORDER_LITTLE_ENDIAN__
 #error "rice.h: the library is for machines with the least significant byte first"
 #endif
@@ -319,7 +317,7 @@ RICE_WANTS(the_drain_of_the_library, sizeof(struct rice_drain) == RICE_DRAIN_SIZ
 #undef RICE_AT
 #undef RICE_WANTS
 
-/* Returns what a status means, in words. */
+/* Returns the meaning of a status in words. */
 static inline const char *rice_status_text(uint32_t status) {
     switch ((enum rice_status)status) {
     case RICE_DONE: return "done";

@@ -108,6 +108,11 @@ def plain(*words):
     return forth_and_back
 
 
+def xz_with_delta(files):
+    """xz over differences of bytes, each from the byte at its place in the sample before."""
+    return ["xz", f"--delta=dist={files.samples.itemsize}", "--lzma2=preset=6", "-c", files.raw], ["xz", "-d", "-c", files.packed], True
+
+
 def aec(program):
     def forth_and_back(files):
         return [program, *files.options(), files.raw, files.packed], [program, "-d", *files.options(), files.packed, files.back], False
@@ -121,7 +126,7 @@ def fpack(files):
 def tools(program):
     return {"aec": aec(program), "libaec's aec": aec("/usr/bin/aec"), "fpack": fpack, "blosc -9, bitshuffle and zstd": None,
             "zstd -1": plain("zstd", "-q", "-1"), "zstd -19": plain("zstd", "-q", "-19"), "lz4": plain("lz4", "-q"),
-            "bzip2": plain("bzip2"), "xz": plain("xz")}
+            "bzip2": plain("bzip2"), "xz": plain("xz"), "xz, delta filter": xz_with_delta}
 
 
 def run(words, to_standard, dest):

@@ -1,6 +1,6 @@
 #!/usr/bin/env python3
 """Tries what the documents and the manual page say: links, paths, targets of make, commands, messages, figures and toolchains.
-(Options: scripts/options.py.) In the pages of FINISHED, it also holds the lengths of sentences and of cells of tables.
+(Options: scripts/options.py.) In the pages of FINISHED, it also holds the lengths of sentences and of cells of tables; in the comments of the C header, of sentences.
 
 Commands that begin with `$` are run with the program, and what they print is compared; of others the first word is looked up.
 
@@ -17,10 +17,11 @@ import tempfile
 
 FOLDERS = "crates|scripts|docs|recipes|man|completions|compat|python|vectors"
 MANUAL = "man/aec.1"
+HEADER = "include/rice.h"
 
 # The pages whose sentences and cells keep to these limits.
 PAGES = "ARCHITECTURE BENCHMARKS C CHANGES CODE COMPATIBILITY COOKBOOK DECISIONS PROOFS PROOFS-HOWTO PYTHON SPEED"
-FINISHED = [MANUAL, "README.md", *(f"docs/{name}.md" for name in PAGES.split()), "python/README.md"]
+FINISHED = [MANUAL, "README.md", *(f"docs/{name}.md" for name in PAGES.split()), "python/README.md", HEADER]
 MOST_WORDS, MOST_CHARACTERS = 30, 200
 
 
@@ -128,6 +129,10 @@ def wrong_messages():
 
 def prose(page):
     """The lines of a page without code: each a heading, a paragraph, an item or a row of a table. Code in a line is one word."""
+    if page == HEADER:
+        comments = "\n\n".join(re.findall(r"(?s)/\*(.*?)\*/", read(page)))
+        items = re.sub(r"(?m)^ \* {2,3}(?=- |RICE_)", "\n\n", comments)
+        return re.sub(r"(?<!\n)\n(?!\n)", " ", re.sub(r"(?m)^ \* *", "", items)).splitlines()
     text = re.sub(r"(?ms)^```.*?^```$|^\.Bd.*?^\.Ed$", "", read(page))
     if page == MANUAL:
         text = re.sub(r"(?m)^\.(?:Pp|S[hs]|It|Bl|El|Dl)\b.*$", "\n", text.partition(".Sh DESCRIPTION\n")[2])
