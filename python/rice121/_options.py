@@ -47,7 +47,7 @@ class Options:
     """
 
     bits: int
-    block: int = 16
+    block: int = 32
     interval: int = 128
     is_signed: bool = False
     msb: bool = False
@@ -130,7 +130,7 @@ def _agreed(kind: numpy.dtype[Any], name: str, given: Any, told: Any, default: A
     return told if given is None else given
 
 
-def options_for(dtype: DTypeLike, *, bits: Optional[int] = None, block: int = 16, interval: int = 128,
+def options_for(dtype: DTypeLike, *, bits: Optional[int] = None, block: int = 32, interval: int = 128,
                 is_signed: Optional[bool] = None, msb: Optional[bool] = None, three: Optional[bool] = None,
                 preprocess: bool = True, pad: bool = False, any_block: bool = False, **others: NoReturn) -> Options:
     """Returns the options for arrays of a type, which may be u1, u2, u4, i1, i2, i4 in either order of bytes, or V3.
@@ -142,7 +142,7 @@ def options_for(dtype: DTypeLike, *, bits: Optional[int] = None, block: int = 16
     no number can be, and a RiceError where one is out of its range.
 
     >>> options_for(">i2", bits=12)
-    Options(bits=12, block=16, interval=128, is_signed=True, msb=True, three=False, preprocess=True, pad=False, any_block=False)
+    Options(bits=12, block=32, interval=128, is_signed=True, msb=True, three=False, preprocess=True, pad=False, any_block=False)
     >>> options_for("V3", is_signed=True).bits
     24
     >>> options_for("u1", bits=12)
