@@ -22,9 +22,8 @@ Made by `scripts/trusted.py --write`, and compared with the sources by `scripts/
 
 Each promise is a contract, and a contract speaks in definitions. These are the ones that the contracts of `encode` and of `decode`
 ([encoding.rt](../crates/rice_stream/src/encoding.rt), [decoding.rt](../crates/rice_stream/src/decoding.rt)) name, and those that these
-name in turn, by files. Whoever trusts the promises reads them, and beside them what [PROOFS.md](PROOFS.md#what-is-trusted) says of the
-toolchain; no other line of `specs/`, and none of `proofs/`, can make them say something else. The words of the library (`length`,
-`take`, `All`, ..) are the toolchain's.
+name in turn, by files. Whoever trusts the promises reads them, and what [PROOFS.md](PROOFS.md#what-is-trusted) says of the toolchain.
+No other line of `specs/` or `proofs/` changes what they mean. The toolchain's library defines `length`, `take`, `All` and similar words.
 """
 
 
