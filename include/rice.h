@@ -109,8 +109,9 @@ uint32_t rice_check(const struct rice_setting *setting);
  * setting is not legal. */
 uint32_t rice_sample_width(const struct rice_setting *setting);
 
-/* Returns a number of bytes that is enough for the code of any `samples` samples: for the output of rice_encode, and for all
- * outputs of rice_push and rice_finish together. Returns 0 if the setting is not legal, or `samples` is above 2^48. */
+/* Returns a number of bytes that is enough for the code of any `samples` samples, as rice_encode writes it. The outputs of all
+ * rice_push and rice_finish calls that return RICE_DONE fit in as many. Returns 0 if the setting is not legal, or `samples` is
+ * above 2^48. */
 uint64_t rice_code_room(const struct rice_setting *setting, uint64_t samples);
 
 /* Returns a number of bytes that hold any coded data set of this library with its padding, at most 259. The count begins with
@@ -206,7 +207,7 @@ struct rice_drain {
     struct rice_setting setting;
     uint64_t samples;  /* the samples from the beginning of the code on */
     uint64_t bits;     /* the bits of their code, with padding: the next piece begins with byte bits / 8 */
-    uint64_t steps;    /* the work since the drain was opened */
+    uint64_t steps;    /* the work on the coded data sets taken since it was opened */
     int64_t previous;  /* the last sample, or 0 */
     uint32_t block;    /* the place of the next block in its interval */
     uint32_t run;      /* the blocks of a run of zeros that are still to come */
@@ -225,8 +226,8 @@ uint32_t rice_open_at(const struct rice_setting *setting, uint64_t samples, uint
 
 /* Decodes a piece of the code: the `code_len` bytes at `code`, which begin with byte `drain->bits / 8` of the code, and may end
  * anywhere. Writes the samples of its whole coded data sets to `samples`, which has room for `samples_room` bytes: whole
- * blocks, as many as fit. The drain counts the samples and the bits. The next piece begins with the byte that the drain says
- * then. `report` has the drain's `samples`, `bits` and `steps`. `written` counts the bytes of this call.
+ * blocks, as many as fit. The drain counts the samples, the bits and the work on the coded data sets that are taken, and
+ * `report` repeats these numbers; `written` counts the bytes of this call. The next piece begins with byte `drain->bits / 8`.
  * Returns why it ended, a status of enum rice_status:
  *   RICE_NO_ROOM              No further block fits: call again with more room.
  *   RICE_ONLY_ZEROS           No 1 is left in the piece: the code ends here, or the next piece goes on.
