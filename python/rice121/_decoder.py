@@ -38,8 +38,8 @@ class Decoder:
 
     >>> import rice121
     >>> samples = numpy.arange(5000, dtype="<u2")
-    >>> code = rice121.encode(samples, bits=13)
-    >>> with Decoder("<u2", bits=13) as decoder:
+    >>> code = rice121.encode(samples, bits=13, block=16)
+    >>> with Decoder("<u2", bits=13, block=16) as decoder:
     ...     parts = [decoder.pull(code[:9]), decoder.pull(code[9:], 1000), decoder.pull()]
     >>> [len(part) for part in parts], bool((numpy.concatenate(parts)[:5000] == samples).all())
     ([16, 1000, 3992], True)
@@ -136,11 +136,11 @@ def offsets(code: Octets, dtype: DTypeLike, *, count: Optional[int] = None, **op
 
     >>> import rice121
     >>> samples = numpy.arange(5000, dtype="<u2")
-    >>> code = rice121.encode(samples, bits=13)
-    >>> places = offsets(code, "<u2", bits=13)
+    >>> code = rice121.encode(samples, bits=13, block=16)
+    >>> places = offsets(code, "<u2", bits=13, block=16)
     >>> places
     [Place(samples=0, bits=0), Place(samples=2048, bits=6665), Place(samples=4096, bits=13331)]
-    >>> with Decoder("<u2", at=places[1], bits=13) as decoder:
+    >>> with Decoder("<u2", at=places[1], bits=13, block=16) as decoder:
     ...     decoder.pull(code[places[1].bits // 8 :], 3)
     array([2048, 2049, 2050], dtype=uint16)
     """

@@ -26,7 +26,7 @@ class Encoder:
     It holds the samples of a segment, 64 blocks, that is not whole yet. A call that raises an exception leaves it as it was.
 
     >>> samples = numpy.arange(5000, dtype="<u2")
-    >>> encoder = Encoder("<u2", bits=13)
+    >>> encoder = Encoder("<u2", bits=13, block=16)
     >>> pieces = [encoder.push(samples[:3000]), encoder.push(samples[3000:]), encoder.finish()]
     >>> [len(piece) for piece in pieces]
     [833, 833, 371]

@@ -103,12 +103,12 @@ class Pieces(unittest.TestCase):
         self.assertIsNone(decoder.close())
 
     def test_damaged_codes(self):
-        code, generator, seen = rice121.encode(SAMPLES[8000:11000], bits=12), random.Random(3), set()
+        code, generator, seen = rice121.encode(SAMPLES[8000:11000], bits=12, block=16), random.Random(3), set()
         for _ in range(300):
             damaged = bytearray(code)
             damaged[generator.randrange(len(code))] ^= 1 << generator.randrange(8)
             try:
-                rice121.decode_all(damaged, "<u2", bits=12)
+                rice121.decode_all(damaged, "<u2", bits=12, block=16)
             except RiceError as error:
                 seen.add(error.status)
                 if error.status != Status.CODE_ENDS:
@@ -117,7 +117,7 @@ class Pieces(unittest.TestCase):
 
     def check_damage(self, code, wanted):
         """A decoder gives what is before the damage, and then says again that it is there."""
-        decoder = rice121.Decoder("<u2", bits=12)
+        decoder = rice121.Decoder("<u2", bits=12, block=16)
         for piece, partial in ((code, wanted.partial), (b"", wanted.partial[:0])):
             with self.assertRaises(RiceError) as raised:
                 decoder.pull(piece)
@@ -140,7 +140,7 @@ class Pieces(unittest.TestCase):
         few = rice121.encode(SAMPLES[:1000], bits=12)
         self.assertRaises(RiceError, rice121.offsets, few + bytes([1] * 99), "<u2", bits=12)
         self.assertEqual(rice121.offsets(few + bytes([1] * 99), "<u2", count=1000, bits=12), [Place(0, 0)])
-        self.assertRaises(RiceError, rice121.offsets, few, "<u2", count=1009, bits=12)
+        self.assertRaises(RiceError, rice121.offsets, few, "<u2", count=1025, bits=12)
         for code in (code[:3001], code[:-2] + b"\0\1"):
             with self.assertRaises(RiceError) as raised:
                 rice121.offsets(code, "<u2", **words)

@@ -105,7 +105,8 @@ class Refusals(unittest.TestCase):
                 rice121.decode_all(code, dtype, limit=limit)
             self.assertEqual((raised.exception.status, len(raised.exception.partial)), (Status.NO_ROOM, limit))
             self.assertEqual(str(raised.exception), f"the code has more than {limit} samples")
-        self.assertEqual(len(rice121.decode_all(CODE, "<u2", limit=10000)), 10000)
+        # Their last block is full.
+        self.assertEqual(len(rice121.decode_all(CODE, "<u2", limit=10016)), 10016)
 
 
 if __name__ == "__main__":
