@@ -114,6 +114,7 @@ $(LIBRARY)librice.so: $(LIBRARY)librice.a
 	$(CC) $(LDFLAGS) -shared -Wl,-soname,$(SHARED) -Wl,-z,now,-z,relro -Wl,--whole-archive $< -Wl,--no-whole-archive -o $@
 
 # The interfaces of libaec and of its szlib, over the library. They export these calls alone, and libsz takes the libaec beside it.
+# The linker's names for them are copies, since rt ci takes no links.
 COMPAT := $(or $(LIBRARY:/=),compat)/out
 CFLAGS ?= -O2
 COMPAT_CC = $(CC) -std=c99 -Wall -Wextra -Wpedantic -Werror $(CPPFLAGS) $(CFLAGS) -fPIC -fvisibility=hidden -Iinclude -shared \
@@ -124,11 +125,11 @@ compat: $(COMPAT)/libaec.so.0 $(COMPAT)/libsz.so.2
 $(COMPAT)/libaec.so.0: $(addprefix compat/,shared.c encode.c decode.c shared.h libaec.h) include/rice.h $(LIBRARY)librice.a
 	mkdir -p $(COMPAT)
 	$(COMPAT_CC) -Wl,-soname,libaec.so.0 -Wl,--exclude-libs,ALL $(filter %.c,$^) $(LIBRARY)librice.a -o $@
-	ln -sf libaec.so.0 $(COMPAT)/libaec.so
+	cp $@ $(COMPAT)/libaec.so
 
 $(COMPAT)/libsz.so.2: compat/szlib.c compat/szlib.h $(COMPAT)/libaec.so.0
 	$(COMPAT_CC) -Wl,-soname,libsz.so.2 -Wl,-rpath,'$$ORIGIN' compat/szlib.c $(COMPAT)/libaec.so.0 -o $@
-	ln -sf libsz.so.2 $(COMPAT)/libsz.so
+	cp $@ $(COMPAT)/libsz.so
 
 # The libraries for C: that of fast engines, and the small one, of plain ones.
 FOR_C := $(LIBRARIES) rice_calls
