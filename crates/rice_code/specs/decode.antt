@@ -1,6 +1,5 @@
 -- What contracts see of the decoder, and what its parts say to each other.
 pub mod BlocksInOnePass
-pub mod BlocksInRow
 pub mod Decoder
 pub mod DecoderState
 pub mod RowsOfFields

@@ -26,4 +26,4 @@ const _: () = prove!(size_of::<Coder>() == 16456);
 
 const _: () = prove!(size_of::<Decoder>() == 56);
 
-const _: () = prove!(size_of::<FastDecoder>() == 568);
+const _: () = prove!(size_of::<FastDecoder>() == 576);

@@ -14,10 +14,9 @@ pub mod PulledPieces
 pub mod PullingLemmas
 pub mod ReturnedBytes
 pub mod RowsOfSegments
-pub mod RowsWritten
 pub mod RunsWritten
 pub mod Seams
 pub mod SetsRead
-pub mod SpelledBlocks
-pub mod Strokes
+pub mod PulledRuns
+pub mod BytesOfBlocks
 pub mod BytesOfGrowingCode

@@ -1,4 +1,5 @@
 -- What contracts of this crate cite: what `encode` and `decode` do, at once and in pieces, and their states between.
+pub mod BlockBytes
 pub mod DevicesInCalls
 pub mod Decodes
 pub mod DecodingState
@@ -7,6 +8,5 @@ pub mod EncodingState
 pub mod Feeding
 pub mod Laws
 pub mod Pulling
-pub mod RowsOfBlocks
 pub mod RunsOfBlocks
 pub mod FailedWrites

@@ -1,10 +1,10 @@
 -- Decoding piece by piece: where decoding stands between two calls, and what each call gives.
-use Rattle.std.specs.Prelude.{◌≡◌, ◌≢◌, ℕ, ◌+◌, ◌*◌, ◌%◌, ◌<◌, ◌≤◌, Bool, true, List, [], ◌++◌, length, drop, take, sum_by, Option, Some, None, IsSome, Result, Ok, Err, ℤ, pos}
+use Rattle.std.specs.Prelude.{◌≡◌, ◌≢◌, ℕ, ◌+◌, ◌*◌, ◌%◌, ◌<◌, ◌≤◌, Bool, true, List, [], ◌++◌, length, drop, take, sum_by, Option, Some, None, IfOk, IfSome, IsSome, Result, Ok, Err, ℤ, pos}
 use Rattle.rice_bits.specs.Limits.{most_bits_read}
 use Rattle.rice_bits.specs.Bits.{bits_of}
 use Rattle.rice_bits.specs.read.Reader.{Reader}
 use Rattle.rice_samples.specs.Limits.{most_samples_counted}
-use Rattle.rice_samples.specs.Parameters.{Parameters, values_at, width}
+use Rattle.rice_samples.specs.Parameters.{Parameters, width}
 use Rattle.rice_samples.specs.Places.{place}
 use Rattle.rice_samples.specs.predict.Residuals.{last_of}
 use Rattle.rice_samples.specs.bytes.Spelling.{spellings}
@@ -17,7 +17,6 @@ use Rattle.rice_stream.specs.DecodingState.{DecodedSoFar, HasSets, HasSteps}
 use Rattle.rice_stream.specs.declared.stand.Pause.{Pause}
 use Rattle.rice_stream.specs.declared.stand.Pause.TheVariants as pauses
 use Rattle.rice_stream.specs.declared.stand.Stand.{Stand}
-use Rattle.rice_stream.specs.declared.strokes.Stroke.{Stroke}
 
 -- Where decoding began: after so many bits of a code, and so many samples.
 pub record Origin : Type 0 where
@@ -154,18 +153,20 @@ pub record GivesMore {I : Type 0} (s : Parameters) (stand next : Stand) (q : Dec
   pub goes_on : GoesOnAt s stand next q old new
   pub gives : (o : Origin) (front : List Bool) (given : List ℤ) → IsStand s o stand front given → GivesNext s o front given next old new samples
 
--- It gave them at one stroke, and their `len` bytes were written at this place.
-pub record WritesStroke {I : Type 0} (s : Parameters) (stand next : Stand) (q : DecoderState) (old new : Reader I) (len at : ℕ) (out_old out : List ℕ) : Type 0 where
+-- It gave blocks of a run, and their `len` bytes were written at this place.
+pub record WritesRunAt {I : Type 0} (s : Parameters) (stand next : Stand) (q : DecoderState) (old new : Reader I) (len at : ℕ) (out_old out : List ℕ) : Type 0 where
   pub samples : List ℤ
   pub more : GivesMore s stand next q old new samples
   pub some : 1 ≤ len
   pub len_is : len ≡ width s * length samples
   pub wrote : out ≡ take at out_old ++ (spellings s samples ++ drop (at + len) out_old)
 
--- What comes of a look for blocks that are known at one stroke: they are written, or nothing has happened.
-abbrev pub TakesStroke : {I : Type 0} → Parameters → Stand → DecoderState → DecoderState → Reader I → Reader I → ℕ → List ℕ → List ℕ → Option Stroke → Type 0
-TakesStroke s stand p q old new at out_old out (Some k) = WritesStroke s stand k.stand q old new k.len at out_old out × (at + k.len ≤ length out_old)
-TakesStroke s stand p q old new at out_old out None = (q ≡ p) × (new ≡ old) × (out ≡ out_old)
+-- What comes of the next block where decoding stands. If it is given, the bytes begin with the spellings of its samples.
+pub record GivesAtStand {I : Type 0} (s : Parameters) (stand : Stand) (q : DecoderState) (old new : Reader I) (bytes : List ℕ) (answer : Result (Option Stand) CodeFault) : Type 0 where
+  pub samples : List ℤ
+  pub goes_on : IfOk answer (λ next. IfSome next (λ next. GoesOnAt s stand next q old new × (length samples ≡ s.block)
+      × (take (width s * s.block) bytes ≡ spellings s samples)))
+  pub takes : (o : Origin) (front : List Bool) (given : List ℤ) → IsStand s o stand front given → TakesNext s o front given stand old new samples answer
 
 -- how decoding pauses where the decoder refuses
 abbrev pub pause_for : CodeFault → Pause
@@ -174,7 +175,3 @@ pause_for faults.RunPastSegment = pauses.RunPastSegment
 pause_for faults.ResidualTooLarge = pauses.ResidualTooLarge
 pause_for faults.Read = pauses.Cut
 pause_for faults.TooLong = pauses.Cut
-
--- some bytes with the spellings of the samples of these levels at a place
-abbrev pub spelled_at : Parameters → ℕ → List ℕ → List ℕ → List ℕ
-spelled_at s at levels out = take at out ++ (spellings s (values_at s levels) ++ drop (at + width s * length levels) out)

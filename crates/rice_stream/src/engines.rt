@@ -7,17 +7,17 @@ ghost use Rattle.rice_stream.specs.Decodes.{DecodesBetween, DecodesWithin};
 ghost use Rattle.rice_stream.specs.Feeding.{IsSomeSeam, EncodesOn, EncodesToEnd};
 ghost use Rattle.rice_stream.specs.Pulling.{IsSomeStand, DecodesOn};
 
-use crate::decoding::{decode, decode_laid_out};
+use crate::decoding::{decode, decode_blocks};
 use crate::encoding::{encode, encode_by};
 use crate::feeding::{encode_more, encode_more_by, encode_rest, encode_rest_by};
 use crate::outcome::{Fault, Outcome};
-use crate::plain_decoder::PlainDecoder;
 use crate::pulling::{decode_more, decode_more_by_one_loop};
 use crate::rows::FewLevels;
 use crate::seam::Seam;
 use crate::stand::{Pause, Stand};
 use crate::takes::OneByOne;
 use rice_bits::{Intake, Outlet};
+use rice_code::Decoder;
 use rice_samples::Setting;
 
 /// The ways to encode and to decode, at once and piece by piece. All that meet it give the same code and the same samples.
@@ -171,7 +171,7 @@ impl Engines for Plain {
         intake: I,
         outlet: &mut O,
     ) -> (Outcome, I) {
-        decode_laid_out::<PlainDecoder, I, O, 0, 0>(setting, asked, intake, outlet)
+        decode_blocks::<Decoder, I, O, 0, 0>(setting, asked, intake, outlet)
     }
 
     fn decode_more(
@@ -180,6 +180,6 @@ impl Engines for Plain {
         piece: &[u8],
         samples: &mut [u8],
     ) -> (Stand, Pause) {
-        decode_more_by_one_loop::<PlainDecoder>(setting, stand, piece, samples)
+        decode_more_by_one_loop::<Decoder>(setting, stand, piece, samples)
     }
 }

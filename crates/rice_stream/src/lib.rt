@@ -2,22 +2,20 @@
 //! samples that a code stands for. Each says in an [`Outcome`] what it did and, where it stopped before the end, why.
 #![tactic(auto)]
 
+pub mod block_decoder;
 pub mod decoding;
 pub mod encoding;
 pub mod engines;
 pub mod feeding;
-pub mod gives;
 pub mod laws;
 pub mod outcome;
-mod patience;
-mod plain;
 pub mod plain_decoder;
+mod pulled_runs;
 pub mod pulling;
 pub mod rows;
 mod runs;
 pub mod seam;
 pub mod stand;
-mod strokes;
 pub mod takes;
 mod write;
 

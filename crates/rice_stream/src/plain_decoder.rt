@@ -1,16 +1,12 @@
-//! The decoder that gives the samples of a block a call, as engines ask for one.
+//! The plain decoder, as engines ask for one.
 ghost use Rattle.std.specs.Prelude.{◌≡◌, ◌-◌, ◌<◌, ◌≤◌, All, length};
 ghost use Rattle.rice_samples.specs.Parameters.{IsSample, value_count, values_at};
 
-use crate::gives::{GivesLevels, GivesRows};
-use crate::pulling::write_in_place;
-use crate::stand::Stand;
-use crate::strokes::Stroke;
-use crate::write::write_block_in_own_room;
+use crate::block_decoder::{GivesBytes, GoesByBlocks};
 use arrayvec::ArrayVec;
-use rice_bits::{BitReader, Intake, Meter, Outlet, SliceIn, WriteFault};
+use rice_bits::{BitReader, Intake, Meter};
 use rice_code::{CodeFault, Decoder, Step};
-use rice_samples::Setting;
+use rice_samples::{Setting, write_spellings};
 
 /// Makes these the levels of these samples.
 fn write_levels_of(setting: &Setting, samples: &[i64], levels: &mut ArrayVec<u32, 64>)
@@ -26,41 +22,27 @@ fn write_levels_of(setting: &Setting, samples: &[i64], levels: &mut ArrayVec<u32
     }
 }
 
-/// The decoder that gives samples, a block a call.
-#[derive(Drop)]
-pub struct PlainDecoder {
-    setting: Setting,
-    decoder: Decoder,
-    ghost same: { decoder.setting ≡ setting },
-}
-
-impl GivesLevels for PlainDecoder {
-    ghost state = { λ d. d.decoder };
+impl GoesByBlocks for Decoder {
+    ghost state = { λ d. d };
 
     fn start(setting: Setting) -> Self {
-        PlainDecoder {
-            setting,
-            decoder: Decoder::new(setting),
-        }
+        Decoder::new(setting)
     }
 
     fn resume(setting: Setting, block: u32, before: i64, run: u32) -> Self {
-        PlainDecoder {
-            setting,
-            decoder: Decoder::at(setting, block, before, run),
-        }
+        Decoder::at(setting, block, before, run)
     }
 
     fn place(&self) -> u32 {
-        self.decoder.block()
+        self.block()
     }
 
     fn sample_before(&self) -> i64 {
-        self.decoder.before()
+        self.before()
     }
 
     fn blocks_of_run(&self) -> u32 {
-        self.decoder.run()
+        self.run()
     }
 
     #[inline(always)]
@@ -70,69 +52,36 @@ impl GivesLevels for PlainDecoder {
 
     #[inline(always)]
     fn pass_blocks(&mut self, count: u32) {
-        self.decoder.pass_blocks_of_run(count);
-    }
-
-    fn levels_of_next<I: Intake>(
-        &mut self,
-        reader: &mut BitReader<I>,
-        meter: &mut Meter,
-        levels: &mut ArrayVec<u32, 64>,
-    ) -> Result<Step, CodeFault> {
-        let mut samples = ArrayVec::new();
-        let answer = self.decoder.next_block(reader, meter, &mut samples);
-        write_levels_of(&self.setting, samples.as_slice(), levels);
-        answer
-    }
-
-    #[inline(always)]
-    fn write_block<O: Outlet>(
-        setting: &Setting,
-        levels: &[u32],
-        bytes: &mut [u8; 512],
-        outlet: &mut O,
-    ) -> Result<(), WriteFault> {
-        write_block_in_own_room(setting, levels, outlet)
-    }
-
-    #[inline(always)]
-    fn write_at(
-        setting: &Setting,
-        levels: &[u32],
-        bytes: &mut [u8; 512],
-        at: usize,
-        samples: &mut [u8],
-    ) {
-        write_in_place(setting, levels, at, samples);
+        self.pass_blocks_of_run(count);
     }
 }
 
-impl<const SIZE: usize, const WIDTH: usize> GivesRows<SIZE, WIDTH> for PlainDecoder {
+impl<const SIZE: usize, const WIDTH: usize> GivesBytes<SIZE, WIDTH> for Decoder {
     #[inline(always)]
-    fn bytes_at_once<I: Intake>(
-        &mut self,
-        most: usize,
-        reader: &mut BitReader<I>,
-        meter: &mut Meter,
-        bytes: &mut [u8],
-        ends: &mut [u32; 64],
-    ) -> usize {
-        let _taken = reader.taken();
-        0
-    }
-
-    #[inline(always)]
-    fn write_plain_blocks(
+    fn pass<I: Intake>(
         &mut self,
         setting: &Setting,
-        stand: &Stand,
-        most: usize,
-        reader: &mut BitReader<SliceIn<'_>>,
+        reader: &mut BitReader<I>,
+        meter: &mut Meter,
         bytes: &mut [u8; 512],
-        at: usize,
-        samples: &mut [u8],
-    ) -> Option<Stroke> {
+    ) -> bool {
+        false
+    }
+
+    fn bytes_of_next<I: Intake>(
+        &mut self,
+        setting: &Setting,
+        reader: &mut BitReader<I>,
+        meter: &mut Meter,
+        levels: &mut ArrayVec<u32, 64>,
+        bytes: &mut [u8; 512],
+    ) -> Result<Step, CodeFault> {
         let _taken = reader.taken();
-        None
+        let mut samples = ArrayVec::new();
+        let answer = self.next_block(reader, meter, &mut samples);
+        write_levels_of(setting, samples.as_slice(), levels);
+        let len = setting.width() as usize * levels.len();
+        write_spellings(setting, levels.as_slice(), &mut bytes[..len]);
+        answer
     }
 }

@@ -1,24 +1,20 @@
 //! Decodes a code piece by piece, for a caller that has not all of it, or no room for all samples. Nothing but a `Stand` is kept.
-ghost use Rattle.std.specs.Prelude.{◌≡◌, ◌≢◌, ◌+◌, ◌-◌, ◌*◌, ◌%◌, ◌<◌, ◌≤◌, Bool, true, false, List, All, IsSome, IfOk, IfSome, None, Some, drop, length, ℤ};
+ghost use Rattle.std.specs.Prelude.{◌≡◌, ◌≢◌, ◌+◌, ◌*◌, ◌<◌, ◌≤◌, ◌++◌, true, false, IsSome, None, Some, drop, length, take};
 ghost use Rattle.rice_bits.specs.Limits.{most_bits_read};
 ghost use Rattle.rice_bits.specs.Bits.{bits_of};
 ghost use Rattle.rice_bits.specs.read.Reader.{new_reader};
-ghost use Rattle.rice_samples.specs.Parameters.{value_count, values_at, width as width_of};
+ghost use Rattle.rice_samples.specs.Parameters.{width as width_of};
 ghost use Rattle.rice_code.specs.declared.decode.call_results.CodeFault.TheVariants as faults;
-ghost use Rattle.rice_code.specs.decode.BlocksInOnePass.{ArePredicted};
-ghost use Rattle.rice_code.specs.decode.PlainBlocks.{IsPlain};
-ghost use Rattle.rice_stream.specs.Pulling.{Origin, IsStand, IsSomeStand, DecodesOn, GoesOnAt, HasComeTo, TakesNext, ahead, pause_for, spelled_at};
+ghost use Rattle.rice_stream.specs.Pulling.{DecodesOn, GivesAtStand, HasComeTo, IsSomeStand, ahead, pause_for};
 
-use crate::decoding::{blocks_in_pass, has_passes};
-use crate::gives::{GivesLevels, GivesRows};
-use crate::patience::Patience;
-use crate::plain::{blocks_of_row, is_plain};
+use crate::block_decoder::{GivesBytes, GoesByBlocks, next_bytes};
+use crate::decoding::{has_pass, known_width};
+use crate::pulled_runs::{stand_behind, write_next_of_run};
 use crate::stand::{Pause, Stand};
-use crate::strokes::{copy_at, next_stroke, stand_behind};
 use arrayvec::ArrayVec;
 use rice_bits::{BitReader, Meter, SliceIn};
-use rice_code::{CodeFault, FastDecoder, Step};
-use rice_samples::{Setting, write_spellings, write_spellings_laid_out, write_threes};
+use rice_code::{CodeFault, FastDecoder, Step, known_or};
+use rice_samples::Setting;
 
 /// The most bits of a code.
 const LIMIT: u64 = 1 << 52;
@@ -41,32 +37,23 @@ pub fn decode_more(
         return (*stand, Pause::TooLong);
     }
     // As `decode`, it has a loop for each shape of blocks.
-    if has_passes::<1>(setting) {
+    if has_pass::<1>(setting) {
         return decode_piece_of_sizes::<1>(setting, stand, piece, samples);
     }
-    if has_passes::<2>(setting) {
+    if has_pass::<2>(setting) {
         return decode_piece_of_sizes::<2>(setting, stand, piece, samples);
     }
-    if has_passes::<3>(setting) {
-        return decode_piece::<FastDecoder, 0, 3, false>(setting, stand, piece, samples);
+    if has_pass::<3>(setting) {
+        return decode_piece::<FastDecoder, 0, 3>(setting, stand, piece, samples);
     }
-    if has_passes::<4>(setting) {
-        return decode_piece::<FastDecoder, 0, 4, false>(setting, stand, piece, samples);
+    if has_pass::<4>(setting) {
+        return decode_piece::<FastDecoder, 0, 4>(setting, stand, piece, samples);
     }
-    if is_plain::<1>(setting) {
-        return decode_piece::<FastDecoder, 0, 1, true>(setting, stand, piece, samples);
-    }
-    if is_plain::<2>(setting) {
-        return decode_piece::<FastDecoder, 0, 2, true>(setting, stand, piece, samples);
-    }
-    if is_plain::<4>(setting) {
-        return decode_piece::<FastDecoder, 0, 4, true>(setting, stand, piece, samples);
-    }
-    decode_piece::<FastDecoder, 0, 0, false>(setting, stand, piece, samples)
+    decode_piece::<FastDecoder, 0, 0>(setting, stand, piece, samples)
 }
 
 /// Does what `decode_more` does, by one loop for all shapes of blocks.
-pub(crate) fn decode_more_by_one_loop<D: GivesRows<0, 0>>(
+pub(crate) fn decode_more_by_one_loop<D: GivesBytes<0, 0>>(
     setting: &Setting,
     stand: &Stand,
     piece: &[u8],
@@ -76,13 +63,12 @@ pub(crate) fn decode_more_by_one_loop<D: GivesRows<0, 0>>(
     ensures { DecodesOn setting.now stand.now piece.now samples.old samples.new result.0 result.1 }
 {
     if !is_too_long(stand.bits, piece.len()) {
-        return decode_piece::<D, 0, 0, false>(setting, stand, piece, samples);
+        return decode_piece::<D, 0, 0>(setting, stand, piece, samples);
     }
     (*stand, Pause::TooLong)
 }
 
-/// Decodes a piece that does not pass the limit of a code, of blocks of samples of `WIDTH` bytes whose bytes may be known at one stroke,
-/// by the loop for their size.
+/// Decodes a piece that does not pass the limit of a code, of blocks of samples of `WIDTH` bytes, by the loop for their size.
 #[inline(always)]
 fn decode_piece_of_sizes<const WIDTH: usize>(
     setting: &Setting,
@@ -90,38 +76,39 @@ fn decode_piece_of_sizes<const WIDTH: usize>(
     piece: &[u8],
     samples: &mut [u8],
 ) -> (Stand, Pause)
-    requires samples { ArePredicted setting.now WIDTH }
+    requires width { WIDTH ≡ width_of setting.now }
     requires fits { stand.now.bits + 8 * length piece.now ≤ most_bits_read }
     requires stand { IsSomeStand setting.now stand.now }
     ensures { DecodesOn setting.now stand.now piece.now samples.old samples.new result.0 result.1 }
 {
     match setting.block() {
-        8 => decode_piece::<FastDecoder, 8, WIDTH, false>(setting, stand, piece, samples),
-        16 => decode_piece::<FastDecoder, 16, WIDTH, false>(setting, stand, piece, samples),
-        32 => decode_piece::<FastDecoder, 32, WIDTH, false>(setting, stand, piece, samples),
-        64 => decode_piece::<FastDecoder, 64, WIDTH, false>(setting, stand, piece, samples),
-        _ => decode_piece::<FastDecoder, 0, WIDTH, false>(setting, stand, piece, samples),
+        8 => decode_piece::<FastDecoder, 8, WIDTH>(setting, stand, piece, samples),
+        16 => decode_piece::<FastDecoder, 16, WIDTH>(setting, stand, piece, samples),
+        32 => decode_piece::<FastDecoder, 32, WIDTH>(setting, stand, piece, samples),
+        64 => decode_piece::<FastDecoder, 64, WIDTH>(setting, stand, piece, samples),
+        _ => decode_piece::<FastDecoder, 0, WIDTH>(setting, stand, piece, samples),
     }
 }
 
-/// Decodes a piece that does not pass the limit of a code. `WIDTH`, if it is not 0, is the number of bytes of each sample of blocks whose
-/// bytes may be known at one stroke, and `SIZE`, if it is not 0, that of the samples of each. Where `PLAIN`, samples are not predicted.
+/// Decodes a piece that does not pass the limit of a code, by a loop for blocks of `SIZE` samples of `WIDTH` bytes, or of any where
+/// these are 0.
 #[inline(never)]
-fn decode_piece<
-    D: GivesRows<SIZE, WIDTH>,
-    const SIZE: usize,
-    const WIDTH: usize,
-    const PLAIN: bool,
->(setting: &Setting, stand: &Stand, piece: &[u8], samples: &mut [u8]) -> (Stand, Pause)
+fn decode_piece<D: GivesBytes<SIZE, WIDTH>, const SIZE: usize, const WIDTH: usize>(
+    setting: &Setting,
+    stand: &Stand,
+    piece: &[u8],
+    samples: &mut [u8],
+) -> (Stand, Pause)
     requires size { 0 < SIZE → SIZE ≡ setting.now.block }
-    requires samples { PLAIN ≡ false → 0 < WIDTH → ArePredicted setting.now WIDTH }
-    requires plain { PLAIN ≡ true → IsPlain setting.now WIDTH }
+    requires width { 0 < WIDTH → WIDTH ≡ width_of setting.now }
     requires fits { stand.now.bits + 8 * length piece.now ≤ most_bits_read }
     requires stand { IsSomeStand setting.now stand.now }
     ensures { DecodesOn setting.now stand.now piece.now samples.old samples.new result.0 result.1 }
 {
     let own = *setting;
-    let size = own.width() as usize * own.block() as usize;
+    let width = known_width::<WIDTH>(&own);
+    let block = known_or::<SIZE>(own.block() as usize);
+    let size = width * block;
     let mut decoder = D::resume(own, stand.block, stand.previous, stand.run);
     let mut reader = BitReader::new(SliceIn::new(piece));
     if !skip_bits(&mut reader, piece, (stand.bits % 8) as u32) {
@@ -129,16 +116,7 @@ fn decode_piece<
         unreachable!()
     }
     let mut levels = ArrayVec::new();
-    let most = if PLAIN {
-        blocks_of_row::<WIDTH>(&own)
-    } else if WIDTH > 0 {
-        blocks_in_pass::<SIZE, WIDTH>(&own)
-    } else {
-        1
-    };
-    let mut patience = Patience::new();
     let mut bytes = [0; 512];
-    let mut ends = [0; 64];
     let mut here = *stand;
     let mut at = 0;
     'decode_all: while samples.len() - at >= size {
@@ -146,26 +124,20 @@ fn decode_piece<
         if piece.is_empty() && here.run == 0 {
             return (here, Pause::Blank);
         }
-        match next_stroke::<D, SIZE, WIDTH, PLAIN>(
+        if decoder.is_repeating() {
+            let (next, len) = write_next_of_run(&own, &here, &mut decoder, &reader, at, samples);
+            here = next;
+            at += len;
+            continue 'decode_all;
+        }
+        let found = match give_next_block(
             &own,
             &here,
-            most,
-            &mut patience,
             &mut decoder,
             &mut reader,
+            &mut levels,
             &mut bytes,
-            &mut ends,
-            at,
-            samples,
         ) {
-            Some(stroke) => {
-                here = stroke.stand;
-                at += stroke.len;
-                continue 'decode_all;
-            }
-            None => {}
-        }
-        let found = match restore_next_block(&own, &here, &mut decoder, &mut reader, &mut levels) {
             Ok(found) => found,
             Err(fault) => {
                 let _intake = reader.into_inner();
@@ -174,7 +146,7 @@ fn decode_piece<
         };
         match found {
             Some(next) => {
-                D::write_at(&own, levels.as_slice(), &mut bytes, at, samples);
+                copy_at(&bytes[..size], at, samples);
                 here = next;
                 at += size;
             }
@@ -182,6 +154,16 @@ fn decode_piece<
         }
     }
     (here, Pause::Full)
+}
+
+/// Copies these bytes to this place.
+#[inline(always)]
+pub(crate) fn copy_at(bytes: &[u8], at: usize, samples: &mut [u8])
+    requires { at + length bytes.now ≤ length samples.old }
+    ensures { samples.new ≡ take at samples.old
+        ++ (bytes.now ++ drop (at + length bytes.now) samples.old) }
+{
+    samples[at..at + bytes.len()].copy_from_slice(bytes);
 }
 
 /// Returns whether `bits` bits of code and `bytes` bytes after them pass the limit of a code.
@@ -215,149 +197,32 @@ fn skip_bits(reader: &mut BitReader<SliceIn<'_>>, piece: &[u8], skipped: u32) ->
     }
 }
 
-/// Restores the samples of the next block, by their levels, and returns where decoding stands behind it, or `None` if no 1 is left.
+/// Writes the bytes of the samples of the next block to the front of `bytes`, and returns where decoding stands after it, or `None` if no 1
+/// is left.
 #[inline(always)]
-fn restore_next_block<D: GivesLevels>(
+fn give_next_block<D: GivesBytes<SIZE, WIDTH>, const SIZE: usize, const WIDTH: usize>(
     setting: &Setting,
     stand: &Stand,
     decoder: &mut D,
     reader: &mut BitReader<SliceIn<'_>>,
     levels: &mut ArrayVec<u32, 64>,
+    bytes: &mut [u8; 512],
 ) -> Result<Option<Stand>, CodeFault>
+    requires size { 0 < SIZE → SIZE ≡ setting.now.block }
+    requires width { 0 < WIDTH → WIDTH ≡ width_of setting.now }
     requires come { HasComeTo setting.now stand.now (D.state decoder.old) reader.old }
-    ensures legal { All (λ l. l < value_count setting.now) levels.new.items }
-    ensures goes_on { IfOk result (λ next. IfSome next (λ next.
-        GoesOnAt setting.now stand.now next (D.state decoder.new) reader.old reader.new ×
-        (length levels.new.items ≡ setting.now.block))) }
-    ensures takes { (o : Origin) (front : List Bool) (given : List ℤ) →
-        IsStand setting.now o stand.now front given →
-        TakesNext setting.now o front given stand.now reader.old reader.new
-        (values_at setting.now levels.new.items) result }
+    ensures { GivesAtStand setting.now stand.now (D.state decoder.new) reader.old reader.new bytes.new result }
 {
     let size = setting.block() as u64;
     let before = reader.taken();
     let mut meter = Meter::new();
     meter.tick(stand.steps);
-    match decoder.levels_of_next(reader, &mut meter, levels)? {
+    match next_bytes(decoder, setting, reader, &mut meter, levels, bytes)? {
         Step::Block => {}
         Step::Done => return Ok(None),
     }
     let next = stand_behind(stand, size, before, decoder, reader, &meter);
     Ok(Some(next))
-}
-
-/// Writes the spellings of the samples with these levels at this place. `bytes` are for what it makes of them first.
-#[inline(always)]
-pub(crate) fn write_at(
-    setting: &Setting,
-    levels: &[u32],
-    bytes: &mut [u8; 512],
-    at: usize,
-    samples: &mut [u8],
-)
-    requires legal { All (λ l. l < value_count setting.now) levels.now }
-    requires few { length levels.now ≤ 64 }
-    requires room { at + width_of setting.now * length levels.now ≤ length samples.old }
-    ensures { samples.new ≡ spelled_at setting.now at levels.now samples.old }
-{
-    // Laid out for the blocks that are written most.
-    match (setting.width(), setting.msb(), levels.len()) {
-        (1, msb, 8) => write_sized_at(setting, 1, msb, 8, levels, bytes, at, samples),
-        (1, msb, 16) => write_sized_at(setting, 1, msb, 16, levels, bytes, at, samples),
-        (2, false, 8) => write_sized_at(setting, 2, false, 8, levels, bytes, at, samples),
-        (2, false, 16) => write_sized_at(setting, 2, false, 16, levels, bytes, at, samples),
-        (3, _, 8) => write_three_bytes_each_at(setting, 8, levels, bytes, at, samples),
-        _ => write_others_at(setting, levels, bytes, at, samples),
-    }
-}
-
-/// Writes the spellings, apart from the blocks that are written most.
-#[inline(never)]
-fn write_others_at(
-    setting: &Setting,
-    levels: &[u32],
-    bytes: &mut [u8; 512],
-    at: usize,
-    samples: &mut [u8],
-)
-    requires legal { All (λ l. l < value_count setting.now) levels.now }
-    requires few { length levels.now ≤ 64 }
-    requires room { at + width_of setting.now * length levels.now ≤ length samples.old }
-    ensures { samples.new ≡ spelled_at setting.now at levels.now samples.old }
-{
-    match (setting.width(), setting.msb(), levels.len()) {
-        (1, msb, 64) => write_sized_at(setting, 1, msb, 64, levels, bytes, at, samples),
-        (3, _, count) if count % 8 == 0 => {
-            write_three_bytes_each_at(setting, count, levels, bytes, at, samples);
-        }
-        (4, false, 32) => write_sized_at(setting, 4, false, 32, levels, bytes, at, samples),
-        (4, false, 64) => write_sized_at(setting, 4, false, 64, levels, bytes, at, samples),
-        (width, _, count) => {
-            let spelled = &mut bytes[..width as usize * count];
-            write_spellings(setting, levels, spelled);
-            copy_at(spelled, at, samples);
-        }
-    }
-}
-
-/// Does what `write_at` does, whatever the samples are, where they belong.
-#[inline(never)]
-pub(crate) fn write_in_place(setting: &Setting, levels: &[u32], at: usize, samples: &mut [u8])
-    requires legal { All (λ l. l < value_count setting.now) levels.now }
-    requires few { length levels.now ≤ 64 }
-    requires room { at + width_of setting.now * length levels.now ≤ length samples.old }
-    ensures { samples.new ≡ spelled_at setting.now at levels.now samples.old }
-{
-    let len = setting.width() as usize * levels.len();
-    write_spellings(setting, levels, &mut samples[at..at + len]);
-}
-
-/// Writes the bytes of `count` samples of three bytes each, whole eights of them, at this place.
-#[inline(always)]
-fn write_three_bytes_each_at(
-    setting: &Setting,
-    count: usize,
-    levels: &[u32],
-    bytes: &mut [u8; 512],
-    at: usize,
-    samples: &mut [u8],
-)
-    requires legal { All (λ l. l < value_count setting.now) levels.now }
-    requires three { width_of setting.now ≡ 3 }
-    requires count { length levels.now ≡ count }
-    requires eights { count % 8 ≡ 0 }
-    requires few { count ≤ 64 }
-    requires room { at + 3 * count ≤ length samples.old }
-    ensures { samples.new ≡ spelled_at setting.now at levels.now samples.old }
-{
-    write_threes(setting, &levels[..count], bytes);
-    copy_at(&bytes[..3 * count], at, samples);
-}
-
-/// Writes the bytes of `count` samples at this place. It is laid out for what is known of the arguments, which are the width and the
-/// order of bytes of the setting.
-#[inline(always)]
-fn write_sized_at(
-    setting: &Setting,
-    width: usize,
-    msb: bool,
-    count: usize,
-    levels: &[u32],
-    bytes: &mut [u8; 512],
-    at: usize,
-    samples: &mut [u8],
-)
-    requires legal { All (λ l. l < value_count setting.now) levels.now }
-    requires width { width ≡ width_of setting.now }
-    requires order { msb ≡ setting.now.msb }
-    requires count { length levels.now ≡ count }
-    requires few { count ≤ 64 }
-    requires room { at + width * count ≤ length samples.old }
-    ensures { samples.new ≡ spelled_at setting.now at levels.now samples.old }
-{
-    let spelled = &mut bytes[..width * count];
-    write_spellings_laid_out(setting, width, msb, &levels[..count], spelled);
-    copy_at(spelled, at, samples);
 }
 
 /// Returns how decoding pauses where a coded data set is cut off or refused. A slice is read without faults.

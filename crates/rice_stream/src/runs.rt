@@ -5,7 +5,7 @@ ghost use Rattle.rice_samples.specs.bytes.Spelling.{spellings};
 ghost use Rattle.rice_stream.specs.Decodes.{wanted_of};
 ghost use Rattle.rice_stream.specs.RunsOfBlocks.{FailsInRun, WritesRun, repeated};
 
-use crate::gives::GivesLevels;
+use crate::block_decoder::GoesByBlocks;
 use crate::write::write_counted;
 use rice_bits::Outlet;
 use rice_samples::{Setting, bytes_of};
@@ -76,7 +76,7 @@ pub(crate) fn blocks_at_once(setting: &Setting, asked: Option<u64>, written: u64
 /// Writes the next blocks of a run, and goes past them. Returns how many samples were written. If the outlet fails, an error has the
 /// number of samples of those blocks that were written whole.
 #[inline(never)]
-pub fn write_run<D: GivesLevels, O: Outlet>(
+pub fn write_run<D: GoesByBlocks, O: Outlet>(
     setting: &Setting,
     asked: Option<u64>,
     written: u64,

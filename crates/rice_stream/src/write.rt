@@ -1,5 +1,5 @@
-//! Writing all bytes of a slice, of a sink, or of samples.
-ghost use Rattle.std.specs.Prelude.{◌≡◌, ◌+◌, ◌%◌, ◌^◌, ◌<◌, ◌≤◌, All, length, drop, take, OnOk, OnErr, IfErr};
+//! Writing all bytes of a slice or of a sink, and the bytes of samples.
+ghost use Rattle.std.specs.Prelude.{◌≡◌, ◌+◌, ◌*◌, ◌%◌, ◌^◌, ◌<◌, ◌≤◌, All, length, drop, take, OnOk, OnErr, IfErr};
 ghost use Rattle.rice_bits.specs.device.OutletRoom.{Appends};
 ghost use Rattle.rice_bits.specs.Bits.{whole_bytes, bits_in_bytes};
 ghost use Rattle.rice_samples.specs.Parameters.{value_count, values_at, width as width_of};
@@ -87,143 +87,51 @@ pub fn write_whole<const N: usize, O: Outlet>(
     Ok(())
 }
 
-/// Writes the bytes of the samples of a block, for which `bytes` has room.
+/// Writes the bytes of samples with these levels to the front of `bytes`. It may write more after them.
 #[inline(always)]
-pub fn write_block<O: Outlet>(
-    setting: &Setting,
-    levels: &[u32],
-    bytes: &mut [u8; 512],
-    outlet: &mut O,
-) -> Result<(), WriteFault>
+pub fn write_levels(setting: &Setting, levels: &[u32], bytes: &mut [u8; 512])
     requires legal { All (λ l. l < value_count setting.now) levels.now }
     requires few { length levels.now ≤ 64 }
-    requires counted { O.failed outlet.old + 1 < 2 ^ 64 }
-    ensures ok { OnOk result (Appends (O.taken outlet.old) (O.taken outlet.new)
-        (spellings setting.now (values_at setting.now levels.now)) ×
-        (O.failed outlet.new ≡ O.failed outlet.old)) }
-    ensures err { OnErr result (TakesPart (O.taken outlet.old) (O.taken outlet.new)
-        (spellings setting.now (values_at setting.now levels.now)) ×
-        (O.failed outlet.new ≡ O.failed outlet.old + 1)) }
+    ensures { take (width_of setting.now * length levels.now) bytes.new
+        ≡ spellings setting.now (values_at setting.now levels.now) }
 {
     // Laid out for the blocks that are written most.
     match (setting.width(), setting.msb(), levels.len()) {
-        (1, msb, 8) => write_sized(setting, 1, msb, 8, levels, bytes, outlet),
-        (1, msb, 16) => write_sized(setting, 1, msb, 16, levels, bytes, outlet),
-        (2, false, 8) => write_sized(setting, 2, false, 8, levels, bytes, outlet),
-        (2, false, 16) => write_sized(setting, 2, false, 16, levels, bytes, outlet),
-        _ => write_other_samples(setting, levels, bytes, outlet),
+        (1, msb, 8) => write_sized(setting, 1, msb, 8, levels, bytes),
+        (1, msb, 16) => write_sized(setting, 1, msb, 16, levels, bytes),
+        (1, msb, 64) => write_sized(setting, 1, msb, 64, levels, bytes),
+        (2, false, 8) => write_sized(setting, 2, false, 8, levels, bytes),
+        (2, false, 16) => write_sized(setting, 2, false, 16, levels, bytes),
+        (4, false, 32) => write_sized(setting, 4, false, 32, levels, bytes),
+        (4, false, 64) => write_sized(setting, 4, false, 64, levels, bytes),
+        (3, _, count) if count % 8 == 0 => write_threes(setting, levels, bytes),
+        (width, _, count) => write_spellings(setting, levels, &mut bytes[..width as usize * count]),
     }
 }
 
-/// Writes the bytes of the samples, apart from the blocks that are written most.
-#[inline(never)]
-fn write_other_samples<O: Outlet>(
-    setting: &Setting,
-    levels: &[u32],
-    bytes: &mut [u8; 512],
-    outlet: &mut O,
-) -> Result<(), WriteFault>
-    requires legal { All (λ l. l < value_count setting.now) levels.now }
-    requires few { length levels.now ≤ 64 }
-    requires counted { O.failed outlet.old + 1 < 2 ^ 64 }
-    ensures ok { OnOk result (Appends (O.taken outlet.old) (O.taken outlet.new)
-        (spellings setting.now (values_at setting.now levels.now)) ×
-        (O.failed outlet.new ≡ O.failed outlet.old)) }
-    ensures err { OnErr result (TakesPart (O.taken outlet.old) (O.taken outlet.new)
-        (spellings setting.now (values_at setting.now levels.now)) ×
-        (O.failed outlet.new ≡ O.failed outlet.old + 1)) }
-{
-    match (setting.width(), setting.msb(), levels.len()) {
-        (1, msb, 64) => write_sized(setting, 1, msb, 64, levels, bytes, outlet),
-        (3, _, 8) => write_three_bytes_each(setting, 8, levels, bytes, outlet),
-        (3, _, count) if count % 8 == 0 => {
-            write_three_bytes_each(setting, count, levels, bytes, outlet)
-        }
-        (4, false, 32) => write_sized(setting, 4, false, 32, levels, bytes, outlet),
-        (4, false, 64) => write_sized(setting, 4, false, 64, levels, bytes, outlet),
-        (width, _, count) => {
-            let spelled = &mut bytes[..width as usize * count];
-            write_spellings(setting, levels, spelled);
-            write_all(outlet, spelled)
-        }
-    }
-}
-
-/// Does what `write_block` does, whatever the samples are, in room of its own.
-#[inline(never)]
-pub fn write_block_in_own_room<O: Outlet>(
-    setting: &Setting,
-    levels: &[u32],
-    outlet: &mut O,
-) -> Result<(), WriteFault>
-    requires legal { All (λ l. l < value_count setting.now) levels.now }
-    requires few { length levels.now ≤ 64 }
-    requires counted { O.failed outlet.old + 1 < 2 ^ 64 }
-    ensures ok { OnOk result (Appends (O.taken outlet.old) (O.taken outlet.new)
-        (spellings setting.now (values_at setting.now levels.now)) ×
-        (O.failed outlet.new ≡ O.failed outlet.old)) }
-    ensures err { OnErr result (TakesPart (O.taken outlet.old) (O.taken outlet.new)
-        (spellings setting.now (values_at setting.now levels.now)) ×
-        (O.failed outlet.new ≡ O.failed outlet.old + 1)) }
-{
-    let mut bytes = [0; 256];
-    let spelled = &mut bytes[..setting.width() as usize * levels.len()];
-    write_spellings(setting, levels, spelled);
-    write_all(outlet, spelled)
-}
-
-/// Writes the bytes of `count` samples of three bytes each, whole eights of them.
+/// As `write_levels`, of `count` samples. It is laid out for what is known of the arguments, which are the width and the order of bytes of
+/// the setting.
 #[inline(always)]
-fn write_three_bytes_each<O: Outlet>(
-    setting: &Setting,
-    count: usize,
-    levels: &[u32],
-    bytes: &mut [u8; 512],
-    outlet: &mut O,
-) -> Result<(), WriteFault>
-    requires legal { All (λ l. l < value_count setting.now) levels.now }
-    requires three { width_of setting.now ≡ 3 }
-    requires count { length levels.now ≡ count }
-    requires eights { count % 8 ≡ 0 }
-    requires few { count ≤ 64 }
-    requires counted { O.failed outlet.old + 1 < 2 ^ 64 }
-    ensures ok { OnOk result (Appends (O.taken outlet.old) (O.taken outlet.new)
-        (spellings setting.now (values_at setting.now levels.now)) ×
-        (O.failed outlet.new ≡ O.failed outlet.old)) }
-    ensures err { OnErr result (TakesPart (O.taken outlet.old) (O.taken outlet.new)
-        (spellings setting.now (values_at setting.now levels.now)) ×
-        (O.failed outlet.new ≡ O.failed outlet.old + 1)) }
-{
-    write_threes(setting, &levels[..count], bytes);
-    write_all(outlet, &bytes[..3 * count])
-}
-
-/// Writes the bytes of `count` samples. It is laid out for what is known of the arguments, which
-/// are the width and the order of bytes of the setting.
-#[inline(always)]
-fn write_sized<O: Outlet>(
+fn write_sized(
     setting: &Setting,
     width: usize,
     msb: bool,
     count: usize,
     levels: &[u32],
     bytes: &mut [u8; 512],
-    outlet: &mut O,
-) -> Result<(), WriteFault>
+)
     requires legal { All (λ l. l < value_count setting.now) levels.now }
     requires width { width ≡ width_of setting.now }
     requires order { msb ≡ setting.now.msb }
     requires count { length levels.now ≡ count }
     requires few { count ≤ 64 }
-    requires counted { O.failed outlet.old + 1 < 2 ^ 64 }
-    ensures ok { OnOk result (Appends (O.taken outlet.old) (O.taken outlet.new)
-        (spellings setting.now (values_at setting.now levels.now)) ×
-        (O.failed outlet.new ≡ O.failed outlet.old)) }
-    ensures err { OnErr result (TakesPart (O.taken outlet.old) (O.taken outlet.new)
-        (spellings setting.now (values_at setting.now levels.now)) ×
-        (O.failed outlet.new ≡ O.failed outlet.old + 1)) }
+    ensures { take (width * count) bytes.new ≡ spellings setting.now (values_at setting.now levels.now) }
 {
-    let spelled = &mut bytes[..width * count];
-    write_spellings_laid_out(setting, width, msb, &levels[..count], spelled);
-    write_all(outlet, spelled)
+    write_spellings_laid_out(
+        setting,
+        width,
+        msb,
+        &levels[..count],
+        &mut bytes[..width * count],
+    );
 }

@@ -117,11 +117,17 @@ impl Outlet for SliceOut<'_> {
             self.failures += 1;
             return Err(WriteFault);
         }
-        let count = bytes.len().min(self.room.len() - self.at);
-        let next = self.at + count;
-        self.room[self.at..next].copy_from_slice(&bytes[..count]);
-        self.at = next;
-        Ok(count)
+        // Bytes of a known length that all fit are copied without a call.
+        let room = self.room.len() - self.at;
+        if bytes.len() <= room {
+            let next = self.at + bytes.len();
+            self.room[self.at..next].copy_from_slice(bytes);
+            self.at = next;
+            return Ok(bytes.len());
+        }
+        self.room[self.at..].copy_from_slice(&bytes[..room]);
+        self.at += room;
+        Ok(room)
     }
 
     fn failures(&self) -> u64 {

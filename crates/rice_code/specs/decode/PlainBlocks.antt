@@ -1,12 +1,8 @@
--- Blocks without compression that have the bytes of their samples as they are. Rows of blocks of any kind that were given: GivesRow.
-use Rattle.std.specs.Prelude.{◌≡◌, ◌⊎◌, ℕ, zero, suc, ◌+◌, ◌-◌, ◌*◌, ◌^◌, ◌<◌, ◌≤◌, Bool, false, List, All, length, take, drop, flat_map}
+-- Blocks without compression that have the bytes of their samples as they are.
+use Rattle.std.specs.Prelude.{◌≡◌, ◌⊎◌, ℕ, ◌+◌, ◌-◌, ◌*◌, ◌^◌, ◌<◌, ◌≤◌, Bool, false, List, All, length, take, drop, flat_map}
 use Rattle.rice_bits.specs.Bits.{word}
-use Rattle.rice_bits.specs.read.Reader.{Reader}
-use Rattle.rice_samples.specs.Parameters.{Parameters, id_len, width as width_of}
+use Rattle.rice_samples.specs.Parameters.{Parameters, id_len}
 use Rattle.rice_samples.specs.bytes.Spelling.{ordered_bytes}
-use Rattle.rice_code.specs.decode.BlocksInOnePass.{GivesBytes}
-use Rattle.rice_code.specs.decode.DecoderState.{DecoderState}
-use Rattle.rice_code.specs.decode.RowsOfFields.{AreCounted}
 
 -- Samples are not predicted, and use all bits of 1, 2 or 4 bytes, and intervals are not padded.
 pub record IsPlain (s : Parameters) (width : ℕ) : Type 0 where
@@ -32,14 +28,3 @@ pub record PlainBlock (waiting : List Bool) (s : Parameters) (width : ℕ) (byte
   pub there : plain_bits s width ≤ length waiting
   pub id : word (id_len s) (2 ^ id_len s - 1) ≡ take (id_len s) waiting
   pub words : WordsAhead waiting s width (width * s.block) bytes
-
--- So many of them wait, one behind another.
-abbrev pub PlainRow : List Bool → Parameters → ℕ → ℕ → List ℕ → Type 0
-PlainRow waiting s width count bytes = (i : ℕ) → i < count → PlainBlock (drop (plain_bits s width * i) waiting) s width (drop (width * s.block * i) bytes)
-
--- A decoder read so many coded data sets, each of one block, and the bytes begin with the spellings of their samples. No run is to come.
-abbrev pub GivesRow : {I : Type 0} → ℕ → Reader I → Reader I → ℕ → ℕ → DecoderState → DecoderState → List ℕ → Type 0
-GivesRow zero old new steps steps_new p q bytes = (new ≡ old) × (steps_new ≡ steps) × (q ≡ p)
-GivesRow {I} (suc n) old new steps steps_new p q bytes =
-    (middle : Reader I) × (steps_middle : ℕ) × (m : DecoderState) × GivesBytes old middle steps steps_middle p m bytes × AreCounted steps steps_middle old.taken middle.taken × (m.run ≡ 0) ×
-    GivesRow n middle new steps_middle steps_new m q (drop (width_of p.setting * p.setting.block) bytes)

@@ -7,6 +7,7 @@ mod high_and_low_parts;
 mod no_compression_ahead;
 mod options;
 mod pairs;
+mod patience;
 mod plain_blocks;
 mod restoring;
 mod rows_of_fields;

@@ -30,23 +30,10 @@ use Rattle.rice_stream.specs.Decodes.{wanted_of}
 use Rattle.std.proofs.lemmas.List.{length-replicate}
 use Rattle.std.proofs.lemmas.List.Sums.{sum_by_push}
 use Rattle.rice_bits.specs.device.OutletRoom.{Room}
+use Rattle.rice_stream.specs.BlockBytes.{Advances}
 use Rattle.rice_stream.specs.DecodingState.{DecodedSoFar, Gains, DecodingProgress, HasSets}
 use Rattle.rice_stream.proofs.lemmas.SetsRead.{sets-push}
 use Rattle.rice_stream.proofs.lemmas.DecodedSamples.{decoded_with_set, decoded_with_run_block}
-
--- what `next_levels` says to a decoder that goes on, inside a run and elsewhere
-pub record Advances {I : Type 0} (old new : Reader I) (steps steps_new : ℕ) (p q : DecoderState) (samples : List ℤ) (answer : Result Step CodeFault) : Type 0 where
-  pub in_run : p.stopped ≡ None → 0 < p.run → (answer ≡ Ok Block) × GivesFromRun p q samples × (new ≡ old) × (steps_new ≡ steps)
-  pub reads : p.stopped ≡ None → p.run ≡ 0 → Answers (with_mark old) new steps steps_new p q samples answer
-
--- what a call of the decoder answers, of its levels and of its samples
-pub decoder_advances : {I : Type 0} {old new : Reader I} (steps steps_new : ℕ) (p q : DecoderState) {s : Parameters} (levels : List ℕ)
-    {answer known : Result Step CodeFault} → p.setting ≡ s → answer ≡ known
-    → (p.stopped ≡ None → 0 < p.run → (answer ≡ Ok Block) × GivesFromRun p q (values_at p.setting levels) × (new ≡ old) × (steps_new ≡ steps))
-    → (p.stopped ≡ None → p.run ≡ 0 → Answers (with_mark old) new steps steps_new p q (values_at p.setting levels) answer) → Advances old new steps steps_new p q (values_at s levels) known
-decoder_advances {old} {new} steps steps_new p q levels {answer} {known} setting is in_run reads =
-    subst (λ (t : Parameters). Advances old new steps steps_new p q (values_at t levels) known) setting
-    (subst (λ (a : Result Step CodeFault). Advances old new steps steps_new p q (values_at p.setting levels) a) is record { in_run = in_run; reads = reads })
 
 -- what the decoder says where it gives a block, inside a run and elsewhere
 pub record InsideRun {I : Type 0} (old new : Reader I) (steps steps_new : ℕ) (p q : DecoderState) (samples : List ℤ) : Type 0 where

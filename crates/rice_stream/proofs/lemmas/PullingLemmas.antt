@@ -25,7 +25,8 @@ use Rattle.rice_stream.specs.DecodingState.{DecodedSoFar, Gains, HasSets}
 use Rattle.rice_stream.specs.Pulling.{Origin, IsStand, MayBegin, GivesNext, GoesOnAt, IsReadFrom, TakesNext, ahead, bytes_told, state_of}
 use Rattle.rice_stream.specs.declared.stand.Stand.{Stand}
 use Rattle.rice_stream.proofs.lemmas.DecodingEnds.{blank_all, next_here, some_one}
-use Rattle.rice_stream.proofs.lemmas.DecodingLemmas.{Advances, gains_run, gains_set, moves_of, runs_or_not, took_block}
+use Rattle.rice_stream.specs.BlockBytes.{Advances}
+use Rattle.rice_stream.proofs.lemmas.DecodingLemmas.{gains_run, gains_set, moves_of, runs_or_not, took_block}
 
 -- what is drawn of a piece
 pub draws_ahead : (old new : Option (List ℕ)) (waiting waiting_new bits : List Bool) → IsSome old → Draws old new waiting waiting_new bits

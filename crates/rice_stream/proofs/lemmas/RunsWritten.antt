@@ -27,7 +27,8 @@ use Rattle.rice_stream.specs.declared.outcome.Report.{Report}
 use Rattle.rice_stream.specs.declared.outcome.Fault.{Fault}
 use Rattle.rice_stream.specs.declared.outcome.Fault.TheVariants.{Write}
 use Rattle.rice_stream.proofs.lemmas.DecodingEnds.{progress_with_block, write_ends}
-use Rattle.rice_stream.proofs.lemmas.DecodingLemmas.{Advances, gains_block}
+use Rattle.rice_stream.specs.BlockBytes.{Advances}
+use Rattle.rice_stream.proofs.lemmas.DecodingLemmas.{gains_block}
 use Rattle.rice_samples.proofs.lemmas.bytes.SpellingLengths.{length-spellings, spellings-append}
 
 -- the front of a repeated pattern

@@ -39,7 +39,7 @@ use Rattle.rice_code.specs.decode.BlocksInOnePass.{GivesBytes}
 use Rattle.rice_code.specs.decode.Decoder.{Skips, TakesSet, with_mark}
 use Rattle.rice_code.specs.decode.DecoderState.{DecoderState, next_block_place}
 use Rattle.rice_code.specs.decode.RowsOfFields.{AreCounted}
-use Rattle.rice_code.specs.decode.PlainBlocks.{GivesRow, IsPlain, PlainBlock, PlainRow, WordsAhead, plain_bits}
+use Rattle.rice_code.specs.decode.PlainBlocks.{IsPlain, PlainBlock, WordsAhead, plain_bits}
 use Rattle.rice_code.proofs.lemmas.code.FormsReadInOneWay.{long_id}
 use Rattle.rice_code.proofs.lemmas.decode.DecoderLemmas.{answers_block, next_within, samples_by_bits}
 use Rattle.rice_code.proofs.lemmas.decode.RestoredBlocks.{contents_of_patterns}
@@ -211,7 +211,7 @@ counted_words s w n plain e = sym (mul-div_cancel_left n (some_bytes s w plain))
 not_padded : (s : Parameters) (w next bits : ℕ) → IsPlain s w → padding s next bits ≡ 0
 not_padded s w next bits plain = ap (λ v. cond (v && place s next == 0) (bits_to_byte bits) 0) plain.pad
 
--- a block that waits, and the bytes of its samples, of which `x` is the last
+-- a buffered block, and the bytes of its samples, of which `x` is the last
 plain_step : {I : Type 0} {start new : Reader I} {first last : ℕ} (p : DecoderState) {q : DecoderState} {x : ℤ} {w : ℕ} {bytes : List ℕ}
     → (legal : IsLegal p.setting) (plain : IsPlain p.setting w) (h : PlainBlock start.waiting p.setting w bytes)
     → x ≡ last_of p.before (samples_in p.setting w h.words.words legal plain h.words.fit).samples
@@ -264,281 +264,22 @@ plain_step {start} {new} {first} {last} p {q} {x} {w} {bytes} legal plain h x_is
       by_bits = rw zero_run (omega (arith, bound));
     }
 
--- Rows
-
--- bytes that are written behind others leave these
-front_same : {A : Type 0} (a b n : ℕ) (xs ys : List A) → a + b ≤ n → n ≤ length xs → take b (drop a (take n xs ++ ys)) ≡ take b (drop a xs)
-front_same a b n xs ys h k =
-    let long : length (take n xs) ≡ n = length-take-le n xs k in
-    sym (drop-take a b (take n xs ++ ys)) ∙ (ap (drop a) (take-append-le (a + b) (take n xs) ys (omega (arith, long, h)) ∙ take-take (a + b) n xs h) ∙ drop-take a b xs)
-
-block_kept : (waiting : List Bool) (s : Parameters) (w : ℕ) (old new : List ℕ) → take (w * s.block) new ≡ take (w * s.block) old → PlainBlock waiting s w old → PlainBlock waiting s w new
-block_kept waiting s w old new same h = record {
-  there = h.there;
-  id = h.id;
-  words = record {
-    words = h.words.words;
-    counted = h.words.counted;
-    fit = h.words.fit;
-    bits = h.words.bits;
-    spelled = same ∙ h.words.spelled;
-  };
-}
-
--- a row of no blocks waits in any bits
-pub no_row : (waiting : List Bool) (s : Parameters) (w : ℕ) (bytes : List ℕ) → PlainRow waiting s w 0 bytes
-no_row waiting s w bytes i lt = absurd (omega (arith, lt))
-
--- a plain block waits behind a row of them, and its bytes stand behind those of the row: a row of one block more
-pub row_more : (waiting : List Bool) {s : Parameters} {w : ℕ} (i : ℕ) (old : List ℕ) {new more : List ℕ} → PlainRow waiting s w i old → new ≡ take (w * s.block * i) old ++ more
-    → w * s.block * i ≤ length old
-    → PlainBlock (drop (plain_bits s w * i) waiting) s w more → PlainRow waiting s w (i + 1) new
-row_more waiting {s} {w} i old {new} {more} row is within last k lt =
-    let c = w * s.block in
-    elim (cases_lt k i) [
-      | inl below ↦
-          let part : c * k + c ≤ c * i = (let m : suc k * c ≤ i * c = mul-le-mul_right c below in let x : suc k * c ≡ c * k + c = omega arith in
-          let y : i * c ≡ c * i = omega arith in omega (arith, m, x, y)) in
-          block_kept (drop (plain_bits s w * k) waiting) s w (drop (c * k) old) (drop (c * k) new)
-          (ap (λ l. take c (drop (c * k) l)) is ∙ front_same (c * k) c (c * i) old more part within) (row k below)
-      | inr from ↦
-          let here : i ≡ k = omega (arith, from, lt) in
-          let there : drop (c * i) new ≡ more = ap (drop (c * i)) is ∙ drop_at (take (c * i) old) more (c * i) (length-take-le (c * i) old within) in
-          subst (λ n. PlainBlock (drop (plain_bits s w * n) waiting) s w (drop (c * n) new)) here (subst (PlainBlock (drop (plain_bits s w * i) waiting) s w) (sym there) last)
-    ]
-
--- where a row has room with fifteen bytes more, so has each block of it, from its place on
-pub row_room : (c i most total : ℕ) → i < most → c * most + 15 ≤ total → c * i + (c + 15) ≤ total
-row_room c i most total lt h =
-    let m : suc i * c ≤ most * c = mul-le-mul_right c lt in
-    let x : suc i * c ≡ c * i + c = omega arith in
-    let y : most * c ≡ c * most = omega arith in
-    omega (arith, m, x, y, h)
-
--- the part of a slice from a place on was written
-pub written_from : {A : Type 0} (a k : ℕ) (xs ys : List A) → a ≤ length xs → k ≡ length xs - a → length ys ≡ k → put_mid a k xs ys ≡ take a xs ++ ys
-written_from a k xs ys h e len =
-    let n = a + length ys in
-    let new = put_mid a k xs ys in
-    sym (take-append-drop n new) ∙ ((λ j. take-put_mid a k xs ys n refl h j
-    ++ (drop-put_mid a k xs ys n (omega (arith, len)) h len ∙ drop_all n xs (omega (arith, h, e, len))) j) ∙ append-nil (take a xs ++ ys))
-
--- a row without its first block
-row_behind : (waiting : List Bool) (s : Parameters) (w n : ℕ) (bytes : List ℕ) → PlainRow waiting s w (suc n) bytes → PlainRow (drop (plain_bits s w) waiting) s w n (drop (w * s.block) bytes)
-row_behind waiting s w n bytes row i lt =
-    let c = w * s.block in
-    let len = plain_bits s w in
-    let a : drop (len * suc i) waiting ≡ drop (len * i) (drop len waiting) =
-    (let e : len * suc i ≡ len + len * i = omega arith in ap (λ k. drop k waiting) e ∙ sym (drop-drop (len * i) len waiting)) in
-    let b : drop (c * suc i) bytes ≡ drop (c * i) (drop c bytes) = (let e : c * suc i ≡ c + c * i = omega arith in ap (λ k. drop k bytes) e ∙ sym (drop-drop (c * i) c bytes)) in
-    subst (λ l. PlainBlock l s w (drop (c * i) (drop c bytes))) a (subst (PlainBlock (drop (len * suc i) waiting) s w) b (row (suc i) (omega (arith, lt))))
-
-row_first : (waiting : List Bool) (s : Parameters) (w n : ℕ) (bytes : List ℕ) → PlainRow waiting s w (suc n) bytes → PlainBlock waiting s w bytes
-row_first waiting s w n bytes row =
-    let a : plain_bits s w * 0 ≡ 0 = omega arith in
-    let b : w * s.block * 0 ≡ 0 = omega arith in
-    subst (λ k. PlainBlock (drop k waiting) s w bytes) a (subst (λ k. PlainBlock (drop (plain_bits s w * 0) waiting) s w (drop k bytes)) b (row 0 (omega arith)))
-
--- its identifier has a 1
-id_of_3_has_one : is_blank (word 3 7) ≡ false
-unfolding word
-id_of_3_has_one = refl
-
-id_of_4_has_one : is_blank (word 4 15) ≡ false
-unfolding word
-id_of_4_has_one = refl
-
-id_of_5_has_one : is_blank (word 5 31) ≡ false
-unfolding word
-id_of_5_has_one = refl
-
-ones_of : (k : ℕ) → (k ≡ 3) ⊎ ((k ≡ 4) ⊎ (k ≡ 5)) → is_blank (word k (2 ^ k - 1)) ≡ false
-ones_of k is = elim is [
-  | inl e ↦ ap (λ v. is_blank (word v (2 ^ v - 1))) e ∙ id_of_3_has_one
-  | inr other ↦ elim other [ inl e ↦ ap (λ v. is_blank (word v (2 ^ v - 1))) e ∙ id_of_4_has_one | inr e ↦ ap (λ v. is_blank (word v (2 ^ v - 1))) e ∙ id_of_5_has_one ]
-]
-
-begins_with_one : (s : Parameters) (w k : ℕ) (waiting : List Bool) → IsPlain s w → word (id_len s) (2 ^ id_len s - 1) ≡ take (id_len s) waiting → id_len s ≤ k → is_blank (take k waiting) ≡ false
-begins_with_one s w k waiting plain id h =
-    let parts : id_len s + (k - id_len s) ≡ k = omega (arith, h) in
-    let text : take k waiting ≡ word (id_len s) (2 ^ id_len s - 1) ++ take (k - id_len s) (drop (id_len s) waiting) =
-    ap (λ n. take n waiting) (sym parts) ∙ (take-add (id_len s) (k - id_len s) waiting ∙ ap (λ l. l ++ take (k - id_len s) (drop (id_len s) waiting)) (sym id)) in
-    ap is_blank text ∙ (blank-append (word (id_len s) (2 ^ id_len s - 1)) (take (k - id_len s) (drop (id_len s) waiting))
-    ∙ ap (λ b. b && is_blank (take (k - id_len s) (drop (id_len s) waiting))) ones)
-  where
-    ones : is_blank (word (id_len s) (2 ^ id_len s - 1)) ≡ false
-    ones = elim plain.widths [
-      | inl e ↦ (let n : id_len s ≡ 3 = plain_id_len s w plain ∙ ap (λ v. cond (v == 4) 5 (v + 2)) e in ones_of (id_len s) (inl n))
-      | inr other ↦ elim other [
-        | inl e ↦ (let n : id_len s ≡ 4 = plain_id_len s w plain ∙ ap (λ v. cond (v == 4) 5 (v + 2)) e in ones_of (id_len s) (inr (inl n)))
-        | inr e ↦ (let n : id_len s ≡ 5 = plain_id_len s w plain ∙ ap (λ v. cond (v == 4) 5 (v + 2)) e in ones_of (id_len s) (inr (inr n)))
-      ]
-    ]
-
--- a reader behind bits with a 1 that wait
-abbrev behind : {I : Type 0} → Reader I → ℕ → Reader I
-behind r n = record r { waiting = drop n r.waiting; taken = r.taken + n; blank = false }
-
-takes_front : {I : Type 0} (r : Reader I) (n : ℕ) → n ≤ length r.waiting → r.refusal ≡ None → is_blank (take n r.waiting) ≡ false → Takes (with_mark r) (behind r n) (take n r.waiting)
-takes_front r n h going one = record {
-  draws = draws-waiting r.left r.waiting (drop n r.waiting) (take n r.waiting) (sym (take-append-drop n r.waiting));
-  taken = ap (λ k. r.taken + k) (sym (length-take-le n r.waiting h));
-  blank = sym one;
-  going = going;
-  failures = refl;
-}
-
-takes_behind : {I : Type 0} (r new : Reader I) (a b : ℕ) → a + b ≤ length r.waiting → Takes (with_mark r) new (take (a + b) r.waiting)
-    → is_blank (take (a + b) r.waiting) ≡ false → is_blank (take b (drop a r.waiting)) ≡ false
-    → Takes (with_mark (behind r a)) new (take b (drop a r.waiting))
-takes_behind r new a b h t one last =
-    let long : length (take (a + b) r.waiting) ≡ a + b = length-take-le (a + b) r.waiting h in
-    let short : length (take b (drop a r.waiting)) ≡ b = length-take-le b (drop a r.waiting) (omega (arith, h, length-drop a r.waiting)) in
-    let none : t.draws.given ≡ [] = elim (cases_lt 0 (length t.draws.given)) [
-      | inl some ↦ absurd (omega (arith, t.draws.needed some, long, h))
-      | inr few ↦ empty t.draws.given few
-    ] in
-    let all : r.waiting ≡ take (a + b) r.waiting ++ new.waiting =
-    sym (append-nil r.waiting) ∙ (ap (λ l. r.waiting ++ l) (sym bits_of-nil) ∙ (ap (λ g. r.waiting ++ bits_of g) (sym none) ∙ t.draws.split)) in
-    let rest : drop (a + b) r.waiting ≡ new.waiting = ap (drop (a + b)) all ∙ drop_at (take (a + b) r.waiting) new.waiting (a + b) long in
-    record {
-      draws = record {
-        given = [];
-        consumed = subst (λ g. Consumes r.left new.left g) none t.draws.consumed;
-        split = ap (λ l. drop a r.waiting ++ l) bits_of-nil
-            ∙ (append-nil (drop a r.waiting) ∙ (sym (take-append-drop b (drop a r.waiting)) ∙ ap (λ l. take b (drop a r.waiting) ++ l) (drop-drop b a r.waiting ∙ rest)));
-        needed = λ some. absurd (omega arith);
-      };
-      taken = omega (arith, t.taken, long, short);
-      blank = t.blank ∙ (one ∙ sym last);
-      going = t.going;
-      failures = t.failures;
-    }
-  where
-    empty : (xs : List ℕ) → length xs ≤ 0 → xs ≡ []
-    empty [] h = refl
-    empty (x ∷ xs) h = absurd (omega (arith, h))
-
-next_by_mod : (s : Parameters) (b : ℕ) → b < s.interval → next_block_place s b ≡ (b + 1) % s.interval
-next_by_mod s b h = elim (cases_lt (b + 1) s.interval) [
-  | inl lt ↦ (let m : (b + 1) % s.interval ≡ b + 1 = mod-eq_of_lt lt in rw m (grind (arith, nat_tests)))
-  | inr ge ↦
-      let e : b + 1 ≡ 1 * s.interval + 0 = omega (arith, h, ge) in
-      let m : (b + 1) % s.interval ≡ 0 = ap (λ n. n % s.interval) e ∙ mod-mul-add 1 s.interval 0 (omega (arith, h)) in
-      rw m (grind (arith, nat_tests))
-]
-
--- the bits of a row wait: those of all blocks before its last, and those of the last
-pub row_there : (waiting : List Bool) (s : Parameters) (w n : ℕ) (bytes : List ℕ) → PlainRow waiting s w (suc n) bytes → plain_bits s w * n + plain_bits s w ≤ length waiting
-row_there waiting s w n bytes row =
-    let last = row n (omega arith) in
-    let some : 0 < plain_bits s w = (let id = long_id s in omega (arith, id)) in
-    omega (arith, last.there, length-drop (plain_bits s w * n) waiting, some)
-
--- a row of plain blocks is taken, at a step for each bit
-pub record TakesRow {I : Type 0} (n : ℕ) (r new : Reader I) (first last : ℕ) (p : DecoderState) (w : ℕ) : Type 0 where
-  pub bits : Takes (with_mark r) new (take (plain_bits p.setting w * suc n) r.waiting)
-  pub steps : last ≡ first + plain_bits p.setting w * suc n
-  pub within : new.taken ≤ 2 ^ 52
-
--- the level of the last sample of a row, and the state behind the row
-pub record RowLeaves {I : Type 0} (n : ℕ) (r : Reader I) (p q : DecoderState) (l w : ℕ) : Type 0 where
-  pub legal : l < value_count p.setting
-  pub pattern_is : word (8 * w) (pattern p.setting (value_at p.setting l)) ≡ take (8 * w) (drop (plain_bits p.setting w * n + (id_len p.setting + 8 * (w * p.setting.block - w))) r.waiting)
-  pub state : q ≡ record p { block = (p.block + suc n) % p.setting.interval; before = value_at p.setting l; run = 0 }
-
--- blocks in a row that are taken together
-pub row_given : {I : Type 0} (n : ℕ) {r new : Reader I} {first last : ℕ} {p q : DecoderState} {l w : ℕ} (bytes : List ℕ) → IsLegal p.setting
-    → IsPlain p.setting w → p.block < p.setting.interval → r.refusal ≡ None
-    → PlainRow r.waiting p.setting w (suc n) bytes → TakesRow n r new first last p w
-    → RowLeaves n r p q l w
-    → GivesRow (suc n) r new first last p q bytes
-row_given zero {r} {new} {first} {last} {p} {q} {l} {w} bytes legal plain within going row taken leaves =
+-- a buffered block is taken, and its last sample has level `l`
+pub plain_given : {I : Type 0} {start new : Reader I} {first last l w : ℕ} {p q : DecoderState} {bytes : List ℕ}
+    → IsLegal p.setting → IsPlain p.setting w → PlainBlock start.waiting p.setting w bytes → l < value_count p.setting
+    → word (8 * w) (pattern p.setting (value_at p.setting l)) ≡ take (8 * w) (drop (id_len p.setting + 8 * (w * p.setting.block - w)) start.waiting)
+    → Takes (with_mark start) new (take (plain_bits p.setting w) start.waiting) → last ≡ first + plain_bits p.setting w
+    → q ≡ record p { block = next_block_place p.setting p.block; before = value_at p.setting l; run = 0 }
+    → GivesBytes start new first last p q bytes
+plain_given {start = start} {l = l} {w = w} {p = p} legal plain h small read takes steps moves =
     let s = p.setting in
-    let len = plain_bits s w in
-    let block = row_first r.waiting s w 0 bytes row in
-    let words = block.words in
-    let given = samples_in s w words.words legal plain words.fit in
-    let count : length words.words ≡ s.block = counted_words s w (length words.words) plain words.counted in
-    let size : suc (s.block - 1) ≡ s.block = omega (arith, legal.block.0) in
-    let read : flat_map (word (8 * w)) words.words ≡ take (8 * (w * suc (s.block - 1))) (drop (id_len s) r.waiting) = words.bits
-    ∙ ap (λ n. take (8 * (w * n)) (drop (id_len s) r.waiting)) (sym size) in
-    let at : len * 0 + (id_len s + 8 * (w * s.block - w)) ≡ id_len s + 8 * (w * s.block - w) = omega arith in
-    let end : word (8 * w) (pattern s (value_at s l)) ≡ take (8 * w) (drop (id_len s + 8 * (w * suc (s.block - 1) - w)) r.waiting) =
-    leaves.pattern_is ∙ (ap (λ n. take (8 * w) (drop n r.waiting)) at ∙ ap (λ n. take (8 * w) (drop (id_len s + 8 * (w * n - w)) r.waiting)) (sym size)) in
-    let value : value_at s l ≡ last_of p.before given.samples =
-    last_is_at r.waiting {s = s} w p.before given.samples (record { some = legal.bits_from; whole = plain.whole }) (record {
-      words_are = count ∙ sym size;
-      len = given.len ∙ (count ∙ sym size);
-      fit = words.fit;
-      legal = given.legal;
-      same = given.patterns;
-    }) read leaves.legal end in
-    let one : len * 1 ≡ len = omega arith in
-    let next : (p.block + 1) % s.interval ≡ next_block_place s p.block = sym (next_by_mod s p.block within) in
-    let long : length (take (len * 1) r.waiting) ≡ len = ap (λ k. length (take k r.waiting)) one ∙ length-take-le len r.waiting block.there in
-    let took = taken.bits.taken in
-    let counted : AreCounted first last r.taken new.taken =
-    record { forward = omega (arith, took, long); limit = taken.within; least = omega (arith, took, long, taken.steps, one); most = omega (arith, took, long, taken.steps, one) } in (
-      new,
-      last,
-      q,
-      plain_step p legal plain block value (subst (λ k. Takes (with_mark r) new (take k r.waiting)) one taken.bits) (omega (arith, taken.steps, one))
-          (leaves.state ∙ ap (λ b. record p { block = b; before = value_at s l; run = 0 }) next),
-      counted,
-      ap (λ (d : DecoderState). d.run) leaves.state,
-      (refl, refl, refl),
-    )
-row_given (suc n) {r} {new} {first} {last} {p} {q} {l} {w} bytes legal plain within going row taken leaves =
-    let s = p.setting in
-    let len = plain_bits s w in
-    let block = row_first r.waiting s w (suc n) bytes row in
-    let more = row_behind r.waiting s w (suc n) bytes row in
-    let second = row_first (drop len r.waiting) s w n (drop (w * s.block) bytes) more in
-    let words = block.words in
-    let given = samples_in s w words.words legal plain words.fit in
-    let x = last_of p.before given.samples in
-    let m = behind r len in
-    let p1 = record p { block = next_block_place s p.block; before = x; run = 0 } in
-    let all : len * suc (suc n) ≡ len + len * suc n = omega arith in
-    let there = row_there r.waiting s w (suc n) bytes row in
-    let enough : len + len * suc n ≤ length r.waiting = omega (arith, there) in
-    let head : id_len s ≤ len = omega arith in
-    let whole = begins_with_one s w (len + len * suc n) r.waiting plain block.id (omega (arith, head)) in
-    let one = begins_with_one s w len r.waiting plain block.id head in
-    let inside : id_len s ≤ len * suc n = (let e : len * suc n ≡ len + len * n = omega arith in omega (arith, e, head)) in
-    let rest = begins_with_one s w (len * suc n) (drop len r.waiting) plain second.id inside in
-    let front = takes_front r len block.there going one in
-    let later = takes_behind r new len (len * suc n) enough (subst (λ k. Takes (with_mark r) new (take k r.waiting)) all taken.bits) whole rest in
-    let here : len * suc n + (id_len s + 8 * (w * s.block - w)) ≡ len + (len * n + (id_len s + 8 * (w * s.block - w))) = (let e : len * suc n ≡ len + len * n = omega arith in omega (arith, e)) in
-    let end : word (8 * w) (pattern s (value_at s l)) ≡ take (8 * w) (drop (len * n + (id_len s + 8 * (w * s.block - w))) (drop len r.waiting)) =
-    leaves.pattern_is ∙ (ap (λ k. take (8 * w) (drop k r.waiting)) here ∙ ap (take (8 * w)) (sym (drop-drop (len * n + (id_len s + 8 * (w * s.block - w))) len r.waiting))) in
-    let place_is : (p.block + suc (suc n)) % s.interval ≡ (next_block_place s p.block + suc n) % s.interval =
-    (let e : p.block + suc (suc n) ≡ p.block + 1 + suc n = omega arith in ap (λ b. b % s.interval) e
-    ∙ (sym (mod-add-mod (p.block + 1) s.interval (suc n)) ∙ ap (λ b. (b + suc n) % s.interval) (sym (next_by_mod s p.block within)))) in
-    let tail : GivesRow (suc n) m new (first + len) last p1 q (drop (w * s.block) bytes) =
-    row_given n (drop (w * s.block) bytes) legal plain (next_within s p.block within) going more
-    (record { bits = later; steps = omega (arith, taken.steps, all); within = taken.within }) (record {
-      legal = leaves.legal;
-      pattern_is = end;
-      state = leaves.state ∙ ap (λ b. record p { block = b; before = value_at s l; run = 0 }) place_is;
-    }) in
-    let long : length (take (len * suc (suc n)) r.waiting) ≡ len * suc (suc n) = length-take-le (len * suc (suc n)) r.waiting (omega (arith, enough, all)) in
-    let took = taken.bits.taken in
-    let counted : AreCounted first (first + len) r.taken m.taken = record { forward = omega arith; limit = omega (arith, took, long, all, taken.within); least = omega arith; most = omega arith } in (
-      m,
-      first + len,
-      p1,
-      plain_step p legal plain block refl front refl refl,
-      counted,
-      refl,
-      subst (λ k. GivesRow (suc n) m new (first + len) last p1 q (drop (k * s.block) bytes)) (plain_width s w plain) tail,
-    )
-
--- the bits of all blocks of a row wait
-pub bits_there : (waiting : List Bool) (s : Parameters) (w count : ℕ) (bytes : List ℕ) → 1 ≤ count → PlainRow waiting s w count bytes → plain_bits s w * count ≤ length waiting
-bits_there waiting s w zero bytes some row = absurd (omega (arith, some))
-bits_there waiting s w (suc n) bytes some row =
-    let there = row_there waiting s w n bytes row in
-    let e : plain_bits s w * suc n ≡ plain_bits s w * n + plain_bits s w = omega arith in
-    omega (arith, there, e)
+    let words = h.words.words in
+    let given = samples_in s w words legal plain h.words.fit in
+    let count : length words ≡ s.block = counted_words s w (length words) plain h.words.counted in
+    let some = legal.block.0 in
+    let one : suc (s.block - 1) ≡ s.block = omega (arith, some) in
+    let last_is = last_is_at start.waiting {s = s} w p.before given.samples (record { some = legal.bits_from; whole = plain.whole })
+    (record { words_are = count ∙ sym one; len = given.len ∙ (count ∙ sym one); fit = h.words.fit; legal = given.legal; same = given.patterns })
+    (h.words.bits ∙ ap (λ n. take (8 * (w * n)) (drop (id_len s) start.waiting)) (sym one)) small
+    (read ∙ ap (λ n. take (8 * w) (drop (id_len s + 8 * (w * n - w)) start.waiting)) (sym one)) in
+    plain_step p legal plain h last_is takes steps moves

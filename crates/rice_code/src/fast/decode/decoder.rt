@@ -1,14 +1,12 @@
-//! Decodes coded data sets, a block a call or several.
+//! Decodes coded data sets, a block a call.
 ghost use Rattle.std.specs.Prelude.{◌≡◌, ◌≢◌, ◌+◌, ◌-◌, ◌*◌, ◌%◌, ◌^◌, ◌<◌, ◌≤◌, ◌↔◌, IsTrue, true, false, All, [], length, take, None, Option, Some, IfSome, Ok, pos};
 ghost use Rattle.rice_bits.specs.Limits.{step_limit, most_bits_read};
-ghost use Rattle.rice_samples.specs.Parameters.{id_len, k_max, value_at, value_count, values_at};
+ghost use Rattle.rice_samples.specs.Parameters.{id_len, k_max, value_at, value_count, values_at, width as width_of};
 ghost use Rattle.rice_samples.specs.Places.{blocks_left};
 ghost use Rattle.rice_bits.specs.Bits.{word};
 ghost use Rattle.rice_code.specs.Limits.{most_samples_of_bit};
-ghost use Rattle.rice_code.specs.decode.BlocksInOnePass.{ArePredicted, HasLanes, lanes_of};
-ghost use Rattle.rice_code.specs.decode.BlocksInRow.{GivesBlocks, GivesOneBlock};
+ghost use Rattle.rice_code.specs.decode.BlocksInOnePass.{ArePredicted, GivesBytes, HasLanes, lanes_of};
 ghost use Rattle.rice_code.specs.decode.RowsOfFields.{AreCounted};
-ghost use Rattle.rice_code.specs.decode.PlainBlocks.{GivesRow, IsPlain, PlainRow};
 ghost use Rattle.rice_code.specs.decode.Decoder.{Skips};
 ghost use Rattle.rice_code.specs.decode.DecoderState.{next_block_place};
 ghost use Rattle.rice_code.specs.code.Layout.{padding};
@@ -18,7 +16,10 @@ use crate::decode::decoder::{answer_of, next_place, place_behind, run_blocks, sk
 use crate::decode::options::SetSummary;
 use crate::fast::decode::coded_data_set::read_set;
 use crate::fast::decode::no_compression_ahead::{is_uncompressed_ahead, spell_uncompressed_ahead};
-use crate::fast::decode::plain_blocks::{last_of_plain, plain_len, spell_plain_row_ahead};
+use crate::fast::decode::patience::Patience;
+use crate::fast::decode::plain_blocks::{
+    is_plain, is_plain_ahead, last_of_plain, plain_len, spell_plain_block_ahead,
+};
 use crate::fast::decode::restoring::{restore_block, restore_zero_block, set_len_of_levels};
 use crate::fast::decode::split_ahead::{spell_ahead, split_of_block_ahead, take_ahead};
 use crate::fast::decode::wide_ahead::{restore_wide_ahead, wide_split_ahead};
@@ -28,27 +29,9 @@ use rice_bits::{BitReader, Intake, Meter};
 use rice_samples::{Setting, has_few_near, write_spellings_by_eights};
 use std::marker::Model;
 
-/// The most blocks in a row that are read without a look whether their samples are near to those before them.
-const MOST_IN_TURN: u32 = 8;
-
-/// Returns the place in its interval of the block that stands `count` blocks behind block `block`.
-fn place_on(setting: &Setting, block: u64, count: usize) -> u64
-    requires block { block < setting.now.interval }
-    requires count { count ≤ 512 }
-    ensures { result ≡ (block + count) % setting.now.interval }
-{
-    let interval = setting.interval() as u64;
-    let next = block + count as u64;
-    if next < interval {
-        next
-    } else {
-        next % interval
-    }
-}
-
-/// Decodes coded data sets, a block a call or several.
+/// Decodes coded data sets, a block a call.
 ///
-/// It takes 568 bytes of memory. In contracts its value is its state: the setting, the place of the next block, the
+/// It takes 576 bytes of memory. In contracts its value is its state: the setting, the place of the next block, the
 /// sample before it, the zero blocks of a run that are still to come, and what it answers once it has stopped.
 #[derive(Drop)]
 pub struct FastDecoder {
@@ -58,8 +41,8 @@ pub struct FastDecoder {
     before: u32,
     run: u32,
     stopped: Option<Result<Step, CodeFault>>,
-    /// How many looks in a row for near samples were in vain, up to `MOST_IN_TURN`.
-    vain_looks: u32,
+    /// When the next block is looked at for near samples.
+    patience: Patience,
     /// Scratch space for the residuals of a block and for their high parts.
     scratch: [u32; 128],
 }
@@ -94,7 +77,7 @@ impl FastDecoder {
             before,
             run: 0,
             stopped: None,
-            vain_looks: 0,
+            patience: Patience::new(),
             scratch: [0; 128],
         }
     }
@@ -120,7 +103,7 @@ impl FastDecoder {
             before: level,
             run,
             stopped: None,
-            vain_looks: 0,
+            patience: Patience::new(),
             scratch: [0; 128],
         }
     }
@@ -182,33 +165,30 @@ impl FastDecoder {
         self.block = next;
     }
 
-    /// Reads coded data sets and writes the bytes of their blocks, of predicted samples of `WIDTH` bytes, to the front of `bytes`. `SIZE`,
-    /// if it is not 0, is the number of samples of a block. Each has to be coded by a split, with short fundamental sequences, or, where
-    /// samples have one byte, not to be compressed, and enough bits have to wait. Where samples have more than two bytes, or the split is above
-    /// 8, all of them have to be near to those before them, too. Returns how many it read, at most `most`, and writes to `ends` how many bits
-    /// it had taken behind each. If it is 0, nothing has happened, and [`next_levels`](Self::next_levels) gives the block.
-    #[inline(always)]
+    /// Reads the next block, and writes the bytes of its samples, of `WIDTH` bytes each, to the front of `bytes`, if its coded data set
+    /// is buffered and fits the fast pass. `SIZE`, if it is not 0, is the number of samples of a block.
+    ///
+    /// The pass takes a block by a split with short fundamental sequences, and one without compression, of samples of one byte or of those
+    /// that are not predicted and fill their bytes. Samples of more than two bytes, or by a split above 8, have to be near to those before
+    /// them. Returns whether it took the block; otherwise nothing has happened, and [`next_levels`](Self::next_levels) gives it. It may
+    /// write up to 32 bytes more after those of the block.
+    #[inline(never)]
     pub fn next_bytes<I: Intake, const SIZE: usize, const WIDTH: usize>(
         &mut self,
-        most: usize,
         reader: &mut BitReader<I>,
         meter: &mut Meter,
         bytes: &mut [u8],
-        ends: &mut [u32; 64],
-    ) -> usize
+    ) -> bool
         requires size { 0 < SIZE → SIZE ≡ self.old.setting.block }
-        requires samples { ArePredicted self.old.setting WIDTH }
+        requires width { WIDTH ≡ width_of self.old.setting }
         requires stopped { self.old.stopped ≡ None }
         requires going { reader.old.refusal ≡ None }
         requires room { meter.old + 2 * (most_bits_read - reader.old.taken) + 64 < step_limit }
-        requires few { (1 ≤ most) × (most ≤ 64) }
-        requires bytes { WIDTH * self.old.setting.block * most + 32 ≤ length bytes.old }
-        ensures most { result ≤ most }
-        ensures some { 0 < result → (self.old.run ≡ 0) ×
-            GivesBlocks result reader.old reader.new meter.old meter.new self.old self.new bytes.new
-            ends.new }
-        ensures none { result ≡ 0 → (self.new ≡ self.old) × (reader.new ≡ reader.old) ×
-            (meter.new ≡ meter.old) × (bytes.new ≡ bytes.old) }
+        requires bytes { WIDTH * self.old.setting.block + 32 ≤ length bytes.old }
+        ensures some { result ≡ true → (self.old.run ≡ 0) ×
+            GivesBytes reader.old reader.new meter.old meter.new self.old self.new bytes.new }
+        ensures none { result ≡ false → (self.new ≡ self.old) × (reader.new ≡ reader.old) ×
+            (meter.new ≡ meter.old) }
         // It may be called again with this reader.
         ensures going { reader.new.refusal ≡ None }
         ensures stopped { self.new.stopped ≡ None }
@@ -218,129 +198,145 @@ impl FastDecoder {
     {
         let _taken = reader.taken();
         if self.run > 0 {
-            return 0;
+            return false;
+        }
+        if !self.setting.preprocess() {
+            return self.copy_next_bytes::<I, SIZE, WIDTH>(reader, meter, bytes);
         }
         if WIDTH > 2 {
-            return self.read_wide_blocks_to_bytes::<I, WIDTH>(most, reader, meter, bytes, ends);
+            return self.next_bytes_in_words::<I, WIDTH>(reader, meter, bytes);
         }
-        let blocks = self.next_bytes_in_lanes::<I, SIZE, WIDTH>(most, reader, meter, bytes, ends);
-        if blocks > 0 || WIDTH == 1 || wide_split_ahead(&self.setting, reader).is_none() {
-            return blocks;
+        if self.next_bytes_in_lanes::<I, SIZE, WIDTH>(reader, meter, bytes) {
+            return true;
         }
-        self.read_wide_blocks_to_bytes::<I, WIDTH>(most, reader, meter, bytes, ends)
+        if WIDTH == 1 {
+            return false;
+        }
+        self.next_bytes_in_words::<I, WIDTH>(reader, meter, bytes)
     }
 
-    /// As `next_bytes`, outside a run, of samples of one byte or two, of which the bytes are made in lanes.
+    /// As `next_bytes`, outside a run, of samples that are not predicted and fill their bytes, of a block without compression.
+    #[inline(never)]
+    fn copy_next_bytes<I: Intake, const SIZE: usize, const WIDTH: usize>(
+        &mut self,
+        reader: &mut BitReader<I>,
+        meter: &mut Meter,
+        bytes: &mut [u8],
+    ) -> bool
+        requires size { 0 < SIZE → SIZE ≡ self.old.setting.block }
+        requires stopped { self.old.stopped ≡ None }
+        requires run { self.old.run ≡ 0 }
+        requires going { reader.old.refusal ≡ None }
+        requires room { meter.old + 2 * (most_bits_read - reader.old.taken) + 64 < step_limit }
+        requires bytes { WIDTH * self.old.setting.block + 32 ≤ length bytes.old }
+        ensures some { result ≡ true →
+            GivesBytes reader.old reader.new meter.old meter.new self.old self.new bytes.new }
+        ensures none { result ≡ false → (self.new ≡ self.old) × (reader.new ≡ reader.old) ×
+            (meter.new ≡ meter.old) }
+        ensures going { reader.new.refusal ≡ None }
+        ensures stopped { self.new.stopped ≡ None }
+        ensures setting { self.new.setting ≡ self.old.setting }
+        ensures steps { AreCounted meter.old meter.new reader.old.taken reader.new.taken }
+    {
+        let _taken = reader.taken();
+        let setting = &self.setting;
+        if !is_plain::<WIDTH>(setting) {
+            return false;
+        }
+        let size = known_or::<SIZE>(setting.block() as usize);
+        if !is_plain_ahead::<I, WIDTH>(setting, size, reader) {
+            return false;
+        }
+        spell_plain_block_ahead::<I, WIDTH>(setting, size, reader, bytes);
+        let last = last_of_plain::<I, WIDTH>(setting, size, reader);
+        take_ahead(reader, plain_len::<WIDTH>(setting, size), meter);
+        self.before = last;
+        self.block = next_place(&self.setting, self.block);
+        true
+    }
+
+    /// As `next_bytes`, outside a run, of predicted samples of one byte or two, of which the bytes are made in lanes.
     #[inline(always)]
     fn next_bytes_in_lanes<I: Intake, const SIZE: usize, const WIDTH: usize>(
         &mut self,
-        most: usize,
         reader: &mut BitReader<I>,
         meter: &mut Meter,
         bytes: &mut [u8],
-        ends: &mut [u32; 64],
-    ) -> usize
+    ) -> bool
         requires size { 0 < SIZE → SIZE ≡ self.old.setting.block }
         requires lanes { HasLanes self.old.setting self.old.setting.block WIDTH }
         requires stopped { self.old.stopped ≡ None }
         requires run { self.old.run ≡ 0 }
         requires going { reader.old.refusal ≡ None }
         requires room { meter.old + 2 * (most_bits_read - reader.old.taken) + 64 < step_limit }
-        requires few { (1 ≤ most) × (most ≤ 64) }
-        requires bytes { WIDTH * self.old.setting.block * most + 32 ≤ length bytes.old }
-        ensures most { result ≤ most }
-        ensures some { 0 < result →
-            GivesBlocks result reader.old reader.new meter.old meter.new self.old self.new bytes.new
-            ends.new }
-        ensures none { result ≡ 0 → (self.new ≡ self.old) × (reader.new ≡ reader.old) ×
-            (meter.new ≡ meter.old) × (bytes.new ≡ bytes.old) }
+        requires bytes { (32 ≤ length bytes.old) ×
+            (WIDTH * lanes_of self.old.setting.block ≤ length bytes.old) }
+        ensures some { result ≡ true →
+            GivesBytes reader.old reader.new meter.old meter.new self.old self.new bytes.new }
+        ensures none { result ≡ false → (self.new ≡ self.old) × (reader.new ≡ reader.old) ×
+            (meter.new ≡ meter.old) }
         ensures going { reader.new.refusal ≡ None }
         ensures stopped { self.new.stopped ≡ None }
         ensures setting { self.new.setting ≡ self.old.setting }
         ensures steps { AreCounted meter.old meter.new reader.old.taken reader.new.taken }
     {
         let _taken = reader.taken();
-        if split_of_block_ahead::<I, WIDTH>(&self.setting, reader).is_some() {
-            if has_few_near(self.before) {
-                let few = most.min(MOST_IN_TURN as usize);
-                return self.read_split_blocks_to_bytes::<I, SIZE, WIDTH, true>(
-                    few, reader, meter, bytes, ends,
-                );
+        let k = match split_of_block_ahead::<I, WIDTH>(&self.setting, reader) {
+            Some(k) => k,
+            None => {
+                return self.next_uncompressed_bytes::<I, SIZE, WIDTH>(reader, meter, bytes);
             }
-            // Most samples are near to those before them. A call for others in the same function would take registers from these.
-            let blocks = self.read_split_blocks_to_bytes::<I, SIZE, WIDTH, false>(
-                most, reader, meter, bytes, ends,
-            );
-            if blocks > 0 {
-                self.vain_looks = 0;
-                return blocks;
-            }
-            self.vain_looks = self.vain_looks.min(MOST_IN_TURN - 1) + 1;
-            let few = most.min(self.vain_looks as usize);
-            return self.read_split_blocks_to_bytes::<I, SIZE, WIDTH, true>(
-                few, reader, meter, bytes, ends,
-            );
+        };
+        if !self.looks_for_near() {
+            return self.read_far_split_to_bytes::<I, SIZE, WIDTH>(k, reader, meter, bytes);
         }
-        let size = known_or::<SIZE>(self.setting.block() as usize);
-        if is_uncompressed_ahead::<I, WIDTH>(&self.setting, size, reader) {
-            return self.read_uncompressed_blocks_to_bytes::<I, SIZE>(
-                most, reader, meter, bytes, ends,
-            );
+        let near = self.read_split_to_bytes::<I, SIZE, WIDTH, false>(k, reader, meter, bytes);
+        self.patience.note(near);
+        if near {
+            return true;
         }
-        0
+        self.read_far_split_to_bytes::<I, SIZE, WIDTH>(k, reader, meter, bytes)
     }
 
-    /// As `next_bytes`, outside a run, of blocks by a split: by `TURNS` whatever their samples are, else of samples that are near to those
-    /// before them.
+    /// Returns whether the samples of the next block are looked at for near ones.
+    #[inline(always)]
+    fn looks_for_near(&mut self) -> bool
+        ensures { self.new ≡ self.old }
+    {
+        !has_few_near(self.before) && self.patience.is_due()
+    }
+
+    /// As `read_split_to_bytes`, whatever the samples are.
     #[inline(never)]
-    fn read_split_blocks_to_bytes<
-        I: Intake,
-        const SIZE: usize,
-        const WIDTH: usize,
-        const TURNS: bool,
-    >(
+    fn read_far_split_to_bytes<I: Intake, const SIZE: usize, const WIDTH: usize>(
         &mut self,
-        most: usize,
+        k: u32,
         reader: &mut BitReader<I>,
         meter: &mut Meter,
         bytes: &mut [u8],
-        ends: &mut [u32; 64],
-    ) -> usize
+    ) -> bool
         requires size { 0 < SIZE → SIZE ≡ self.old.setting.block }
         requires lanes { HasLanes self.old.setting self.old.setting.block WIDTH }
         requires stopped { self.old.stopped ≡ None }
         requires run { self.old.run ≡ 0 }
+        requires there { 208 ≤ length reader.old.waiting }
+        requires split { k < 3 + 3 * WIDTH }
+        requires id { word (id_len self.old.setting) (k + 1)
+            ≡ take (id_len self.old.setting) reader.old.waiting }
         requires going { reader.old.refusal ≡ None }
         requires room { meter.old + 2 * (most_bits_read - reader.old.taken) + 64 < step_limit }
-        requires few { most ≤ 64 }
-        requires bytes { WIDTH * self.old.setting.block * most + 32 ≤ length bytes.old }
-        ensures most { result ≤ most }
-        ensures some { 0 < result →
-            GivesBlocks result reader.old reader.new meter.old meter.new self.old self.new bytes.new
-            ends.new }
-        ensures none { result ≡ 0 → (self.new ≡ self.old) × (reader.new ≡ reader.old) ×
-            (meter.new ≡ meter.old) × (bytes.new ≡ bytes.old) }
+        requires bytes { (32 ≤ length bytes.old) ×
+            (WIDTH * lanes_of self.old.setting.block ≤ length bytes.old) }
+        ensures some { result ≡ true →
+            GivesBytes reader.old reader.new meter.old meter.new self.old self.new bytes.new }
+        ensures none { result ≡ false → (self.new ≡ self.old) × (reader.new ≡ reader.old) ×
+            (meter.new ≡ meter.old) }
         ensures going { reader.new.refusal ≡ None }
         ensures stopped { self.new.stopped ≡ None }
         ensures setting { self.new.setting ≡ self.old.setting }
         ensures steps { AreCounted meter.old meter.new reader.old.taken reader.new.taken }
     {
-        let _taken = reader.taken();
-        // Each step is a bit that is taken.
-        let begin = meter.steps();
-        let len = WIDTH * known_or::<SIZE>(self.setting.block() as usize);
-        for i in 0..most {
-            let k = match split_of_block_ahead::<I, WIDTH>(&self.setting, reader) {
-                Some(k) => k,
-                None => return i,
-            };
-            let own = &mut bytes[len * i..];
-            if !self.read_split_to_bytes::<I, SIZE, WIDTH, TURNS>(k, reader, meter, own) {
-                return i;
-            }
-            ends[i] = (meter.steps() - begin) as u32;
-        }
-        most
+        self.read_split_to_bytes::<I, SIZE, WIDTH, true>(k, reader, meter, bytes)
     }
 
     /// Reads the block by split `k` that waits outside a run, and writes its bytes: by `TURNS` of any samples, else of samples that are
@@ -366,9 +362,9 @@ impl FastDecoder {
         requires bytes { (32 ≤ length bytes.old) ×
             (WIDTH * lanes_of self.old.setting.block ≤ length bytes.old) }
         ensures some { result ≡ true →
-            GivesOneBlock reader.old reader.new meter.old meter.new self.old self.new bytes.new }
+            GivesBytes reader.old reader.new meter.old meter.new self.old self.new bytes.new }
         ensures none { result ≡ false → (self.new ≡ self.old) × (reader.new ≡ reader.old) ×
-            (meter.new ≡ meter.old) × (bytes.new ≡ bytes.old) }
+            (meter.new ≡ meter.old) }
         ensures going { reader.new.refusal ≡ None }
         ensures stopped { self.new.stopped ≡ None }
         ensures setting { self.new.setting ≡ self.old.setting }
@@ -393,56 +389,46 @@ impl FastDecoder {
         true
     }
 
-    /// As `next_bytes`, outside a run, of blocks without compression, of samples of one byte.
-    #[inline(never)]
-    fn read_uncompressed_blocks_to_bytes<I: Intake, const SIZE: usize>(
+    /// As `next_bytes`, outside a run, of a block without compression of predicted samples of one byte.
+    #[inline(always)]
+    fn next_uncompressed_bytes<I: Intake, const SIZE: usize, const WIDTH: usize>(
         &mut self,
-        most: usize,
         reader: &mut BitReader<I>,
         meter: &mut Meter,
         bytes: &mut [u8],
-        ends: &mut [u32; 64],
-    ) -> usize
+    ) -> bool
         requires size { 0 < SIZE → SIZE ≡ self.old.setting.block }
-        requires lanes { HasLanes self.old.setting self.old.setting.block 1 }
+        requires lanes { HasLanes self.old.setting self.old.setting.block WIDTH }
         requires stopped { self.old.stopped ≡ None }
         requires run { self.old.run ≡ 0 }
         requires going { reader.old.refusal ≡ None }
         requires room { meter.old + 2 * (most_bits_read - reader.old.taken) + 64 < step_limit }
-        requires few { most ≤ 64 }
-        requires bytes { self.old.setting.block * most + 32 ≤ length bytes.old }
-        ensures most { result ≤ most }
-        ensures some { 0 < result →
-            GivesBlocks result reader.old reader.new meter.old meter.new self.old self.new bytes.new
-            ends.new }
-        ensures none { result ≡ 0 → (self.new ≡ self.old) × (reader.new ≡ reader.old) ×
-            (meter.new ≡ meter.old) × (bytes.new ≡ bytes.old) }
+        requires bytes { WIDTH * lanes_of self.old.setting.block ≤ length bytes.old }
+        ensures some { result ≡ true →
+            GivesBytes reader.old reader.new meter.old meter.new self.old self.new bytes.new }
+        ensures none { result ≡ false → (self.new ≡ self.old) × (reader.new ≡ reader.old) ×
+            (meter.new ≡ meter.old) }
         ensures going { reader.new.refusal ≡ None }
         ensures stopped { self.new.stopped ≡ None }
         ensures setting { self.new.setting ≡ self.old.setting }
         ensures steps { AreCounted meter.old meter.new reader.old.taken reader.new.taken }
     {
         let _taken = reader.taken();
-        let start = meter.steps();
         let size = known_or::<SIZE>(self.setting.block() as usize);
-        for i in 0..most {
-            if !is_uncompressed_ahead::<I, 1>(&self.setting, size, reader) {
-                return i;
-            }
-            self.read_uncompressed_to_bytes::<I, SIZE>(reader, meter, &mut bytes[size * i..]);
-            ends[i] = (meter.steps() - start) as u32;
+        if !is_uncompressed_ahead::<I, WIDTH>(&self.setting, size, reader) {
+            return false;
         }
-        most
+        self.read_uncompressed_to_bytes::<I, SIZE>(reader, meter, bytes)
     }
 
-    /// Reads the block without compression that waits outside a run, and writes its bytes.
-    #[inline(always)]
+    /// Reads the next block, outside a run, which is not compressed, and writes its bytes. Returns that it did.
+    #[inline(never)]
     fn read_uncompressed_to_bytes<I: Intake, const SIZE: usize>(
         &mut self,
         reader: &mut BitReader<I>,
         meter: &mut Meter,
         bytes: &mut [u8],
-    )
+    ) -> bool
         requires size { 0 < SIZE → SIZE ≡ self.old.setting.block }
         requires lanes { HasLanes self.old.setting self.old.setting.block 1 }
         requires stopped { self.old.stopped ≡ None }
@@ -453,7 +439,8 @@ impl FastDecoder {
         requires going { reader.old.refusal ≡ None }
         requires room { meter.old + 2 * (most_bits_read - reader.old.taken) + 64 < step_limit }
         requires bytes { lanes_of self.old.setting.block ≤ length bytes.old }
-        ensures gives { GivesOneBlock reader.old reader.new meter.old meter.new self.old self.new
+        ensures did { result ≡ true }
+        ensures gives { GivesBytes reader.old reader.new meter.old meter.new self.old self.new
             bytes.new }
         ensures going { reader.new.refusal ≡ None }
         ensures stopped { self.new.stopped ≡ None }
@@ -472,64 +459,53 @@ impl FastDecoder {
         );
         take_ahead(reader, spelled.len, meter);
         let _answer = self.go_to_next_block(spelled.last, 0, reader, meter);
+        true
     }
 
-    /// As `next_bytes`, outside a run, of blocks by a split that are restored in lanes of 32 bits.
+    /// As `next_bytes`, outside a run, of a block by a split that is restored in lanes of 32 bits.
     #[inline(never)]
-    fn read_wide_blocks_to_bytes<I: Intake, const WIDTH: usize>(
+    fn next_bytes_in_words<I: Intake, const WIDTH: usize>(
         &mut self,
-        most: usize,
         reader: &mut BitReader<I>,
         meter: &mut Meter,
         bytes: &mut [u8],
-        ends: &mut [u32; 64],
-    ) -> usize
+    ) -> bool
         requires samples { ArePredicted self.old.setting WIDTH }
         requires stopped { self.old.stopped ≡ None }
         requires run { self.old.run ≡ 0 }
         requires going { reader.old.refusal ≡ None }
         requires room { meter.old + 2 * (most_bits_read - reader.old.taken) + 64 < step_limit }
-        requires few { most ≤ 64 }
-        requires bytes { WIDTH * self.old.setting.block * most + 32 ≤ length bytes.old }
-        ensures most { result ≤ most }
-        ensures some { 0 < result →
-            GivesBlocks result reader.old reader.new meter.old meter.new self.old self.new bytes.new
-            ends.new }
-        ensures none { result ≡ 0 → (self.new ≡ self.old) × (reader.new ≡ reader.old) ×
-            (meter.new ≡ meter.old) × (bytes.new ≡ bytes.old) }
+        requires bytes { WIDTH * self.old.setting.block + 32 ≤ length bytes.old }
+        ensures some { result ≡ true →
+            GivesBytes reader.old reader.new meter.old meter.new self.old self.new bytes.new }
+        ensures none { result ≡ false → (self.new ≡ self.old) × (reader.new ≡ reader.old) ×
+            (meter.new ≡ meter.old) }
         ensures going { reader.new.refusal ≡ None }
         ensures stopped { self.new.stopped ≡ None }
         ensures setting { self.new.setting ≡ self.old.setting }
         ensures steps { AreCounted meter.old meter.new reader.old.taken reader.new.taken }
     {
         let _taken = reader.taken();
-        let before = meter.steps();
-        let len = WIDTH * self.setting.block() as usize;
-        let mut levels = [0; 64];
-        for i in 0..most {
-            let k = match wide_split_ahead(&self.setting, reader) {
-                Some(k) => k,
-                None => return i,
-            };
-            let rest = &mut bytes[len * i..];
-            if !self.read_wide_split_to_bytes::<I, WIDTH>(k, reader, meter, &mut levels, rest) {
-                return i;
-            }
-            ends[i] = (meter.steps() - before) as u32;
+        let k = match wide_split_ahead(&self.setting, reader) {
+            Some(k) => k,
+            None => return false,
+        };
+        if !self.patience.is_due() {
+            return false;
         }
-        most
+        let near = self.read_wide_split_to_bytes::<I, WIDTH>(k, reader, meter, bytes);
+        self.patience.note(near);
+        near
     }
 
     /// Reads the block by split `k` that waits outside a run, in lanes of 32 bits, and writes its bytes, if its fundamental sequences are
-    /// short and all samples are near to those before them. Returns whether it did; otherwise nothing has happened, but for the levels,
-    /// which are unspecified.
+    /// short and all samples are near to those before them. Returns whether it did; otherwise nothing has happened.
     #[inline(always)]
     fn read_wide_split_to_bytes<I: Intake, const WIDTH: usize>(
         &mut self,
         k: u32,
         reader: &mut BitReader<I>,
         meter: &mut Meter,
-        levels: &mut [u32; 64],
         bytes: &mut [u8],
     ) -> bool
         requires samples { ArePredicted self.old.setting WIDTH }
@@ -543,9 +519,9 @@ impl FastDecoder {
         requires room { meter.old + 2 * (most_bits_read - reader.old.taken) + 64 < step_limit }
         requires bytes { WIDTH * self.old.setting.block + 8 ≤ length bytes.old }
         ensures some { result ≡ true →
-            GivesOneBlock reader.old reader.new meter.old meter.new self.old self.new bytes.new }
+            GivesBytes reader.old reader.new meter.old meter.new self.old self.new bytes.new }
         ensures none { result ≡ false → (self.new ≡ self.old) × (reader.new ≡ reader.old) ×
-            (meter.new ≡ meter.old) × (bytes.new ≡ bytes.old) }
+            (meter.new ≡ meter.old) }
         ensures going { reader.new.refusal ≡ None }
         ensures stopped { self.new.stopped ≡ None }
         ensures setting { self.new.setting ≡ self.old.setting }
@@ -554,8 +530,8 @@ impl FastDecoder {
         let _taken = reader.taken();
         // A copy stays in registers.
         let setting = self.setting;
-        let own = &mut levels[..setting.block() as usize];
         let (block, before) = (self.block, self.before);
+        let own = &mut self.scratch[..setting.block() as usize];
         let restored = match restore_wide_ahead::<I, WIDTH>(
             &setting, block, before, k, reader, own,
         ) {
@@ -566,61 +542,6 @@ impl FastDecoder {
         take_ahead(reader, restored.len, meter);
         let _answer = self.go_to_next_block(restored.last, 0, reader, meter);
         true
-    }
-
-    /// Returns how many of the next coded data sets, at most `most`, are blocks without compression and wait one behind another, where
-    /// samples are not predicted and use all bits of `WIDTH` bytes. Writes the bytes of these blocks. It takes nothing:
-    /// [`pass_plain_blocks`](Self::pass_plain_blocks) does.
-    #[inline(always)]
-    pub fn spell_plain_blocks_ahead<I: Intake, const WIDTH: usize>(
-        &self,
-        most: usize,
-        reader: &BitReader<I>,
-        bytes: &mut [u8],
-    ) -> usize
-        requires plain { IsPlain self.now.setting WIDTH }
-        requires few { most ≤ 512 }
-        requires room { WIDTH * self.now.setting.block * most + 15 ≤ length bytes.old }
-        ensures most { result ≤ most }
-        ensures row { PlainRow reader.now.waiting self.now.setting WIDTH result bytes.new }
-    {
-        spell_plain_row_ahead::<I, WIDTH>(&self.setting, most, reader, bytes)
-    }
-
-    /// Goes past the next `count` blocks, outside a run, which are not compressed and have these bytes.
-    #[inline(always)]
-    pub fn pass_plain_blocks<I: Intake, const WIDTH: usize>(
-        &mut self,
-        count: usize,
-        reader: &mut BitReader<I>,
-        meter: &mut Meter,
-        bytes: &[u8],
-    )
-        requires plain { IsPlain self.old.setting WIDTH }
-        requires some { 1 ≤ count }
-        requires few { count ≤ 512 }
-        requires row { PlainRow reader.old.waiting self.old.setting WIDTH count bytes.now }
-        requires run { self.old.run ≡ 0 }
-        requires stopped { self.old.stopped ≡ None }
-        requires going { reader.old.refusal ≡ None }
-        requires room { meter.old + 2 * (most_bits_read - reader.old.taken) + 64 < step_limit }
-        ensures gives { GivesRow count reader.old reader.new meter.old meter.new self.old self.new
-            bytes.now }
-        // It may be called again with this reader.
-        ensures going { reader.new.refusal ≡ None }
-        ensures stopped { self.new.stopped ≡ None }
-        ensures setting { self.new.setting ≡ self.old.setting }
-        ensures run { self.new.run ≡ 0 }
-        // Steps are the bits taken.
-        ensures steps { AreCounted meter.old meter.new reader.old.taken reader.new.taken }
-    {
-        let _bytes = bytes.len();
-        let _taken = reader.taken();
-        let len = plain_len::<WIDTH>(&self.setting);
-        let last = last_of_plain::<I, WIDTH>(&self.setting, reader, len * (count - 1));
-        take_ahead(reader, len * count, meter);
-        self.block = place_on(&self.setting, self.block, count);
-        self.before = last;
     }
 
     /// Restores the samples of the next block, as `next_block` does, by their levels: the level of a sample is the number of legal

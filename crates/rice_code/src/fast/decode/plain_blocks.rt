@@ -3,7 +3,7 @@ ghost use Rattle.std.specs.Prelude.{◌≡◌, ◌+◌, ◌-◌, ◌*◌, ◌^�
 ghost use Rattle.rice_bits.specs.Bits.{word};
 ghost use Rattle.rice_samples.specs.Parameters.{id_len, value_at, value_count};
 ghost use Rattle.rice_samples.specs.predict.Residuals.{pattern};
-ghost use Rattle.rice_code.specs.decode.PlainBlocks.{IsPlain, PlainRow, WordsAhead, plain_bits};
+ghost use Rattle.rice_code.specs.decode.PlainBlocks.{IsPlain, WordsAhead, plain_bits};
 
 use rice_bits::{BitReader, Intake};
 use rice_samples::{Setting, bytes_of_patterns, level_of_pattern};
@@ -36,117 +36,99 @@ fn known_id<const WIDTH: usize>(setting: &Setting) -> u32
     }
 }
 
-/// Returns the number of bytes of the samples of a block.
+/// Returns the number of bytes of the samples of a block of `size` samples.
 #[inline(always)]
-fn block_bytes<const WIDTH: usize>(setting: &Setting) -> usize
-    requires { IsPlain setting.now WIDTH }
+fn block_bytes<const WIDTH: usize>(setting: &Setting, size: usize) -> usize
+    requires plain { IsPlain setting.now WIDTH }
+    requires size { size ≡ setting.now.block }
     ensures value { result ≡ WIDTH * setting.now.block }
     ensures range { (WIDTH ≤ result) × (result ≤ 256) }
 {
-    WIDTH * setting.block() as usize
+    let _block = setting.block();
+    WIDTH * size
 }
 
-/// Returns the number of bits of a block without compression.
+/// Returns the number of bits of a block of `size` samples without compression.
 #[inline(always)]
-pub fn plain_len<const WIDTH: usize>(setting: &Setting) -> usize
-    requires { IsPlain setting.now WIDTH }
+pub fn plain_len<const WIDTH: usize>(setting: &Setting, size: usize) -> usize
+    requires plain { IsPlain setting.now WIDTH }
+    requires size { size ≡ setting.now.block }
     ensures value { result ≡ plain_bits setting.now WIDTH }
     ensures range { result ≤ 2053 }
 {
-    known_id_len::<WIDTH>(setting) + 8 * block_bytes::<WIDTH>(setting)
+    known_id_len::<WIDTH>(setting) + 8 * block_bytes::<WIDTH>(setting, size)
 }
 
-/// Returns whether a block without compression waits behind the first `skip` bits, and so many bits that all of it may be looked at.
+/// Returns whether samples are not predicted, and use all bits of `WIDTH` bytes, 1, 2 or 4, and intervals are not padded.
+#[inline(always)]
+pub fn is_plain<const WIDTH: usize>(setting: &Setting) -> bool
+    ensures { result ≡ true → IsPlain setting.now WIDTH }
+{
+    !setting.preprocess()
+        && !setting.pads()
+        && (WIDTH == 1 || WIDTH == 2 || WIDTH == 4)
+        && setting.bits() as usize == 8 * WIDTH
+}
+
+/// Returns whether the next block, of `size` samples, is not compressed, and so many bits are buffered that all of it may be looked at.
 #[inline(always)]
 pub fn is_plain_ahead<I: Intake, const WIDTH: usize>(
     setting: &Setting,
+    size: usize,
     reader: &BitReader<I>,
-    skip: usize,
 ) -> bool
     requires plain { IsPlain setting.now WIDTH }
-    requires skip { skip < 2 ^ 32 }
-    ensures there { result ≡ true → skip + plain_bits setting.now WIDTH + 128
-        ≤ length reader.now.waiting }
+    requires size { size ≡ setting.now.block }
+    ensures there { result ≡ true → plain_bits setting.now WIDTH + 128 ≤ length reader.now.waiting }
     ensures id { result ≡ true → word (id_len setting.now) (2 ^ id_len setting.now - 1)
-        ≡ take (id_len setting.now) (drop skip reader.now.waiting) }
+        ≡ take (id_len setting.now) reader.now.waiting }
 {
-    if reader.waiting() < (skip + plain_len::<WIDTH>(setting)) as u64 + BEHIND {
+    if reader.waiting() < plain_len::<WIDTH>(setting, size) as u64 + BEHIND {
         return false;
     }
-    let head = known_id_len::<WIDTH>(setting);
-    reader.number_ahead(skip, head as u32) == known_id::<WIDTH>(setting)
+    reader.first_number_ahead(known_id_len::<WIDTH>(setting) as u32) == known_id::<WIDTH>(setting)
 }
 
-/// Writes the bytes of the samples of the block without compression that waits behind the first `skip` bits. It takes nothing, and
-/// may write up to 15 bytes more behind these.
+/// Writes the bytes of the samples of the next block, of `size` samples, which is not compressed. It takes nothing, and may write up to 15 bytes more after
+/// these.
 #[inline(always)]
 pub fn spell_plain_block_ahead<I: Intake, const WIDTH: usize>(
     setting: &Setting,
+    size: usize,
     reader: &BitReader<I>,
-    skip: usize,
     bytes: &mut [u8],
 )
     requires plain { IsPlain setting.now WIDTH }
-    requires skip { skip < 2 ^ 32 }
-    requires there { skip + plain_bits setting.now WIDTH + 128 ≤ length reader.now.waiting }
+    requires size { size ≡ setting.now.block }
+    requires there { plain_bits setting.now WIDTH + 128 ≤ length reader.now.waiting }
     requires room { WIDTH * setting.now.block + 15 ≤ length bytes.old }
-    ensures { WordsAhead (drop skip reader.now.waiting) setting.now WIDTH
-        (WIDTH * setting.now.block) bytes.new }
+    ensures { WordsAhead reader.now.waiting setting.now WIDTH (WIDTH * setting.now.block) bytes.new }
 {
-    let count = block_bytes::<WIDTH>(setting);
+    let count = block_bytes::<WIDTH>(setting, size);
     let head = known_id_len::<WIDTH>(setting);
     for i in 0..(count + 15) / 16 {
-        let patterns = reader.words_ahead(skip + head + 128 * i, 8);
+        let patterns = reader.words_ahead(head + 128 * i, 8);
         let spelled = bytes_of_patterns::<WIDTH>(setting, patterns);
         spelled.copy_to_slice(&mut bytes[16 * i..]);
     }
 }
 
-/// Returns the level of the last sample of the block without compression that waits behind the first `skip` bits.
+/// Returns the level of the last sample of the next block, of `size` samples, which is not compressed.
 #[inline(always)]
 pub fn last_of_plain<I: Intake, const WIDTH: usize>(
     setting: &Setting,
+    size: usize,
     reader: &BitReader<I>,
-    skip: usize,
 ) -> u32
     requires plain { IsPlain setting.now WIDTH }
-    requires skip { skip < 2 ^ 32 }
-    requires there { skip + plain_bits setting.now WIDTH ≤ length reader.now.waiting }
+    requires size { size ≡ setting.now.block }
+    requires there { plain_bits setting.now WIDTH ≤ length reader.now.waiting }
     ensures below { result < value_count setting.now }
     ensures last { word (8 * WIDTH) (pattern setting.now (value_at setting.now result))
         ≡ take (8 * WIDTH)
-        (drop (skip + (id_len setting.now + 8 * (WIDTH * setting.now.block - WIDTH)))
+        (drop (id_len setting.now + 8 * (WIDTH * setting.now.block - WIDTH))
         reader.now.waiting) }
 {
-    let before = known_id_len::<WIDTH>(setting) + 8 * (block_bytes::<WIDTH>(setting) - WIDTH);
-    level_of_pattern(
-        setting,
-        reader.number_ahead(skip + before, 8 * WIDTH as u32),
-    )
-}
-
-/// Returns how many blocks without compression wait one behind another, at most `most`, and writes the bytes of their samples. It takes
-/// nothing, and may write more behind these bytes.
-#[inline(always)]
-pub fn spell_plain_row_ahead<I: Intake, const WIDTH: usize>(
-    setting: &Setting,
-    most: usize,
-    reader: &BitReader<I>,
-    bytes: &mut [u8],
-) -> usize
-    requires plain { IsPlain setting.now WIDTH }
-    requires few { most ≤ 512 }
-    requires room { WIDTH * setting.now.block * most + 15 ≤ length bytes.old }
-    ensures most { result ≤ most }
-    ensures row { PlainRow reader.now.waiting setting.now WIDTH result bytes.new }
-{
-    let len = plain_len::<WIDTH>(setting);
-    let count = block_bytes::<WIDTH>(setting);
-    for i in 0..most {
-        if !is_plain_ahead::<I, WIDTH>(setting, reader, len * i) {
-            return i;
-        }
-        spell_plain_block_ahead::<I, WIDTH>(setting, reader, len * i, &mut bytes[count * i..]);
-    }
-    most
+    let before = known_id_len::<WIDTH>(setting) + 8 * (block_bytes::<WIDTH>(setting, size) - WIDTH);
+    level_of_pattern(setting, reader.number_ahead(before, 8 * WIDTH as u32))
 }

@@ -12,7 +12,7 @@ slice_bounds-spelled-end g c =
 
 pub spell_copies_of_sample-requires-clause-sample : goal.spell_copies_of_sample-requires-clause-sample
 spell_copies_of_sample-requires-clause-sample g c =
-    let p = g.D.GivesLevels.state c.args.decoder.now in
+    let p = g.D.GoesByBlocks.state c.args.decoder.now in
     let z = c.sample_before-sample.result in
     let same : to_z w64 (of_z w64 z) ≡ z = to_z-of_z {w = w64} {z = z} (record { sfits = c.sample_before-sample.type_inv }) in
     let legal : IsSample c.args.setting.now p.before = subst (λ t. IsSample t p.before) c.requires.setting c.place-place.ensures.state.sample in
@@ -20,7 +20,7 @@ spell_copies_of_sample-requires-clause-sample g c =
 
 pub returns-in-Err-clause-err : goal.returns-in-Err-clause-err
 returns-in-Err-clause-err g c =
-    let p = g.D.GivesLevels.state c.args.decoder.now in
+    let p = g.D.GoesByBlocks.state c.args.decoder.now in
     let s = c.args.setting.now in
     let z = c.sample_before-sample.result in
     let same : to_z w64 (of_z w64 z) ≡ p.before = to_z-of_z {w = w64} {z = z} (record { sfits = c.sample_before-sample.type_inv }) ∙ c.sample_before-sample.ensures in
@@ -29,7 +29,7 @@ returns-in-Err-clause-err g c =
     let block = c.block-block.ensures in
     let spelled = c.spell_copies_of_sample.ensures ∙ ap (λ x. spellings s (replicate (c.block-block.result * blocks.result) x)) same in
     let taken = c.in-Err.ensures.err in
-    run_cut blocks.result (g.D.GivesLevels.state c.pass_blocks.new.self)
+    run_cut blocks.result (g.D.GoesByBlocks.state c.pass_blocks.new.self)
     (record {
       block = omega (arith, block.value, block.range);
       width_some = omega (arith, width.value, width.range);

@@ -2,7 +2,7 @@ use Rattle.std.proofs.Common.{◌∙◌, ap, arith, refl, subst, sym}
 use Rattle.rice_samples.specs.Parameters.{IsLegal}
 use Rattle.rice_code.specs.decode.BlocksInOnePass.{SpelledAhead}
 use Rattle.rice_code.specs.decode.DecoderState.{DecoderState}
-use Rattle.rice_code.proofs.lemmas.decode.BlocksInRow.{one_block_given}
+use Rattle.rice_code.proofs.lemmas.decode.SplitAhead.{bytes_given}
 use Rattle.rice_code.proofs.fast.decode.decoder.FastDecoder.read_split_to_bytes.Goals as goal
 
 pub returns-clause-some : goal.returns-clause-some
@@ -14,11 +14,11 @@ returns-clause-some g c _ =
     let legal = subst (λ (p : DecoderState). IsLegal p.setting) view c.self.invariant.1.legal in
     let block = subst (λ (p : DecoderState). SpelledAhead start.waiting p.setting p.block p.before c.known_or.result spelled.last spelled.len bytes) view c.in-Some.ensures.some in
     let size = sym (c.known_or.ensures ∙ (c.block.ensures.value ∙ ap (λ (p : DecoderState). p.setting.block) view)) in
-    one_block_given legal (omega (arith, size, c.requires.lanes.some)) size block.ahead (record {
+    bytes_given legal (omega (arith, size, c.requires.lanes.some)) size block.ahead (record {
       mark = refl;
       bits = c.take_ahead.ensures.takes;
       steps_are = c.take_ahead.ensures.steps;
       filled = c.go_to_next_block-answer.ensures.skips;
       counted = c.go_to_next_block-answer.ensures.steps;
       further = omega (arith, c.go_to_next_block-answer.ensures.few);
-    }) c.take_ahead.ensures.left block.last_is c.go_to_next_block-answer.ensures.moves block.spelled
+    }) block.last_is c.go_to_next_block-answer.ensures.moves block.spelled

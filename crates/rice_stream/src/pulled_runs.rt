@@ -1,0 +1,93 @@
+//! Blocks of a run in a piece, for a caller that keeps a `Stand`.
+ghost use Rattle.std.specs.Prelude.{◌≡◌, ◌+◌, ◌-◌, ◌*◌, ◌^◌, ◌<◌, ◌≤◌, true, ◌++◌, drop, length, replicate, take};
+ghost use Rattle.rice_samples.specs.Parameters.{IsSample, width as width_of};
+ghost use Rattle.rice_samples.specs.bytes.Spelling.{spellings};
+ghost use Rattle.rice_code.specs.decode.DecoderState.{IsDecoderState};
+ghost use Rattle.rice_stream.specs.Pulling.{HasComeTo, WritesRunAt, stand_at};
+
+use crate::block_decoder::GoesByBlocks;
+use crate::runs::{blocks_at_once, spell_copies_of_sample};
+use crate::stand::Stand;
+use rice_bits::{BitReader, Meter, SliceIn};
+use rice_samples::Setting;
+
+/// Returns where decoding stands behind `samples` samples more. The reader had taken `before` bits at `stand`, and the steps of those
+/// that it took since are ticked.
+#[inline(always)]
+pub(crate) fn stand_behind<D: GoesByBlocks>(
+    stand: &Stand,
+    samples: u64,
+    before: u64,
+    decoder: &D,
+    reader: &BitReader<SliceIn<'_>>,
+    meter: &Meter,
+) -> Stand
+    requires samples { stand.now.samples + samples < 2 ^ 64 }
+    requires before { before ≤ reader.now.taken }
+    requires bits { stand.now.bits + (reader.now.taken - before) < 2 ^ 64 }
+    requires steps { meter.now + samples < 2 ^ 64 }
+    ensures numbers { result ≡ stand_at (stand.now.samples + samples)
+        (stand.now.bits + (reader.now.taken - before)) (meter.now + samples) (D.state decoder.now) }
+    // What is known of each decoder.
+    ensures state { IsDecoderState (D.state decoder.now).setting (D.state decoder.now).block (D.state decoder.now).before
+        (D.state decoder.now).run (D.state decoder.now).stopped }
+{
+    Stand {
+        samples: stand.samples + samples,
+        bits: stand.bits + (reader.taken() - before),
+        steps: meter.steps() + samples,
+        previous: decoder.sample_before(),
+        block: decoder.place(),
+        run: decoder.blocks_of_run(),
+    }
+}
+
+/// Writes the spellings of `count` samples that are all `sample` at this place.
+#[inline(always)]
+fn spell_copies_at(setting: &Setting, sample: i64, count: usize, at: usize, samples: &mut [u8])
+    requires sample { IsSample setting.now sample }
+    requires count { 1 ≤ count }
+    requires few { count ≤ 2 ^ 32 }
+    requires room { at + width_of setting.now * count ≤ length samples.old }
+    ensures { samples.new ≡ take at samples.old
+        ++ (spellings setting.now (replicate count sample)
+        ++ drop (at + width_of setting.now * count) samples.old) }
+{
+    let len = setting.width() as usize * count;
+    spell_copies_of_sample(setting, sample, count, &mut samples[at..at + len]);
+}
+
+/// Writes the samples of blocks of a run at this place. Returns where decoding stands after them, and the number of their bytes.
+#[inline(never)]
+pub(crate) fn write_next_of_run<D: GoesByBlocks>(
+    setting: &Setting,
+    stand: &Stand,
+    decoder: &mut D,
+    reader: &BitReader<SliceIn<'_>>,
+    at: usize,
+    samples: &mut [u8],
+) -> (Stand, usize)
+    requires come { HasComeTo setting.now stand.now (D.state decoder.old) reader.now }
+    requires run { 0 < (D.state decoder.old).run }
+    requires preprocess { (D.state decoder.old).setting.preprocess ≡ true }
+    requires room { at + width_of setting.now * setting.now.block ≤ length samples.old }
+    ensures gives { WritesRunAt setting.now stand.now result.0 (D.state decoder.new)
+        reader.now reader.now result.1 at samples.old samples.new }
+    ensures room { at + result.1 ≤ length samples.old }
+    ensures len { length samples.new ≡ length samples.old }
+{
+    let width = setting.width() as usize;
+    let block = setting.block() as u64;
+    // Samples that have room, whatever their width, without a division.
+    let fit = ((samples.len() - at) as u64 / 4).max(block);
+    let mut meter = Meter::new();
+    meter.tick(stand.steps);
+    let sample = decoder.sample_before();
+    let blocks = blocks_at_once(setting, Some(fit), 0, decoder.blocks_of_run());
+    decoder.pass_blocks(blocks);
+    let count = block * blocks as u64;
+    let stand = stand_behind(stand, count, reader.taken(), decoder, reader, &meter);
+    let len = width * count as usize;
+    spell_copies_at(setting, sample, count as usize, at, samples);
+    (stand, len)
+}
