@@ -18,7 +18,7 @@ pub use bytes::sample_fault::SampleFault;
 pub use bytes::sample_reader::{MOST_INPUT, SampleReader};
 pub use bytes::spelling::{bytes_of, sample_of};
 pub use bytes::unused_bits::set_unused_bits;
-pub use bytes::writing::{write_spellings, write_spellings_by_eights, write_spellings_laid_out};
+pub use bytes::writing::{write_spellings, write_spellings_by_eights};
 pub use fast::lanes::Lanes;
 pub use fast::lanes::bytes::Bytes;
 pub use fast::lanes::halves::Halves;
@@ -39,7 +39,6 @@ pub use fast::restoring::parts_in_turn::{
     halves_of_parts_in_turn, levels_in_turn, levels_of_parts_in_turn,
 };
 pub use fast::spelling_lanes::{spelled_in_one_byte, spelled_in_two_bytes};
-pub use fast::three_bytes::write_threes;
 pub use predict::preprocessor::{from_pattern, pattern, residual, restore};
 pub use setting::{Setting, SettingFault};
 

@@ -6,7 +6,6 @@ pub mod DecodingLemmas
 pub mod EncodingEnds
 pub mod EncodingLemmas
 pub mod FedPieces
-pub mod SamplesByLevels
 pub mod CallsDecodeAsDefined
 pub mod SamplesOfFirstBytes
 pub mod PulledPieceSoFar

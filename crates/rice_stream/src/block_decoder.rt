@@ -202,37 +202,12 @@ impl<const SIZE: usize, const WIDTH: usize> GivesBytes<SIZE, WIDTH> for FastDeco
         levels: &mut ArrayVec<u32, 64>,
         bytes: &mut [u8; 512],
     ) -> Result<Step, CodeFault> {
-        let _taken = reader.taken();
-        if WIDTH > 0 {
-            return bytes_by_levels_apart(self, setting, reader, meter, levels, bytes);
-        }
         bytes_by_levels(self, setting, reader, meter, levels, bytes)
     }
 }
 
-/// Does what `bytes_by_levels` does, as a call.
-#[inline(never)]
-fn bytes_by_levels_apart<I: Intake>(
-    decoder: &mut FastDecoder,
-    setting: &Setting,
-    reader: &mut BitReader<I>,
-    meter: &mut Meter,
-    levels: &mut ArrayVec<u32, 64>,
-    bytes: &mut [u8; 512],
-) -> Result<Step, CodeFault>
-    requires setting { decoder.old.setting ≡ setting.now }
-    requires stopped { decoder.old.stopped ≡ None }
-    requires going { reader.old.refusal ≡ None }
-    requires room { meter.old + 2 * (most_bits_read - reader.old.taken) + 64 < step_limit }
-    ensures gives { AnswersBytes reader.old reader.new meter.old meter.new decoder.old decoder.new bytes.new result }
-    ensures going { decoder.new.stopped ≡ None → reader.new.refusal ≡ None }
-    ensures block { result ≡ Ok Block → decoder.new.stopped ≡ None }
-{
-    bytes_by_levels(decoder, setting, reader, meter, levels, bytes)
-}
-
 /// As `bytes_of_next`, of any block, by the levels of its samples.
-#[inline(always)]
+#[inline(never)]
 fn bytes_by_levels<I: Intake>(
     decoder: &mut FastDecoder,
     setting: &Setting,

@@ -7,7 +7,7 @@ ghost use Rattle.rice_samples.specs.bytes.Spelling.{spellings};
 ghost use Rattle.rice_stream.specs.FailedWrites.{TakesPart};
 
 use rice_bits::{BitSink, Outlet, WriteFault};
-use rice_samples::{Setting, write_spellings, write_spellings_laid_out, write_threes};
+use rice_samples::{Setting, write_spellings, write_spellings_by_eights};
 
 /// Writes all of the bytes. `WriteFault` only if the outlet fails, which has then taken a part of them, and not all.
 #[inline(always)]
@@ -95,43 +95,14 @@ pub fn write_levels(setting: &Setting, levels: &[u32], bytes: &mut [u8; 512])
     ensures { take (width_of setting.now * length levels.now) bytes.new
         ≡ spellings setting.now (values_at setting.now levels.now) }
 {
-    // Laid out for the blocks that are written most.
-    match (setting.width(), setting.msb(), levels.len()) {
-        (1, msb, 8) => write_sized(setting, 1, msb, 8, levels, bytes),
-        (1, msb, 16) => write_sized(setting, 1, msb, 16, levels, bytes),
-        (1, msb, 64) => write_sized(setting, 1, msb, 64, levels, bytes),
-        (2, false, 8) => write_sized(setting, 2, false, 8, levels, bytes),
-        (2, false, 16) => write_sized(setting, 2, false, 16, levels, bytes),
-        (4, false, 32) => write_sized(setting, 4, false, 32, levels, bytes),
-        (4, false, 64) => write_sized(setting, 4, false, 64, levels, bytes),
-        (3, _, count) if count % 8 == 0 => write_threes(setting, levels, bytes),
-        (width, _, count) => write_spellings(setting, levels, &mut bytes[..width as usize * count]),
+    match (setting.width(), levels.len() % 8) {
+        (1, 0) => write_spellings_by_eights::<1>(setting, levels, bytes),
+        (2, 0) => write_spellings_by_eights::<2>(setting, levels, bytes),
+        (3, 0) => write_spellings_by_eights::<3>(setting, levels, bytes),
+        (4, 0) => write_spellings_by_eights::<4>(setting, levels, bytes),
+        (width, _) => {
+            let len = width as usize * levels.len();
+            write_spellings(setting, levels, &mut bytes[..len]);
+        }
     }
-}
-
-/// As `write_levels`, of `count` samples. It is laid out for what is known of the arguments, which are the width and the order of bytes of
-/// the setting.
-#[inline(always)]
-fn write_sized(
-    setting: &Setting,
-    width: usize,
-    msb: bool,
-    count: usize,
-    levels: &[u32],
-    bytes: &mut [u8; 512],
-)
-    requires legal { All (λ l. l < value_count setting.now) levels.now }
-    requires width { width ≡ width_of setting.now }
-    requires order { msb ≡ setting.now.msb }
-    requires count { length levels.now ≡ count }
-    requires few { count ≤ 64 }
-    ensures { take (width * count) bytes.new ≡ spellings setting.now (values_at setting.now levels.now) }
-{
-    write_spellings_laid_out(
-        setting,
-        width,
-        msb,
-        &levels[..count],
-        &mut bytes[..width * count],
-    );
 }

@@ -5,7 +5,6 @@ pub mod DecoderLemmas
 pub mod RowsOfFields
 pub mod JoinedResiduals
 pub mod PlainBlocksRead
-pub mod BlocksInLanes
 pub mod OptionsRead
 pub mod RestoredBlocks
 pub mod SamplesRestored

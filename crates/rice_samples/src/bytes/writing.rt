@@ -40,7 +40,7 @@ fn write_others(setting: &Setting, levels: &[u32], bytes: &mut [u8])
 /// Writes the spellings, as `write_spellings` does. It is laid out for a width and an order of bytes that the
 /// compiler knows, which are those of the setting.
 #[inline(always)]
-pub fn write_spellings_laid_out(
+fn write_spellings_laid_out(
     setting: &Setting,
     width: usize,
     msb: bool,

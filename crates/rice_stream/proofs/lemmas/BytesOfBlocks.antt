@@ -15,20 +15,6 @@ use Rattle.rice_code.specs.declared.decode.call_results.Step.TheVariants.{Block}
 use Rattle.rice_stream.specs.BlockBytes.{AnswersBytes}
 use Rattle.rice_stream.specs.DecodingState.{DecodingProgress}
 
--- a block that went through the fast pass
-pub answers_of_pass : {I : Type 0} {old new : Reader I} {steps steps_new : ℕ} {p q : DecoderState} {bytes : List ℕ} → p.run ≡ 0 → GivesBytes old new steps steps_new p q bytes
-    → q.setting ≡ p.setting → AreCounted steps steps_new old.taken new.taken → AnswersBytes old new steps steps_new p q bytes (Ok Block)
-answers_of_pass {p = p} none g setting counted =
-    let nothing : p.run * p.setting.block ≡ 0 = ap (λ n. n * p.setting.block) none ∙ omega arith in
-    record {
-      samples = g.samples;
-      advances = record { in_run = λ _ lt. absurd (let f : 0 < p.run = lt in omega (arith, none, f)); reads = λ _ _. g.answers };
-      spelled = λ _. g.spelled;
-      setting = setting;
-      counted = counted;
-      by_bits = (let b = g.by_bits in omega (arith, b, nothing));
-    }
-
 -- the bytes of the first samples are the first bytes
 pub first_spelled : (s : Parameters) (n : ℕ) (samples : List ℤ) (bytes : List ℕ) → n ≤ length samples → take (width s * length samples) bytes ≡ spellings s samples
     → take (width s * n) bytes ≡ spellings s (take n samples)

@@ -44,19 +44,6 @@ none_so_far {s} {o} {front} {given} piece {old} out h e = record {
   count = omega arith;
 }
 
--- where nothing has happened to the reader and the samples
-pub pulled_so_far-unchanged : {I : Type 0} {s : Parameters} {o : Origin} {front : List Bool} {given : List ℤ} {piece : List ℕ} {old : Stand} {out_old out out_new : List ℕ} {here : Stand} {at : ℕ}
-    {r new : Reader I} → new ≡ r → out_new ≡ out → PulledSoFar s o front given piece old out_old out here (ahead r) at
-    → PulledSoFar s o front given piece old out_old out_new here (ahead new) at
-pulled_so_far-unchanged e f so = record {
-  bits = so.bits;
-  samples = so.samples;
-  parts = so.parts ∙ ap (λ t. so.bits ++ ahead t) (sym e);
-  stands = so.stands;
-  writes = f ∙ so.writes;
-  count = so.count;
-}
-
 -- blocks more
 pub more_so_far : {I : Type 0} {s : Parameters} {o : Origin} {front : List Bool} {given xs : List ℤ} {piece : List ℕ} {old here next : Stand}
     {out_old out out_new : List ℕ} {r new : Reader I} {at n : ℕ} → (so : PulledSoFar s o front given piece old out_old out here (ahead r) at)

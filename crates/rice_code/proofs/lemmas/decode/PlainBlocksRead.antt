@@ -44,16 +44,6 @@ use Rattle.rice_code.proofs.lemmas.code.FormsReadInOneWay.{long_id}
 use Rattle.rice_code.proofs.lemmas.decode.DecoderLemmas.{answers_block, next_within, samples_by_bits}
 use Rattle.rice_code.proofs.lemmas.decode.RestoredBlocks.{contents_of_patterns}
 
--- what the widths say of identifiers and bytes
-pub plain_id_len : (s : Parameters) (w : ℕ) → IsPlain s w → id_len s ≡ cond (w == 4) 5 (w + 2)
-plain_id_len s w h = elim h.widths [
-  | inl e ↦ (let b : s.bits ≡ 8 = omega (arith, h.whole, e) in grind (arith, nat_tests))
-  | inr other ↦ elim other [
-    | inl e ↦ (let b : s.bits ≡ 16 = omega (arith, h.whole, e) in grind (arith, nat_tests))
-    | inr e ↦ (let b : s.bits ≡ 32 = omega (arith, h.whole, e) in grind (arith, nat_tests))
-  ]
-]
-
 -- the width of plain blocks is that in which their samples are spelled
 pub plain_width : (s : Parameters) (w : ℕ) → IsPlain s w → w ≡ width s
 plain_width s w h = elim h.widths [

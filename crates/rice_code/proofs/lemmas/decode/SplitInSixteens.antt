@@ -310,25 +310,16 @@ row_spelled {s} {from} {k} {count} {n} {last} {l} {w} {highs} {lows} {bytes} {no
     }
 
 -- all of them, copied to the front of other bytes
-pub all_spelled : {s : Parameters} {from k size last w : ℕ} {highs lows bytes : List ℕ} (old : List ℕ) → HasWidth s w → 1 ≤ size → size ≤ length highs
-    → w * size ≤ length bytes → RowsSpelled s from k size highs lows last bytes
-    → SpellsParts s from k size (take size highs) (take size lows) last (take (w * size) bytes ++ drop (w * size) old)
-all_spelled {s} {from} {size} {w} {highs} {bytes} old has some room there rows =
-    let one = bytes_of_width s w has in
-    let front = take (w * size) bytes in
-    let rest = drop (w * size) old in
-    let front_len : length front ≡ w * size = length-take-le (w * size) bytes there in
+pub all_spelled : {s : Parameters} {from k size last : ℕ} {highs lows bytes : List ℕ} → 1 ≤ size → size ≤ length highs → RowsSpelled s from k size highs lows last bytes
+    → SpellsParts s from k size (take size highs) (take size lows) last bytes
+all_spelled {s} {from} {size = size} {highs = highs} some room rows =
     let many : length rows.levels ≡ size = rows.near.len ∙ length-take-le size highs room in
-    let end : length rows.levels ≡ suc (size - 1) = omega (arith, many, some) in
     let whole : take size rows.levels ≡ rows.levels = take_all size rows.levels (omega (arith, many)) in
-    let place : width s * size ≡ length front = ap (λ v. v * size) one ∙ sym front_len in
     record {
       levels = rows.levels;
       near = rows.near;
-      last_is = rows.last_is ∙ last_at from (size - 1) rows.levels end;
-      spelled =
-          ap (λ n. take n (front ++ rest)) place
-          ∙ (take-append_seam front rest ∙ (ap (λ v. take (v * size) bytes) (sym one) ∙ (rows.spelled ∙ ap (λ ls. spellings s (values_at s ls)) (sym whole))));
+      last_is = rows.last_is ∙ last_at from (size - 1) rows.levels (omega (arith, many, some));
+      spelled = rows.spelled ∙ ap (λ ls. spellings s (values_at s ls)) (sym whole);
     }
 
 -- the rows of a block: those before a row, all of them, and a row among them
@@ -351,10 +342,6 @@ part_of_row size row count lt is = omega (arith, lt, is)
 pub row_inside : (size row : ℕ) → size ≤ 64 → row < (size + 15) / 16 → (row < 4) × (16 * row < size) × (16 * row + 16 ≤ lanes_of size) × (lanes_of size ≤ 64)
 row_inside size row most lt = (omega (arith, lt, most), omega (arith, lt), omega (arith, lt), omega (arith, most))
 
--- a block of at most 64 samples has room in its lanes, which are at most 64
-pub lanes_most : (size : ℕ) → size ≤ 64 → (size ≤ lanes_of size) × (lanes_of size ≤ 64)
-lanes_most size most = (omega arith, omega (arith, most))
-
 -- where the words of a row begin
 pub row_place : (skip row o k : ℕ) → 1 ≤ row → o ≤ 1 → skip + (16 - o) * k + 16 * (row - 1) * k ≡ skip + (16 * row - o) * k
 row_place skip row o k some few =
@@ -366,12 +353,3 @@ row_place skip row o k some few =
 pub all_of_row : (P : ℕ → Type 0) (count size : ℕ) (xs : List ℕ) → count + 16 ≤ size → All P (take size xs) → All P (take 16 (drop count xs))
 all_of_row P count size xs inside all =
     all_back P (take count xs) (take 16 (drop count xs)) (subst (All P) (take-take (count + 16) size xs inside ∙ take-add count 16 xs) (All-take P (count + 16) (take size xs) all))
-
--- the bytes of a block, and of its lanes
-pub all_inside : (w size : ℕ) → (w ≡ 1) ⊎ (w ≡ 2) → size ≤ 64 → (w * size ≤ 160) × (w * size ≤ w * lanes_of size)
-all_inside w size widths most =
-    let lanes = lanes_most size most in
-    elim widths [
-      | inl e ↦ (omega (arith, ap (λ v. v * size) e, most), omega (arith, ap (λ v. v * size) e, ap (λ v. v * lanes_of size) e, lanes.0))
-      | inr e ↦ (omega (arith, ap (λ v. v * size) e, most), omega (arith, ap (λ v. v * size) e, ap (λ v. v * lanes_of size) e, lanes.0))
-    ]

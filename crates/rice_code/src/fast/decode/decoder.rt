@@ -172,7 +172,7 @@ impl FastDecoder {
     /// that are not predicted and fill their bytes. Samples of more than two bytes, or by a split above 8, have to be near to those before
     /// them. Returns whether it took the block; otherwise nothing has happened, and [`next_levels`](Self::next_levels) gives it. It may
     /// write up to 32 bytes more after those of the block.
-    #[inline(never)]
+    #[inline(always)]
     pub fn next_bytes<I: Intake, const SIZE: usize, const WIDTH: usize>(
         &mut self,
         reader: &mut BitReader<I>,
@@ -256,7 +256,7 @@ impl FastDecoder {
     }
 
     /// As `next_bytes`, outside a run, of predicted samples of one byte or two, of which the bytes are made in lanes.
-    #[inline(always)]
+    #[inline(never)]
     fn next_bytes_in_lanes<I: Intake, const SIZE: usize, const WIDTH: usize>(
         &mut self,
         reader: &mut BitReader<I>,
@@ -269,7 +269,7 @@ impl FastDecoder {
         requires run { self.old.run ≡ 0 }
         requires going { reader.old.refusal ≡ None }
         requires room { meter.old + 2 * (most_bits_read - reader.old.taken) + 64 < step_limit }
-        requires bytes { (32 ≤ length bytes.old) ×
+        requires bytes { (WIDTH * self.old.setting.block + 32 ≤ length bytes.old) ×
             (WIDTH * lanes_of self.old.setting.block ≤ length bytes.old) }
         ensures some { result ≡ true →
             GivesBytes reader.old reader.new meter.old meter.new self.old self.new bytes.new }
@@ -325,8 +325,7 @@ impl FastDecoder {
             ≡ take (id_len self.old.setting) reader.old.waiting }
         requires going { reader.old.refusal ≡ None }
         requires room { meter.old + 2 * (most_bits_read - reader.old.taken) + 64 < step_limit }
-        requires bytes { (32 ≤ length bytes.old) ×
-            (WIDTH * lanes_of self.old.setting.block ≤ length bytes.old) }
+        requires bytes { WIDTH * self.old.setting.block + 32 ≤ length bytes.old }
         ensures some { result ≡ true →
             GivesBytes reader.old reader.new meter.old meter.new self.old self.new bytes.new }
         ensures none { result ≡ false → (self.new ≡ self.old) × (reader.new ≡ reader.old) ×
@@ -359,8 +358,7 @@ impl FastDecoder {
             ≡ take (id_len self.old.setting) reader.old.waiting }
         requires going { reader.old.refusal ≡ None }
         requires room { meter.old + 2 * (most_bits_read - reader.old.taken) + 64 < step_limit }
-        requires bytes { (32 ≤ length bytes.old) ×
-            (WIDTH * lanes_of self.old.setting.block ≤ length bytes.old) }
+        requires bytes { WIDTH * self.old.setting.block + 32 ≤ length bytes.old }
         ensures some { result ≡ true →
             GivesBytes reader.old reader.new meter.old meter.new self.old self.new bytes.new }
         ensures none { result ≡ false → (self.new ≡ self.old) × (reader.new ≡ reader.old) ×

@@ -1,5 +1,5 @@
 //! Blocks of samples of at most 16 bits, by a split, in one pass from bits to bytes.
-ghost use Rattle.std.specs.Prelude.{◌≡◌, ◌+◌, ◌*◌, ◌<◌, ◌≤◌, IfSome, IfNone, None, false, length, take, true};
+ghost use Rattle.std.specs.Prelude.{◌≡◌, ◌+◌, ◌*◌, ◌<◌, ◌≤◌, IfSome, None, false, length, take, true};
 ghost use Rattle.rice_bits.specs.Limits.{step_limit, most_bits_read};
 ghost use Rattle.rice_bits.specs.Bits.{word};
 ghost use Rattle.rice_bits.specs.read.Reader.{Takes};
@@ -75,10 +75,9 @@ pub fn spell_ahead<I: Intake, const SIZE: usize, const WIDTH: usize, const TURNS
     requires there { 208 ≤ length reader.now.waiting }
     requires split { k < 3 + 3 * WIDTH }
     requires id { word (id_len setting.now) (k + 1) ≡ take (id_len setting.now) reader.now.waiting }
-    requires bytes { (32 ≤ length bytes.old) × (WIDTH * lanes_of size ≤ length bytes.old) }
-    ensures some { IfSome result (λ r. SpelledAhead reader.now.waiting setting.now block
+    requires bytes { WIDTH * size + 32 ≤ length bytes.old }
+    ensures { IfSome result (λ r. SpelledAhead reader.now.waiting setting.now block
         (value_at setting.now before) size r.last r.len bytes.new) }
-    ensures none { IfNone result (bytes.new ≡ bytes.old) }
 {
     if has_rows::<SIZE>(size) {
         return spell_in_rows::<I, SIZE, WIDTH, TURNS>(
@@ -106,10 +105,9 @@ fn spell_in_one<I: Intake, const SIZE: usize, const WIDTH: usize, const TURNS: b
     requires there { 208 ≤ length reader.now.waiting }
     requires split { k < 3 + 3 * WIDTH }
     requires id { word (id_len setting.now) (k + 1) ≡ take (id_len setting.now) reader.now.waiting }
-    requires bytes { 32 ≤ length bytes.old }
-    ensures some { IfSome result (λ r. SpelledAhead reader.now.waiting setting.now block
+    requires bytes { WIDTH * size + 32 ≤ length bytes.old }
+    ensures { IfSome result (λ r. SpelledAhead reader.now.waiting setting.now block
         (value_at setting.now before) size r.last r.len bytes.new) }
-    ensures none { IfNone result (bytes.new ≡ bytes.old) }
 {
     let parts = parts_ahead::<I, WIDTH>(setting, size, block, before, k, reader)?;
     let last = spell_parts::<WIDTH, TURNS>(
@@ -145,10 +143,9 @@ fn spell_in_rows<I: Intake, const SIZE: usize, const WIDTH: usize, const TURNS: 
     requires there { 208 ≤ length reader.now.waiting }
     requires split { k < 3 + 3 * WIDTH }
     requires id { word (id_len setting.now) (k + 1) ≡ take (id_len setting.now) reader.now.waiting }
-    requires bytes { WIDTH * lanes_of size ≤ length bytes.old }
-    ensures some { IfSome result (λ r. SpelledAhead reader.now.waiting setting.now block
+    requires bytes { WIDTH * size + 32 ≤ length bytes.old }
+    ensures { IfSome result (λ r. SpelledAhead reader.now.waiting setting.now block
         (value_at setting.now before) size r.last r.len bytes.new) }
-    ensures none { IfNone result (bytes.new ≡ bytes.old) }
 {
     let parts = parts_in_rows_ahead::<I, WIDTH>(setting, size, block, before, k, reader)?;
     let last = spell_rows_of_parts::<WIDTH, TURNS>(setting, size, k, &parts, bytes)?;

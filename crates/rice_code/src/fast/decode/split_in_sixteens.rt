@@ -1,5 +1,5 @@
 //! Blocks of 17 to 64 samples of at most 16 bits, by a split, in rows of sixteen residuals. The last row may have fewer.
-ghost use Rattle.std.specs.Prelude.{◌≡◌, ◌+◌, ◌-◌, ◌*◌, ◌^◌, ◌<◌, ◌≤◌, ◌++◌, All, IfSome, IfNone, drop, length, replicate, true, take};
+ghost use Rattle.std.specs.Prelude.{◌≡◌, ◌+◌, ◌-◌, ◌*◌, ◌^◌, ◌<◌, ◌≤◌, ◌++◌, All, IfSome, drop, length, replicate, true, take};
 ghost use Rattle.rice_bits.specs.Bits.{word};
 ghost use Rattle.rice_samples.specs.Parameters.{id_len, value_count};
 ghost use Rattle.rice_code.specs.decode.BlocksInOnePass.{HasLanes, HasWidth, PartsAhead, SpellsParts, lanes_of};
@@ -285,26 +285,14 @@ pub fn spell_rows_of_parts<const WIDTH: usize, const TURNS: bool>(
     requires begins { parts.now.from < value_count setting.now }
     requires places { (length parts.now.highs ≡ 64) × (length parts.now.lows ≡ 64) }
     requires low { All (λ l. l < 2 ^ k) (take (lanes_of size) parts.now.lows) }
-    requires bytes { WIDTH * lanes_of size ≤ length bytes.old }
-    ensures some { IfSome result (λ l. SpellsParts setting.now parts.now.from k size
+    requires bytes { WIDTH * size + 32 ≤ length bytes.old }
+    ensures { IfSome result (λ l. SpellsParts setting.now parts.now.from k size
         (take size parts.now.highs) (take size parts.now.lows) l bytes.new) }
-    ensures none { IfNone result (bytes.new ≡ bytes.old) }
 {
-    // Behind the last row there is room for what is written behind a row.
-    let mut spelled = [0; 160];
     let mut last = parts.from;
     for row in 0..(size + 15) / 16 {
         let count = row_len(size, row);
-        last = spell_row_of_parts::<WIDTH, TURNS>(
-            setting,
-            k,
-            last,
-            parts,
-            row,
-            count,
-            &mut spelled,
-        )?;
+        last = spell_row_of_parts::<WIDTH, TURNS>(setting, k, last, parts, row, count, bytes)?;
     }
-    bytes[..WIDTH * size].copy_from_slice(&spelled[..WIDTH * size]);
     Some(last)
 }

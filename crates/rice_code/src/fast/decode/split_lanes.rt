@@ -1,5 +1,5 @@
 //! Blocks of at most 16 samples of at most 16 bits, by a split, and rows of longer blocks.
-ghost use Rattle.std.specs.Prelude.{◌≡◌, ◌+◌, ◌-◌, ◌^◌, ◌<◌, ◌≤◌, ◌++◌, ◌*◌, All, true, false, IfSome, IfNone, length, replicate, take};
+ghost use Rattle.std.specs.Prelude.{◌≡◌, ◌+◌, ◌-◌, ◌^◌, ◌<◌, ◌≤◌, ◌++◌, ◌*◌, All, true, false, IfSome, length, replicate, take};
 ghost use Rattle.rice_bits.specs.Bits.{word};
 ghost use Rattle.rice_samples.specs.Parameters.{id_len, value_count};
 ghost use Rattle.rice_samples.specs.Places.{is_reference};
@@ -198,8 +198,7 @@ pub fn spell_parts<const WIDTH: usize, const TURNS: bool>(
     requires sixteen { (length highs ≡ 16) × (length lows ≡ 16) }
     requires low { All (λ l. l < 2 ^ k) lows }
     requires bytes { 32 ≤ length bytes.old }
-    ensures some { IfSome result (λ l. SpellsParts setting.now from k size highs lows l bytes.new) }
-    ensures none { IfNone result (bytes.new ≡ bytes.old) }
+    ensures { IfSome result (λ l. SpellsParts setting.now from k size highs lows l bytes.new) }
 {
     if WIDTH == 1 {
         spell_parts_in_one_byte::<TURNS>(setting, size, k, from, highs, lows, bytes)
@@ -273,8 +272,7 @@ fn spell_parts_in_one_byte<const TURNS: bool>(
     requires sixteen { (length highs ≡ 16) × (length lows ≡ 16) }
     requires low { All (λ l. l < 2 ^ k) lows }
     requires bytes { 32 ≤ length bytes.old }
-    ensures some { IfSome result (λ l. SpellsParts setting.now from k size highs lows l bytes.new) }
-    ensures none { IfNone result (bytes.new ≡ bytes.old) }
+    ensures { IfSome result (λ l. SpellsParts setting.now from k size highs lows l bytes.new) }
 {
     let _bits = setting.bits();
     let near = row_levels::<TURNS>(setting, from, highs, lows, k)?;
@@ -300,8 +298,7 @@ fn spell_parts_in_two_bytes<const TURNS: bool>(
     requires sixteen { (length highs ≡ 16) × (length lows ≡ 16) }
     requires low { All (λ l. l < 2 ^ k) lows }
     requires bytes { 32 ≤ length bytes.old }
-    ensures some { IfSome result (λ l. SpellsParts setting.now from k size highs lows l bytes.new) }
-    ensures none { IfNone result (bytes.new ≡ bytes.old) }
+    ensures { IfSome result (λ l. SpellsParts setting.now from k size highs lows l bytes.new) }
 {
     let near = row_halves::<TURNS>(setting, from, highs, lows, k)?;
     spelled_in_two_bytes(setting, near.first).copy_to_slice(bytes);

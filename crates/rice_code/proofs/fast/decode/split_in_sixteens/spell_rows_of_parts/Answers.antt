@@ -1,7 +1,8 @@
-use Rattle.std.proofs.Common.{◌≡◌, ◌-◌, ◌*◌, ◌^◌, ◌<◌, ◌++◌, ◌∙◌, ap, arith, drop, length, take, subst, sym}
+use Rattle.std.proofs.Common.{◌≡◌, ◌≤◌, ◌-◌, ◌*◌, ◌^◌, ◌<◌, ◌++◌, ◌∙◌, ap, arith, drop, length, take, subst, sym}
+use Rattle.std.proofs.Math.Nat.{mul-le-mul_left}
 use Rattle.std.proofs.lemmas.List.{length-drop, length-take-le, take-take}
 use Rattle.rice_code.specs.decode.BlocksInOnePass.{SpellsParts, lanes_of}
-use Rattle.rice_code.proofs.lemmas.decode.SplitInSixteens.{RowsSpelled, all_inside, all_of_row, all_spelled, row_inside, row_spelled, rows_before, rows_end, spells_front}
+use Rattle.rice_code.proofs.lemmas.decode.SplitInSixteens.{RowsSpelled, all_of_row, all_spelled, row_inside, row_spelled, rows_before, rows_end, spells_front}
 use Rattle.rice_code.proofs.fast.decode.split_in_sixteens.spell_rows_of_parts.Goals as goal
 
 pub spell_row_of_parts-requires-clause-low : goal.spell_row_of_parts-requires-clause-low
@@ -33,20 +34,23 @@ loop-row-preserved g c =
           subst (λ n. RowsSpelled s parts.from c.args.k n parts.highs parts.lows c.in_ok-last.last c.spell_row_of_parts.new.bytes) row.ensures.end
           (row_spelled
           c.requires.width row.ensures.some.0 (places.1 ∙ sym places.0) (omega (arith, most, inside.0, places.0)) c.spell_row_of_parts.ensures.before
-          (subst (λ n. RowsSpelled s parts.from c.args.k n parts.highs parts.lows l.last l.spelled) (rows_before size l.row inside.1) l.invariant.rows) exact);
+          (subst (λ n. RowsSpelled s parts.from c.args.k n parts.highs parts.lows l.last l.bytes) (rows_before size l.row inside.1) l.invariant.rows) exact);
     }
 
-pub returns-clause-some : goal.returns-clause-some
-returns-clause-some g c =
+pub spell_row_of_parts-requires-clause-bytes : goal.spell_row_of_parts-requires-clause-bytes
+spell_row_of_parts-requires-clause-bytes g c =
+    let l = c.loop-row in
+    let before : 16 * l.row ≤ c.args.size = omega (arith, c.loop-row-test.true) in
+    let m = mul-le-mul_left g.row.WIDTH before in
+    omega (arith, m, c.requires.bytes, l.invariant.room)
+
+pub returns : goal.returns
+returns g c =
     let s = c.args.setting.now in
     let parts = c.args.parts.now in
     let l = c.loop-row in
     let size = c.args.size in
-    let w = g.row.WIDTH in
     let most = c.requires.size in
-    let inside = all_inside w size c.requires.width.widths most.1 in
-    let rows = subst (λ n. RowsSpelled s parts.from c.args.k n parts.highs parts.lows l.last l.spelled)
+    let rows = subst (λ n. RowsSpelled s parts.from c.args.k n parts.highs parts.lows l.last l.bytes)
     (rows_end size l.row (omega (arith, c.loop-row-test.false))) l.invariant.rows in
-    subst (λ front. SpellsParts s parts.from c.args.k size (take size parts.highs) (take size parts.lows) l.last (front ++ drop (w * size) c.args.bytes.now)) (sym c.copy_from_slice.ensures.after)
-    (all_spelled c.args.bytes.now c.requires.width (omega (arith, most.0))
-    (omega (arith, most.1, c.requires.places.0)) (omega (arith, inside.0, l.invariant.room)) rows)
+    all_spelled (omega (arith, most.0)) (omega (arith, most.1, c.requires.places.0)) rows

@@ -7,8 +7,8 @@ use Rattle.rice_code.proofs.fast.decode.split_lanes.spell_parts_in_two_bytes.Goa
 pub spelled_in_two_bytes-requires-2-clause-legal : goal.spelled_in_two_bytes-requires-2-clause-legal
 spelled_in_two_bytes-requires-2-clause-legal g c = all_back (λ l. l < value_count c.args.setting.now) c.in_ok-near.near.first.lanes c.in_ok-near.near.second.lanes c.in_ok-near.ensures.legal
 
-pub returns-then-size-le8-clause-some : goal.returns-then-size-le8-clause-some
-returns-then-size-le8-clause-some g c =
+pub returns-then-size-le8 : goal.returns-then-size-le8
+returns-then-size-le8 g c =
     let a = c.args in
     let near = c.in_ok-near in
     words_near near.near.first.lanes near.near.second.lanes a.bytes.now c.requires.size.0 c.if-size-le8.true c.requires.width near.ensures (record {
@@ -17,8 +17,8 @@ returns-then-size-le8-clause-some g c =
       spells = c.spelled_in_two_bytes.ensures.value;
     }) c.requires.bytes
 
-pub returns-clause-some : goal.returns-clause-some
-returns-clause-some g c =
+pub returns : goal.returns
+returns g c =
     let a = c.args in
     let near = c.in_ok-near in
     sixteen_words_near a.bytes.now c.requires.width (omega (arith, c.if-size-le8.false)) c.requires.size.1 near.ensures

@@ -12,7 +12,7 @@ returns-clause-some g c _ =
     let start = c.args.reader.now in
     let bytes = c.spell_ahead.new.bytes in
     let legal = subst (λ (p : DecoderState). IsLegal p.setting) view c.self.invariant.1.legal in
-    let block = subst (λ (p : DecoderState). SpelledAhead start.waiting p.setting p.block p.before c.known_or.result spelled.last spelled.len bytes) view c.in-Some.ensures.some in
+    let block = subst (λ (p : DecoderState). SpelledAhead start.waiting p.setting p.block p.before c.known_or.result spelled.last spelled.len bytes) view c.in-Some.ensures in
     let size = sym (c.known_or.ensures ∙ (c.block.ensures.value ∙ ap (λ (p : DecoderState). p.setting.block) view)) in
     bytes_given legal (omega (arith, size, c.requires.lanes.some)) size block.ahead (record {
       mark = refl;
