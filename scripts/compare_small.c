@@ -8,7 +8,7 @@
 #include <stdlib.h>
 #include <string.h>
 
-enum { MOST_SAMPLES = 700, ROOM = 1 << 14, FILL = 0xa5, STATUSES = 14 };
+enum { MOST_SAMPLES = 700, ROOM = 1 << 14, FILL = 0xa5, STATUSES = 14, EACH_ROOM = 400 /* of so many inputs, one is decoded into each room */ };
 
 uint32_t small_rice_version(void);
 uint32_t small_rice_check(const struct rice_setting *setting);
@@ -168,6 +168,18 @@ static void compare_decode(const struct rice_setting *s, size_t size) {
     if (ours.status == RICE_DONE && ours.report.steps != small.report.steps) fail("the steps of rice_decode");
 }
 
+/* Decodes into each room, from none to enough: where the output fails at a byte, the blocks before it are written. */
+static void compare_each_room(const struct rice_setting *s, size_t size) {
+    begin_call();
+    ours.status = rice_decode(s, MOST_SAMPLES, code, size, ours.bytes, ROOM, &ours.report);
+    for (size_t room = 0, most = ours.report.written; room <= most; room++) {
+        begin_call();
+        ours.status = rice_decode(s, MOST_SAMPLES, code, size, ours.bytes, room, &ours.report);
+        small.status = small_rice_decode(s, MOST_SAMPLES, code, size, small.bytes, room, &small.report);
+        compare("rice_decode into each room");
+    }
+}
+
 static bool are_same_stands(const struct rice_drain *a, const struct rice_drain *b) {
     return a->samples == b->samples && a->bits == b->bits && a->previous == b->previous && a->block == b->block && a->run == b->run;
 }
@@ -198,6 +210,7 @@ static void try(void) {
     compare_feeds(&s, size);
     coded = any_code(coded);
     compare_decode(&s, coded);
+    if (number % EACH_ROOM == 0) compare_each_room(&s, coded);
     compare_drains(&s, coded);
 }
 

@@ -244,7 +244,14 @@ pub(crate) fn decode_blocks<
             return ended(None, written, reader, &meter);
         }
         let whole = is_whole(count, block);
-        if pass_whole(&own, whole, &mut decoder, &mut reader, &mut meter, &mut bytes) {
+        if pass_whole(
+            &own,
+            whole,
+            &mut decoder,
+            &mut reader,
+            &mut meter,
+            &mut bytes,
+        ) {
             match write_all(outlet, &bytes[..size]) {
                 Ok(()) => {}
                 Err(_) => return ended(Some(Fault::Write), written, reader, &meter),

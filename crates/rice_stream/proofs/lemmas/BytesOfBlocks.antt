@@ -1,6 +1,5 @@
 -- Blocks of which a decoder gives the bytes.
-use Rattle.std.proofs.Common.{◌≡◌, ℕ, ◌+◌, ◌*◌, ◌<◌, ◌≤◌, ◌∙◌, List, ◌++◌, length, drop, take, ap, arith, subst, sym, take-take, Option, ℤ}
-use Rattle.std.specs.Prelude.{Ok}
+use Rattle.std.proofs.Common.{◌≡◌, ℕ, ◌*◌, ◌≤◌, ◌∙◌, List, ◌++◌, length, drop, take, ap, subst, sym, take-take, Option, ℤ}
 use Rattle.std.proofs.lemmas.List.{length-take-le, take-append-drop, take_at}
 use Rattle.std.proofs.Math.Nat.{mul-le-mul_left}
 use Rattle.rice_bits.specs.device.OutletRoom.{Room}
@@ -8,11 +7,7 @@ use Rattle.rice_bits.specs.read.Reader.{Reader}
 use Rattle.rice_samples.specs.Parameters.{Parameters, width}
 use Rattle.rice_samples.specs.bytes.Spelling.{spellings}
 use Rattle.rice_samples.proofs.lemmas.bytes.SpellingLengths.{length-spellings, spellings-append}
-use Rattle.rice_code.specs.decode.BlocksInOnePass.{GivesBytes}
 use Rattle.rice_code.specs.decode.DecoderState.{DecoderState}
-use Rattle.rice_code.specs.decode.RowsOfFields.{AreCounted}
-use Rattle.rice_code.specs.declared.decode.call_results.Step.TheVariants.{Block}
-use Rattle.rice_stream.specs.BlockBytes.{AnswersBytes}
 use Rattle.rice_stream.specs.DecodingState.{DecodingProgress}
 
 -- the bytes of the first samples are the first bytes

@@ -1,7 +1,7 @@
 -- What a call of the decoder does to a decoding.
 use Rattle.std.proofs.Common.{◌≡◌, ℕ, ◌+◌, ◌<◌, ◌≤◌, ◌==◌, ◌&&◌, cond, Bool, true, List, [], ◌∷◌, ◌++◌, length, replicate}
 use Rattle.std.proofs.Common.{ap, arith, sym, ◌∙◌, ◌⊎◌, suc, inl, inr, subst, append_assoc, append-nil, length-append, Option, Some, None, ℤ, pos}
-use Rattle.std.specs.Prelude.{All, IfSome, Result, Ok, Err}
+use Rattle.std.specs.Prelude.{All, IfSome, Ok, Err}
 use Rattle.std.specs.Io.KnownBytes.{Consumes}
 use Rattle.std.proofs.KnownBytes.{Consumes-nil}
 use Rattle.std.proofs.Math.Nat.{mod-lt, mod-eq_of_lt}
@@ -9,17 +9,16 @@ use Rattle.std.proofs.lemmas.Bool.{cases_lt}
 use Rattle.rice_bits.specs.Bits.{bits_to_byte}
 use Rattle.rice_bits.specs.read.Reader.{Reader}
 use Rattle.rice_bits.proofs.lemmas.bits.BytesAndBits.{bits_of-nil}
-use Rattle.rice_samples.specs.Parameters.{Parameters, IsLegal, IsSample, values_at}
+use Rattle.rice_samples.specs.Parameters.{Parameters, IsLegal, IsSample}
 use Rattle.rice_samples.specs.Places.{place}
 use Rattle.rice_samples.specs.predict.Residuals.{last_of}
 use Rattle.rice_code.specs.code.Blocks.{zero_block}
 use Rattle.rice_code.specs.code.CodedDataSets.{CodedDataSet, bits_of_set, turns}
-use Rattle.rice_code.specs.decode.Decoder.{Answers, GivesBlock, GivesSet, GivesFromRun, StopsBy, SetEnds, with_mark}
+use Rattle.rice_code.specs.decode.Decoder.{GivesBlock, GivesSet, GivesFromRun, StopsBy, SetEnds, with_mark}
 use Rattle.rice_code.specs.decode.DecoderState.{DecoderState, state_after_block}
 use Rattle.rice_code.specs.code.Forms.{blocks_in}
 use Rattle.rice_code.specs.code.Layout.{block_after, padding}
 use Rattle.rice_code.specs.decode.ReadSets.{SetCut}
-use Rattle.rice_code.specs.declared.decode.call_results.Step.{Step}
 use Rattle.rice_code.specs.declared.decode.call_results.Step.TheVariants.{Block, Done}
 use Rattle.rice_code.specs.declared.decode.call_results.CodeFault.{CodeFault}
 use Rattle.rice_code.specs.declared.decode.call_results.CodeFault.TheVariants as faults

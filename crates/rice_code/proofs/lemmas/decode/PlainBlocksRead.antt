@@ -1,25 +1,18 @@
 -- Blocks without compression, read as the bytes that they are.
-use Rattle.std.proofs.Common.{◌≡◌, ℕ, zero, suc, ◌+◌, ◌-◌, ◌*◌, ◌/◌, ◌%◌, ◌^◌, ◌<◌, ◌≤◌, ◌==◌, Bool, true, false, cond, List, [], ◌∷◌, ◌++◌}
-use Rattle.std.proofs.Common.{length, take, drop, map, refl, sym, ◌∙◌, ap, subst, arith, take-take, take-append-drop, length-append, length-drop, append-nil, None, ℤ, pos, inl, inr, ◌⊎◌}
+use Rattle.std.proofs.Common.{◌≡◌, ℕ, zero, suc, ◌+◌, ◌-◌, ◌*◌, ◌/◌, ◌^◌, ◌<◌, ◌≤◌, ◌==◌, Bool, true, false, cond, List, [], ◌∷◌, ◌++◌}
+use Rattle.std.proofs.Common.{length, take, drop, map, refl, sym, ◌∙◌, ap, subst, arith, take-take, take-append-drop, length-append, None, ℤ, pos, inl, inr, ◌⊎◌}
 use Rattle.std.specs.Prelude.{All, flat_map, nat_le, slice_index_or, ◌&&◌}
-use Rattle.std.specs.Io.KnownBytes.{Consumes}
 use Rattle.std.specs.Simd.Lanes.{put_chunk}
-use Rattle.std.proofs.Math.Nat.{mod-add-mod, mod-eq_of_lt, mul-div_cancel_left, mul-le-mul_right}
+use Rattle.std.proofs.Math.Nat.{mul-div_cancel_left, mul-le-mul_right}
 use Rattle.std.proofs.Math.Seq.{take-add}
 use Rattle.std.proofs.lemmas.Bool.{cases_lt}
 use Rattle.std.proofs.lemmas.Bool.Decides.{nat_tests}
 use Rattle.std.proofs.lemmas.Grind.{flat_map-append}
-use Rattle.std.proofs.lemmas.List.{drop-drop, drop-take, drop_all, drop_at, get_or-map, length-take-le, take-append-le, take_at}
+use Rattle.std.proofs.lemmas.List.{drop-drop, drop-take, drop_at, get_or-map, length-take-le, take_at}
 use Rattle.std.proofs.lemmas.List.Elements.{All-append, All-nil, All-take}
-use Rattle.std.proofs.lemmas.Nat.{mod-mul-add}
 use Rattle.std.proofs.lemmas.Simd.{take_more_put_chunk}
-use Rattle.std.proofs.lemmas.Slice.{drop-put_mid, take-put_mid}
-use borrow.Rule.Slice.PartMut.{put_mid}
-use Rattle.rice_bits.specs.Bits.{bits_of, bits_to_byte, number_of, word}
-use Rattle.rice_bits.specs.read.Reader.{Reader, Takes, is_blank}
-use Rattle.rice_bits.proofs.lemmas.bits.BytesAndBits.{bits_of-nil}
-use Rattle.rice_bits.proofs.lemmas.read.BlankBits.{blank-append}
-use Rattle.rice_bits.proofs.lemmas.read.DrawnBytes.{draws-waiting}
+use Rattle.rice_bits.specs.Bits.{bits_to_byte, number_of, word}
+use Rattle.rice_bits.specs.read.Reader.{Reader, Takes}
 use Rattle.rice_bits.proofs.lemmas.bits.WordsAndNumbers.{length-word, number_of-word}
 use Rattle.rice_samples.specs.Parameters.{Parameters, IsLegal, IsSample, id_len, value_at, value_count, width}
 use Rattle.rice_samples.specs.Places.{place}
@@ -38,10 +31,8 @@ use Rattle.rice_code.specs.code.Layout.{padding}
 use Rattle.rice_code.specs.decode.BlocksInOnePass.{GivesBytes}
 use Rattle.rice_code.specs.decode.Decoder.{Skips, TakesSet, with_mark}
 use Rattle.rice_code.specs.decode.DecoderState.{DecoderState, next_block_place}
-use Rattle.rice_code.specs.decode.RowsOfFields.{AreCounted}
 use Rattle.rice_code.specs.decode.PlainBlocks.{IsPlain, PlainBlock, WordsAhead, plain_bits}
-use Rattle.rice_code.proofs.lemmas.code.FormsReadInOneWay.{long_id}
-use Rattle.rice_code.proofs.lemmas.decode.DecoderLemmas.{answers_block, next_within, samples_by_bits}
+use Rattle.rice_code.proofs.lemmas.decode.DecoderLemmas.{answers_block, samples_by_bits}
 use Rattle.rice_code.proofs.lemmas.decode.RestoredBlocks.{contents_of_patterns}
 
 -- the width of plain blocks is that in which their samples are spelled

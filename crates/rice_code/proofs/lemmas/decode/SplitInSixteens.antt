@@ -1,8 +1,8 @@
 -- A block by a split that waits, in rows of sixteen residuals.
 use Rattle.std.proofs.Common.{◌≡◌, ℕ, zero, suc, ◌+◌, ◌-◌, ◌*◌, ◌/◌, ◌%◌, ◌^◌, ◌<◌, ◌≤◌, Bool, true, List, [], ◌∷◌}
 use Rattle.std.proofs.Common.{◌++◌, length, take, drop, take-take, replicate, refl, sym, ◌∙◌, ap, subst, arith, length-append, Some, inl, inr}
-use Rattle.std.specs.Prelude.{All, ◌⊎◌, flat_map, min, slice_index_or}
-use Rattle.std.proofs.Math.Seq.{take-add, take-append-add, take-append_seam}
+use Rattle.std.specs.Prelude.{All, flat_map, min, slice_index_or}
+use Rattle.std.proofs.Math.Seq.{take-add, take-append-add}
 use Rattle.std.proofs.Math.Nat.{add-mul, mul-add, mul-le-mul_right}
 use Rattle.std.proofs.lemmas.Grind.{flat_map-append}
 use Rattle.std.proofs.lemmas.Nat.{pow_pos}

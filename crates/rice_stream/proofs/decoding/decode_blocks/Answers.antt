@@ -11,7 +11,7 @@ use Rattle.rice_bits.specs.read.Reader.{new_reader}
 use Rattle.rice_stream.specs.FailedWrites.{TakesPart}
 use Rattle.rice_stream.proofs.lemmas.BytesOfBlocks.{first_spelled, progress_unchanged}
 use Rattle.rice_stream.proofs.lemmas.DecodingLemmas.{decoding_is_done, gains_block, moves_of, samples_of_block, stops_in_no_run}
-use Rattle.rice_stream.proofs.lemmas.DecodingEnds.{reports_as, block_is_wanted, progress_at_start, refusal_ends, refusal_fails, ended_ends, done_fails, write_ends, reached_ends, progress_with_block}
+use Rattle.rice_stream.proofs.lemmas.DecodingEnds.{reports_as, block_is_wanted, progress_at_start, refusal_ends, ended_ends, write_ends, reached_ends, progress_with_block}
 use Rattle.rice_stream.proofs.lemmas.RunsWritten.{progress_with_run, run_fails, run_shrinks}
 use Rattle.rice_stream.proofs.decoding.decode_blocks.Goals as goal
 

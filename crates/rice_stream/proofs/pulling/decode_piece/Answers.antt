@@ -1,5 +1,5 @@
 use Rattle.std.proofs.Common.{rules, arith, refl, w64, FitsSigned, ℤ, ◌≡◌, ◌+◌, ◌*◌, ◌++◌, ◌∙◌, ap, sym, subst, length, length-drop, take, drop, Option}
-use Rattle.std.specs.Prelude.{Ok, IfSome, ◌%◌, ◌<◌}
+use Rattle.std.specs.Prelude.{Ok, IfSome, ◌%◌}
 use Rattle.std.proofs.lemmas.Int.{to_z-of_z}
 use Rattle.std.proofs.lemmas.List.{length-take-le}
 use Rattle.rice_bits.specs.Bits.{bits_of}

@@ -1,4 +1,4 @@
-use Rattle.std.proofs.Common.{◌≡◌, ◌*◌, ◌≤◌, ◌∙◌, ap, arith, sym}
+use Rattle.std.proofs.Common.{◌≡◌, ◌*◌, ◌≤◌, ap, arith}
 use Rattle.std.proofs.Math.Nat.{mul-le-mul_left, mul-le-mul_right}
 use Rattle.rice_samples.proofs.lemmas.bytes.SpellingLengths.{narrow_width}
 use Rattle.rice_stream.proofs.block_decoder.FastDecoderGivesBytes.pass.Goals as goal

@@ -1,4 +1,4 @@
-use Rattle.std.proofs.Common.{◌≡◌, ◌≤◌, ◌-◌, ◌*◌, ◌^◌, ◌<◌, ◌++◌, ◌∙◌, ap, arith, drop, length, take, subst, sym}
+use Rattle.std.proofs.Common.{◌≡◌, ◌≤◌, ◌-◌, ◌*◌, ◌^◌, ◌<◌, ◌∙◌, ap, arith, drop, length, take, subst, sym}
 use Rattle.std.proofs.Math.Nat.{mul-le-mul_left}
 use Rattle.std.proofs.lemmas.List.{length-drop, length-take-le, take-take}
 use Rattle.rice_code.specs.decode.BlocksInOnePass.{SpellsParts, lanes_of}
