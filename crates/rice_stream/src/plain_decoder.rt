@@ -1,4 +1,4 @@
-//! The decoder that gives the samples of a block a call, as engines ask for one.
+//! The plain decoder for engines: one block of samples per call.
 ghost use Rattle.std.specs.Prelude.{◌≡◌, ◌-◌, ◌<◌, ◌≤◌, All, length};
 ghost use Rattle.rice_samples.specs.Parameters.{IsSample, value_count, values_at};
 
@@ -26,7 +26,7 @@ fn write_levels_of(setting: &Setting, samples: &[i64], levels: &mut ArrayVec<u32
     }
 }
 
-/// The decoder that gives samples, a block a call.
+/// The plain decoder and its setting. Each call decodes one block.
 #[derive(Drop)]
 pub struct PlainDecoder {
     setting: Setting,

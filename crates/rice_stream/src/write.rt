@@ -1,4 +1,4 @@
-//! Writing all bytes of a slice, of a sink, or of samples.
+//! Writes all bytes of a slice, of a sink, or of samples.
 ghost use Rattle.std.specs.Prelude.{◌≡◌, ◌+◌, ◌%◌, ◌^◌, ◌<◌, ◌≤◌, All, length, drop, take, OnOk, OnErr, IfErr};
 ghost use Rattle.rice_bits.specs.device.OutletRoom.{Appends};
 ghost use Rattle.rice_bits.specs.Bits.{whole_bytes, bits_in_bytes};
@@ -9,7 +9,7 @@ ghost use Rattle.rice_stream.specs.FailedWrites.{TakesPart};
 use rice_bits::{BitSink, Outlet, WriteFault};
 use rice_samples::{Setting, write_spellings, write_spellings_laid_out, write_threes};
 
-/// Writes all of the bytes. `WriteFault` only if the outlet fails, which has then taken a part of them, and not all.
+/// Writes all of the bytes. Returns `WriteFault` only if the outlet fails; it has then taken fewer than all.
 #[inline(always)]
 pub fn write_all<O: Outlet>(outlet: &mut O, bytes: &[u8]) -> Result<(), WriteFault>
     requires { O.failed outlet.old + 1 < 2 ^ 64 }
@@ -24,7 +24,7 @@ pub fn write_all<O: Outlet>(outlet: &mut O, bytes: &[u8]) -> Result<(), WriteFau
     }
 }
 
-/// Writes all of the bytes. If the outlet fails, an error has the number of those that it took.
+/// Writes all of the bytes. If the outlet fails, the error is the number of bytes that it took.
 #[inline(always)]
 pub fn write_counted<O: Outlet>(outlet: &mut O, bytes: &[u8]) -> Result<(), usize>
     requires { O.failed outlet.old + 1 < 2 ^ 64 }
@@ -47,7 +47,7 @@ pub fn write_counted<O: Outlet>(outlet: &mut O, bytes: &[u8]) -> Result<(), usiz
     }
 }
 
-/// Writes all of the bytes, in as many calls as it takes. If the outlet fails, an error has the number of those that it took.
+/// Writes all of the bytes, in as many calls as needed. If the outlet fails, the error is the number of bytes that it took.
 #[inline(never)]
 pub fn write_in_calls<O: Outlet>(outlet: &mut O, bytes: &[u8]) -> Result<(), usize>
     requires { O.failed outlet.old + 1 < 2 ^ 64 }
@@ -87,7 +87,7 @@ pub fn write_whole<const N: usize, O: Outlet>(
     Ok(())
 }
 
-/// Writes the bytes of the samples of a block, for which `bytes` has room.
+/// Writes the bytes of the samples of a block, by way of `bytes`.
 #[inline(always)]
 pub fn write_block<O: Outlet>(
     setting: &Setting,
@@ -149,7 +149,7 @@ fn write_other_samples<O: Outlet>(
     }
 }
 
-/// Does what `write_block` does, whatever the samples are, in room of its own.
+/// Does what `write_block` does, for any samples, with a buffer of its own.
 #[inline(never)]
 pub fn write_block_in_own_room<O: Outlet>(
     setting: &Setting,
