@@ -16,8 +16,8 @@ const SAMPLES: usize = 512;
 /// stores to that stack, since processors compare twelve bits of an address first.
 const APART: usize = 512;
 
-/// A buffer for the levels of 512 samples: in bytes for at most 8 bits, where sixteen are read at once; in halves of words for at most 16
-/// bits; or in words.
+/// A buffer for the levels of 512 samples: bytes for at most 8 bits, if sixteen are read at once; halves of words for at most 16 bits; or
+/// words.
 ///
 /// In contracts its value is the list of the levels.
 #[derive(Drop)]
