@@ -178,7 +178,7 @@ pub fn padding_of_whole_intervals()
         24 }
 {}
 
-/// The complete bytes once the complete segments are coded: without padding the last bits wait for more.
+/// The whole bytes of the code of whole segments: without padding, the last bits are buffered.
 pub fn early_outputs()
     ensures waits { early_output (record defaults { interval = 1 }) (replicate 8 (pos 5)) ≡
         0x00 ∷ [] }

@@ -87,8 +87,8 @@ pub fn no_sets_are_shorter()
     ensures { NoSetsAreShorter }
 {}
 
-/// If blocks have four samples or more, and samples are predicted or fill their blocks, no bits that decode to them are fewer than their
-/// code. No such bytes are fewer than their output.
+/// Let blocks have four samples or more, and samples be predicted or fill their blocks. No bits that decode to them are fewer than their
+/// code, and no bytes are fewer than their output.
 pub fn no_code_is_shorter()
     ensures bits { NoCodeIsShorter }
     ensures bytes { NoOutputIsShorter }

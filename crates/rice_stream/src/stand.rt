@@ -23,7 +23,7 @@ pub enum Pause {
     TooLong,
 }
 
-/// The place of decoding: after whole coded data sets, the last of which may be a run that goes on. In plain numbers, in C's layout.
+/// The place of decoding: after whole coded data sets, the last of which may be a run that continues. In plain numbers, in C's layout.
 ///
 /// Contracts say by `IsStand` which bits and samples precede it.
 #[repr(C)]

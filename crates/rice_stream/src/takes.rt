@@ -68,7 +68,7 @@ pub trait TakesLevels: Drop {
     /// Returns whether several segments may be coded before their bytes are written.
     fn takes_rows(&self) -> bool;
 
-    /// Returns the most bits that a sink may hold before the code of a segment is appended.
+    /// Returns how many bits a sink may hold before the code of a segment is appended.
     fn most_before(&self) -> u64
         ensures least { 7 ≤ result }
         ensures room { (bits : List Bool) → length bits ≤ result → is_sink (state self.now).setting bits };

@@ -67,7 +67,7 @@ pub fn write_in_calls<O: Outlet>(outlet: &mut O, bytes: &[u8]) -> Result<(), usi
     Ok(())
 }
 
-/// Writes the complete bytes of a sink, and removes them from it.
+/// Writes the whole bytes of a sink, and removes them from it.
 #[inline]
 pub fn write_whole<const N: usize, O: Outlet>(
     sink: &mut BitSink<N>,

@@ -163,7 +163,7 @@ impl<I: Intake> BitReader<I> {
         }
     }
 
-    /// Returns the intake, as the last call of its `fill` left it. Bits that wait are lost.
+    /// Returns the intake, as the last call of its `fill` left it. Buffered bits are lost.
     pub fn into_inner(self) -> I
         ensures value { result ≡ self.intake }
         ensures left { I.left result ≡ self.left }

@@ -24,7 +24,7 @@ impl<'a> Model for HeldBlock<'a> {
 }
 
 impl<'a> HeldBlock<'a> {
-    /// Joins the reference sample, if there is one, and the residuals.
+    /// Returns the block of the reference sample, if there is one, and the residuals.
     #[inline(always)]
     pub fn new(reference: Option<u32>, residuals: Block<'a>) -> Self
         ensures { result ≡ block_with reference residuals.entry }
