@@ -1,4 +1,4 @@
-//! The only bytes of each sample.
+//! The unique bytes of each sample.
 ghost use Rattle.std.specs.Prelude.{◌≡◌, ◌≢◌, length, ℤ, IfNone, IfSome};
 ghost use Rattle.rice_samples.specs.Parameters.{IsSample, width};
 ghost use Rattle.rice_samples.specs.bytes.Spelling.{spelling};

@@ -9,8 +9,8 @@ use crate::patterns::{digits_of, value_of_digits};
 
 /// Returns the residual of the sample `x` after the sample `p`, below 2^n (CCSDS 121.0-B-3, section 4, prediction error mapper).
 ///
-/// While the range of samples reaches as far to both sides of `p`, it is twice the distance, less one for a smaller sample. Beyond that, it
-/// is the distance plus that reach.
+/// Let the reach be the distance from `p` to the nearer end of the range of samples. Up to the reach, the residual is twice the distance,
+/// less one for a smaller sample. Beyond it, it is the distance plus the reach.
 #[inline]
 pub fn residual(setting: &Setting, p: i64, x: i64) -> u32
     requires before { IsSample setting.now p }

@@ -20,8 +20,8 @@ pub fn ranks<L: Lanes>(greatest: u32, before: L, numbers: L) -> L
     down.plus(up).plus(nearer.least(reach))
 }
 
-/// Writes the ranks of the levels: of the first from `p`, of each other from the one before it. It writes a whole vector at a time, while
-/// one is left, and returns how many ranks it wrote.
+/// Writes the ranks of levels up to `greatest`: of the first from `p`, of each other from the one before it. It writes a whole vector at a
+/// time, while one is left, and returns how many ranks it wrote.
 #[inline(always)]
 pub fn write_ranks<L: Lanes>(
     greatest: u32,

@@ -6,7 +6,7 @@ ghost use Rattle.rice_samples.specs.predict.NearNumbers.{near_numbers as near_nu
 
 use crate::fast::lanes::Lanes;
 
-/// Returns the difference that each rank stands for, if it is near. Differences and their sums wrap.
+/// Returns the difference of each rank, if it is near. Differences and their sums wrap.
 #[inline(always)]
 pub fn near_ways<L: Lanes>(ranks: L) -> L
     ensures { L.numbers result ≡ map (way (2 ^ L.bits)) (L.numbers ranks) }
