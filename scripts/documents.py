@@ -1,9 +1,9 @@
 #!/usr/bin/env python3
-"""Tries what the documents and the manual page say: links, paths, targets of make, commands, messages, figures and toolchains.
-(Options: scripts/options.py.) In the pages of FINISHED, it also holds the lengths of sentences and of cells of tables.
-In the comments of the C header and of public items of the crates, it holds those of sentences.
+"""Tries the links, paths, targets of make, commands, messages, figures and toolchains of the documents and the manual page.
+(Options: scripts/options.py.) In the pages of FINISHED, it limits the lengths of sentences and of cells of tables. In the comments of
+the C header and of public items of the crates, it limits those of sentences.
 
-Commands that begin with `$` are run with the program, and what they print is compared; of others the first word is looked up.
+It runs commands that begin with `$` with the program, and compares their output. Of other commands it looks up the first word.
 
 usage: documents.py PROGRAM
 """
