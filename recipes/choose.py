@@ -1,8 +1,8 @@
 #!/usr/bin/env python3
 """Compresses a file with several block sizes, intervals and bits per sample, and compares sizes and speeds.
 
-Prints a table, the shortest code first, and draws a picture. Of the bits per sample it tries the fewest that take all
-samples, and as many as their bytes have. Speeds are by CPU time, the best of some runs.
+Prints a table, the shortest code first, and draws a picture. As bits per sample it tries the fewest that hold all samples, and as many
+as their bytes have. Speeds are by CPU time, the best of some runs.
 
 usage: choose.py PROGRAM FILE PICTURE.svg BYTES_PER_SAMPLE [OPTION]...
 """

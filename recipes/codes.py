@@ -1,4 +1,4 @@
-"""What the recipes for files of others have in common: decoding a code in a file, and what is wrong with it, and where."""
+"""Shared by the recipes for other programs' files: decodes a code in a file, and reports its faults and their places."""
 from typing import NamedTuple, Optional
 
 import numpy

@@ -1,10 +1,10 @@
 #!/usr/bin/env python3
-"""FITS files: the images of whole numbers of a file, of 8, 16 or 32 bits, in all of its extensions, become codes, and all else is kept as it
-is: headers, tables, and other images, which are named. Back it is the same file byte for byte.
+"""Encodes the integer images of a FITS file, of 8, 16 or 32 bits, in all of its extensions. It keeps all else as it is, and names the other
+images. Decoding writes the same file, byte for byte.
 
-usage: fits.py encode FILE FOLDER   write the codes, what is kept, and the list of both, FOLDER/parts
+usage: fits.py encode FILE FOLDER   write the codes, the other parts, and the list of both, FOLDER/parts
        fits.py decode FOLDER FILE   write the file again
-       fits.py check FILE..         check the blocks of a file and the check sums that its headers have, and say what the images are
+       fits.py check FILE..         check the blocks and the check sums of a file, and describe its images
 """
 import math
 import mmap

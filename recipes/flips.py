@@ -1,6 +1,6 @@
 #!/usr/bin/env python3
-"""Flips a random bit in the codes of a GRIB2 file, one at a time, and counts how many are refused. The others are codes of other samples:
-no coder of this kind keeps a check sum.
+"""Flips random bits in the codes of a GRIB2 file, one at a time, and counts how many are refused. The others are codes of other samples:
+this kind of code has no check sum.
 
 usage: flips.py FILE [COUNT]
 """

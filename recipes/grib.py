@@ -1,10 +1,10 @@
 #!/usr/bin/env python3
-"""GRIB2 messages with CCSDS packing: checked, decoded and encoded in process. All messages of a file are taken, with bit maps and constant
-fields; what isn't served is named, and so are bytes that belong to no message.
+"""Checks, decodes and encodes GRIB2 messages with CCSDS packing, in process. It reads all messages of a file, with bit maps and constant
+fields. It names what it does not serve, and bytes that belong to no message.
 
-usage: grib.py check FILE..         say of each field what it is, and whether it is whole
-       grib.py decode FILE FOLDER   write the values of each field as FOLDER/N.npy, with NaN where the bit map has none
-       grib.py encode FILE OUT      give fields of simple packing CCSDS packing, with the very same numbers
+usage: grib.py check FILE..         describe each field, and whether it is whole
+       grib.py decode FILE FOLDER   write the values of each field to FOLDER/N.npy, with NaN where the bit map has none
+       grib.py encode FILE OUT      change fields of simple packing to CCSDS packing, with the same numbers
 """
 import os
 import sys

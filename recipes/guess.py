@@ -1,11 +1,10 @@
 #!/usr/bin/env python3
-"""Finds the options of a code that nobody knows any more: tries settings, and prints those that decode it to its end, the likeliest
-first.
+"""Finds the lost options of a code: tries settings, and prints those that decode it to its end, the likeliest first.
 
-The likeliest give the same bytes when their samples are encoded again, or as many. Samples with a sign and without may have the same code,
-and so may those of two intervals. Then the reference samples decide, which go on where the samples before them end. Where they are too
-few to tell, all such settings are printed. No code tells the order of bytes (-m), nor, unless the size of the file is given, whether 17
-to 24 bits take three bytes (-3).
+The likeliest settings return the same bytes, or as many, when their samples are encoded again. Signed and unsigned samples may have the
+same code, and so may two intervals. Then the reference samples decide, since they are near to the samples before them. If there are too
+few of them, it prints all such settings. No code contains the order of bytes (-m). Whether 17 to 24 bits take three bytes (-3) needs the
+size of the file.
 
 usage: guess.py CODE [--size BYTES | --count N] [--all]
   --size BYTES   the bytes of the samples

@@ -1,10 +1,10 @@
 #!/usr/bin/env python3
-"""Chunks of HDF5's SZIP filter, in files of HDF5 or netCDF 4: checked and decoded in process. All types of one, two, four and eight bytes
-are taken, pixels of 32 and 64 bits in planes of bytes, scanlines that are filled to whole blocks, every even block size; and beside SZIP
-the filters shuffle and fletcher32. Other datasets are read by HDF5.
+"""Checks and decodes chunks of HDF5's SZIP filter in process, in files of HDF5 or netCDF 4. It reads all types of one, two, four and eight
+bytes, pixels of 32 and 64 bits in planes of bytes, scanlines filled to whole blocks, and every even block size. It also serves the filters
+shuffle and fletcher32. HDF5 itself reads other datasets.
 
 usage: hdf5.py check FILE [DATASET]..        say of each dataset whether its chunks are whole
-       hdf5.py decode FILE DATASET OUT.npy   write its values
+       hdf5.py decode FILE DATASET OUT.npy   write the values of a dataset
 """
 import math
 import os

@@ -1,5 +1,5 @@
 #!/usr/bin/env python3
-"""Codes an array of numpy in process, through the Python package, to the bytes that aec writes.
+"""Encodes an array of numpy in process, by the Python package, to the bytes that aec writes.
 
 usage: in_process.py PROGRAM
 """

@@ -1,5 +1,5 @@
 #!/usr/bin/env python3
-"""Computes over a zarr array of codes that is larger than a worker's memory, on three worker processes, of which one is killed.
+"""Computes over a zarr array of codes that is larger than a worker's memory, on three worker processes, and kills one of them.
 
 usage: killed_worker.py
 """

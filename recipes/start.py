@@ -1,5 +1,5 @@
-"""The beginning of each recipe in Python, before it imports any package: where the package rice121 is, for this process and those that it
-starts, and what is said of wrong use and of a package that is missing."""
+"""The beginning of each recipe in Python, before it imports any package. Sets the place of the package rice121, for this process and those
+that it starts, and the messages for wrong use and for a missing package."""
 import os
 import sys
 
@@ -17,7 +17,7 @@ def usage():
 
 
 def name_what_is_missing(kind, error, trace):
-    """Says in place of a trace which package this Python lacks."""
+    """Prints which package this Python lacks, not a trace."""
     if not issubclass(kind, ModuleNotFoundError):
         sys.__excepthook__(kind, error, trace)
         return

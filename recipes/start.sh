@@ -1,4 +1,4 @@
-# The beginning of each recipe: a new folder, which is removed at the end, with the program that was given as `aec`.
+# The beginning of each recipe: makes a new folder, removed at the end, with the given program as `aec`.
 set -euo pipefail
 command -v "${1:-}" > /dev/null || {
     sed -n 's/^# usage/usage/p' "$0" >&2

@@ -1,5 +1,5 @@
-/* Codes blocks of every even size, by the library and by libaec. Codes of 160 settings have the length and the hash that another
- * coder gave, and come back. Then samples of random settings are coded by both, and each reads the code of the other.
+/* Codes blocks of every even size, by the library and by libaec. Codes of 160 settings must have the length and the hash that another
+ * coder gave, and decode to the same samples. Then both code samples of random settings, and each reads the code of the other.
  * usage: any_block ROWS SETTINGS */
 #include <libaec.h>
 #include <rice.h>

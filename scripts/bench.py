@@ -1,9 +1,9 @@
 #!/usr/bin/env python3
 """Compares ./aec with Debian's aec (package libaec-tools), and the library with libaec, on generated data. All decode what ours has coded.
 
-Prints a table in Markdown: for each row the CPU time of each program (user and system), the least of all runs of some rounds;
-where valgrind is there, the instructions for each byte of the samples; and where the program of bench_library.c is given, the speeds of both
-libraries, from memory to memory. Under it stand the least and the geometric mean of the ratios, with the means of the rounds.
+Prints a table in Markdown: for each row the CPU time of each program (user and system), the least of all runs of some rounds. With valgrind
+it adds the instructions for each byte of the samples. With the program of bench_library.c it adds the speeds of both libraries, from memory
+to memory. Below are the least and the geometric mean of the ratios, with the means of the rounds.
 
 usage: bench.py [--mispredictions] [--more | --real] [--only TEXT] [--library PROGRAM] OURS THEIRS [MEBIBYTES]
 """

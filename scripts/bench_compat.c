@@ -1,5 +1,5 @@
-/* Times libaec's and szlib's calls of whichever libraries are loaded: those of GRIB messages, of HDF5 chunks, of streams in pieces. Of each
- * case it prints the least CPU times of some runs, in seconds: encoding and decoding. All decode what librice codes.
+/* Times libaec's and szlib's calls of the loaded libraries: those of GRIB messages, of HDF5 chunks, and of streams in pieces. For each case
+ * it prints the least CPU times of encoding and decoding in some runs, in seconds. All decode what librice codes.
  * usage: bench_compat RUNS */
 #define _POSIX_C_SOURCE 200809L
 #include <rice.h>

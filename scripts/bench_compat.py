@@ -1,5 +1,5 @@
 #!/usr/bin/env python3
-"""Runs bench_compat.c on the libraries of a folder and on the system's, in turn, and prints a table of the least times.
+"""Runs bench_compat.c on the libraries of a folder and on the system's, alternately, and prints a table of the least times.
 
 usage: bench_compat.py PROGRAM FOLDER ROUNDS
 """

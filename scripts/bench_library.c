@@ -1,5 +1,5 @@
-/* Encodes and decodes a file of samples by the library and by libaec, in turn, and prints the least CPU times of some runs in
- * seconds: encoding here and there, decoding here and there, and decoding here by rice_pull.
+/* Encodes and decodes a file of samples by the library and by libaec, alternately. Prints the least CPU times of some runs in seconds:
+ * encoding here and there, decoding here and there, and decoding here by rice_pull.
  * usage: bench_library BITS BLOCK INTERVAL PREPROCESS SIGNED THREE FILE */
 #define _POSIX_C_SOURCE 200809L
 #include <libaec.h>

@@ -1,10 +1,10 @@
 #!/usr/bin/python3
-"""Compares aec with other compressors on real samples of five kinds, which stand in packages of Debian: sizes, which are the same
-whenever this runs, and speeds, which are those of this machine and of what else is at work.
+"""Compares aec with other compressors on real samples of five kinds, from packages of Debian. Sizes are the same in each run; speeds depend
+on this machine and its load.
 
-A size is that of the samples alone. A speed is over copies of them that have 8 MiB together, each with another constant added, so that no
-copy repeats another; by CPU time, the best of some runs; for blosc that of its call, for the others that of the program from file to file, by hyperfine.
-Under the table stands one of samples that bench.py generates, with what aec and zstd -1 make of them and how fast they decompress it.
+A size is that of the samples alone. A speed is over 8 MiB of copies of them, each with another constant added, so that no copy repeats
+another. It is by CPU time, the best of some runs: for blosc that of its call, for the others that of the program from file to file, by
+hyperfine. A second table has samples that bench.py generates, with the sizes of aec and zstd -1 and the speeds of decompression.
 
 usage: bench_others.py PROGRAM [--json FILE]
 """

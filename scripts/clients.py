@@ -1,6 +1,6 @@
 #!/usr/bin/python3
-"""Runs programs that use libaec on Debian's libaec and on the libraries of compat/. What each writes is read by both. Values have to be
-equal, sizes too, and nothing may be stored without compression that Debian's libraries compress.
+"""Runs programs that use libaec on Debian's libaec and on the libraries of compat/. Both read what each writes. Values and sizes must be
+equal, and compat's libraries must compress all that Debian's compress.
 
 usage: clients.py FOLDER
 """

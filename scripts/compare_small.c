@@ -1,6 +1,6 @@
-/* Gives both libraries the same settings, samples and codes, at once and in pieces, and compares all that they answer: statuses, reports,
- * feeds, drains and every byte of the caller's memory. Settings may be refused, samples out of range or cut, codes damaged, cut or random,
- * and room too small. Steps are compared where all of a code was decoded, since their number is not fixed elsewhere.
+/* Gives both libraries the same settings, samples and codes, whole and in pieces. Compares statuses, reports, feeds, drains and every byte
+ * of the caller's memory. Settings may be refused, samples out of range or cut, codes damaged, cut or random, and room too small. Steps
+ * are compared only for codes that were decoded whole, since their number is not fixed otherwise.
  * usage: compare_small INPUTS */
 #include <inttypes.h>
 #include <rice.h>

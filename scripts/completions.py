@@ -1,8 +1,8 @@
 #!/usr/bin/python3
 """Types command lines with tabs into bash and zsh, and compares the words that they become.
 
-In each shell `aec` is a function that prints its words, after the completions of a prefix are loaded. What tabs offer is read
-off the screen: it has to have each option of the program's help.
+In each shell `aec` is a function that prints its words, after the completions of a prefix are loaded. The offers of tabs, read off the
+screen, must have each option of the program's help.
 
 usage: completions.py PROGRAM PREFIX
 """

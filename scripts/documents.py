@@ -1,8 +1,9 @@
 #!/usr/bin/env python3
-"""Tries what the documents and the manual page say: links, paths, targets of make, commands, messages, figures and toolchains.
-(Options: scripts/options.py.) In the pages of FINISHED, it also holds the lengths of sentences and of cells of tables; in the comments of the C header, of sentences.
+"""Tries the links, paths, targets of make, commands, messages, figures and toolchains of the documents and the manual page.
+(Options: scripts/options.py.) In the pages of FINISHED, it limits the lengths of sentences and of cells of tables. In the comments of
+the C header and of public items of the crates, it limits those of sentences.
 
-Commands that begin with `$` are run with the program, and what they print is compared; of others the first word is looked up.
+It runs commands that begin with `$` with the program, and compares their output. Of other commands it looks up the first word.
 
 usage: documents.py PROGRAM
 """
@@ -127,13 +128,26 @@ def wrong_messages():
             yield f"{MANUAL}: the message {message!r} is not explained"
 
 
+def doc_comments(path):
+    """The doc comments of a file and of its public items, also of the methods of a trait and of the variants of an enum."""
+    text = read(path)
+    block = r"(?m)((?:^ *///.*\n)+)(?:^ *#\[.*\n)*"
+    bodies = re.findall(r"(?m)^( *)pub (?:trait|enum) .*\{\n((?:.*\n)*?)\1\}", text)
+    blocks = re.findall(r"(?m)(?:^//!.*\n)+", text) + re.findall(block + r"(?= *pub )", text)
+    blocks += [found for _, body in bodies for found in re.findall(block, body)]
+    return re.sub(r"(?m)^ *//[/!] ?", "", "\n".join(blocks))
+
+
 def prose(page):
     """The lines of a page without code: each a heading, a paragraph, an item or a row of a table. Code in a line is one word."""
     if page == HEADER:
         comments = "\n\n".join(re.findall(r"(?s)/\*(.*?)\*/", read(page)))
         items = re.sub(r"(?m)^ \* {2,3}(?=- |RICE_)", "\n\n", comments)
         return re.sub(r"(?<!\n)\n(?!\n)", " ", re.sub(r"(?m)^ \* *", "", items)).splitlines()
-    text = re.sub(r"(?ms)^```.*?^```$|^\.Bd.*?^\.Ed$", "", read(page))
+    text = doc_comments(page) if page.endswith(".rt") else read(page)
+    text = re.sub(r"(?ms)^```.*?^```$|^\.Bd.*?^\.Ed$", "", text)
+    if page.endswith(".rt"):
+        text = re.sub(r"(?<!\n)\n(?!\n|- | {4})", " ", text)
     if page == MANUAL:
         text = re.sub(r"(?m)^\.(?:Pp|S[hs]|It|Bl|El|Dl)\b.*$", "\n", text.partition(".Sh DESCRIPTION\n")[2])
         text = re.sub(r"(?<!\n)\n(?!\n)", " ", re.sub(r"(?m)^\.\w\w ?", "", text))
@@ -180,7 +194,8 @@ def main():
     targets = re.findall(r"(?m)^([a-z0-9-]+):", read("Makefile"))
     help_text = subprocess.run([program, "--help"], capture_output=True, text=True, check=True).stdout
     wrong = [text for page in pages for text in (*wrong_links(page), *wrong_names(page, targets), *wrong_commands(page))]
-    wrong += [*wrong_messages(), *wrong_figures(), *wrong_toolchains(), *(text for page in FINISHED for text in wrong_lengths(page))]
+    held = [*FINISHED, *sorted(glob.glob("crates/*/src/**/*.rt", recursive=True))]
+    wrong += [*wrong_messages(), *wrong_figures(), *wrong_toolchains(), *(text for page in held for text in wrong_lengths(page))]
     with tempfile.TemporaryDirectory() as folder:
         os.symlink(program, os.path.join(folder, "aec"))
         os.environ["PATH"] = folder + ":" + os.environ["PATH"]

@@ -1,6 +1,5 @@
 /* Encodes every short list of samples, and decodes every short code and many longer ones, by the library and by libaec. What both
- * make of them is the same, or differs in a way that has a name here. Counts each of these, and keeps some of the cases for the
- * two commands.
+ * return is the same, or differs in a way that has a name here. Counts each of these, and keeps some cases for the two commands.
  * usage: exhaustive RANDOM_CODES CASES */
 #include <inttypes.h>
 #include <libaec.h>

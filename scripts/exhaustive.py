@@ -1,5 +1,5 @@
 #!/usr/bin/env python3
-"""Has two commands do what two libraries did, in the cases that exhaustive.c has kept, and compares what they write.
+"""Repeats the cases that exhaustive.c kept of two libraries by two commands, and compares their output.
 
 usage: exhaustive.py OURS THEIRS CASES
 """

@@ -1,5 +1,5 @@
-/* A program for x86-64 Linux without a C library, which has the three functions that the library calls, and its own beginning and end. It
- * encodes and decodes samples, at once and in pieces, and compares. Its status is 0 where they came back. */
+/* A program for x86-64 Linux without a C library. It has the three functions that the library calls, and its own beginning and end. It
+ * encodes and decodes samples, whole and in pieces, and compares them. Its status is 0 if they are the same. */
 #include <rice.h>
 
 enum { COUNT = 5000, WIDTH = 2, ROOM = 4 * COUNT, BLOCK = 16 };

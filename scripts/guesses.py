@@ -1,12 +1,12 @@
 #!/usr/bin/python3
-"""Has recipes/guess.py find the options of codes of a program and of libaec's: those that scripts/interop.py exchanges, of at least 1,000
-samples. Order of bytes, and three bytes, are in no code, so that of settings that have the same code one is tried.
+"""Has recipes/guess.py find the options of codes of a program and of libaec: those that scripts/interop.py exchanges, of at least 1,000
+samples. No code contains the order of bytes or the choice of three bytes, so it tries one of the settings with the same code.
 
-The setting that is said first has to give the same samples as the right one. Where it is said that a code does not tell which of several
-it was, the right one has to be among these, and the samples of the others have to have the very same code.
+The first setting found must give the same samples as the right one. If guess.py reports several settings with the same code, the right
+one must be among them, and the samples of the others must have the very same code.
 
 usage: guesses.py OURS THEIRS [EVERY]
-  EVERY   try one setting in so many; all are tried otherwise
+  EVERY   try one setting in EVERY, not all
 """
 import os
 import sys

@@ -1,9 +1,9 @@
 #!/usr/bin/env python3
 """Compares include/rice.h with the library and with its crate.
 
-The object of the library calls what the header says and nothing else, and holds no memory that changes. The header declares the
-functions that it exports, and their parameters, the fields of the structs and the numbers of the statuses are those of the
-crate. The header is one for C and C++, of old standards and new, and refuses machines for which the library is not built.
+The library's object must call only what the header says, and hold no memory that changes. The header must declare the exported functions,
+with the parameters, the fields of structs and the numbers of statuses of the crate. It must compile as C and C++, of old standards and
+new, and refuse machines for which the library is not built.
 
 usage: header.py LIBRARY
 """

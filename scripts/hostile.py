@@ -1,9 +1,9 @@
 #!/usr/bin/env python3
 """Gives a program codes that are cut, flipped, random or long, and judges each answer.
 
-Each run has to end by itself with status 0 or 1 and with one of the known messages, write no more samples than were asked
-for and than the message says, and stay within its memory (a limit on its address space, which holds its resident set) and
-within a CPU time that is linear in what it read and wrote. A test of a flipped code has to answer as decoding it did.
+Each run must end by itself with status 0 or 1 and one of the known messages. It must write no more samples than requested, and than the
+message says. It must stay within its memory, by a limit on its address space, and within a CPU time linear in its input and output. A
+test of a flipped code must answer as decoding it did.
 
 usage: hostile.py PROGRAM RANDOM_INPUTS
 """

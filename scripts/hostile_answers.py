@@ -1,5 +1,5 @@
 #!/usr/bin/env python3
-"""Has a program decode the codes that hostile_library.c has kept, and compares what it writes, its status and its message.
+"""Has a program decode the codes that hostile_library.c kept, and compares its output, its status and its message.
 
 usage: hostile_answers.py PROGRAM ANSWERS
 """

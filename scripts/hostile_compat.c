@@ -1,6 +1,6 @@
-/* Gives the interfaces of compat/ samples and codes: whole, damaged, cut and random ones, all at once and in pieces of random lengths,
- * with all room and too little, and with memory that is refused. What comes out has to be what the library gives. Each piece and each
- * output is memory of just its size, so that the address sanitizer sees each byte beyond.
+/* Gives the interfaces of compat/ samples and codes: whole, damaged, cut and random ones, at once and in pieces of random lengths. Room may
+ * be too small, and memory refused. The output must be that of the library. Each piece and each output is memory of just its size, so that
+ * the address sanitizer sees each byte beyond.
  * usage: hostile_compat CODES */
 #include <inttypes.h>
 #include <libaec.h>

@@ -1,7 +1,6 @@
-/* Gives the library samples under each setting, and sees that they come back; then damaged, cut, spliced and random codes under
- * settings of all kinds, and samples of random bytes with too little room. Each buffer ends where a page begins that can't be
- * touched, or begins behind one, and has guard bytes on its other side. Writes every tenth answer of a decoding to a file, for the
- * command to give it too.
+/* Gives the library samples under each setting, and checks that decoding returns them. Then it gives damaged, cut, spliced and random codes
+ * under settings of all kinds, and samples of random bytes with too little room. Each buffer ends before a page that can't be touched, or
+ * begins after one, and has guard bytes on its other side. Writes every tenth answer of a decoding to a file, to compare with the command.
  * usage: hostile_library CALLS ANSWERS */
 #define _GNU_SOURCE
 #include <inttypes.h>

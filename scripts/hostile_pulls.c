@@ -1,6 +1,6 @@
-/* Gives the library codes in pieces: whole, damaged, cut and random ones, in pieces of random lengths, with random room, and from
- * intervals on. The samples of all pulls, and how they end, have to be those of rice_decode_all and rice_decode. Each piece and each
- * room ends where a page begins that can't be touched.
+/* Gives the library whole, damaged, cut and random codes, in pieces of random lengths, with random room, and from intervals on. The samples
+ * of all pulls and their end must be those of rice_decode_all and rice_decode. Each piece and each room ends before a page that can't be
+ * touched.
  * usage: hostile_pulls CODES */
 #define _GNU_SOURCE
 #include <inttypes.h>

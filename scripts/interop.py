@@ -1,5 +1,5 @@
 #!/usr/bin/env python3
-"""Exchanges codes between a program and libaec's: each decodes what the other has coded, and the codes are equally long.
+"""Exchanges codes between a program and libaec's: each must decode the other's codes, and the codes must be equally long.
 
 Then it shows each known difference once.
 

@@ -1,6 +1,5 @@
 #!/usr/bin/env python3
-"""Looks that each public lemma stands below a line that says what it states, and that no line of definitions and proofs has more
-than 200 columns.
+"""Checks that each public lemma has a line above it that states it, and that no line of definitions and proofs has more than 200 columns.
 
 usage: lemma_lines.py
 """

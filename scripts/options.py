@@ -1,6 +1,6 @@
 #!/usr/bin/env python3
-"""Compares all places that list the options of the program with scripts/options.txt: its help, the manual page, README's table and the
-completions for bash and zsh. Fails on any difference.
+"""Compares all lists of the program's options with scripts/options.txt: its help, the manual page, README's table and the completions for
+bash and zsh. Fails on any difference.
 
 usage: options.py PROGRAM   compare
        options.py --write   write README's table and the completions

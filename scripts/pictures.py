@@ -1,8 +1,8 @@
 #!/usr/bin/python3
-"""Draws the pictures of the documents, into docs/pictures. Those of measurements are drawn from docs/benchmarks and from the tables of
-pages, so that a picture and its table say the same. Drawn twice they are the same byte for byte.
+"""Draws the pictures of the documents, into docs/pictures. It draws measurements from docs/benchmarks and from the tables of pages, so that
+a picture agrees with its table. Drawn twice, a picture is the same byte for byte.
 
-They are black and grey on white, so that they are read in print, and are a light panel on a dark page.
+Pictures are black and grey on white: readable in print, and a light panel on a dark page.
 
 usage: pictures.py           draw them
        pictures.py --check   draw them elsewhere, and compare

@@ -1,5 +1,5 @@
 #!/usr/bin/python3
-"""Tries what `aec --verbose` shows on a terminal: once a second how much of a regular file was read, and of no other source.
+"""Tries what `aec --verbose` shows on a terminal: once a second the bytes read of a regular file, and nothing for other sources.
 
 usage: progress.py PROGRAM
 """

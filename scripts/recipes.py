@@ -1,10 +1,10 @@
 #!/usr/bin/python3
 """Runs the recipes of docs/COOKBOOK.md with a program, as users do: in a virtual environment that has the wheel of out/python.
 
-A block of the page that begins with `$ recipes/NAME` shows what that script prints, and others after it; times and speeds may differ.
-scripts/recipes.txt has more such lines.
-They run in a folder that has the recipes, the program as `./aec`, and the files of scripts/recipe_files. Each line of the other blocks has
-to stand in a file of recipes/. Then each recipe is used wrongly, and archive_check is given files of which a byte was flipped.
+A block of the page that begins with `$ recipes/NAME` shows the output of that script, and of others after it. Times and speeds may differ.
+scripts/recipes.txt has more such lines. They run in a folder with the recipes, the program as `./aec`, and the files of
+scripts/recipe_files. Each line of the other blocks must be in a file of recipes/. Then it uses each recipe wrongly, and gives archive_check
+files with a flipped byte.
 
 usage: recipes.py PROGRAM
 """

@@ -1,6 +1,5 @@
-/* Allocation for a program that is started with this library loaded before the others (LD_PRELOAD): the request whose number
- * stands in the environment as REFUSE, counted from 1, is refused. The file whose name stands there as REFUSE_OPEN is not
- * opened, for want of memory too. */
+/* Allocation for a program that loads this library before the others (LD_PRELOAD). It refuses request number REFUSE of the environment,
+ * counted from 1. It does not open the file that REFUSE_OPEN names there, also for want of memory. */
 #include <errno.h>
 #include <stdarg.h>
 #include <stddef.h>

@@ -1,6 +1,6 @@
 #!/usr/bin/env python3
-"""Runs the cases of a data file with a program, and compares bytes, messages and statuses. Given a shared library, it calls that
-too, as the program does.
+"""Runs the cases of a data file with a program, and compares bytes, messages and statuses. If a shared library is given, it calls that too,
+as the program does.
 
 usage: rows.py PROGRAM ROWS [LIBRARY]
 """

@@ -1,4 +1,4 @@
-/* A program with some calls of the library, of which the size is measured: ENCODE, DECODE, FEED or DRAIN, or none of them. */
+/* A program with some calls of the library, to measure its size: ENCODE, DECODE, FEED or DRAIN, or none of them. */
 #include <rice.h>
 
 static uint8_t samples[1 << 12], code[1 << 13];

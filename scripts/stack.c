@@ -1,7 +1,7 @@
-/* How much stack a call takes: it runs on a stack of its own, painted before, with a page behind it that can't be touched.
- * Prints the most that any call took, and then runs all calls again on stacks of the sizes that rice.h states, or of ENCODE_STACK and
- * DECODE_STACK. With SMALL it makes the calls of the small library alone.
- * usage: stack [STEP], where only each STEPth setting is tried */
+/* Measures the stack of calls: each runs on a stack of its own, painted before, beside a page that can't be touched. Prints the most that
+ * any call took. Then it runs all calls again on stacks of the sizes that rice.h states, or of ENCODE_STACK and DECODE_STACK. With SMALL it
+ * makes only the calls of the small library.
+ * usage: stack [STEP]   try only each STEPth setting */
 #define _GNU_SOURCE
 #include "rice.h"
 #include <stdio.h>

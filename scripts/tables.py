@@ -1,5 +1,5 @@
 #!/usr/bin/env python3
-"""Writes the tables that its input has in Markdown into files, one line for each row, with tabs between cells.
+"""Writes the Markdown tables of its input into files, one line for each row, with tabs between cells.
 
 usage: scripts/bench 16 | scripts/tables.py FILE...
 """

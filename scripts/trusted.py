@@ -1,6 +1,6 @@
 #!/usr/bin/env python3
-"""Lists the definitions that the promises of `encode` and `decode` rest on: those that their contracts name, and those that these name
-in turn. Whoever trusts the promises trusts these, by files, and no other line of specs/. Fails where docs/TRUSTED.md differs.
+"""Lists the definitions on which the promises of `encode` and `decode` depend: those that their contracts name, and those that these name,
+and so on. To trust the promises is to trust these, by files, and no other line of specs/. Fails if docs/TRUSTED.md differs.
 
 usage: trusted.py           compare docs/TRUSTED.md with the sources
        trusted.py --write   write it

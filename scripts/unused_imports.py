@@ -1,8 +1,8 @@
 #!/usr/bin/env python3
 """Finds names in the `ghost use` lines of the crates' sources that no clause of their file uses.
 
-usage: unused_imports.py         fails where there is one
-       unused_imports.py --fix   takes them away; `rt fmt` then lays out the lines
+usage: unused_imports.py         fail if there is one
+       unused_imports.py --fix   remove them; `rt fmt` then formats the lines
 """
 import os
 import re

@@ -1,11 +1,10 @@
 #!/usr/bin/env python3
-"""Tries the vectors of the folder vectors/ with a program and, where it takes them, with libaec's; or writes that folder.
+"""Tries the vectors of the folder vectors/ with a program and, if libaec's reads them, with that too; or writes that folder.
 
-Expected bytes come from three places, which the list of the vectors names for each:
+Expected bytes have three origins. The list of the vectors names that of each:
   rows     scripts/rows.txt, whose bytes were worked out by hand or by another coder
-  model    scripts/any_block.txt: another coder of the same definitions gave the length and the hash of the code, which the code of the
-           program has
-  libaec   the code is the program's own, as long as libaec's, and libaec's decoder gives the samples back
+  model    scripts/any_block.txt: the program's code has the length and the hash that another coder of the same definitions gave
+  libaec   the code is the program's own, as long as libaec's, and libaec's decoder returns the samples
 
 usage: vectors.py PROGRAM [THEIRS]           try them
        vectors.py --write PROGRAM THEIRS     write them

@@ -1,10 +1,9 @@
 #!/usr/bin/env python3
-"""Turns the wrappers of readers, writers and the runtime into wrong ones, and has the tests refuse each.
+"""Makes wrong wrappers of readers, writers and the runtime, and checks that the tests refuse each.
 
-A contract sees of a reader or a writer of `std` the bytes that it tells, and not its failures. So a wrapper that never calls what it
-wraps, and says that it failed, meets all its clauses, and so does one that tries again: the tests alone say no. The same holds of the
-command's system, since a runtime of `std` tells nothing of its files. The wrong bodies are put into copies of the sources, where the
-tests are run, with nothing proved.
+A contract sees the bytes that a reader or a writer of `std` reports, and not its failures. So a wrapper that only reports a failure meets
+all its clauses, and so does one that tries again: only the tests refuse them. The same holds for the command's system, since a runtime of
+`std` reports nothing of its files. This script puts the wrong bodies into copies of the sources, and runs the tests there without proofs.
 
 usage: wrong_wrappers.py
 """

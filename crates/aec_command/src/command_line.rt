@@ -174,7 +174,7 @@ pub fn command<'a>(alloc: Global) -> Result<Command<'a>, AllocError>
     command_with_one_name(alloc)?.arg(dest(alloc))
 }
 
-/// Returns the command `aec` with its options and the one name that a test has.
+/// Returns the command `aec` with its options and the only name of a test.
 pub fn command_with_one_name<'a>(alloc: Global) -> Result<Command<'a>, AllocError>
     ensures { IfOk result (λ c. app_of c ≡ aec_test) }
 {

@@ -1,4 +1,4 @@
-//! The entries of the parsed command line, and the plan that they make.
+//! Makes a plan of the entries of the parsed command line.
 ghost use Rattle.std.specs.Prelude.{◌≡◌, ◌^◌, codes};
 ghost use Rattle.clap.specs.Words.{found_of};
 ghost use Rattle.aec_command.specs.Plan.{answer_view, is_flagged, number_in, plan_in, setting_in, setting_with};
@@ -16,14 +16,14 @@ fn is_used(matches: &ArgMatches<'_>, id: &str) -> bool
     matches.get_one::<bool>(id).unwrap_or(false)
 }
 
-/// Returns whether the matches ask for a test.
+/// Returns whether the matches request a test.
 pub fn is_test(matches: &ArgMatches<'_>) -> bool
     ensures { result ≡ tests (found_of matches.now) }
 {
     is_used(matches, "test")
 }
 
-/// Returns whether the matches ask for a line at the end.
+/// Returns whether the matches request a closing line.
 pub fn is_verbose(matches: &ArgMatches<'_>) -> bool
     ensures { result ≡ is_flagged (found_of matches.now) (codes "verbose") }
 {
@@ -71,8 +71,8 @@ fn setting_of(matches: &ArgMatches<'_>) -> Option<Result<Setting, SettingFault>>
     Some(setting_of_numbers(matches, bits, block, interval))
 }
 
-/// Returns the plan that the matches ask for. Refused, in this order, are `--samples` without `-d`, a missing or unreadable entry, and
-/// what `Setting::new` refuses.
+/// Returns the plan that the matches request. It refuses, in this order, `--samples` without `-d`, a missing or unreadable entry, and what
+/// `Setting::new` refuses.
 pub fn plan_of<'a>(matches: &ArgMatches<'a>) -> Result<Plan<'a>, PlanFault>
     ensures { answer_view result ≡ plan_in (found_of matches.now) }
 {
@@ -100,8 +100,8 @@ pub fn plan_of<'a>(matches: &ArgMatches<'a>) -> Result<Plan<'a>, PlanFault>
     }
 }
 
-/// Returns the plan of a test that the matches ask for. Refused, in this order, are a destination, a missing or unreadable entry, and
-/// what `Setting::new` refuses.
+/// Returns the plan of a test that the matches request. It refuses, in this order, a destination, a missing or unreadable entry, and what
+/// `Setting::new` refuses.
 pub fn test_plan_of<'a>(matches: &ArgMatches<'a>) -> Result<TestPlan<'a>, TestFault>
     ensures { test_answer_view result ≡ test_plan_in (found_of matches.now) }
 {

@@ -1,5 +1,5 @@
-//! The command line of `aec`: its options, and what its words ask for. [`matches_of`] parses the words, and [`plan_of`] makes the
-//! [`Plan`] of what was parsed. Where that asks for a test, [`test_plan_of`] makes a [`TestPlan`].
+//! The command line of `aec`: its options, and the meaning of its words. [`matches_of`] parses the words. [`plan_of`] makes a [`Plan`] of
+//! the matches; for a test, [`test_plan_of`] makes a [`TestPlan`].
 #![tactic(auto)]
 
 pub mod command_line;

@@ -1,4 +1,4 @@
-//! From the words of the command line to their matches.
+//! Parses the words of the command line.
 ghost use Rattle.std.specs.Prelude.{◌≡◌, IfOk, IfErr};
 ghost use Rattle.clap.specs.Words.{kind_of, fault_of, IsAmong};
 ghost use Rattle.clap.specs.declared.error.kind.ErrorKind.TheVariants as kinds;
@@ -11,8 +11,8 @@ use clap::error::ErrorKind;
 use clap::{ArgMatches, Error};
 use std::alloc::Global;
 
-/// Returns the matches of a command line's words, or why they are refused. Where a name is missing they may be those of a test, which
-/// has one.
+/// Returns the matches of a command line's words, or why they are refused. If a name is missing, they may be those of a test, which has
+/// one.
 pub fn matches_of<'a>(alloc: Global, words: &'a [&'a str]) -> Result<ArgMatches<'a>, Error>
     ensures ok { IfOk result (AreParsedTo (texts words.entry.now)) }
     ensures err { IfErr result (λ e. AreRefusedFor (texts words.entry.now) (kind_of e)) }

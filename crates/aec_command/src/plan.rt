@@ -1,9 +1,9 @@
-//! What the command line asks for.
+//! The plan that a command line requests.
 
 use rice_samples::{Setting, SettingFault};
 use thiserror::Error;
 
-/// What the command line asks for: a setting, which direction, how many samples at most, and the names.
+/// What a command line requests: the setting, the direction, the greatest number of samples, and the names.
 #[derive(Clone, Copy, Debug)]
 pub struct Plan<'a> {
     pub setting: Setting,
@@ -13,7 +13,7 @@ pub struct Plan<'a> {
     pub dest: &'a str,
 }
 
-/// Why a command line that was parsed is refused.
+/// Why a parsed command line is refused.
 #[derive(Clone, Copy, Debug, PartialEq, Eq, Error)]
 pub enum PlanFault {
     #[error("--samples needs -d")]

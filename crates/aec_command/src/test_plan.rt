@@ -1,9 +1,9 @@
-//! What the command line of a test asks for.
+//! The plan that the command line of a test requests.
 
 use rice_samples::{Setting, SettingFault};
 use thiserror::Error;
 
-/// What the command line of a test asks for: a setting, how many samples at most, and the name of the code.
+/// What the command line of a test requests: the setting, the greatest number of samples, and the name of the code.
 #[derive(Clone, Copy, Debug)]
 pub struct TestPlan<'a> {
     pub setting: Setting,
@@ -11,7 +11,7 @@ pub struct TestPlan<'a> {
     pub source: &'a str,
 }
 
-/// Why the command line of a test that was parsed is refused.
+/// Why a parsed command line of a test is refused.
 #[derive(Clone, Copy, Debug, PartialEq, Eq, Error)]
 pub enum TestFault {
     #[error("--test takes no DEST")]

@@ -1,4 +1,4 @@
-//! Encoding or decoding, as a plan asks.
+//! Encodes or decodes, as a plan requests.
 ghost use Rattle.std.specs.Prelude.{◌≡◌, ◌+◌, ◌^◌, ◌<◌, true, false, Some};
 ghost use Rattle.rice_stream.specs.DevicesInCalls.{Fails};
 ghost use Rattle.rice_stream.specs.Decodes.{DecodesBetween, DecodesWithin};
@@ -8,7 +8,7 @@ use aec_command::Plan;
 use rice_bits::{Intake, Outlet};
 use rice_stream::{Outcome, decode, encode};
 
-/// Decodes if the plan says so, and encodes otherwise. Returns what was done, and the intake.
+/// Decodes if the plan says so, and encodes otherwise. Returns the outcome and the intake.
 pub fn run<I: Intake, O: Outlet>(plan: &Plan<'_>, intake: I, outlet: &mut O) -> (Outcome, I)
     requires reads { I.failed intake + 1 < 2 ^ 64 }
     requires writes { O.failed outlet.old + 1 < 2 ^ 64 }

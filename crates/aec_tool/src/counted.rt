@@ -1,11 +1,11 @@
-//! A reader or a writer whose bytes are counted.
+//! A reader or a writer that counts its bytes.
 
 use crate::progress::Progress;
 use std::io;
 use std::io::{Eprint, Read, Write};
 use std::time::Clock;
 
-/// A reader or a writer whose bytes are counted.
+/// A reader or a writer that counts its bytes.
 #[derive(Drop)]
 pub struct Counted<'r, R, T> {
     rt: &'r R,
@@ -14,7 +14,7 @@ pub struct Counted<'r, R, T> {
 }
 
 impl<'r, R, T: Drop> Counted<'r, R, T> {
-    /// Returns a reader or a writer of which nothing is counted yet.
+    /// Returns a reader or a writer that has counted nothing.
     pub fn new(rt: &'r R, progress: &'r Progress, inner: T) -> Self {
         Counted {
             rt,

@@ -1,8 +1,8 @@
-//! What is written: standard output, or a file that is created after the buffer that stands before it.
+//! Destinations: standard output, or a file that is created after its buffer.
 use std::io;
 use std::io::{ErrorKind, Write};
 
-/// Standard output, a file, or the place for one, which takes nothing.
+/// Standard output, a file, or the place for a file, which takes no bytes.
 #[derive(Drop)]
 pub enum Sink<O, F> {
     Pending,
@@ -11,7 +11,7 @@ pub enum Sink<O, F> {
 }
 
 impl<O: Drop, F: Drop> Sink<O, F> {
-    /// Puts a file in its place.
+    /// Makes `file` the destination.
     pub fn set(&mut self, file: F) {
         *self = Sink::File(file);
     }

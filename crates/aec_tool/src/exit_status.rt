@@ -3,10 +3,10 @@ ghost use Rattle.std.specs.Prelude.{◌≡◌, ◌↔◌, IsSome, None};
 
 use rice_stream::Outcome;
 
-/// The status of a command that did all.
+/// The status of a command that succeeded.
 pub const SUCCESS: u8 = 0;
 
-/// The status of a command that did not.
+/// The status of a command that failed.
 pub const FAILURE: u8 = 1;
 
 /// Returns the exit status of an outcome: 0 without a fault, 1 with one.

@@ -1,10 +1,10 @@
-//! What a test of a code finds.
+//! The finding of a test of a code.
 
 use std::fmt;
 use std::fmt::{Display, Formatter};
 
-/// What a test of a code found that has no fault: its samples, its bits, and whether a 1 is left behind the samples that were asked
-/// for, where that was looked for.
+/// What a test of a code without faults found: its samples and its bits. `more` says whether a 1 follows the requested samples, if the test
+/// looked for one.
 #[derive(Clone, Copy, Debug, PartialEq, Eq)]
 pub struct Finding {
     pub samples: u64,

@@ -1,4 +1,4 @@
-//! The lines that help, where more than a message is asked for.
+//! The lines of help, if more than a message is requested.
 
 use crate::message::{Message, StartFault};
 use aec_command::{Plan, TestPlan};
@@ -7,7 +7,7 @@ use rice_stream::Fault;
 use std::io;
 use thiserror::Error;
 
-/// A line that helps behind a message, or at the end.
+/// A line of help after a message, or at the end.
 #[derive(Clone, Copy, Debug, Error)]
 pub enum Help<'a> {
     #[error("{name}: {reason}")]
@@ -22,13 +22,13 @@ pub enum Help<'a> {
     Padding { samples: u64 },
 }
 
-/// What help has to know of a plan.
+/// What help needs of a plan.
 #[derive(Clone, Copy, Debug)]
 pub struct Job<'a> {
     source: &'a str,
     dest: &'a str,
     decode: bool,
-    /// The most samples that may be padding.
+    /// The greatest number of samples that may be padding.
     padding: u64,
 }
 
@@ -52,7 +52,7 @@ fn reason_for<'a>(name: &'a str, reason: Option<io::Error>) -> Option<Help<'a>> 
 }
 
 impl<'a> Job<'a> {
-    /// Returns what help has to know of a plan.
+    /// Returns what help needs of a plan.
     pub fn of_plan(plan: &Plan<'a>) -> Self {
         let counted = !plan.decode || plan.samples.is_some();
         Job {
@@ -63,7 +63,7 @@ impl<'a> Job<'a> {
         }
     }
 
-    /// Returns what help has to know of the plan of a test, which writes to standard output.
+    /// Returns what help needs of the plan of a test, which writes to standard output.
     pub fn of_test(plan: &TestPlan<'a>) -> Self {
         Job {
             source: plan.source,
@@ -73,7 +73,7 @@ impl<'a> Job<'a> {
         }
     }
 
-    /// Returns what helps behind a message, whose reason the system may have given.
+    /// Returns the help after a message, with the system's reason, if it gave one.
     pub fn help_behind(self, message: Message<'a>, reason: Option<io::Error>) -> Option<Help<'a>> {
         match message {
             Message::Start(StartFault::NoSource { name }) => reason_for(name, reason),
@@ -100,7 +100,7 @@ impl<'a> Job<'a> {
         }
     }
 
-    /// Returns what helps where all was done, with so many samples and bytes.
+    /// Returns the help after a success with these numbers of samples and bytes.
     pub fn help_at_end(self, samples: u64, read: u64, written: u64) -> Option<Help<'a>> {
         if !self.decode && written > read {
             return Some(Help::Larger);

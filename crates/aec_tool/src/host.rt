@@ -49,17 +49,17 @@ fn size_of(found: io::Result<Metadata>) -> Option<u64> {
     }
 }
 
-/// The system that a runtime reaches. It tells nothing of its files: the runtime's own contracts don't.
+/// The system that a runtime reaches. It reports nothing of its files, as the runtime's contracts report nothing.
 #[derive(Drop)]
 pub struct Host<'a, 'r, R> {
     rt: &'r R,
     progress: &'r Progress,
-    /// What is done, where help is asked for and was not given yet.
+    /// The current job, if help is requested and was not given yet.
     job: Cell<Option<Job<'a>>>,
 }
 
 impl<'a, 'r, R> Host<'a, 'r, R> {
-    /// Returns the system of a runtime, which notes its progress.
+    /// Returns the system of a runtime. It notes its progress.
     pub fn new(rt: &'r R, progress: &'r Progress) -> Self {
         Host {
             rt,

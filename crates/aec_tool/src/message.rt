@@ -1,4 +1,4 @@
-//! What the command says on standard error.
+//! The messages of the command on standard error.
 
 use aec_command::{PlanFault, TestFault};
 use rice_stream::Fault;

@@ -1,4 +1,4 @@
-//! Whether a 1 is left behind the first bits of a code.
+//! Whether a 1 follows the first bits of a code.
 ghost use Rattle.std.specs.Prelude.{◌≡◌, ℕ, ◌+◌, ◌^◌, ◌<◌, List, drop, Some, OnOk};
 ghost use Rattle.rice_bits.specs.device.Failures.{CountsFailure};
 ghost use Rattle.aec_tool.specs.OneBehind.{LooksBehind, StoppedBy};
@@ -6,7 +6,7 @@ ghost use Rattle.aec_tool.specs.OneBehind.{LooksBehind, StoppedBy};
 use rice_bits::{BitFault, BitReader, Intake, Meter, ReadFault};
 use rice_stream::Fault;
 
-/// The most bytes that are asked for at a time.
+/// The greatest number of bytes requested at a time.
 const PIECE: usize = 4096;
 
 /// Takes `count` bytes from an intake and forgets them, or all if it has fewer.
@@ -59,7 +59,7 @@ fn stopped<I: Intake + Drop>(fault: BitFault, reader: BitReader<I>) -> Result<bo
     }
 }
 
-/// Returns whether a 1 is among the bits that an intake gives, behind the first `bits`.
+/// Returns whether a 1 follows the first `bits` bits of an intake.
 ///
 /// An error says that a read failed, or that the intake gave more than 2^49 bytes.
 pub fn look_behind<I: Intake + Drop>(intake: I, bits: u64) -> Result<bool, Fault>

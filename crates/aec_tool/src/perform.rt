@@ -1,4 +1,4 @@
-//! From a plan to the exit status.
+//! Performs a plan, and returns the exit status.
 ghost use Rattle.std.specs.Prelude.{◌≡◌, ℕ, ◌↔◌, true, false, List, Some, None, IfOk, IsTrue};
 ghost use Rattle.aec_command.specs.Plan.{plan_view};
 ghost use Rattle.aec_tool.specs.Outside.{Outside, Untouched, IsFresh, GivesAll, HasTakenNothing, Opens, Creates, begun, closing, new_mode, saying, said_of, is_standard, source_bytes, source_id, place_of, is_creatable, AreOneFile};
@@ -16,14 +16,14 @@ use rice_stream::{Fault, Outcome};
 /// The name of a standard stream.
 pub const STANDARD: &str = "-";
 
-/// What was done: the exit status, and how many samples were coded, decoded and written, or tested.
+/// What was done: the exit status, and the number of samples coded, decoded and written, or tested.
 #[derive(Clone, Copy, Debug)]
 pub struct Done {
     pub status: u8,
     pub samples: u64,
 }
 
-/// Does what a plan asks, writes a line at the end if that is asked for, and returns the exit status.
+/// Performs a plan, writes the closing line if it is requested, and returns the exit status.
 pub fn perform<'a, S: System<'a>>(system: &mut S, plan: &Plan<'a>, verbose: bool) -> u8
     requires { (o : Outside) → S.told system.old ≡ Some o → IsFresh o }
     ensures { (o : Outside) → S.told system.old ≡ Some o → (after : Outside) ×
@@ -54,7 +54,7 @@ pub fn fail<'a, S: System<'a>>(system: &mut S, message: Message<'a>) -> u8
     FAILURE
 }
 
-/// Writes the closing line, if it is asked for, and returns the status.
+/// Writes the closing line if it is requested, and returns the status.
 pub fn write_closing_line<'a, S: System<'a>>(
     system: &mut S,
     verbose: bool,
@@ -71,7 +71,7 @@ pub fn write_closing_line<'a, S: System<'a>>(
     done.status
 }
 
-/// Opens the source of a name, and returns it and which file it is.
+/// Opens the source of a name, and returns it with its file's identity.
 pub fn open<'a, S: System<'a>>(
     system: &S,
     name: &str,

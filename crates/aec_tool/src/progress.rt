@@ -1,31 +1,31 @@
-//! How far the command has come, for people who wait.
+//! The progress of the command, for people who wait.
 
 use std::cell::Cell;
 use std::io;
 use std::io::Eprint;
 use std::time::{Clock, Instant};
 
-/// The bytes that were read and written, and since when. Nothing but lines on standard error depends on it.
+/// The bytes read and written, and since when. Only lines on standard error depend on it.
 #[derive(Drop)]
 pub struct Progress {
     /// Whether standard error is a terminal.
     terminal: bool,
-    /// When the command began, where lines are wanted and the clock can be read.
+    /// When the command began, if lines are requested and the clock can be read.
     begun: Cell<Option<Instant>>,
-    /// How many sources were opened. What is read of another than the first is not counted.
+    /// How many sources were opened. Only the bytes of the first are counted.
     sources: Cell<u64>,
-    /// The bytes of the source, where it is a regular file.
+    /// The bytes of the source, if it is a regular file.
     size: Cell<Option<u64>>,
     read: Cell<u64>,
     written: Cell<u64>,
-    /// Why the system's last call that failed did.
+    /// Why the last failed call of the system failed.
     reason: Cell<Option<io::Error>>,
     /// The second in which a line was last shown.
     shown: Cell<u64>,
 }
 
 impl Progress {
-    /// Returns a progress of which nothing is shown yet; `terminal` says whether standard error is one.
+    /// Returns a progress that has shown nothing. `terminal` says whether standard error is a terminal.
     pub fn new(terminal: bool) -> Self {
         Progress {
             terminal,
@@ -39,7 +39,7 @@ impl Progress {
         }
     }
 
-    /// Begins to look at the clock.
+    /// Begins to measure the time.
     pub fn watch(&self, clock: &impl Clock) {
         match Instant::now(clock) {
             Ok(now) => self.begun.set(Some(now)),
@@ -53,7 +53,7 @@ impl Progress {
         self.size.set(size);
     }
 
-    /// Counts bytes that were read, and shows how many, once a second.
+    /// Counts bytes that were read, and shows their number, once a second.
     pub fn count_read<R: Clock + Eprint>(&self, rt: &R, bytes: usize) {
         if self.sources.get() > 1 {
             return;
@@ -78,12 +78,12 @@ impl Progress {
         self.reason.set(Some(reason));
     }
 
-    /// Returns why the last call that failed did.
+    /// Returns why the last failed call failed.
     pub fn reason(&self) -> Option<io::Error> {
         self.reason.get()
     }
 
-    /// Returns the bytes that were read and written.
+    /// Returns the numbers of bytes read and written.
     pub fn bytes(&self) -> (u64, u64) {
         (self.read.get(), self.written.get())
     }

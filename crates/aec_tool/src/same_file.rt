@@ -1,4 +1,4 @@
-//! Whether a name is that of the file that is read, and the permissions that a new file takes from it.
+//! Compares the file that is read with that of a name, and chooses the permissions of a new file.
 ghost use Rattle.std.specs.Prelude.{◌≡◌, ◌↔◌, IsTrue};
 ghost use Rattle.std.specs.Fs.{IsFile, file_type};
 ghost use Rattle.aec_tool.specs.Outside.{AreOneFile, IsOneFile, new_mode};
@@ -10,7 +10,7 @@ use std::os::unix::fs::{MetadataExt, PermissionsExt};
 /// The bits of a mode that say who may read, write and run a file.
 const PERMISSIONS: u32 = 0o777;
 
-/// What tells a file from all others, its device and its number there; whether it is a regular file, and its permissions.
+/// The identity of a file: its device and its number there. Also whether it is a regular file, and its permissions.
 #[derive(Clone, Copy, Debug)]
 pub struct FileId {
     pub device: u64,
@@ -31,7 +31,7 @@ fn id_of(found: &Metadata) -> FileId
     }
 }
 
-/// The identity of a file, where the system tells it.
+/// Returns the identity of a file, if the system reports it.
 pub fn known_id(found: io::Result<Metadata>) -> Option<FileId> {
     match found {
         Ok(found) => Some(id_of(&found)),
@@ -49,7 +49,7 @@ fn is_one_file(source: FileId, dest: FileId) -> bool
         && dest.is_regular
 }
 
-/// Whether both are known, and are one regular file.
+/// Returns whether both are known, and are the same regular file.
 pub fn are_one_file(source: Option<FileId>, dest: Option<FileId>) -> bool
     ensures { IsTrue result ↔ AreOneFile source dest }
 {
@@ -59,7 +59,7 @@ pub fn are_one_file(source: Option<FileId>, dest: Option<FileId>) -> bool
     }
 }
 
-/// Returns the permissions that a new file gets for those of the source: none where that is no regular file.
+/// Returns the permissions of a new file: those of the source, or none if it is no regular file.
 pub fn mode_for(source: Option<FileId>) -> Option<u32>
     ensures { result ≡ new_mode source }
 {

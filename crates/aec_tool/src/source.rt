@@ -1,4 +1,4 @@
-//! What is read: standard input or a file.
+//! Sources: standard input or a file.
 use std::io;
 use std::io::Read;
 

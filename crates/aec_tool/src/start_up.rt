@@ -1,4 +1,4 @@
-//! From the words of the command line to the exit status.
+//! Runs the command with the words of its command line.
 ghost use Rattle.std.specs.Prelude.{◌≡◌, Some, None};
 ghost use Rattle.clap.specs.Words.{found_of, kind_of};
 ghost use Rattle.clap.specs.Walk.{texts};
@@ -22,8 +22,8 @@ use std::{env, io};
 /// The status of a command line that is refused.
 const USAGE: u8 = 2;
 
-/// Runs the command with the given words, of which the first is the program's name, and returns its exit status. Standard error is
-/// taken to be no terminal.
+/// Runs the command with the given words, the first of which is the program's name, and returns its exit status. It assumes that standard
+/// error is no terminal.
 pub fn start<'a, R: Runtime + AllocGlobal>(rt: &R, words: &'a [&'a str]) -> u8 {
     let progress = Progress::new(false);
     start_on(&mut Host::new(rt, &progress), rt.alloc(), words)

@@ -1,4 +1,4 @@
-//! What the command asks of the system that it runs on.
+//! The system that the command runs on.
 ghost use Rattle.std.specs.Prelude.{◌≡◌, true, Option, Some, None, IfOk};
 ghost use Rattle.clap.specs.Words.{kind_of};
 ghost use Rattle.rice_bits.specs.device.OutletRoom.{Room};
@@ -17,13 +17,13 @@ pub struct OpenFault;
 /// Why there is no destination.
 #[derive(Clone, Copy, Debug)]
 pub enum CreateFault {
-    /// There is no memory for what stands before the destination. No file was touched.
+    /// There is no memory for the buffer of the destination. No file was touched.
     NoMemory,
     /// The file can't be created.
     Refused,
 }
 
-/// The files and streams of a system. Contracts see them where the system tells them.
+/// The files and streams of a system. Contracts see them if the system reports them.
 pub trait System<'a> {
     ghost use Rattle.aec_tool.specs.Outside.{Outside, StandardOutput, Named, Untouched, Opens, Reopens, Creates, Finishes, Tells, closing, saying, showing, said_of};
 
@@ -31,30 +31,30 @@ pub trait System<'a> {
 
     type Dest: Outlet;
 
-    // The files and streams, where the system tells them. A system that tells nothing goes on telling nothing.
+    // The files and streams, if the system reports them. A system that reports nothing continues to report nothing.
     ghost told: { Self → Option Outside };
 
-    /// Returns standard input, and which file it is, where the system knows.
+    /// Returns standard input, and its file's identity, if the system knows it.
     fn input(&self) -> (Self::Source, Option<FileId>)
         ensures sound { Self.Source.failed result.0 ≡ 0 }
         ensures bytes { (o : Outside) → told self.now ≡ Some o →
             Self.Source.left result.0 ≡ Some o.input }
         ensures id { (o : Outside) → told self.now ≡ Some o → result.1 ≡ o.input_id };
 
-    /// Opens a file to read, and returns it and which file it is, where the system knows.
+    /// Opens a file to read, and returns it with its identity, if the system knows it.
     fn open(&self, name: &str) -> Result<(Self::Source, Option<FileId>), OpenFault>
         ensures sound { IfOk result (λ r. Self.Source.failed r.0 ≡ 0) }
         ensures opens { (o : Outside) → told self.now ≡ Some o →
             Opens Self.Source.left (o.files name.now) (o.ids name.now) result };
 
-    /// Opens a file once more, to read the same bytes again. It may be gone.
+    /// Opens a file once more, to read the same bytes again. The file may be gone.
     fn reopen(&mut self, name: &'a str) -> Result<Self::Source, OpenFault>
         ensures sound { IfOk result (λ source. Self.Source.failed source ≡ 0) }
         ensures silent { told self.old ≡ None → told self.new ≡ None }
         ensures reopens { (o : Outside) → told self.old ≡ Some o →
             Reopens Self.Source.left name.entry.now o (told self.new) result };
 
-    /// Returns which file has a name, where the system knows.
+    /// Returns the identity of the file of a name, if the system knows it.
     fn find(&self, name: &str) -> Option<FileId>
         ensures { (o : Outside) → told self.now ≡ Some o → result ≡ o.ids name.now };
 
@@ -66,8 +66,8 @@ pub trait System<'a> {
         ensures creates { (o : Outside) → told self.old ≡ Some o →
             Creates Self.Dest.taken StandardOutput true o (told self.new) result };
 
-    /// Creates a file, or empties the one that has this name, to write to it. A file is touched only if there is memory. One that is new
-    /// gets these permissions, or those that all new files get, less those that the system withholds from new files.
+    /// Creates a file, or empties the one of this name, to write to it. It touches a file only if there is memory. A new file gets these
+    /// permissions, or those of all new files, less those that the system withholds.
     fn create(&mut self, name: &'a str, mode: Option<u32>) -> Result<Self::Dest, CreateFault>
         requires { (o : Outside) → told self.old ≡ Some o → o.destination ≡ Untouched }
         ensures sound { IfOk result (λ d. Self.Dest.failed d ≡ 0) }
@@ -76,38 +76,38 @@ pub trait System<'a> {
             Creates Self.Dest.taken (Named name.entry.now mode) (o.creatable name.entry.now) o
             (told self.new) result };
 
-    /// Ends writing. `Err` if not all bytes that the destination took have arrived.
+    /// Ends writing. Returns `Err` if not all bytes that the destination took have arrived.
     fn finish(&mut self, dest: Self::Dest) -> Result<(), WriteFault>
         ensures silent { told self.old ≡ None → told self.new ≡ None }
         ensures finishes { (o : Outside) (room : Room) → told self.old ≡ Some o →
             Self.Dest.taken dest ≡ Some room →
             Finishes room.bytes o (told self.new) result };
 
-    /// Writes a message to standard error, as a line that begins with `aec: `. A failure is passed over.
+    /// Writes a message to standard error, as a line that begins with `aec: `. It ignores failures.
     fn tell(&mut self, message: Message<'a>)
         requires { (o : Outside) → told self.old ≡ Some o → o.said ≡ None }
         ensures silent { told self.old ≡ None → told self.new ≡ None }
         ensures says { (o : Outside) → told self.old ≡ Some o →
             told self.new ≡ Some (saying o (said_of message.entry)) };
 
-    /// Lets the system show how far it has come with a job, on a terminal, and write a line that helps behind a message and at the end.
+    /// Lets the system show the progress of a job on a terminal, and write a line of help after a message and at the end.
     fn watch(&self, job: Job<'a>);
 
-    /// Writes the closing line to standard error: so many samples, the bytes in and out, the ratio of the samples' bytes to the code's,
-    /// and the time. The bytes that were read are the code where it was decoded. A failure is passed over.
+    /// Writes the closing line to standard error: the samples, the bytes in and out, the ratio of the samples' bytes to the code's, and the
+    /// time. `decode` says that the bytes read are the code. It ignores failures.
     fn write_closing_line(&mut self, decode: bool, samples: u64)
         ensures silent { told self.old ≡ None → told self.new ≡ None }
         ensures closes { (o : Outside) → told self.old ≡ Some o →
             told self.new ≡ Some (closing true decode samples o) };
 
-    /// Writes what a test found to standard output, as a line.
+    /// Writes the finding of a test to standard output, as a line.
     fn report(&mut self, it: Finding) -> Result<(), WriteFault>
         requires { (o : Outside) → told self.old ≡ Some o → o.found ≡ None }
         ensures silent { told self.old ≡ None → told self.new ≡ None }
         ensures tells { (o : Outside) → told self.old ≡ Some o →
             Tells it o (told self.new) result };
 
-    /// Writes what the parser of the command line has to say: help and version to standard output, mistakes to standard error.
+    /// Writes the text of the parser of the command line: help and version to standard output, mistakes to standard error.
     fn show(&mut self, error: &Error)
         requires { (o : Outside) → told self.old ≡ Some o → o.shown ≡ None }
         ensures silent { told self.old ≡ None → told self.new ≡ None }

@@ -1,4 +1,4 @@
-//! Worked examples: `run` over memory, `start` over a runtime in memory, and `start_on` over a system that tells what it holds.
+//! Worked examples: `run` over memory, `start` over a runtime in memory, and `start_on` over a system that reports its contents.
 mod columns;
 mod commands;
 mod plans;

@@ -1,4 +1,4 @@
-//! The test of a code: it is decoded, and nothing is written.
+//! Tests a code: decodes it, and writes no samples.
 ghost use Rattle.std.specs.Prelude.{◌≡◌, ℕ, ◌⊎◌, ◌&&◌, List, Some, None, is_some};
 ghost use Rattle.aec_command.specs.TestPlan.{test_view};
 ghost use Rattle.aec_tool.specs.Outside.{Outside, IsFresh, GivesAll, Stopped, finding, losing, is_read_again, said_of, saying, source_bytes, source_id};
@@ -18,7 +18,7 @@ use aec_command::TestPlan;
 use rice_samples::Setting;
 use rice_stream::{Fault, Outcome, Report, decode};
 
-/// Does what the plan of a test asks, writes a line at the end if that is asked for, and returns the exit status.
+/// Performs the plan of a test, writes the closing line if it is requested, and returns the exit status.
 pub fn perform_test<'a, S: System<'a>>(system: &mut S, plan: &TestPlan<'a>, verbose: bool) -> u8
     requires { (o : Outside) → S.told system.old ≡ Some o → IsFresh o }
     ensures { (o : Outside) → S.told system.old ≡ Some o → (after : Outside) ×

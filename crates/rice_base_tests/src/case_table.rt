@@ -1,4 +1,4 @@
-//! Tables of cases as texts: a line for each case, with `|` between its columns.
+//! Tables of cases as text: a line for each case, with `|` between its columns.
 use rice_samples::{Setting, SettingFault};
 use std::alloc::Global;
 use std::test::Fail;
@@ -54,7 +54,7 @@ pub fn setting_of(options: &str) -> Result<Setting, Fail> {
     Ok(answer_to(options)??)
 }
 
-/// Returns what `Setting::new` answers to options such as those of `setting_of`.
+/// Returns what `Setting::new` returns for options such as those of `setting_of`.
 pub fn answer_to(options: &str) -> Result<Result<Setting, SettingFault>, Fail> {
     let mut bits = 8;
     let mut block = 8;
@@ -87,7 +87,7 @@ pub fn answer_to(options: &str) -> Result<Result<Setting, SettingFault>, Fail> {
     Ok(Setting::new(bits, block, interval, signed, msb, three, preprocess, pad))
 }
 
-/// Returns the number of a column, or `None` where it is empty.
+/// Returns the number of a column, or `None` if it is empty.
 pub fn number_of(text: &str) -> Result<Option<u64>, Fail> {
     if text.is_empty() {
         return Ok(None);

@@ -1,4 +1,4 @@
-//! The cases of a test, of which the first that is wrong is told.
+//! Counts the cases of a test, and reports the first wrong one.
 use std::alloc::Global;
 use std::fmt::Display;
 use std::test::Fail;
@@ -22,7 +22,7 @@ impl<'a> Cases<'a> {
         }
     }
 
-    /// Names the line of the table that the next cases are of.
+    /// Names the line of the table of the next cases.
     pub fn of_line(&mut self, line: &'a str) {
         self.line = line;
     }
@@ -36,7 +36,7 @@ impl<'a> Cases<'a> {
         }
     }
 
-    /// Counts a case: what is printed of a value is this text.
+    /// Counts a case: a value is printed as this text.
     pub fn check_text<D: Display + Drop>(
         &mut self,
         alloc: Global,
@@ -48,7 +48,7 @@ impl<'a> Cases<'a> {
         Ok(())
     }
 
-    /// Returns the failure of a test where no case was tried, or one was wrong.
+    /// Returns a failure if no case was tried, or one was wrong.
     pub fn end(&self) -> Result<(), Fail> {
         let (tried, wrong, line) = (self.tried, self.wrong, self.wrong_line);
         if tried > 0 && wrong == 0 {

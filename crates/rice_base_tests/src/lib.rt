@@ -1,7 +1,7 @@
-//! Tests of bits, devices and samples, and what the tests of all libraries use: tables of cases, and cases that are counted.
+//! Tests of bits, devices and samples, and the means of the tests of all libraries: tables of cases, and counted cases.
 //!
-//! They are a crate of their own, since a crate with tests is proved twice: with them and without. Tests of the crates above
-//! `rice_samples` are another, `rice_tests`, so that what is here need not wait until those crates are proved.
+//! They are a crate of their own, since a crate with tests is proved twice: with them and without. Tests of the crates above `rice_samples`
+//! are another, `rice_tests`, so that these need not wait for the proofs of those crates.
 #![tactic(auto)]
 
 #[cfg(test)]

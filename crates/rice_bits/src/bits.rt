@@ -1,4 +1,4 @@
-//! Writing bits: digits of numbers, joined and gathered into bytes, and the sink that is a list of bits.
+//! Writes bits: joins digits of numbers, and gathers them into the bytes of a sink.
 
 pub(crate) mod digits;
 pub(crate) mod eight_bytes;

@@ -1,4 +1,4 @@
-//! What the fast coder and the fast decoder ask for: words and sequences that are put, looked at and taken several at a time.
+//! Calls for the fast coder and decoder: they put, look at and take several words or sequences at a time.
 
 pub(crate) mod bits;
 pub mod lanes;

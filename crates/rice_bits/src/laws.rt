@@ -1,22 +1,22 @@
-//! Laws over the definitions that the contracts cite. The functions do nothing: what they promise is the law.
+//! Theorems on the definitions that the contracts cite, each the contract of a function that does nothing.
 ghost use Rattle.rice_bits.specs.Laws.{BytesKeepBits, BitsKeepBytes, WordsKeepNumbers, NumbersKeepBits, SequencesAreReadInOneWay};
 
-/// The bits of the whole bytes, and the bits after them, are the bits again.
+/// The bits of the whole bytes of some bits, and the bits after them, are the same bits.
 pub fn bytes_keep_bits()
     ensures { BytesKeepBits }
 {}
 
-/// Bytes come back from their bits, with fewer than eight bits after them.
+/// The bits of bytes, and fewer than eight bits after them, have these whole bytes.
 pub fn bits_keep_bytes()
     ensures { BitsKeepBytes }
 {}
 
-/// A number comes back from its digits.
+/// The digits of a number determine it.
 pub fn words_keep_numbers()
     ensures { WordsKeepNumbers }
 {}
 
-/// Bits come back from the number that they spell.
+/// Bits are the digits of their number.
 pub fn numbers_keep_bits()
     ensures { NumbersKeepBits }
 {}

@@ -1,4 +1,4 @@
-//! Reading bits: the bits of the bytes that an intake gives, taken as words and fundamental sequences.
+//! Reads the bits of an intake's bytes, as words and fundamental sequences.
 
 pub mod fault;
 pub mod reader;

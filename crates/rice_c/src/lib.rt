@@ -1,5 +1,4 @@
-//! `encode` and `decode` for C, over memory of the caller's own, by the fast engines: `include/rice.h` declares what is here, and says it
-//! in words.
+//! The calls that `include/rice.h` declares and describes in words, by the fast engines, over the caller's memory.
 #![tactic(auto)]
 
 ghost use Rattle.std.specs.Prelude.{◌≡◌};
@@ -14,7 +13,7 @@ use rice_calls::{
 };
 use rice_stream::Fast;
 
-/// Returns the version of the library, 1.0.0: its first number times 10,000, its second times 100, and its third.
+/// Returns the version of the library, 1.0.0, as 10,000 times its first number, plus 100 times its second, plus its third.
 #[unsafe(no_mangle)]
 pub extern "C" fn rice_version() -> u32
     ensures { result ≡ 10000 }
@@ -22,7 +21,7 @@ pub extern "C" fn rice_version() -> u32
     version_number()
 }
 
-/// Returns the number of the status of this setting: that of `Status::Done` if it is legal.
+/// Returns the status number of this setting: that of `Status::Done` if it is legal.
 #[unsafe(no_mangle)]
 pub extern "C" fn rice_check(setting: &RiceSetting) -> u32
     ensures { result ≡ status_number (check_of setting.now) }
@@ -38,8 +37,8 @@ pub extern "C" fn rice_sample_width(setting: &RiceSetting) -> u32
     sample_width(setting)
 }
 
-/// Returns a number of bytes that the code of `samples` samples never passes, with all padding, or 0 if the setting is
-/// not legal, or if there are more than 2^48 samples, which no call encodes.
+/// Returns an upper bound, in bytes, of the code of `samples` samples with all padding. Returns 0 if the setting is not legal, or if
+/// `samples` is above 2^48: no call encodes so many.
 #[unsafe(no_mangle)]
 pub extern "C" fn rice_code_room(setting: &RiceSetting, samples: u64) -> u64
     ensures { TellsCodeRoom (setting_asked setting.now) samples result }
@@ -47,8 +46,8 @@ pub extern "C" fn rice_code_room(setting: &RiceSetting, samples: u64) -> u64
     code_room(setting, samples)
 }
 
-/// Returns a number of bytes that hold any coded data set which this library writes, wherever in a byte it begins, and the
-/// padding after it, or 0 if the setting is not legal.
+/// Returns a number of bytes that hold any coded data set of this library and the padding after it, at whichever bit of a byte it begins.
+/// Returns 0 if the setting is not legal.
 #[unsafe(no_mangle)]
 pub extern "C" fn rice_set_room(setting: &RiceSetting) -> u32
     ensures { TellsSetRoom (setting_asked setting.now) result }
@@ -56,8 +55,8 @@ pub extern "C" fn rice_set_room(setting: &RiceSetting) -> u32
     set_room(setting)
 }
 
-/// Returns a number of steps that encoding `samples` samples never passes, or 0 if the setting is not legal, or if there
-/// are more than 2^48 samples, which no call encodes.
+/// Returns an upper bound of the steps of encoding `samples` samples. Returns 0 if the setting is not legal, or if `samples` is above 2^48:
+/// no call encodes so many.
 #[unsafe(no_mangle)]
 pub extern "C" fn rice_step_bound(setting: &RiceSetting, samples: u64) -> u64
     ensures { TellsStepBound (setting_asked setting.now) samples result }
@@ -65,8 +64,7 @@ pub extern "C" fn rice_step_bound(setting: &RiceSetting, samples: u64) -> u64
     step_bound(setting, samples)
 }
 
-/// Gives the unused high bits of the samples at `samples` what they have in a spelling: 0 or, of a signed sample, its sign. Returns the
-/// number of the status.
+/// Sets the unused high bits of each sample to 0 or, if samples are signed, to its sign. Returns the status number.
 #[unsafe(no_mangle)]
 pub extern "C" fn rice_spell(setting: &RiceSetting, samples: &mut [u8]) -> u32
     ensures { SpellsAsAsked (setting_asked setting.now) samples.old samples.new result }
@@ -74,7 +72,7 @@ pub extern "C" fn rice_spell(setting: &RiceSetting, samples: &mut [u8]) -> u32
     spell(setting, samples)
 }
 
-/// Encodes the samples that the bytes of `samples` spell, and writes their code to the front of `code`.
+/// Encodes the samples whose bytes are `samples`, and writes their code to the start of `code`. Returns the status number.
 #[unsafe(no_mangle)]
 pub extern "C" fn rice_encode(
     setting: &RiceSetting,
@@ -87,7 +85,7 @@ pub extern "C" fn rice_encode(
     encode::<Fast>(setting, samples, code, report)
 }
 
-/// Decodes the first `count` samples of the code `code`, and writes their bytes to the front of `samples`.
+/// Decodes the first `count` samples of `code`, and writes their bytes to the start of `samples`. Returns the status number.
 #[unsafe(no_mangle)]
 pub extern "C" fn rice_decode(
     setting: &RiceSetting,
@@ -101,7 +99,7 @@ pub extern "C" fn rice_decode(
     decode::<Fast>(setting, count, code, samples, report)
 }
 
-/// Decodes all samples of the code `code`, and writes their bytes to the front of `samples`.
+/// Decodes all samples of `code`, and writes their bytes to the start of `samples`. Returns the status number.
 #[unsafe(no_mangle)]
 pub extern "C" fn rice_decode_all(
     setting: &RiceSetting,
@@ -114,7 +112,7 @@ pub extern "C" fn rice_decode_all(
     decode_all::<Fast>(setting, code, samples, report)
 }
 
-/// Begins a code of no samples, if the setting is legal. Returns the number of the status.
+/// Begins a code without samples, if the setting is legal. Returns the status number.
 #[unsafe(no_mangle)]
 pub extern "C" fn rice_begin(setting: &RiceSetting, feed: &mut RiceFeed) -> u32
     ensures { BeginsAsAsked (setting_asked setting.now) setting.now feed.old feed.new result }
@@ -122,8 +120,8 @@ pub extern "C" fn rice_begin(setting: &RiceSetting, feed: &mut RiceFeed) -> u32
     begin(setting, feed)
 }
 
-/// Returns a number of bytes that `rice_push` or `rice_finish` of up to `samples` samples never passes, or 0 if the feed has no
-/// legal setting, or if there are more than 2^48 samples, which no call encodes.
+/// Returns an upper bound, in bytes, of what one `rice_push` or `rice_finish` of up to `samples` samples writes. Returns 0 if the feed has
+/// no legal setting, or if `samples` is above 2^48: no call encodes so many.
 #[unsafe(no_mangle)]
 pub extern "C" fn rice_push_room(feed: &RiceFeed, samples: u64) -> u64
     ensures { TellsPushRoom (setting_asked feed.now.setting) feed.now samples result }
@@ -131,8 +129,8 @@ pub extern "C" fn rice_push_room(feed: &RiceFeed, samples: u64) -> u64
     push_room(feed, samples)
 }
 
-/// Encodes the samples of all segments that are whole with those at `samples`, and writes what their code completes to the
-/// front of `code`. The feed tells how many it has taken. Unless all was done the feed is as it was.
+/// Encodes all whole segments at the start of `samples`, and writes the bytes that their code completes to the start of `code`. The feed
+/// counts the samples taken; it changes only if all was done. Returns the status number.
 #[unsafe(no_mangle)]
 pub extern "C" fn rice_push(
     feed: &mut RiceFeed,
@@ -146,7 +144,8 @@ pub extern "C" fn rice_push(
     push::<Fast>(feed, samples, code, report)
 }
 
-/// Encodes the last samples, and writes the rest of the code to the front of `code`. The feed stays as it is.
+/// Encodes the last samples, and writes the remainder of the code to the start of `code`. The feed does not change. Returns the status
+/// number.
 #[unsafe(no_mangle)]
 pub extern "C" fn rice_finish(
     feed: &RiceFeed,
@@ -160,7 +159,7 @@ pub extern "C" fn rice_finish(
     finish::<Fast>(feed, samples, code, report)
 }
 
-/// Opens a code at its front, if the setting is legal. Returns the number of the status.
+/// Opens a code at its start, if the setting is legal. Returns the status number.
 #[unsafe(no_mangle)]
 pub extern "C" fn rice_open(setting: &RiceSetting, drain: &mut RiceDrain) -> u32
     ensures { OpensAsAsked (setting_asked setting.now) setting.now drain.old drain.new result }
@@ -168,8 +167,7 @@ pub extern "C" fn rice_open(setting: &RiceSetting, drain: &mut RiceDrain) -> u32
     open_at_front(setting, drain)
 }
 
-/// Opens a code where an interval begins, after `samples` samples and `bits` bits, if the setting is legal. Returns the number of the
-/// status.
+/// Opens a code at the start of an interval, after `samples` samples and `bits` bits, if the setting is legal. Returns the status number.
 #[unsafe(no_mangle)]
 pub extern "C" fn rice_open_at(
     setting: &RiceSetting,
@@ -182,8 +180,8 @@ pub extern "C" fn rice_open_at(
     open_at(setting, samples, bits, drain)
 }
 
-/// Decodes the coded data sets that are whole in the piece `code`, and writes their samples to the front of `samples`. The drain tells
-/// where decoding stands then.
+/// Decodes the whole coded data sets of the piece `code`, while their samples fit, and writes these to the start of `samples`. The drain
+/// counts the samples and bits decoded so far. Returns the status number.
 #[unsafe(no_mangle)]
 pub extern "C" fn rice_pull(
     drain: &mut RiceDrain,

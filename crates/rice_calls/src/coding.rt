@@ -1,4 +1,4 @@
-//! Encoding and decoding, from memory to memory.
+//! Encodes and decodes, from memory to memory.
 ghost use Rattle.std.specs.Prelude.{◌≡◌, Option, Some};
 ghost use Rattle.rice_bits.specs.device.Slice.{slice_left, slice_state, slice_failures};
 ghost use Rattle.rice_stream.specs.DevicesInCalls.{Fails};
@@ -15,7 +15,7 @@ use rice_bits::{SliceIn, SliceOut};
 use rice_samples::{MOST_INPUT, Setting};
 use rice_stream::{Engines, Outcome, Seam};
 
-/// Encodes the samples that the bytes of `samples` spell, and writes their code to the front of `code`.
+/// Encodes the samples whose bytes are `samples`, and writes their code to the start of `code`. Returns the status number.
 pub fn encode<E: Engines>(
     setting: &RiceSetting,
     samples: &[u8],
@@ -30,7 +30,7 @@ pub fn encode<E: Engines>(
     }
 }
 
-/// Encodes from memory to memory: as one piece that begins a code and ends it, which is read where it stands. Longer input goes by
+/// Encodes from memory to memory, as one piece that begins and ends a code, without a copy of the samples. Longer input goes to
 /// `encode_past_limit`.
 fn encode_into<E: Engines>(
     setting: &Setting,
@@ -47,8 +47,8 @@ fn encode_into<E: Engines>(
     finish_into::<E>(setting, &seam, samples, code, report)
 }
 
-/// Encodes from memory to memory by an intake, which gives no more bytes than a code may have: of longer input the samples within that
-/// limit are encoded, where one piece is refused whole. It is never inlined, so that other calls don't take its stack.
+/// Encodes from memory to memory by an intake. It encodes the samples within the limit of longer input, which one piece would refuse whole.
+/// It is never inlined, so that other calls don't take its stack.
 #[inline(never)]
 fn encode_past_limit<E: Engines>(
     setting: &Setting,
@@ -83,7 +83,7 @@ fn encode_slice_to_slice<E: Engines>(
     E::encode(setting, intake, outlet)
 }
 
-/// Decodes the first `count` samples of the code `code`, and writes their bytes to the front of `samples`.
+/// Decodes the first `count` samples of `code`, and writes their bytes to the start of `samples`. Returns the status number.
 pub fn decode<E: Engines>(
     setting: &RiceSetting,
     count: u64,
@@ -99,7 +99,7 @@ pub fn decode<E: Engines>(
     }
 }
 
-/// Decodes all samples of the code `code`, and writes their bytes to the front of `samples`.
+/// Decodes all samples of `code`, and writes their bytes to the start of `samples`. Returns the status number.
 pub fn decode_all<E: Engines>(
     setting: &RiceSetting,
     code: &[u8],
@@ -114,7 +114,7 @@ pub fn decode_all<E: Engines>(
     }
 }
 
-/// Decodes from memory to memory: as many samples as are asked for, or all.
+/// Decodes `asked` samples, or all, from memory to memory.
 fn decode_into<E: Engines>(
     setting: &Setting,
     asked: Option<u64>,

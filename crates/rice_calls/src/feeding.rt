@@ -1,4 +1,4 @@
-//! Encoding piece by piece, for a caller that has no room for all samples. All that is kept lies in the caller's memory.
+//! Encodes piece by piece, for a caller that has no room for all samples. The caller's memory holds all state.
 ghost use Rattle.std.specs.Prelude.{◌≡◌, List, Some, ℤ};
 ghost use Rattle.rice_bits.specs.device.Slice.{slice_state, slice_failures};
 ghost use Rattle.rice_stream.specs.DevicesInCalls.{Fails};
@@ -17,7 +17,7 @@ use rice_code::added_bound;
 use rice_samples::Setting;
 use rice_stream::{Engines, Fault, Outcome, Report, Seam};
 
-/// A coder that is fed piece by piece, in C's own layout: its setting, and where its code ends.
+/// A coder that encodes piece by piece, in C's layout: its setting, and the end of its code so far.
 #[repr(C)]
 #[derive(Clone, Copy)]
 pub struct RiceFeed {
@@ -25,7 +25,7 @@ pub struct RiceFeed {
     pub seam: Seam,
 }
 
-/// Begins a code of no samples, if the setting is legal. Returns the number of the status.
+/// Begins a code without samples, if the setting is legal. Returns the status number.
 pub fn begin(setting: &RiceSetting, feed: &mut RiceFeed) -> u32
     ensures { BeginsAsAsked (setting_asked setting.now) setting.now feed.old feed.new result }
 {
@@ -41,8 +41,8 @@ pub fn begin(setting: &RiceSetting, feed: &mut RiceFeed) -> u32
     }
 }
 
-/// Returns a number of bytes that `push` or `finish` of up to `samples` samples never passes, or 0 if the feed has no
-/// legal setting, or if there are more than 2^48 samples, which no call encodes.
+/// Returns an upper bound, in bytes, of what one `push` or `finish` of up to `samples` samples writes. Returns 0 if the feed has no legal
+/// setting, or if `samples` is above 2^48: no call encodes so many.
 pub fn push_room(feed: &RiceFeed, samples: u64) -> u64
     ensures { TellsPushRoom (setting_asked feed.now.setting) feed.now samples result }
 {
@@ -58,8 +58,8 @@ pub fn push_room(feed: &RiceFeed, samples: u64) -> u64
     }
 }
 
-/// Encodes the samples of all segments that are whole with those at `samples`, and writes what their code completes to the
-/// front of `code`. The feed tells how many it has taken. Unless all was done the feed is as it was.
+/// Encodes all whole segments at the start of `samples`, and writes the bytes that their code completes to the start of `code`. The feed
+/// counts the samples taken; it changes only if all was done. Returns the status number.
 pub fn push<E: Engines>(
     feed: &mut RiceFeed,
     samples: &[u8],
@@ -75,7 +75,8 @@ pub fn push<E: Engines>(
     }
 }
 
-/// Encodes the last samples, and writes the rest of the code to the front of `code`. The feed stays as it is.
+/// Encodes the last samples, and writes the remainder of the code to the start of `code`. The feed does not change. Returns the status
+/// number.
 pub fn finish<E: Engines>(
     feed: &RiceFeed,
     samples: &[u8],

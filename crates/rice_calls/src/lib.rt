@@ -1,6 +1,6 @@
-//! What the libraries for C do, by any engines: the calls that `include/rice.h` declares, over memory of the caller's own.
+//! The calls that `include/rice.h` declares, by any engines, over the caller's memory.
 //!
-//! Nothing here allocates, and nothing is kept from call to call but what a caller's feed or drain holds.
+//! Nothing here allocates. Only a caller's feed or drain keeps state between calls.
 #![tactic(auto)]
 
 pub mod coding;

@@ -1,5 +1,4 @@
-//! Decoding piece by piece, for a caller that has not all of a code, or no room for all samples. All that is kept lies in the
-//! caller's memory.
+//! Decodes piece by piece, for a caller without the whole code, or without room for all samples. The caller's memory holds all state.
 ghost use Rattle.std.specs.Prelude.{◌↔◌, IsTrue, Bool, List, ℤ};
 ghost use Rattle.rice_stream.specs.Pulling.{Origin, IsStand, IsSomeStand};
 ghost use Rattle.rice_calls.specs.AsAsked.{IsDrain, OpensAsAsked, OpensAtAsAsked, PullsAsAsked};
@@ -12,7 +11,7 @@ use crate::status::{Status, pause_place, pause_status, refusal_status};
 use rice_samples::Setting;
 use rice_stream::{Engines, Stand};
 
-/// A decoder that is fed piece by piece, in C's own layout: its setting, and where it stands in its code.
+/// A decoder that decodes piece by piece, in C's layout: its setting, and its place in the code.
 #[repr(C)]
 #[derive(Clone, Copy)]
 pub struct RiceDrain {
@@ -20,7 +19,7 @@ pub struct RiceDrain {
     pub stand: Stand,
 }
 
-/// Opens a code at its front, if the setting is legal. Returns the number of the status.
+/// Opens a code at its start, if the setting is legal. Returns the status number.
 pub fn open_at_front(setting: &RiceSetting, drain: &mut RiceDrain) -> u32
     ensures { OpensAsAsked (setting_asked setting.now) setting.now drain.old drain.new result }
 {
@@ -36,8 +35,7 @@ pub fn open_at_front(setting: &RiceSetting, drain: &mut RiceDrain) -> u32
     }
 }
 
-/// Opens a code where an interval begins, after `samples` samples and `bits` bits, if the setting is legal. Returns the number of the
-/// status.
+/// Opens a code at the start of an interval, after `samples` samples and `bits` bits, if the setting is legal. Returns the status number.
 pub fn open_at(setting: &RiceSetting, samples: u64, bits: u64, drain: &mut RiceDrain) -> u32
     ensures { OpensAtAsAsked (setting_asked setting.now) samples bits setting.now drain.old drain.new result }
 {
@@ -56,7 +54,7 @@ pub fn open_at(setting: &RiceSetting, samples: u64, bits: u64, drain: &mut RiceD
     }
 }
 
-/// Returns whether an interval can begin after so many samples and bits.
+/// Returns whether an interval can begin after this many samples and bits.
 fn can_begin(setting: &Setting, samples: u64, bits: u64) -> bool
     ensures { IsTrue result ↔ CanBegin setting.now samples bits }
 {
@@ -66,8 +64,8 @@ fn can_begin(setting: &Setting, samples: u64, bits: u64) -> bool
     samples <= 1 << 62 && bits <= 1 << 52
 }
 
-/// Decodes the coded data sets that are whole in the piece `code`, and writes their samples to the front of `samples`. The drain tells
-/// where decoding stands then.
+/// Decodes the whole coded data sets of the piece `code`, while their samples fit, and writes these to the start of `samples`. The drain
+/// counts the samples and bits decoded so far. Returns the status number.
 pub fn pull<E: Engines>(
     drain: &mut RiceDrain,
     code: &[u8],

@@ -1,4 +1,4 @@
-//! What a call has done, as C sees it.
+//! The report of a call.
 ghost use Rattle.std.specs.Prelude.{◌≡◌, ◌≢◌, Some};
 ghost use Rattle.rice_stream.specs.declared.outcome.Fault.TheVariants.{Read};
 ghost use Rattle.rice_calls.specs.Statuses.{status_number, refusal_status as refusal_status_of, fault_status as fault_status_of, fault_place as fault_place_of};
@@ -7,17 +7,17 @@ use crate::status::{fault_place, fault_status, refusal_status};
 use rice_samples::SettingFault;
 use rice_stream::Outcome;
 
-/// What a call has done, in C's own layout.
+/// What a call did, in C's layout.
 #[repr(C)]
 #[derive(Clone, Copy)]
 pub struct RiceReport {
-    /// The number of samples that were encoded, or decoded and written.
+    /// The number of samples encoded, or decoded and written.
     pub samples: u64,
-    /// The number of bits of code: those that were put, without padding, or those that were taken, with it.
+    /// The number of bits of code: written, without padding, or read, with padding.
     pub bits: u64,
     /// The number of steps.
     pub steps: u64,
-    /// The number of bytes written, which are the first of the output.
+    /// The number of bytes written, from the start of the output.
     pub written: u64,
     /// The number of the sample, the block or the samples that the status names, or 0.
     pub place: u64,
@@ -26,7 +26,7 @@ pub struct RiceReport {
 impl RiceReport {
     ghost use Rattle.rice_calls.specs.Reports.{report_of, empty_report};
 
-    /// Writes down what was done, and returns the number of its status.
+    /// Sets the report to `outcome` and `written`, and returns the status number.
     pub fn tell(&mut self, outcome: &Outcome, written: usize) -> u32
         requires { outcome.now.fault ≢ Some Read }
         ensures status { result ≡ status_number (fault_status_of outcome.now.fault) }
@@ -44,7 +44,7 @@ impl RiceReport {
         fault_status(outcome.fault).number()
     }
 
-    /// Writes down that nothing was done, since the setting is refused, and returns the number of the status.
+    /// Sets the report to all zeros, since the setting is refused, and returns the status number.
     pub fn refuse(&mut self, fault: SettingFault) -> u32
         ensures status { result ≡ status_number (refusal_status_of fault) }
         ensures report { self.new ≡ empty_report }

@@ -1,4 +1,4 @@
-//! The setting as C gives it, and what follows from it alone.
+//! The setting as C passes it, and the values that depend on it alone.
 ghost use Rattle.std.specs.Prelude.{◌≡◌};
 ghost use Rattle.rice_calls.specs.AsAsked.{TellsCodeRoom, TellsSetRoom, TellsStepBound, TellsWidth};
 ghost use Rattle.rice_calls.specs.AskedSetting.{setting_asked};
@@ -8,7 +8,7 @@ use crate::status::{Status, refusal_status};
 use rice_code::{padded_bound, set_bound};
 use rice_samples::{Setting, SettingFault};
 
-/// What a coder and a decoder are set to, in C's own layout. Any numbers may stand in it.
+/// The setting of a coder and a decoder, in C's layout. It may hold any numbers.
 #[repr(C)]
 #[derive(Clone, Copy)]
 pub struct RiceSetting {
@@ -28,7 +28,7 @@ pub struct RiceSetting {
     pub preprocess: bool,
     /// Whether the code of each interval is filled to a byte.
     pub pad: bool,
-    /// Whether any even number of samples from 2 to 64 makes a block.
+    /// Whether a block may have any even number of samples from 2 to 64.
     pub any_block: bool,
 }
 
@@ -37,7 +37,7 @@ impl RiceSetting {
     ghost use Rattle.rice_samples.specs.Parameters.{IsLegal};
     ghost use Rattle.rice_calls.specs.AskedSetting.{setting_asked};
 
-    /// Returns the setting that is asked for, or why it is refused.
+    /// Returns the requested setting, or why it is refused.
     pub fn legal(&self) -> Result<Setting, SettingFault>
         ensures answer { result ≡ setting_asked self.now }
         ensures legal { IfOk result IsLegal }
@@ -67,7 +67,7 @@ impl RiceSetting {
     }
 }
 
-/// Returns the number of the status of this setting: that of `Status::Done` if it is legal.
+/// Returns the status number of this setting: that of `Status::Done` if it is legal.
 pub fn check(setting: &RiceSetting) -> u32
     ensures { result ≡ status_number (check_of setting.now) }
 {
@@ -87,8 +87,8 @@ pub fn sample_width(setting: &RiceSetting) -> u32
     }
 }
 
-/// Returns a number of bytes that the code of `samples` samples never passes, with all padding, or 0 if the setting is
-/// not legal, or if there are more than 2^48 samples, which no call encodes.
+/// Returns an upper bound, in bytes, of the code of `samples` samples with all padding. Returns 0 if the setting is not legal, or if
+/// `samples` is above 2^48: no call encodes so many.
 pub fn code_room(setting: &RiceSetting, samples: u64) -> u64
     ensures { TellsCodeRoom (setting_asked setting.now) samples result }
 {
@@ -101,8 +101,8 @@ pub fn code_room(setting: &RiceSetting, samples: u64) -> u64
     }
 }
 
-/// Returns a number of bytes that hold any coded data set which this library writes, wherever in a byte it begins, and the
-/// padding after it, or 0 if the setting is not legal.
+/// Returns a number of bytes that hold any coded data set of this library and the padding after it, at whichever bit of a byte it begins.
+/// Returns 0 if the setting is not legal.
 pub fn set_room(setting: &RiceSetting) -> u32
     ensures { TellsSetRoom (setting_asked setting.now) result }
 {
@@ -112,8 +112,8 @@ pub fn set_room(setting: &RiceSetting) -> u32
     }
 }
 
-/// Returns a number of steps that encoding `samples` samples never passes, or 0 if the setting is not legal, or if there
-/// are more than 2^48 samples, which no call encodes.
+/// Returns an upper bound of the steps of encoding `samples` samples. Returns 0 if the setting is not legal, or if `samples` is above 2^48:
+/// no call encodes so many.
 pub fn step_bound(setting: &RiceSetting, samples: u64) -> u64
     ensures { TellsStepBound (setting_asked setting.now) samples result }
 {

@@ -1,4 +1,4 @@
-//! Spells a caller's samples as the setting wants them.
+//! Sets the unused bits of a caller's samples as the setting requires.
 ghost use Rattle.rice_calls.specs.AsAsked.{SpellsAsAsked};
 ghost use Rattle.rice_calls.specs.AskedSetting.{setting_asked};
 
@@ -6,8 +6,7 @@ use crate::setting::RiceSetting;
 use crate::status::{Status, refusal_status};
 use rice_samples::set_unused_bits;
 
-/// Gives the unused high bits of the samples at `samples` what they have in a spelling: 0 or, of a signed sample, its sign. Returns the
-/// number of the status.
+/// Sets the unused high bits of each sample to 0 or, if samples are signed, to its sign. Returns the status number.
 pub fn spell(setting: &RiceSetting, samples: &mut [u8]) -> u32
     ensures { SpellsAsAsked (setting_asked setting.now) samples.old samples.new result }
 {

@@ -1,4 +1,4 @@
-//! How a call ended, as C sees it.
+//! The status of a call, and its number for C.
 ghost use Rattle.std.specs.Prelude.{◌≡◌, ◌≢◌, Some, Option};
 ghost use Rattle.rice_stream.specs.declared.outcome.Fault.TheVariants.{Read};
 ghost use Rattle.rice_calls.specs.Statuses.{refusal_status as refusal_status_of, fault_status as fault_status_of, fault_place as fault_place_of, pause_status as pause_status_of, pause_place as pause_place_of};
@@ -6,22 +6,22 @@ ghost use Rattle.rice_calls.specs.Statuses.{refusal_status as refusal_status_of,
 use rice_samples::SettingFault;
 use rice_stream::{Fault, Pause};
 
-/// How a call ended. C sees its number.
+/// How a call ended. C gets its number.
 #[derive(Clone, Copy, Debug, PartialEq, Eq)]
 pub enum Status {
     /// All was done.
     Done,
     /// The bits per sample are not 1 to 32.
     BadBits,
-    /// The block size is none that is taken.
+    /// The block size is not legal.
     BadBlock,
     /// The reference interval is not 1 to 4,096 blocks.
     BadInterval,
-    /// The bytes of a sample spell no sample.
+    /// The bytes of a sample are those of no sample.
     SampleOutOfRange,
     /// The input ends inside a sample.
     InputCut,
-    /// The code ends inside a coded data set, or before all samples that were asked for.
+    /// The code ends inside a coded data set, or before all requested samples.
     CodeEnds,
     /// A run passes the end of its segment.
     RunPastSegment,
@@ -29,11 +29,11 @@ pub enum Status {
     ResidualTooLarge,
     /// The output is full.
     NoRoom,
-    /// The input is longer than a call takes.
+    /// The input is longer than a call accepts.
     TooLong,
     /// No 1 is left in a piece of code.
     OnlyZeros,
-    /// What is left of a piece of code begins with no whole coded data set.
+    /// The remainder of a piece of code has no whole coded data set at its start.
     MoreCode,
     /// No interval can begin at a place.
     BadPlace,
@@ -42,7 +42,7 @@ pub enum Status {
 impl Status {
     ghost use Rattle.rice_calls.specs.Statuses.{status_number};
 
-    /// Returns the number that C sees.
+    /// Returns the number that C gets.
     pub fn number(self) -> u32
         ensures { result ≡ status_number self }
     {
@@ -65,7 +65,7 @@ impl Status {
     }
 }
 
-/// Returns the status of a setting that is refused.
+/// Returns the status of a refused setting.
 pub fn refusal_status(fault: SettingFault) -> Status
     ensures { result ≡ refusal_status_of fault }
 {
@@ -76,7 +76,7 @@ pub fn refusal_status(fault: SettingFault) -> Status
     }
 }
 
-/// Returns the status of a call that stopped with this fault, or with none. A slice is read without faults.
+/// Returns the status of a call that stopped with this fault, or with none. `Read` is excluded: reading a slice never fails.
 pub fn fault_status(fault: Option<Fault>) -> Status
     requires { fault ≢ Some Read }
     ensures { result ≡ fault_status_of fault }
@@ -94,7 +94,7 @@ pub fn fault_status(fault: Option<Fault>) -> Status
     }
 }
 
-/// Returns the number that the fault names: of a sample, a block, or all samples; 0 where it names none.
+/// Returns the number in the fault: of a sample, a block, or all samples. Returns 0 if it has none.
 pub fn fault_place(fault: Option<Fault>) -> u64
     ensures { result ≡ fault_place_of fault }
 {
@@ -108,7 +108,7 @@ pub fn fault_place(fault: Option<Fault>) -> u64
     }
 }
 
-/// Returns the status of a pull that pauses so.
+/// Returns the status of a pull with this pause.
 pub fn pause_status(pause: Pause) -> Status
     ensures { result ≡ pause_status_of pause }
 {
@@ -122,7 +122,7 @@ pub fn pause_status(pause: Pause) -> Status
     }
 }
 
-/// Returns the number that a pause names: of the block that is refused, which is `block`, or 0 where it names none.
+/// Returns `block`, the number of the refused block, if the pause refuses one, else 0.
 pub fn pause_place(pause: Pause, block: u64) -> u64
     ensures { result ≡ pause_place_of pause block }
 {

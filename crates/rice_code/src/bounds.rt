@@ -1,4 +1,4 @@
-//! Bounds on the bits and steps of coding.
+//! Upper bounds of the bits and steps of coding.
 ghost use Rattle.std.specs.Prelude.{◌≡◌, ◌^◌, ◌≤◌};
 ghost use Rattle.rice_samples.specs.Limits.{most_input};
 ghost use Rattle.rice_samples.specs.Places.{block_count as blocks_of};
@@ -6,7 +6,7 @@ ghost use Rattle.rice_code.specs.Bounds.{block_bound as most_of_block, bit_bound
 
 use rice_samples::Setting;
 
-/// Returns the most bits that the code of `samples` samples, at most 2^48, can have without padding.
+/// Returns an upper bound of the bits, without padding, of the code of `samples` samples, at most 2^48.
 pub fn bit_bound(setting: &Setting, samples: u64) -> u64
     requires { samples ≤ most_input }
     ensures value { result ≡ most_bits setting.now samples }
@@ -15,8 +15,8 @@ pub fn bit_bound(setting: &Setting, samples: u64) -> u64
     block_count(setting, samples) * block_bound(setting)
 }
 
-/// Returns the most bits that the code of `samples` samples, at most 2^48, can have with the padding of
-/// intervals, if intervals are padded: seven bits for each.
+/// Returns an upper bound of the bits of the code of `samples` samples, at most 2^48, with the padding of intervals, if these are padded:
+/// seven bits for each.
 pub fn padded_bound(setting: &Setting, samples: u64) -> u64
     requires { samples ≤ most_input }
     ensures value { result ≡ most_padded_bits setting.now samples }
@@ -30,7 +30,7 @@ pub fn padded_bound(setting: &Setting, samples: u64) -> u64
     bits + 7 * intervals
 }
 
-/// Returns the most bits, with all padding, that `samples` samples, at most 2^48, add to the code of whole segments.
+/// Returns an upper bound of the bits, with all padding, that `samples` samples, at most 2^48, add to the code of whole segments.
 pub fn added_bound(setting: &Setting, samples: u64) -> u64
     requires { samples ≤ most_input }
     ensures value { result ≡ most_added_bits setting.now samples }
@@ -41,7 +41,7 @@ pub fn added_bound(setting: &Setting, samples: u64) -> u64
     if setting.pads() { bits + 7 } else { bits }
 }
 
-/// Returns the most bits of one coded data set of a coder's, whatever its option.
+/// Returns an upper bound of the bits of one coded data set of the coder, by any option.
 pub fn set_bound(setting: &Setting) -> u32
     ensures value { result ≡ most_of_set setting.now }
     ensures limit { result ≤ 2053 }
@@ -50,8 +50,8 @@ pub fn set_bound(setting: &Setting) -> u32
     setting.id_len() + plain.max(setting.bits() + 65)
 }
 
-/// Returns the most steps that coding `samples` samples, at most 2^48, can take: one for each sample pushed
-/// or filled, each bit put without padding, and each read of a residual.
+/// Returns an upper bound of the steps of coding `samples` samples, at most 2^48. A step is a sample pushed or filled, a bit put without
+/// padding, or a read of a residual.
 pub fn step_bound(setting: &Setting, samples: u64) -> u64
     requires { samples ≤ most_input }
     ensures value { result ≡ bound_of_steps setting.now samples }

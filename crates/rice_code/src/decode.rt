@@ -1,5 +1,5 @@
-//! The decoder: from bits to samples. A decoder reads a coded data set; what follows the identifier is read by its option, as
-//! a sequence of fields; the residuals are checked, and restored to the samples of a block.
+//! The decoder: from bits to samples. It reads the identifier of a coded data set, and then the fields of its option. It checks the
+//! residuals, and restores the samples of a block from them.
 
 pub mod call_results;
 mod coded_data_set;

@@ -1,16 +1,16 @@
-//! Worked examples of decoding: bytes, the samples that they are decoded to, how it ends, and how many bits are used.
+//! Worked examples of decoding: bytes, the samples that they decode to, the ending, and the number of bits used.
 ghost use Rattle.std.specs.Prelude.{[], ◌∷◌, ◌++◌, replicate, pos, true, None, Some};
 ghost use Rattle.rice_bits.specs.Bits.{bits_of};
 ghost use Rattle.rice_samples.specs.Examples.{defaults, unprocessed_defaults, one_bit_defaults};
 ghost use Rattle.rice_code.specs.code.Decoded.{Decoded, Reached, Ended, CutOff, Past, Large};
 ghost use Rattle.rice_code.specs.Examples.{numbers_from};
 
-/// No bytes are no samples, and a clean end.
+/// No bytes decode to no samples, with a clean end.
 pub fn decodes_no_bytes()
     ensures { Decoded defaults (bits_of []) None [] Ended 0 }
 {}
 
-/// A run of one block. Where eight samples are asked for, the zeros after it are not read.
+/// A run of one block. If eight samples are requested, the zeros after it are not read.
 pub fn decodes_a_run()
     ensures all { Decoded defaults (bits_of (0x00 ∷ 0x58 ∷
         [])) None (replicate 8 (pos 5)) Ended 16 }
@@ -25,12 +25,12 @@ pub fn decodes_zeros_behind_the_code()
         [])) None (replicate 8 (pos 5)) Ended 32 }
 {}
 
-/// Where no sample is asked for, nothing is read.
+/// If no sample is requested, nothing is read.
 pub fn reads_nothing_if_none_are_asked_for()
     ensures { Decoded defaults (bits_of (0xFF ∷ 0xFF ∷ [])) (Some 0) [] Reached 0 }
 {}
 
-/// Another split than the coder takes.
+/// A greater split than the coder chooses.
 pub fn decodes_a_greater_split_than_the_coder_takes()
     ensures { Decoded defaults (bits_of (0x40 ∷ 0x15 ∷ 0x55 ∷ 0x80 ∷
         [])) None (numbers_from 0 8) Ended 32 }
@@ -64,7 +64,7 @@ pub fn decodes_splits_of_32_bits()
         replicate 28 0x00 ++ 0x08 ∷ [])) None (replicate 7 (pos 0) ++ pos 1 ∷ []) Ended 248 }
 {}
 
-/// A residual that is greater than all of the samples: 2 where they have one bit, and 16 where they have four.
+/// A residual greater than all samples: 2 for samples of one bit, and 16 for samples of four.
 pub fn refuses_a_residual_too_large()
     ensures low { Decoded one_bit_defaults (bits_of (0xCF ∷ 0xE2 ∷ 0x00 ∷ 0x00 ∷ 0x00 ∷ 0x00 ∷
         [])) None [] Large 46 }
@@ -72,7 +72,7 @@ pub fn refuses_a_residual_too_large()
         [])) None [] Large 30 }
 {}
 
-/// In second extension the value at the reference place has to be 0.
+/// In second extension, the value at the reference place must be 0.
 pub fn refuses_a_value_at_the_reference_place()
     ensures { Decoded defaults (bits_of (0x10 ∷ 0x57 ∷ 0x80 ∷ [])) None [] Large 17 }
 {}
@@ -97,7 +97,7 @@ pub fn decodes_the_longest_run()
         0x08 ∷ [])) None [] Past 77 }
 {}
 
-/// A run of three blocks in a segment of two is refused, also where its first block would be enough.
+/// A run of three blocks in a segment of two is refused, even if its first block is enough.
 pub fn refuses_a_run_past_its_segment()
     ensures all { Decoded defaults (bits_of (0x00 ∷ 0x02 ∷ [])) None [] Past 15 }
     ensures asked { Decoded defaults (bits_of (0x00 ∷ 0x02 ∷ [])) (Some 8) [] Past 15 }
@@ -116,7 +116,7 @@ pub fn decodes_two_references()
         [])) (Some 16) (replicate 16 (pos 5)) Reached 26 }
 {}
 
-/// 4096 samples from nine bits. Where ten are asked for, these are all that is given.
+/// 4096 samples from nine bits. If ten are requested, only ten are returned.
 pub fn decodes_nine_bits_to_4096_samples()
     ensures all { Decoded (record unprocessed_defaults { block = 64; interval = 64 }) (bits_of (0x00 ∷
         0x80 ∷ [])) None (replicate 4096 (pos 0)) Ended 16 }
@@ -124,7 +124,7 @@ pub fn decodes_nine_bits_to_4096_samples()
         0x80 ∷ [])) (Some 10) (replicate 10 (pos 0)) Reached 9 }
 {}
 
-/// Padding is skipped whatever its bits are. It counts as used, also after the last sample that is asked for.
+/// Padding is skipped, whatever its bits are. It counts as used, also after the last requested sample.
 pub fn skips_padding()
     ensures all { Decoded (record defaults { interval = 1; pad = true }) (bits_of (0x00 ∷ 0x5F ∷
         0x00 ∷ 0x58 ∷ [])) None (replicate 16 (pos 5)) Ended 32 }

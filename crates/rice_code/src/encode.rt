@@ -1,5 +1,5 @@
-//! The coder: from samples to bits. A coder fills a segment; the blocks of a whole segment are coded, each by the option
-//! that the search chose; an option is a sequence of fields, which go into the sink one after another.
+//! The coder: from samples to bits. It fills a segment, and codes each block of a whole segment by the option that its search chose. An
+//! option is a sequence of fields, put into the sink one after another.
 
 use rice_bits::BitSink;
 
@@ -12,6 +12,5 @@ pub mod held_block;
 mod open_segment;
 pub mod options;
 
-/// A sink with room for the code of a segment, of at most 64 blocks of 2,053 bits, and eight bytes beside it for the bits
-/// that it held before.
+/// A sink with room for the code of a segment, at most 64 blocks of 2,053 bits, and eight bytes more for the bits already in it.
 pub type SegmentSink = BitSink<16432>;

@@ -1,4 +1,4 @@
-//! Worked examples of the definitions, which the check computes: samples, the bytes that carry their code, and its number of bits.
+//! Worked examples of the definitions, which the check computes: samples, the bytes of their code, and its number of bits.
 #![tactic(auto, unfolding(rice_bits::specs::Bits::word, rice_bits::specs::Bits::number_of, rice_bits::specs::Bits::bits_of, rice_bits::specs::Bits::whole_bytes))]
 
 ghost use Rattle.std.specs.Prelude.{◌≡◌, [], ◌∷◌, ◌++◌, length, replicate, pos, negsuc, true, false, None};
@@ -25,12 +25,12 @@ pub fn one_sample()
     ensures { CodesTo defaults (pos 5 ∷ []) (0x00 ∷ 0x58 ∷ []) 13 }
 {}
 
-/// Of two equally short splits the smaller one is taken.
+/// Of two equally short splits, the smaller one is chosen.
 pub fn tie_of_two_splits()
     ensures { CodesTo defaults (numbers_from 0 8) (0x20 ∷ 0x09 ∷ 0x24 ∷ 0x92 ∷ []) 31 }
 {}
 
-/// Samples far from each other go without compression: no block is longer.
+/// Samples far from each other are coded by no compression: no block is longer.
 pub fn no_compression()
     ensures { CodesTo defaults (repetition_of 4 (pos 0 ∷ pos 255 ∷ [])) (0xE0 ∷ 0x1F ∷ 0xFF ∷ 0xFF ∷
         0xFF ∷ 0xFF ∷ 0xFF ∷ 0xFF ∷ 0xE0 ∷ []) 67 }
@@ -42,12 +42,12 @@ pub fn no_compression_of_signed_samples()
         0xFF ∷ 0xFF ∷ 0xFF ∷ 0xFF ∷ 0xFF ∷ 0xFF ∷ 0xE0 ∷ []) 67 }
 {}
 
-/// A few small residuals go in pairs.
+/// A few small residuals are coded in pairs.
 pub fn second_extension()
     ensures { CodesTo defaults (replicate 15 (pos 5) ++ pos 4 ∷ []) (0x00 ∷ 0x58 ∷ 0xF2 ∷ []) 23 }
 {}
 
-/// Where second extension and a split are equally short, second extension is taken.
+/// If second extension and a split are equally short, second extension is chosen.
 pub fn tie_of_second_extension_and_split()
     ensures behind_a_run { CodesTo defaults (replicate 11 (pos 5) ++
         pos 4 ∷ pos 4 ∷ pos 3 ∷ pos 3 ∷ pos 2 ∷ []) (0x00 ∷ 0x58 ∷ 0xC9 ∷ 0x20 ∷ []) 27 }
@@ -55,7 +55,7 @@ pub fn tie_of_second_extension_and_split()
         repetition_of 3 (pos 0 ∷ pos 1 ∷ [])) (0x19 ∷ 0x24 ∷ []) 14 }
 {}
 
-/// A run that reaches the last block is the remainder of its segment, where it has five blocks or more, the last one filled.
+/// A run of five or more blocks that reaches the last block, filled or not, is the remainder of its segment.
 pub fn remainder_of_segment_at_the_last_block()
     ensures whole { CodesTo (record defaults { interval = 64 }) (replicate 40 (pos 0)) (0x00 ∷
         0x00 ∷ 0x80 ∷ []) 17 }
@@ -81,7 +81,7 @@ pub fn run_inside_a_segment()
         pos 1 ∷ []) (0x00 ∷ 0x00 ∷ 0x47 ∷ 0x90 ∷ []) 28 }
 {}
 
-/// So is the longest one that ends before its segment, of 63 blocks.
+/// The longest run that ends before its segment, of 63 blocks, is numbered.
 pub fn run_of_63()
     ensures { CodesTo (record defaults { interval = 64 }) (replicate 504 (pos 0) ++
         pos 1 ∷ []) (replicate 9 0x00 ++ 0x11 ∷ 0x78 ∷ []) 85 }
@@ -92,7 +92,7 @@ pub fn run_of_two()
     ensures { CodesTo defaults (replicate 16 (pos 5)) (0x00 ∷ 0x54 ∷ []) 14 }
 {}
 
-/// Where each block is an interval, each has a reference, and no run goes on.
+/// If each block is an interval, each has a reference, and no run continues.
 pub fn intervals_of_one_block()
     ensures { CodesTo (record defaults { interval = 1 }) (replicate 16 (pos 5)) (0x00 ∷ 0x58 ∷
         0x02 ∷ 0xC0 ∷ []) 26 }
@@ -116,7 +116,7 @@ pub fn one_bit()
         []) 11 }
 {}
 
-/// Identifiers of five bits and of six, and references of 16, 24 and 32.
+/// Identifiers of five and six bits, and references of 16, 24 and 32 bits.
 pub fn wide_samples()
     ensures sixteen { CodesTo (record defaults { bits = 16; msb = true }) (replicate 8 (pos 5)) (0x00 ∷
         0x00 ∷ 0x2C ∷ []) 22 }
@@ -178,7 +178,7 @@ pub fn padding_of_whole_intervals()
         24 }
 {}
 
-/// The complete bytes once the complete segments are coded: without padding the last bits wait for more.
+/// The whole bytes of the code of whole segments: without padding, the last bits are buffered.
 pub fn early_outputs()
     ensures waits { early_output (record defaults { interval = 1 }) (replicate 8 (pos 5)) ≡
         0x00 ∷ [] }
@@ -240,7 +240,7 @@ pub fn identifiers_of_32_bits()
         false ∷ false ∷ false ∷ false ∷ false ∷ false ∷ true ∷ [] }
 {}
 
-/// The codewords of runs: one less up to four, then the number itself, which leaves four zeros for the remainder of a segment.
+/// The zeros of the codewords of runs: one less than the blocks up to four, then as many. Four are left for the remainder of a segment.
 pub fn run_codewords()
     ensures one { run_number 1 ≡ 0 }
     ensures four { run_number 4 ≡ 3 }

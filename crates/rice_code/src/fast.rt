@@ -1,4 +1,4 @@
-//! The fast coder and the fast decoder, beside the plain ones. Whoever wants to know what the code is need not read them.
+//! The fast coder and the fast decoder. The plain ones are enough to learn the code.
 
 pub mod decode;
 pub mod encode;

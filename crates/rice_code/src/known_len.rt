@@ -1,7 +1,7 @@
 //! Numbers that the compiler knows.
 ghost use Rattle.std.specs.Prelude.{◌≡◌, ◌<◌, ◌≤◌};
 
-/// Returns `len`, which the compiler knows where `SIZE` is not 0; where it is, the compiler knows the range.
+/// Returns `len`. The compiler then knows its value if `SIZE` is not 0, and its range otherwise.
 #[inline(always)]
 pub fn known_or<const SIZE: usize>(len: usize) -> usize
     requires known { 0 < SIZE → SIZE ≡ len }

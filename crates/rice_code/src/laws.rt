@@ -1,4 +1,4 @@
-//! The laws of code and decoding, each the contract of a function that does nothing. Their statements are in `specs/Laws.antt`.
+//! Theorems on code and decoding, each the contract of a function that does nothing. Their statements are in `specs/Laws.antt`.
 ghost use Rattle.rice_code.specs.Laws.{ReturnsSamples, ReturnsSamplesAndFill, DecodedIsOne, CodesDiffer, RefusedBytesAreNoOutput, OwnBytesAreRecognised, AllBytesAreDecoded, FormsAreReadInOneWay, FormsHaveAOne, CodeGrows, CodeIsBounded, PaddedCodeIsBounded, AddedCodeIsBounded, SetsAreBounded, CodeIsJoined, CostIsLength, ChoiceIsLeast, NoSetsAreShorter, NoCodeIsShorter, NoOutputIsShorter, SavingNeverRises, FirstStopIsBest, ChoiceIsOfThree, CodeGoesOn, BitsGoOn, CodeDependsOnPlaceInInterval, CodeDependsOnPlaceInByte, DecodingGoesOn, DecodingDependsOnPlacesAlone, SplitIsPaid, RunIsNeverLonger, StepsAreBounded, StepsArePaid, AllStepsAreBounded, IntervalsBeginAfresh, IntervalsAreJoined, PaddedIntervalsAreJoined, IntervalsAreDecodedAlone, DecodingBeginsAfresh, DamageStaysInItsInterval};
 
 /// With the number of samples, the output decodes to exactly these samples.
@@ -6,7 +6,7 @@ pub fn returns_samples()
     ensures { ReturnsSamples }
 {}
 
-/// Without their number, the output decodes to the samples and fewer than a segment more, to a clean end.
+/// Without their number, the output decodes to the samples and fewer than a segment more, with a clean end.
 pub fn returns_samples_and_fill()
     ensures { ReturnsSamplesAndFill }
 {}
@@ -16,24 +16,23 @@ pub fn decoded_is_one()
     ensures { DecodedIsOne }
 {}
 
-/// Equal outputs of equally many samples are of equal samples, and bytes whose decoding does not reach so many samples are the output
-/// of no so many.
+/// Different samples of the same number have different outputs. If bytes do not decode to n samples, no n samples encode to them.
 pub fn codes_differ()
     ensures equal { CodesDiffer }
     ensures refused { RefusedBytesAreNoOutput }
 {}
 
-/// Bytes are the output of so many samples exactly when encoding what they decode to gives them back.
+/// Bytes are the output of n samples exactly if they decode to n samples that encode to these bytes.
 pub fn own_bytes_are_recognised()
     ensures { OwnBytesAreRecognised }
 {}
 
-/// Decoding is total: all bytes decode to something, with and without a number of samples.
+/// Decoding is total: all bytes decode to something, with or without a number of samples.
 pub fn all_bytes_are_decoded()
     ensures { AllBytesAreDecoded }
 {}
 
-/// The coded data sets that are possible at a block form a prefix code.
+/// The possible coded data sets at a block form a prefix code.
 pub fn forms_are_read_in_one_way()
     ensures { FormsAreReadInOneWay }
 {}
@@ -43,7 +42,7 @@ pub fn forms_have_a_one()
     ensures { FormsHaveAOne }
 {}
 
-/// The code of the complete segments among the first samples begins the code of all.
+/// The code of all samples begins with that of the whole segments among the first ones.
 pub fn code_grows()
     ensures { CodeGrows }
 {}
@@ -58,17 +57,17 @@ pub fn padded_code_is_bounded()
     ensures { PaddedCodeIsBounded }
 {}
 
-/// What samples add to the code of whole segments is bounded, with all padding.
+/// The number of bits that samples add to the code of whole segments is bounded, with all padding.
 pub fn added_code_is_bounded()
     ensures { AddedCodeIsBounded }
 {}
 
-/// The number of bits of each coded data set of the coder's is bounded.
+/// The number of bits of each coded data set of the coder is bounded.
 pub fn sets_are_bounded()
     ensures { SetsAreBounded }
 {}
 
-/// Where intervals are not padded, the code is its coded data sets, one after another.
+/// If intervals are not padded, the code is its coded data sets, one after another.
 pub fn code_is_joined()
     ensures { CodeIsJoined }
 {}
@@ -78,24 +77,24 @@ pub fn cost_is_length()
     ensures { CostIsLength }
 {}
 
-/// No option is shorter than the one that is chosen.
+/// No option is shorter than the chosen one.
 pub fn choice_is_least()
     ensures { ChoiceIsLeast }
 {}
 
-/// Where blocks have four samples or more, no coded data sets of the same blocks have fewer bits than the coder's.
+/// If blocks have four samples or more, no coded data sets of the same blocks have fewer bits than the coder's.
 pub fn no_sets_are_shorter()
     ensures { NoSetsAreShorter }
 {}
 
-/// With preprocessing, or where samples fill their blocks, of four or more each, no bits that decode to them are fewer than their code,
-/// and no bytes fewer than their output.
+/// Let blocks have four samples or more, and samples be predicted or fill their blocks. No bits that decode to them are fewer than their
+/// code, and no bytes are fewer than their output.
 pub fn no_code_is_shorter()
     ensures bits { NoCodeIsShorter }
     ensures bytes { NoOutputIsShorter }
 {}
 
-/// The cost is convex in k: what a split saves against the one before never rises.
+/// The cost is convex in k: the saving of a split over the one before never rises.
 pub fn saving_never_rises()
     ensures { SavingNeverRises }
 {}
@@ -110,7 +109,7 @@ pub fn choice_is_of_three()
     ensures { ChoiceIsOfThree }
 {}
 
-/// After complete segments the rest of the code depends only on their last sample and on the bit position.
+/// After whole segments, the remainder of the code depends only on their last sample and on the bit position.
 pub fn code_goes_on()
     ensures code { CodeGoesOn }
     ensures bits { BitsGoOn }
@@ -122,7 +121,7 @@ pub fn code_depends_on_places_alone()
     ensures bytes { CodeDependsOnPlaceInByte }
 {}
 
-/// After a valid coded data set decoding goes on from its last sample.
+/// After a valid coded data set, decoding continues from its last sample.
 pub fn decoding_goes_on()
     ensures { DecodingGoesOn }
 {}
@@ -139,18 +138,18 @@ pub fn steps_are_bounded()
     ensures all { AllStepsAreBounded }
 {}
 
-/// Each digit of the best split is paid for by the bits that the block takes.
+/// The best split k times the samples of a block is at most the number of bits of the block.
 pub fn splits_are_paid()
     ensures { SplitIsPaid }
 {}
 
-/// A run of zero blocks is never longer than its blocks without compression.
+/// A run of zero blocks is never longer than its blocks by no compression, or one bit more for each block of two samples of one bit.
 pub fn runs_are_never_longer()
     ensures { RunIsNeverLonger }
 {}
 
-/// The code of reference intervals depends on nothing before them but the bit where it begins, and is decoded by itself from there. The
-/// code of intervals and then of other samples is one after the other, and with padding so is the output.
+/// The code of reference intervals depends on what is before them only by its first bit's place in a byte, and decodes by itself. The code
+/// of intervals and later samples is the code of each, joined; with padding, so is the output.
 pub fn intervals_stand_alone()
     ensures afresh { IntervalsBeginAfresh }
     ensures joined { IntervalsAreJoined }
@@ -158,12 +157,12 @@ pub fn intervals_stand_alone()
     ensures decoded { IntervalsAreDecodedAlone }
 {}
 
-/// Where an interval begins, what the bits from there on decode to by themselves follows the samples before it.
+/// From an interval's start, bits decode by themselves to the samples that follow those before it.
 pub fn decoding_begins_afresh()
     ensures { DecodingBeginsAfresh }
 {}
 
-/// With padding, bytes that are damaged in one interval change no other.
+/// With padding, damaged bytes in one interval change no other interval.
 pub fn damage_stays_in_its_interval()
     ensures { DamageStaysInItsInterval }
 {}

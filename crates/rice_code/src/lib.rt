@@ -1,4 +1,4 @@
-//! The code of CCSDS 121.0-B-3: its definitions in `specs/`, their laws and worked examples, the coder, and the decoder.
+//! The code of CCSDS 121.0-B-3: its definitions in `specs/`, theorems on them and worked examples, the coder, and the decoder.
 #![tactic(auto)]
 
 pub mod bounds;

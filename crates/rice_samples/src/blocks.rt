@@ -1,4 +1,4 @@
-//! Blocks of residuals, which are read only by calls that count their steps.
+//! Blocks of residuals. Only calls that count their steps read them.
 
 pub mod block;
 mod pair_codeword_lengths;

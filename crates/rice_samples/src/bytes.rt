@@ -1,4 +1,4 @@
-//! Samples in bytes: the one spelling of each, and reading and writing several at once.
+//! Samples in bytes: the unique bytes of each, and reading and writing several at once.
 
 pub mod reading;
 pub mod sample_fault;

@@ -19,7 +19,7 @@ pub fn identifiers()
     ensures thirty_two_split { k_max (record defaults { bits = 32 }) ≡ 29 }
 {}
 
-/// Samples have 1, 2 or 4 bytes, and with three bytes asked for 3 from 17 to 24 bits.
+/// Samples have 1, 2 or 4 bytes, or 3 if they have 17 to 24 bits and `three` is set.
 pub fn widths()
     ensures eight { width defaults ≡ 1 }
     ensures nine { width (record defaults { bits = 9 }) ≡ 2 }
@@ -30,7 +30,7 @@ pub fn widths()
     ensures twenty_five_in_three { width (record defaults { bits = 25; three = true }) ≡ 4 }
 {}
 
-/// Samples are spelled in their width, the least significant byte first or last, with the sign in all unused bits.
+/// Samples take their width in bytes, the least significant byte first or last, with the sign in all unused bits.
 pub fn spellings_of_samples()
     ensures ten { spelling (record defaults { bits = 10 }) (pos 1023) ≡ 0xFF ∷ 0x03 ∷ [] }
     ensures ten_signed { spelling (record signed_defaults { bits = 10 }) (pos 511) ≡
@@ -46,7 +46,7 @@ pub fn spellings_of_samples()
     ensures one_signed { spelling (record signed_defaults { bits = 1 }) (negsuc 0) ≡ 0xFF ∷ [] }
 {}
 
-/// No sample is spelled by bytes whose unused bits are others.
+/// Bytes with other unused bits are those of no sample.
 pub fn bytes_of_no_sample()
     ensures ten { (x : ℤ) → IsSample (record defaults { bits = 10 }) x →
         spelling (record defaults { bits = 10 }) x ≢ 0x00 ∷ 0x04 ∷ [] }
@@ -86,7 +86,7 @@ pub fn patterns_of_samples()
     ensures zero { pattern (record signed_defaults { bits = 10 }) (pos 0) ≡ 0 }
 {}
 
-/// Nine samples: a residual of 0 at the reference place, those of the others, and the last sample again and again up to a whole block.
+/// Nine samples: a residual of 0 at the reference place, those of the others, and the last sample repeated up to a whole block.
 pub fn residuals_of_blocks()
     ensures { residual_list (record defaults { interval = 1 }) (pos 5 ∷ pos 4 ∷ pos 4 ∷ pos 6 ∷
         pos 6 ∷ pos 6 ∷ pos 6 ∷ pos 6 ∷ pos 9 ∷ []) ≡
@@ -105,7 +105,7 @@ pub fn segments_of_an_interval()
     ensures unprocessed { is_reference unprocessed_defaults 0 ≡ false }
 {}
 
-/// Samples wait until their segment is complete.
+/// Samples are buffered until their segment is complete.
 pub fn whole_segments()
     ensures waits { cut defaults 15 ≡ 0 }
     ensures whole { cut defaults 16 ≡ 16 }

@@ -1,4 +1,4 @@
-//! What the fast coder and the fast decoder ask for: rows of levels, residuals in rows, and samples restored several at a time.
+//! Calls for the fast coder and decoder: rows of levels, rows of residuals, and samples restored several at a time.
 
 pub mod block;
 pub mod lanes;

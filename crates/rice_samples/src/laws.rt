@@ -1,12 +1,12 @@
-//! The laws of samples and places, each the contract of a function that does nothing. Their statements are in `specs/Laws.antt`.
+//! Theorems on samples and places, each the contract of a function that does nothing. Their statements are in `specs/Laws.antt`.
 ghost use Rattle.rice_samples.specs.Laws.{RankIsCount, RankFolds, RanksAreBounded, RanksAreSamples, RanksTell, PatternsAreBounded, PatternsAreSamples, PatternsTell, PairCodesArePairs, PairCodesTell, CutIsStart, CutIsGreatest, SumSavingNeverRises};
 
-/// The rank of a sample is the number of legal values nearer to the sample before, and one more where it is the second of two as near.
+/// The rank of a sample is the number of legal values nearer to the sample before, plus one if it is the second of two as near.
 pub fn rank_is_count()
     ensures { RankIsCount }
 {}
 
-/// The rank is what the prediction error mapper gives.
+/// The rank is the result of the prediction error mapper.
 pub fn rank_folds()
     ensures { RankFolds }
 {}
@@ -25,7 +25,7 @@ pub fn patterns_are_all_numbers()
     ensures once { PatternsTell }
 {}
 
-/// Second extension numbers the pairs of residuals: each number is that of one pair.
+/// Second extension numbers the pairs of residuals: each number belongs to one pair.
 pub fn pair_codes_are_all_numbers()
     ensures each { PairCodesArePairs }
     ensures once { PairCodesTell }
@@ -37,7 +37,7 @@ pub fn cut_is_greatest_start()
     ensures greatest { CutIsGreatest }
 {}
 
-/// What one more digit saves in a sum of residuals without their lowest digits never rises.
+/// The saving of one more digit in a sum of residuals without their lowest digits never rises.
 pub fn sum_saving_never_rises()
     ensures { SumSavingNeverRises }
 {}

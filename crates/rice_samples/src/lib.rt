@@ -1,5 +1,4 @@
-//! Samples: settings, the spelling of samples in bytes, the preprocessor, and
-//! blocks of residuals.
+//! Samples: settings, the bytes of samples, the preprocessor, and blocks of residuals.
 #![tactic(auto)]
 
 pub mod blocks;

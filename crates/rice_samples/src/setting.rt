@@ -16,10 +16,10 @@ pub enum SettingFault {
     /// The bits per sample are not 1 to 32.
     #[error("bits per sample must be 1 to 32")]
     BadBits,
-    /// The block size is none of the four.
+    /// The block size is not 8, 16, 32 or 64.
     #[error("block size must be 8, 16, 32 or 64")]
     BadBlock,
-    /// The block size is no even number from 2 to 64, where any of these is taken.
+    /// The block size is not an even number from 2 to 64, where any of these is legal.
     #[error("block size must be even, 2 to 64")]
     BadAnyBlock,
     /// The reference interval is not 1 to 4,096 blocks.
@@ -38,7 +38,7 @@ pub struct Setting {
     three: bool,
     preprocess: bool,
     pad: bool,
-    /// The greatest level, and the number of levels of values below 0: computed once, since each block asks for them.
+    /// The greatest level, and the number of levels of values below 0: computed once, since each block needs them.
     greatest: u32,
     offset: u32,
 }
@@ -86,14 +86,12 @@ fn levels_below_zero(bits: u32, signed: bool) -> u32
 }
 
 impl Setting {
-    /// Returns the setting with these parameters: bits per sample, samples per block, blocks per reference
-    /// interval, whether samples are signed, whether their most significant byte comes first,
-    /// whether 17 to 24 bits take three bytes in place of four, whether samples are predicted, and
-    /// whether the code of each interval is filled to a byte.
+    /// Returns the setting with these parameters: bits per sample, samples per block, blocks per reference interval. `signed` is for signed
+    /// samples, `msb` for the most significant byte first, `three` for 17 to 24 bits in three bytes, not four. `preprocess` is for
+    /// predicted samples, `pad` for the code of each interval filled to a byte.
     ///
-    /// Refuses the first parameter that is not legal: `BadBits` unless `bits` is 1 to 32, then
-    /// `BadBlock` unless `block` is 8, 16, 32 or 64, then `BadInterval` unless `interval` is 1 to
-    /// 4,096 (CCSDS 121.0-B-3, sections 3 and 4).
+    /// Refuses the first parameter that is not legal (CCSDS 121.0-B-3, sections 3 and 4). `BadBits`: `bits` is not 1 to 32. `BadBlock`:
+    /// `block` is not 8, 16, 32 or 64. `BadInterval`: `interval` is not 1 to 4,096.
     pub fn new(
         bits: u32,
         block: u32,
@@ -119,11 +117,11 @@ impl Setting {
         Setting::with_any_block(bits, block, interval, signed, msb, three, preprocess, pad)
     }
 
-    /// Returns the setting with these parameters, as `new` does, for blocks of any even number of samples from 2 to 64.
-    /// The standard has the sizes 8, 16, 32 and 64 alone; its code is the same for all.
+    /// Returns the setting with these parameters, as `new` does, for blocks of any even number of samples from 2 to 64. The standard has
+    /// only the sizes 8, 16, 32 and 64; the code is of the same form for all.
     ///
-    /// Refuses the first parameter that is not legal: `BadBits` unless `bits` is 1 to 32, then `BadAnyBlock` unless
-    /// `block` is such a number, then `BadInterval` unless `interval` is 1 to 4,096.
+    /// Refuses the first parameter that is not legal. `BadBits`: `bits` is not 1 to 32. `BadAnyBlock`: `block` is not such a number.
+    /// `BadInterval`: `interval` is not 1 to 4,096.
     pub fn with_any_block(
         bits: u32,
         block: u32,
@@ -251,7 +249,7 @@ impl Setting {
         self.segment_blocks(b) - self.place(b) % 64
     }
 
-    /// Returns whether the first sample of block `b` is a reference sample. Never without preprocessing.
+    /// Returns whether the first sample of block `b` is a reference sample; never without preprocessing.
     #[inline]
     pub fn is_reference(&self, b: u64) -> bool
         ensures { result ≡ is_reference self.now b }
@@ -259,7 +257,7 @@ impl Setting {
         self.preprocess && self.place(b) == 0
     }
 
-    /// Returns whether samples are predicted, and their residuals coded in place of their patterns.
+    /// Returns whether samples are predicted, and their residuals coded, not their patterns.
     #[inline]
     pub fn preprocess(&self) -> bool
         ensures { result ≡ self.now.preprocess }

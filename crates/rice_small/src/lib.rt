@@ -1,4 +1,4 @@
-//! The calls of `include/rice.h` that a machine with little memory needs, by the plain engines: what each does is what `rice_c` does.
+//! The calls of `include/rice.h` for machines with little memory, by the plain engines. Each does what the same call of `rice_c` does.
 #![tactic(auto)]
 
 ghost use Rattle.std.specs.Prelude.{◌≡◌};
@@ -12,7 +12,7 @@ use rice_calls::{
 };
 use rice_stream::Plain;
 
-/// Returns the version of the library, 1.0.0: its first number times 10,000, its second times 100, and its third.
+/// Returns the version of the library, 1.0.0, as 10,000 times its first number, plus 100 times its second, plus its third.
 #[unsafe(no_mangle)]
 pub extern "C" fn rice_version() -> u32
     ensures { result ≡ 10000 }
@@ -20,7 +20,7 @@ pub extern "C" fn rice_version() -> u32
     version_number()
 }
 
-/// Returns the number of the status of this setting: that of `Status::Done` if it is legal.
+/// Returns the status number of this setting: that of `Status::Done` if it is legal.
 #[unsafe(no_mangle)]
 pub extern "C" fn rice_check(setting: &RiceSetting) -> u32
     ensures { result ≡ status_number (check_of setting.now) }
@@ -36,8 +36,8 @@ pub extern "C" fn rice_sample_width(setting: &RiceSetting) -> u32
     sample_width(setting)
 }
 
-/// Returns a number of bytes that the code of `samples` samples never passes, with all padding, or 0 if the setting is
-/// not legal, or if there are more than 2^48 samples, which no call encodes.
+/// Returns an upper bound, in bytes, of the code of `samples` samples with all padding. Returns 0 if the setting is not legal, or if
+/// `samples` is above 2^48: no call encodes so many.
 #[unsafe(no_mangle)]
 pub extern "C" fn rice_code_room(setting: &RiceSetting, samples: u64) -> u64
     ensures { TellsCodeRoom (setting_asked setting.now) samples result }
@@ -45,7 +45,7 @@ pub extern "C" fn rice_code_room(setting: &RiceSetting, samples: u64) -> u64
     code_room(setting, samples)
 }
 
-/// Encodes the samples that the bytes of `samples` spell, and writes their code to the front of `code`.
+/// Encodes the samples whose bytes are `samples`, and writes their code to the start of `code`. Returns the status number.
 #[unsafe(no_mangle)]
 pub extern "C" fn rice_encode(
     setting: &RiceSetting,
@@ -58,7 +58,7 @@ pub extern "C" fn rice_encode(
     encode::<Plain>(setting, samples, code, report)
 }
 
-/// Decodes the first `count` samples of the code `code`, and writes their bytes to the front of `samples`.
+/// Decodes the first `count` samples of `code`, and writes their bytes to the start of `samples`. Returns the status number.
 #[unsafe(no_mangle)]
 pub extern "C" fn rice_decode(
     setting: &RiceSetting,
@@ -72,7 +72,7 @@ pub extern "C" fn rice_decode(
     decode::<Plain>(setting, count, code, samples, report)
 }
 
-/// Begins a code of no samples, if the setting is legal. Returns the number of the status.
+/// Begins a code without samples, if the setting is legal. Returns the status number.
 #[unsafe(no_mangle)]
 pub extern "C" fn rice_begin(setting: &RiceSetting, feed: &mut RiceFeed) -> u32
     ensures { BeginsAsAsked (setting_asked setting.now) setting.now feed.old feed.new result }
@@ -80,8 +80,8 @@ pub extern "C" fn rice_begin(setting: &RiceSetting, feed: &mut RiceFeed) -> u32
     begin(setting, feed)
 }
 
-/// Encodes the samples of all segments that are whole with those at `samples`, and writes what their code completes to the
-/// front of `code`. The feed tells how many it has taken. Unless all was done the feed is as it was.
+/// Encodes all whole segments at the start of `samples`, and writes the bytes that their code completes to the start of `code`. The feed
+/// counts the samples taken; it changes only if all was done. Returns the status number.
 #[unsafe(no_mangle)]
 pub extern "C" fn rice_push(
     feed: &mut RiceFeed,
@@ -95,7 +95,8 @@ pub extern "C" fn rice_push(
     push::<Plain>(feed, samples, code, report)
 }
 
-/// Encodes the last samples, and writes the rest of the code to the front of `code`. The feed stays as it is.
+/// Encodes the last samples, and writes the remainder of the code to the start of `code`. The feed does not change. Returns the status
+/// number.
 #[unsafe(no_mangle)]
 pub extern "C" fn rice_finish(
     feed: &RiceFeed,
@@ -109,7 +110,7 @@ pub extern "C" fn rice_finish(
     finish::<Plain>(feed, samples, code, report)
 }
 
-/// Opens a code at its front, if the setting is legal. Returns the number of the status.
+/// Opens a code at its start, if the setting is legal. Returns the status number.
 #[unsafe(no_mangle)]
 pub extern "C" fn rice_open(setting: &RiceSetting, drain: &mut RiceDrain) -> u32
     ensures { OpensAsAsked (setting_asked setting.now) setting.now drain.old drain.new result }
@@ -117,8 +118,8 @@ pub extern "C" fn rice_open(setting: &RiceSetting, drain: &mut RiceDrain) -> u32
     open_at_front(setting, drain)
 }
 
-/// Decodes the coded data sets that are whole in the piece `code`, and writes their samples to the front of `samples`. The drain tells
-/// where decoding stands then.
+/// Decodes the whole coded data sets of the piece `code`, while their samples fit, and writes these to the start of `samples`. The drain
+/// counts the samples and bits decoded so far. Returns the status number.
 #[unsafe(no_mangle)]
 pub extern "C" fn rice_pull(
     drain: &mut RiceDrain,

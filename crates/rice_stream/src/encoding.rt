@@ -1,4 +1,4 @@
-//! From samples to their code.
+//! Encodes samples, from an intake to an outlet.
 ghost use Rattle.std.specs.Prelude.{◌≡◌, ◌+◌, ◌-◌, ◌*◌, ◌^◌, ◌<◌, ◌≤◌, List, [], ◌++◌, length, take, true, Option, Some, OnOk, OnErr, IfOk, ℤ};
 ghost use Rattle.rice_bits.specs.device.OutletRoom.{Room};
 ghost use Rattle.rice_bits.specs.Bits.{padded_bits, word};
@@ -33,10 +33,10 @@ pub(crate) const SHORT: usize = 128;
 /// one by one.
 const LEAST_ROOM_OF_ROW: u64 = 4096;
 
-/// A coder with room for `N` residuals, its sink, its meter, and what it has counted for the report.
+/// A coder, its sink, its meter, and the counts for the report.
 #[derive(Drop)]
 pub struct Encoding<C: TakesLevels> {
-    /// It stands apart from `bits`: neighbours would be added to as a pair, which takes longer.
+    /// Apart from `bits`: the compiler would add to neighbours as a pair, which is slower.
     samples: u64,
     coder: C,
     sink: SegmentSink,
@@ -463,11 +463,10 @@ fn fault_at(fault: SampleFault, index: u64) -> Fault
     }
 }
 
-/// Encodes the samples that the intake's bytes spell, and writes their code to the outlet.
+/// Encodes the samples whose bytes the intake gives, and writes their code to the outlet.
 ///
-/// It asks for at most 4,096 bytes at a time and for at most 2^48 in all, and then for one more.
-/// What is written and reported is as if the whole bytes of the code of each segment were written before the sample after it is
-/// taken. They are written before more bytes are asked for.
+/// It requests at most 4,096 bytes at a time, at most 2^48 in all, and then one more. The output and the report are as if it wrote the
+/// whole bytes of each segment's code before it took the next sample. It writes them before it requests more bytes.
 pub fn encode<I: Intake, O: Outlet>(setting: &Setting, intake: &mut I, outlet: &mut O) -> Outcome
     requires reads { I.failed intake.old + 1 < 2 ^ 64 }
     requires writes { O.failed outlet.old + 1 < 2 ^ 64 }
@@ -483,7 +482,7 @@ pub fn encode<I: Intake, O: Outlet>(setting: &Setting, intake: &mut I, outlet: &
     encode_by::<SizedCoder<LONGEST>, I, O>(setting, intake, outlet)
 }
 
-/// Returns whether a short row holds the residuals of each segment.
+/// Returns true only if a row of 128 residuals holds any segment. A row of 4,096 always does.
 pub fn has_short_intervals(setting: &Setting) -> bool
     ensures short { result ≡ true → HoldsAnySegment 128 setting.now }
     ensures any { HoldsAnySegment longest_segment setting.now }

@@ -1,4 +1,4 @@
-//! All ways from samples to their code and back, by one coder and one decoder.
+//! Encoding and decoding, whole and piece by piece, by one coder and one decoder.
 ghost use Rattle.std.specs.Prelude.{◌≡◌, ◌+◌, ◌^◌, ◌<◌, Some};
 ghost use Rattle.rice_stream.specs.DevicesInCalls.{Fails};
 ghost use Rattle.rice_stream.specs.Encodes.{EncodesBetween, EncodesWithin};
@@ -20,9 +20,9 @@ use rice_bits::{Intake, Outlet};
 use rice_code::Decoder;
 use rice_samples::Setting;
 
-/// The ways to encode and to decode, at once and piece by piece. All that meet it give the same code and the same samples.
+/// The calls that encode and decode, whole and piece by piece. All implementations write the same code and the same samples.
 pub trait Engines {
-    /// Encodes the samples that the intake's bytes spell, and writes their code to the outlet.
+    /// Encodes the samples whose bytes the intake gives, and writes their code to the outlet.
     fn encode<I: Intake, O: Outlet>(setting: &Setting, intake: &mut I, outlet: &mut O) -> Outcome
         requires reads { I.failed intake.old + 1 < 2 ^ 64 }
         requires writes { O.failed outlet.old + 1 < 2 ^ 64 }
@@ -32,7 +32,7 @@ pub trait Engines {
             (O.failed outlet.old) (O.failed outlet.new) }
         ensures bounds { EncodesWithin setting.now result.report };
 
-    /// Encodes the next samples, which the bytes spell, and returns where their code ends.
+    /// Encodes the next samples, whose bytes are `bytes`, and returns the end of their code.
     fn encode_more<O: Outlet>(
         setting: &Setting,
         seam: &Seam,
@@ -45,7 +45,7 @@ pub trait Engines {
             (O.taken outlet.old) (O.taken outlet.new) result }
         ensures failures { PushFails (O.failed outlet.old) (O.failed outlet.new) result };
 
-    /// Encodes the last samples, which the bytes spell, and writes the rest of the code. The report is that of all samples.
+    /// Encodes the last samples, whose bytes are `bytes`, and writes the remainder of the code. The report counts all samples.
     fn encode_rest<O: Outlet>(
         setting: &Setting,
         seam: &Seam,
@@ -59,8 +59,7 @@ pub trait Engines {
         ensures failures { Fails result.fault 0 0 (O.failed outlet.old) (O.failed outlet.new) }
         ensures bounds { EncodesWithin setting.now result.report };
 
-    /// Decodes the code that `intake` gives, and writes its samples to `outlet`: as many as are asked for, or all. Returns what was
-    /// done, and the intake.
+    /// Decodes the code from `intake`, and writes its samples to `outlet`: `asked` of them, or all. Returns the outcome and the intake.
     fn decode<I: Intake, O: Outlet>(
         setting: &Setting,
         asked: Option<u64>,
@@ -77,8 +76,8 @@ pub trait Engines {
         // With a count of 0 the intake is not called.
         ensures idle { asked ≡ Some 0 → result.1 ≡ intake };
 
-    /// Decodes the coded data sets that are whole in a piece of the code, and writes their samples to the front of `samples`. Returns
-    /// where decoding stands then, and why it ends there.
+    /// Decodes the whole coded data sets of a piece of the code, while their samples fit, and writes these to the start of `samples`.
+    /// Returns the place in the code, and why decoding paused there.
     fn decode_more(
         setting: &Setting,
         stand: &Stand,
@@ -89,10 +88,10 @@ pub trait Engines {
         ensures { DecodesOn setting.now stand.now piece.now samples.old samples.new result.0 result.1 };
 }
 
-/// The engines that are fast: several samples or blocks at a time, and a loop for each shape of blocks.
+/// The fast engines: several samples or blocks at a time, with a loop for each shape of blocks.
 pub struct Fast;
 
-/// The engines that are small: a sample at a time, or a block, and one loop for all shapes of blocks.
+/// The small engines: one sample or block at a time, with one loop for all shapes of blocks.
 pub struct Plain;
 
 impl Engines for Fast {

@@ -1,4 +1,4 @@
-//! From samples to their code, piece by piece.
+//! Encodes samples piece by piece.
 ghost use Rattle.std.specs.Prelude.{◌≡◌, ◌+◌, ◌-◌, ◌*◌, ◌^◌, ◌<◌, ◌≤◌};
 ghost use Rattle.rice_samples.specs.Limits.{most_input};
 ghost use Rattle.rice_samples.specs.Places.{cut};
@@ -16,10 +16,10 @@ use rice_bits::Outlet;
 use rice_code::SizedCoder;
 use rice_samples::{LevelRow, MOST_INPUT, Setting};
 
-/// Encodes the next samples, which the bytes spell, and returns where their code ends.
+/// Encodes the next samples, whose bytes are `bytes`, and returns the end of their code.
 ///
-/// It takes the samples of all segments that are whole then, and writes what their code completes. The others,
-/// fewer than a segment, are left to the caller, and come again at the front of the next piece.
+/// It takes the samples of all whole segments, and writes the bytes that their code completes. The caller passes the others, fewer than a
+/// segment, again at the start of the next piece.
 pub fn encode_more<O: Outlet>(
     setting: &Setting,
     seam: &Seam,
@@ -67,7 +67,7 @@ pub(crate) fn encode_more_by<C: TakesLevels, R: ReadsLevels, O: Outlet>(
     Ok(encoding.seam())
 }
 
-/// Encodes the last samples, which the bytes spell, and writes the rest of the code. The report is that of all samples.
+/// Encodes the last samples, whose bytes are `bytes`, and writes the remainder of the code. The report counts all samples.
 pub fn encode_rest<O: Outlet>(
     setting: &Setting,
     seam: &Seam,

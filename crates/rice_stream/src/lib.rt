@@ -1,5 +1,5 @@
-//! From bytes to bytes: [`encode`] writes the code of the samples that an intake's bytes spell, and [`decode`] writes the
-//! samples that a code stands for. Each says in an [`Outcome`] what it did and, where it stopped before the end, why.
+//! Codes from bytes to bytes: [`encode`] reads samples from an intake and writes their code; [`decode`] reads a code and writes its
+//! samples. Each returns an [`Outcome`]: what it did and, if it stopped before the end, why.
 #![tactic(auto)]
 
 pub mod block_decoder;

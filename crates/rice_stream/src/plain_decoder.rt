@@ -1,4 +1,4 @@
-//! The plain decoder, as engines ask for one.
+//! The plain decoder for engines: one block of samples per call.
 ghost use Rattle.std.specs.Prelude.{◌≡◌, ◌-◌, ◌<◌, ◌≤◌, All, length};
 ghost use Rattle.rice_samples.specs.Parameters.{IsSample, value_count, values_at};
 

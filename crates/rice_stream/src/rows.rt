@@ -1,19 +1,19 @@
-//! Room for the levels that an engine of encoding reads before its coder takes them.
+//! Buffers for the levels that an encoding engine reads before its coder takes them.
 ghost use Rattle.std.specs.Prelude.{◌≡◌, ℕ, ◌*◌, ◌<◌, ◌≤◌, List, All, drop, length, take};
 ghost use Rattle.rice_samples.specs.Parameters.{value_count, values_at, width as width_of};
 ghost use Rattle.rice_samples.specs.bytes.Spelling.{IsNoSpelling, Reads};
 
 use rice_samples::{LevelRow, Levels, Setting, read_legal_levels};
 
-/// Room for the levels of some samples.
+/// A buffer for the levels of some samples.
 pub trait ReadsLevels: Drop {
     ghost levels: { Self → List ℕ };
 
-    /// Returns such room. What it holds is unspecified.
+    /// Returns a buffer with unspecified contents.
     fn room() -> Self;
 
-    /// Reads the levels of the samples at the front of the bytes, at least one of which is whole, as many as are whole and there is
-    /// room for, up to the first bytes that spell no sample, and returns their number: 0 if the first bytes spell none.
+    /// Reads levels of samples from the start of `bytes`, which have at least one whole sample, and returns their number. Returns 0 only if
+    /// the first bytes are those of no sample.
     fn read_first(&mut self, setting: &Setting, bytes: &[u8]) -> usize
         requires { width_of setting.now ≤ length bytes.now }
         ensures count { result ≤ length (levels self.new) }
@@ -48,7 +48,7 @@ impl ReadsLevels for LevelRow {
     }
 }
 
-/// Room for the levels of 64 samples.
+/// A buffer for the levels of 64 samples.
 #[derive(Drop)]
 pub struct FewLevels {
     words: [u32; 64],

@@ -1,13 +1,13 @@
-//! Where the code of whole segments ends, and that of the next segment begins.
+//! The seam between the code of whole segments and that of the next segment.
 ghost use Rattle.std.specs.Prelude.{◌≡◌, ◌-◌, ◌^◌, ◌<◌, [], length};
 ghost use Rattle.rice_bits.specs.Bits.{word};
 
 use rice_code::SegmentSink;
 use rice_samples::Setting;
 
-/// Where the code of whole segments ends: all that is kept of them. In plain numbers, in C's own layout.
+/// The end of the code of whole segments: all state that is kept of them, in plain numbers, in C's layout.
 ///
-/// Contracts say by `IsSeam` which samples it stands for.
+/// Contracts say by `IsSeam` which samples precede it.
 #[repr(C)]
 #[derive(Clone, Copy)]
 pub struct Seam {
@@ -19,9 +19,9 @@ pub struct Seam {
     pub steps: u64,
     /// The last sample, or 0.
     pub previous: i64,
-    /// The place in its interval of the block that comes next.
+    /// The place of the next block in its interval.
     pub start: u32,
-    /// The bits of the byte of code that is not whole, as a number.
+    /// The bits of the unfinished byte of code, as a number.
     pub waiting: u32,
     /// The number of these bits: fewer than eight.
     pub waiting_bits: u32,
@@ -30,7 +30,7 @@ pub struct Seam {
 impl Seam {
     ghost use Rattle.rice_stream.specs.Feeding.{IsSeam};
 
-    /// Returns the place before all samples.
+    /// Returns the seam before all samples.
     pub fn new(setting: &Setting) -> Self
         ensures { IsSeam setting.now result [] }
     {
@@ -47,7 +47,7 @@ impl Seam {
     }
 }
 
-/// Returns the number that the bits of a sink spell, of which there are fewer than eight, and fills their byte with zeros.
+/// Returns the bits of a sink, fewer than eight, as a number, and fills their byte with zeros.
 pub fn take_waiting_number(sink: &mut SegmentSink) -> u32
     requires { length sink.old < 8 }
     ensures digits { word (length sink.old) result ≡ sink.old }

@@ -1,32 +1,31 @@
-//! Where decoding stands between two calls, and why a call ended there.
+//! The place of decoding between two calls, and why a call ended there.
 ghost use Rattle.std.specs.Prelude.{◌≡◌, ◌%◌, ◌≤◌, [], true};
 ghost use Rattle.rice_bits.specs.Limits.{most_bits_read};
 ghost use Rattle.rice_samples.specs.Limits.{most_samples_counted};
 
 use rice_samples::Setting;
 
-/// How a call that decodes a piece of a code ended. `Blank`, `Cut`, `RunPastSegment` and `ResidualTooLarge` say how the code would end
-/// if no more of it came.
+/// Why a call that decodes a piece of a code ended. `Blank`, `Cut`, `RunPastSegment` and `ResidualTooLarge` also say how the code ends if
+/// no more of it follows.
 #[derive(Clone, Copy, Debug, PartialEq, Eq)]
 pub enum Pause {
     /// There is no room for the samples of another block.
     Full,
     /// No 1 is left in the piece.
     Blank,
-    /// What is left of the piece has a 1, and begins with no whole coded data set.
+    /// The remainder of the piece has a 1, and no whole coded data set at its start.
     Cut,
-    /// What is left begins with a run that passes its segment.
+    /// The remainder begins with a run that passes its segment.
     RunPastSegment,
-    /// What is left begins with a block of which a residual does not fit, or the value at the reference place is not 0.
+    /// The remainder begins with a block in which a residual does not fit, or the value at the reference place is not 0.
     ResidualTooLarge,
     /// The code so far and this piece have more than 2^52 bits. Nothing was done.
     TooLong,
 }
 
-/// Where decoding stands: behind whole coded data sets, of which the last may be a run that goes on. In plain numbers, in C's own
-/// layout.
+/// The place of decoding: after whole coded data sets, the last of which may be a run that continues. In plain numbers, in C's layout.
 ///
-/// Contracts say by `IsStand` which bits and samples it stands for.
+/// Contracts say by `IsStand` which bits and samples precede it.
 #[repr(C)]
 #[derive(Clone, Copy)]
 pub struct Stand {
@@ -38,16 +37,16 @@ pub struct Stand {
     pub steps: u64,
     /// The last sample, or 0.
     pub previous: i64,
-    /// The place in its interval of the block that comes next.
+    /// The place of the next block in its interval.
     pub block: u32,
-    /// The zero blocks of a run that are still to come.
+    /// The zero blocks of a run that are not yet decoded.
     pub run: u32,
 }
 
 impl Stand {
     ghost use Rattle.rice_stream.specs.Pulling.{Origin, IsStand, at_front};
 
-    /// Returns the place before all of a code.
+    /// Returns the start of a code.
     pub fn new(setting: &Setting) -> Self
         ensures { IsStand setting.now at_front result [] [] }
     {

@@ -1,4 +1,4 @@
-//! What an engine of encoding asks of a coder.
+//! The coder that an encoding engine needs.
 ghost use Rattle.std.specs.Prelude.{◌≡◌, ℕ, ◌+◌, ◌*◌, ◌<◌, ◌≤◌, [], length, take, All, List, Bool, ℤ, ⊤};
 ghost use Rattle.rice_bits.specs.Limits.{step_limit};
 ghost use Rattle.rice_samples.specs.Limits.{longest_segment};
@@ -11,7 +11,7 @@ use rice_bits::Meter;
 use rice_code::{Coder, Pushed, SegmentSink, SizedCoder};
 use rice_samples::{Levels, Setting};
 
-/// A coder that takes some samples a call.
+/// A coder that takes one or more samples per call.
 pub trait TakesLevels: Drop {
     ghost use Rattle.rice_code.specs.Bounds.{block_bound};
     ghost use Rattle.rice_code.specs.encode.BitBuffer.{sink_bits};
@@ -35,7 +35,7 @@ pub trait TakesLevels: Drop {
         ensures taken { HasTaken (state result) [] }
         ensures setting { (state result).setting ≡ setting };
 
-    /// Takes some of the samples, at least one, and appends the code of the segments that they complete.
+    /// Takes at least one of the samples, and appends the code of the segments that they complete.
     fn push_some(
         &mut self,
         levels: &Levels<'_>,
@@ -54,7 +54,7 @@ pub trait TakesLevels: Drop {
         ensures before_last { (m : ℕ) → m < result.samples →
             CompletesNone (state self.old) (take m (values_at (state self.old).setting levels.now)) };
 
-    /// Returns a coder that goes on at block `start` of its interval, after the sample `previous`.
+    /// Returns a coder that continues at block `start` of its interval, after the sample `previous`.
     fn resume(setting: Setting, start: u32, previous: i64) -> Self
         requires room { has_room setting }
         requires taken { (xs : List ℤ) × HasTaken (state_between setting start previous) xs }
@@ -65,10 +65,10 @@ pub trait TakesLevels: Drop {
         requires { (xs : List ℤ) × HasTaken (state_between (state self.old).setting start previous) xs }
         ensures { state self.new ≡ state_between (state self.old).setting start previous };
 
-    /// Whether several segments may be coded before their bytes are written.
+    /// Returns whether several segments may be coded before their bytes are written.
     fn takes_rows(&self) -> bool;
 
-    /// Returns the most bits that a sink may hold before the code of a segment is appended.
+    /// Returns how many bits a sink may hold before the code of a segment is appended.
     fn most_before(&self) -> u64
         ensures least { 7 ≤ result }
         ensures room { (bits : List Bool) → length bits ≤ result → is_sink (state self.now).setting bits };
@@ -81,13 +81,13 @@ pub trait TakesLevels: Drop {
     fn previous(&self) -> i64
         ensures { result ≡ (state self.now).previous };
 
-    /// Returns the number of samples that wait for the end of their segment.
+    /// Returns the number of buffered samples: those of the open segment.
     fn pending(&self) -> u32
         ensures value { (xs : List ℤ) → HasTaken (state self.now) xs →
             result + cut (state self.now).setting (length xs) ≡ length xs }
         ensures limit { result < 64 * (state self.now).setting.block };
 
-    /// Appends the code of the samples that wait, fills their last block, and is new again. Returns the bits that it appended,
+    /// Appends the code of the buffered samples, their last block filled, and resets the coder. Returns the number of appended bits,
     /// without padding.
     fn finish_reset(&mut self, sink: &mut SegmentSink, meter: &mut Meter) -> u64
         requires room { length sink.old ≤ 7 }
@@ -162,7 +162,7 @@ impl<const N: usize> TakesLevels for SizedCoder<N> {
     ghost takes_less_than_a_byte = { λ s bits few. inl few };
 }
 
-/// A coder that takes a sample a call.
+/// A coder that takes one sample per call.
 #[derive(Drop)]
 pub struct OneByOne {
     setting: Setting,

@@ -1,4 +1,4 @@
-//! Writing all bytes of a slice or of a sink, and the bytes of samples.
+//! Writes all bytes of a slice or of a sink, and the bytes of samples.
 ghost use Rattle.std.specs.Prelude.{◌≡◌, ◌+◌, ◌*◌, ◌%◌, ◌^◌, ◌<◌, ◌≤◌, All, length, drop, take, OnOk, OnErr, IfErr};
 ghost use Rattle.rice_bits.specs.device.OutletRoom.{Appends};
 ghost use Rattle.rice_bits.specs.Bits.{whole_bytes, bits_in_bytes};
@@ -9,7 +9,7 @@ ghost use Rattle.rice_stream.specs.FailedWrites.{TakesPart};
 use rice_bits::{BitSink, Outlet, WriteFault};
 use rice_samples::{Setting, write_spellings, write_spellings_by_eights};
 
-/// Writes all of the bytes. `WriteFault` only if the outlet fails, which has then taken a part of them, and not all.
+/// Writes all of the bytes. Returns `WriteFault` only if the outlet fails; it has then taken fewer than all.
 #[inline(always)]
 pub fn write_all<O: Outlet>(outlet: &mut O, bytes: &[u8]) -> Result<(), WriteFault>
     requires { O.failed outlet.old + 1 < 2 ^ 64 }
@@ -24,7 +24,7 @@ pub fn write_all<O: Outlet>(outlet: &mut O, bytes: &[u8]) -> Result<(), WriteFau
     }
 }
 
-/// Writes all of the bytes. If the outlet fails, an error has the number of those that it took.
+/// Writes all of the bytes. If the outlet fails, the error is the number of bytes that it took.
 #[inline(always)]
 pub fn write_counted<O: Outlet>(outlet: &mut O, bytes: &[u8]) -> Result<(), usize>
     requires { O.failed outlet.old + 1 < 2 ^ 64 }
@@ -47,7 +47,7 @@ pub fn write_counted<O: Outlet>(outlet: &mut O, bytes: &[u8]) -> Result<(), usiz
     }
 }
 
-/// Writes all of the bytes, in as many calls as it takes. If the outlet fails, an error has the number of those that it took.
+/// Writes all of the bytes, in as many calls as needed. If the outlet fails, the error is the number of bytes that it took.
 #[inline(never)]
 pub fn write_in_calls<O: Outlet>(outlet: &mut O, bytes: &[u8]) -> Result<(), usize>
     requires { O.failed outlet.old + 1 < 2 ^ 64 }
@@ -67,7 +67,7 @@ pub fn write_in_calls<O: Outlet>(outlet: &mut O, bytes: &[u8]) -> Result<(), usi
     Ok(())
 }
 
-/// Writes the complete bytes of a sink, and removes them from it.
+/// Writes the whole bytes of a sink, and removes them from it.
 #[inline]
 pub fn write_whole<const N: usize, O: Outlet>(
     sink: &mut BitSink<N>,

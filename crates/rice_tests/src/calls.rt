@@ -6,7 +6,7 @@ use rice_stream::{Fault, Outcome};
 use std::alloc::Global;
 use std::test::Fail;
 
-/// A call, and what it does: the bytes that are written, why it stops, and the report, with the least and the most steps.
+/// A call, and what it does: the bytes written, why it stops, and the report, with the least and the most steps.
 #[derive(Drop)]
 pub struct Call {
     pub setting: Setting,
@@ -49,7 +49,7 @@ impl Call {
         })
     }
 
-    /// Looks that the call had this outcome, and wrote these bytes.
+    /// Checks that the call had this outcome, and wrote these bytes.
     pub fn check(&self, cases: &mut Cases<'_>, outcome: &Outcome, written: &[u8]) {
         let report = outcome.report;
         cases.check(outcome.fault == self.fault);
@@ -67,7 +67,7 @@ fn place_of(text: &str) -> Result<Option<usize>, Fail> {
     Ok(Some(text.parse::<usize>()?))
 }
 
-/// Returns the fault of a column such as `ends 8`, or `None` where it is empty.
+/// Returns the fault of a column such as `ends 8`, or `None` if it is empty.
 pub fn fault_of(text: &str) -> Result<Option<Fault>, Fail> {
     if text.is_empty() {
         return Ok(None);

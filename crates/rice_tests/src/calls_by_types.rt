@@ -1,5 +1,5 @@
-//! Each call of the plain coder and decoder, by the types and under the conditions that users rely on. What stands here is proved, so
-//! no call asks for more.
+//! Each call of the plain coder and decoder, by the types and under the conditions that users rely on. This file is proved, so no call
+//! requires more.
 ghost use Rattle.std.specs.Prelude.{◌≡◌, ◌+◌, ◌-◌, ◌*◌, ◌^◌, ◌<◌, ◌≤◌, length, None};
 ghost use Rattle.rice_samples.specs.Parameters.{IsBlockSize, IsSample, value_count, width as width_of};
 ghost use Rattle.rice_code.specs.CoderSteps.{segment_steps};

@@ -1,4 +1,4 @@
-//! Tests of `decode`: codes of any coder, whole, cut and invalid, devices that fail, and bytes that are anything.
+//! Tests of `decode`: whole, cut and invalid codes of any coder, devices that fail, and arbitrary bytes.
 ghost use Rattle.std.specs.Prelude.{◌<◌};
 
 use crate::calls::{Call, fault_of};

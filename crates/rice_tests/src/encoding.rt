@@ -1,4 +1,4 @@
-//! Tests of `encode`: codes and reports, devices that fail, and bytes that spell no sample.
+//! Tests of `encode`: codes and reports, devices that fail, and bytes of no sample.
 ghost use Rattle.std.specs.Prelude.{◌<◌};
 
 use crate::calls::Call;

@@ -1,7 +1,7 @@
-//! Tests of the coder, of the decoder, and of the calls from bytes to bytes, over their public calls: worked bytes, bits and steps,
-//! pieces of several sizes, devices that fail, bytes that are anything.
+//! Tests of the coder, of the decoder, and of the calls from bytes to bytes, over their public calls. They try worked bytes, bits and
+//! steps, pieces of several sizes, devices that fail, and arbitrary bytes.
 //!
-//! What takes tables of cases apart is in `rice_base_tests`, with the tests of the crates below.
+//! The parser of tables of cases is in `rice_base_tests`, with the tests of the lower crates.
 #![tactic(auto)]
 
 #[cfg(test)]

@@ -1,4 +1,4 @@
-//! Tests of codes that are decoded piece by piece.
+//! Tests of decoding piece by piece.
 ghost use Rattle.std.specs.Prelude.{Bool, List, ℤ};
 ghost use Rattle.rice_stream.specs.Pulling.{Origin, IsStand};
 

@@ -1,5 +1,4 @@
-//! `start` over a runtime in memory, where devices have so much room and the clock can't be read: what no row of `scripts/rows.txt`
-//! can try with the program.
+//! `start` over a runtime in memory with limited devices and no clock: cases that `scripts/rows.txt` cannot try with the program.
 use crate::start_up::start;
 use crate::tests::columns::Columns;
 use crate::tests::runtime_in_memory::{Memory, Record};

@@ -1,4 +1,4 @@
-//! `start_on` over a system that tells what it holds: its contract says what comes of each of these.
+//! `start_on` over a system that reports its contents. Its contract determines the result of each case.
 use crate::finding::Finding;
 use crate::message::Message;
 use crate::start_up::start_on;

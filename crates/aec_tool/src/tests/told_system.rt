@@ -1,4 +1,4 @@
-//! A system in memory that tells all that it holds.
+//! A system in memory that reports its whole contents.
 ghost use Rattle.std.specs.Prelude.{◌≡◌, None, Some, true, if◌then◌else◌, not, option_map};
 ghost use Rattle.std.specs.Str.{bytes_eq};
 ghost use Rattle.rice_bits.specs.device.OutletRoom.{known};

@@ -43,8 +43,8 @@ fn joined_least_byte_first(byte: u8, word: u64) -> u64
     word.swap_bytes() + byte as u64
 }
 
-/// Joins the digits of `word` to those of the byte at the place `at`, and writes them from there on as eight bytes, most
-/// significant first, as far as there is room.
+/// Joins the digits of the byte at the place `at` and of `word`. It writes them as eight bytes, most significant first, from there on, as
+/// far as there is room.
 #[inline]
 pub fn join_bytes(bytes: &mut [u8], at: usize, word: u64)
     requires at { at ≤ length bytes.old }
@@ -76,7 +76,7 @@ fn join_last_bytes(bytes: &mut [u8], at: usize, word: u64)
     bytes[at..].copy_from_slice(&eight[..left]);
 }
 
-/// Joins a 1 at the bit number `at`.
+/// Sets bit number `at`.
 #[inline]
 pub fn join_one_at_bit(bytes: &mut [u8], at: u64)
     requires { at < 8 * length bytes.old }
@@ -87,8 +87,7 @@ pub fn join_one_at_bit(bytes: &mut [u8], at: u64)
     bytes[(at / 8) as usize] |= 0x80_u8.rotate_right((at % 8) as u32);
 }
 
-/// Moves the byte at the place `at` to the front, or a zero where there is none, and writes zeros after
-/// it, up to that place at least.
+/// Moves the byte at the place `at`, or a zero if there is none, to the start. It writes zeros after it, up to that place at least.
 #[inline]
 pub fn move_byte_to_front(bytes: &mut [u8], at: usize)
     requires { at ≤ length bytes.old }
@@ -134,7 +133,7 @@ pub fn store_zeros(bytes: &mut [u8], at: usize, count: usize)
     bytes[at..at + count].fill(0);
 }
 
-/// Returns the number that the eight bytes from the place `at` on spell, most significant first.
+/// Returns the number of the eight bytes from the place `at` on, most significant first.
 #[inline]
 pub fn load(bytes: &[u8], at: usize) -> u64
     requires { at + 8 ≤ length bytes.now }
@@ -152,7 +151,7 @@ pub fn load(bytes: &[u8], at: usize) -> u64
     ])
 }
 
-/// Returns the 57 to 64 bits from bit `at` on, at the front of a word.
+/// Returns the 57 to 64 bits from bit `at` on, at the start of a word, with zeros after them.
 #[inline]
 pub fn at_least_57_bits_from(bytes: &[u8], at: usize) -> u64
     requires { at / 8 + 8 ≤ length bytes.now }

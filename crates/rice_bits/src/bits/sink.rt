@@ -1,4 +1,4 @@
-//! A list of bits that is gathered into bytes.
+//! A list of bits, gathered into bytes.
 ghost use Rattle.std.specs.Prelude.{◌≡◌, ◌+◌, ◌-◌, ◌*◌, ◌%◌, ◌^◌, ◌<◌, ◌≤◌, Bool, false, List, [], ◌++◌, length, drop, replicate};
 ghost use Rattle.rice_bits.specs.Limits.{step_limit};
 ghost use Rattle.rice_bits.specs.Bits.{fundamental_sequence, word, whole_bytes, bits_in_bytes, bits_to_byte, put_width, IsBitSink, Joins, Puts};
@@ -10,7 +10,7 @@ use std::marker::Model;
 
 /// A list of at most `8 * N` bits, gathered into bytes, most significant bit first.
 ///
-/// It takes eight bytes of memory more than these. In contracts its value is the list of the bits.
+/// It takes `N + 8` bytes of memory. In contracts its value is the list of the bits.
 #[derive(Drop)]
 pub struct BitSink<const N: usize> {
     /// The bits, and zeros after them.
@@ -51,7 +51,7 @@ impl<const N: usize> BitSink<N> {
         self.bits
     }
 
-    /// Returns the number of bits that there is still room for.
+    /// Returns the number of bits that still fit.
     #[inline]
     pub fn room(&self) -> u64
         ensures { result + length self.now ≡ 8 * N }
@@ -74,7 +74,7 @@ impl<const N: usize> BitSink<N> {
 
     /// Appends the `width` binary digits of `value`, most significant first, and ticks once for each.
     ///
-    /// They are at most 56, so that they fit eight bytes after the bits of a byte that is not whole.
+    /// At most 56 digits fit eight bytes after the bits of an unfinished byte.
     #[inline(always)]
     pub fn put_up_to_56_digits(&mut self, value: u64, width: u32, meter: &mut Meter)
         requires width { width ≤ put_width }
@@ -101,7 +101,7 @@ impl<const N: usize> BitSink<N> {
         self.bits += count;
     }
 
-    /// Returns the completed bytes.
+    /// Returns the whole bytes.
     #[inline]
     pub fn whole(&self) -> &[u8]
         ensures { result.now ≡ whole_bytes self.now }
@@ -109,7 +109,7 @@ impl<const N: usize> BitSink<N> {
         front(&self.bytes, (self.bits / 8) as usize)
     }
 
-    /// Removes the completed bytes, so that at most seven bits are left.
+    /// Removes the whole bytes, so that at most seven bits are left.
     #[inline]
     pub fn drop_whole(&mut self)
         ensures bits { self.new ≡ drop (bits_in_bytes (length self.old)) self.old }

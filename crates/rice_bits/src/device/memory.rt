@@ -1,4 +1,4 @@
-//! Devices over memory, which work in pieces, and fail where they are told to; and an intake of zeros.
+//! Devices over memory that work in pieces and fail at a given place, and an intake of zeros.
 ghost use Rattle.std.specs.Prelude.{◌≡◌, ◌+◌, ◌-◌, ◌^◌, ◌<◌, ◌≤◌, ◌↔◌, length, drop, take, min, [], Some, IsErr, IsOk, IfOk, OnErr};
 ghost use Rattle.std.specs.Io.KnownBytes.{Consumes, IsAtEnd, Keeps};
 ghost use Rattle.rice_bits.specs.device.Failures.{CountsFailure};
@@ -19,8 +19,7 @@ pub struct MemoryIn<'a> {
 impl<'a> MemoryIn<'a> {
     ghost use Rattle.rice_bits.specs.device.Memory.{memory_left, memory_in_piece, memory_before_failure, memory_in_failures};
 
-    /// Returns an intake that gives at most `piece` bytes a call. No call passes the place `fail_at`, and each call that finds the
-    /// intake there fails.
+    /// Returns an intake that gives at most `piece` bytes per call. No call passes the place `fail_at`; each call that begins there fails.
     pub fn new(bytes: &'a [u8], piece: usize, fail_at: Option<usize>) -> Self
         requires { 0 < piece }
         ensures bytes { memory_left result ≡ bytes.now }
@@ -102,8 +101,8 @@ pub struct MemoryOut<'a> {
 impl<'a> MemoryOut<'a> {
     ghost use Rattle.rice_bits.specs.device.Memory.{memory_taken, memory_state, memory_out_piece, memory_room, memory_out_failures, limited_to};
 
-    /// Returns an outlet that takes at most `piece` bytes a call. No call passes the place `fail_at` or the end of `room`, and each
-    /// call that finds the outlet there fails.
+    /// Returns an outlet that takes at most `piece` bytes per call. No call passes the place `fail_at` or the end of `room`; each call that
+    /// begins there fails.
     pub fn new(room: &'a mut [u8], piece: usize, fail_at: Option<usize>) -> Self
         requires { 0 < piece }
         ensures bytes { memory_taken result ≡ [] }

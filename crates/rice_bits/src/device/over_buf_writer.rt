@@ -1,4 +1,4 @@
-//! An outlet over a buffer of `std` in front of a writer.
+//! An outlet over a `BufWriter` of `std`.
 ghost use Rattle.std.specs.Prelude.{◌≡◌, ◌+◌, ◌^◌, ◌<◌, ◌≤◌, length, take, IfOk, OnErr};
 ghost use Rattle.std.specs.Io.Buffered.{writer_contents};
 ghost use Rattle.rice_bits.specs.device.Failures.{CountsFailure};
@@ -7,8 +7,8 @@ ghost use Rattle.rice_bits.specs.device.OutletRoom.{Appends, Keeps, known};
 use crate::device::{Outlet, WriteFault};
 use std::io::{BufWriter, Write};
 
-/// An outlet over a `BufWriter`, quick where the buffer has room. An error of the writer, whatever its kind, is one failure, and so is
-/// a write that takes 0 bytes; nothing is tried again. Contracts see its bytes where they see the writer's.
+/// An outlet over a `BufWriter`, quick if the buffer has room. Each error of the writer, of any kind, is one failure, and so is a write of
+/// 0 bytes; it retries nothing. Contracts see its bytes if they see the writer's.
 #[derive(Drop)]
 pub struct FromBufWriter<W: Write + Drop> {
     writer: BufWriter<W>,

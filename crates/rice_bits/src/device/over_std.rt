@@ -4,8 +4,8 @@ ghost use Rattle.std.specs.Prelude.{◌≡◌};
 use crate::device::{Intake, Outlet, ReadFault, WriteFault};
 use std::io::{Read, Write};
 
-/// An intake over a reader of `std`. An error of the reader, whatever its kind, is one failure, and nothing is tried again. Contracts
-/// see its bytes where they see the reader's.
+/// An intake over a reader of `std`. Each error of the reader, of any kind, is one failure; it retries nothing. Contracts see its bytes if
+/// they see the reader's.
 #[derive(Drop)]
 pub struct FromReader<R> {
     reader: R,
@@ -47,8 +47,8 @@ impl<R: Read> Intake for FromReader<R> {
     }
 }
 
-/// An outlet over a writer of `std`. An error of the writer, whatever its kind, is one failure, and so is a write that takes 0 bytes;
-/// nothing is tried again. Contracts see its bytes where they see the writer's.
+/// An outlet over a writer of `std`. Each error of the writer, of any kind, is one failure, and so is a write of 0 bytes; it retries
+/// nothing. Contracts see its bytes if they see the writer's.
 #[derive(Drop)]
 pub struct FromWriter<W> {
     writer: W,

@@ -1,4 +1,4 @@
-//! Devices over slices that fail at no place of their own: one never fails, and the other only where its slice is full.
+//! Devices over slices: an intake that never fails, and an outlet that fails only if its slice is full.
 ghost use Rattle.std.specs.Prelude.{◌≡◌, ◌+◌, ◌^◌, ◌<◌, ◌≤◌, ◌↔◌, length, drop, take, min, [], Some, IsOk, IsErr, IfOk, OnErr};
 ghost use Rattle.std.specs.Io.KnownBytes.{Consumes, IsAtEnd, Keeps};
 ghost use Rattle.rice_bits.specs.device.Failures.{CountsFailure};
@@ -56,7 +56,7 @@ impl Intake for SliceIn<'_> {
     }
 }
 
-/// An outlet that puts the bytes into a slice, and fails only where the slice is full.
+/// An outlet that puts the bytes into a slice, and fails only if the slice is full.
 #[derive(Drop)]
 pub struct SliceOut<'a> {
     room: &'a mut [u8],

@@ -1,4 +1,4 @@
-//! Digits of words, joined and spelled several words at a time.
+//! Joins digits of words, several words at a time, and writes them as bytes.
 
 pub(crate) mod eight_bytes;
 pub(crate) mod whole_words;

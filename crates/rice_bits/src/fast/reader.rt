@@ -1,4 +1,4 @@
-//! Calls of a reader for the fast decoder: what waits is looked at, and taken together.
+//! Calls of a reader for the fast decoder, which look at buffered bits, or take several words or sequences.
 ghost use Rattle.std.specs.Prelude.{◌≡◌, ◌+◌, ◌-◌, ◌*◌, ◌^◌, ◌<◌, ◌≤◌, length, All, drop, flat_map, take, IfSome, Option, None};
 ghost use Rattle.rice_bits.specs.Limits.{step_limit, most_bits_read};
 ghost use Rattle.rice_bits.specs.Bits.{fundamental_sequence, word};
@@ -13,8 +13,8 @@ use std::simd::prelude::*;
 impl<I: Intake> BitReader<I> {
     ghost use Rattle.rice_bits.specs.read.Reader.{Takes};
 
-    /// Takes words of `width` digits that wait together, at most one for each place of `words`, and writes them
-    /// there. Returns the number of words, which may be 0, and ticks once for each bit. Later places are unchanged.
+    /// Takes buffered words of `width` digits, at most one for each place of `words`, and writes them there. Returns the number of words,
+    /// which may be 0, and ticks once for each bit. Later places do not change.
     ///
     /// It never calls the intake, so it never fails. If it takes none, [`take`](Self::take) takes the next word.
     #[inline(always)]
@@ -37,9 +37,8 @@ impl<I: Intake> BitReader<I> {
         taken
     }
 
-    /// Takes fundamental sequences that wait together, at most one for each place of `zeros`, and writes the numbers
-    /// of their zeros there. Returns the number of sequences, which may be 0, and ticks once for each bit. Later
-    /// places are unchanged.
+    /// Takes buffered fundamental sequences, at most one for each place of `zeros`, and writes the numbers of their zeros there. Returns
+    /// the number of sequences, which may be 0, and ticks once for each bit. Later places do not change.
     ///
     /// It never calls the intake, so it never fails. If it takes none, [`take_fs`](Self::take_fs) takes the next one.
     #[inline(always)]
@@ -61,7 +60,7 @@ impl<I: Intake> BitReader<I> {
         taken
     }
 
-    /// Returns the number of bits that wait: those that can be looked at, and taken without a call of the intake.
+    /// Returns the number of buffered bits: those that it can return without a call of the intake.
     #[inline]
     pub fn waiting(&self) -> u64
         ensures { result ≡ length self.now.waiting }
@@ -69,7 +68,7 @@ impl<I: Intake> BitReader<I> {
         self.window.waiting() as u64
     }
 
-    /// Returns the number that `width` bits spell, most significant first, which wait behind the first `skip`. It takes none.
+    /// Returns the number of the `width` buffered bits after the first `skip`, most significant first. It takes none.
     #[inline(always)]
     pub fn number_ahead(&self, skip: usize, width: u32) -> u32
         requires width { width ≤ 32 }
@@ -80,7 +79,7 @@ impl<I: Intake> BitReader<I> {
         self.window.number_ahead(skip, width)
     }
 
-    /// Returns the number that the first `width` bits that wait spell, where 57 wait. It takes none.
+    /// Returns the number of the first `width` buffered bits, of which there are at least 57. It takes none.
     #[inline(always)]
     pub fn first_number_ahead(&self, width: u32) -> u32
         requires width { width ≤ 32 }
@@ -91,8 +90,8 @@ impl<I: Intake> BitReader<I> {
         self.window.first_number_ahead(width)
     }
 
-    /// Returns the first `count` fundamental sequences that wait behind the first `skip` bits, as [`sequences_ahead`](Self::sequences_ahead)
-    /// does, where these bytes end within the first 57 bits: with a number before them, all is one load.
+    /// Does what [`sequences_ahead`](Self::sequences_ahead) does, if these bytes end within the first 57 bits. One load then covers them
+    /// and a number before them.
     #[inline(always)]
     pub fn sequences_soon(&self, skip: usize, bytes: usize, count: usize) -> Option<Sequences>
         requires bytes { (1 ≤ bytes) × (bytes ≤ 7) }
@@ -105,8 +104,8 @@ impl<I: Intake> BitReader<I> {
         self.window.sequences_soon(skip, bytes, count)
     }
 
-    /// Returns the first `count` fundamental sequences that wait behind the first `skip` bits, if they end within so many bytes.
-    /// It takes none.
+    /// Returns the first `count` fundamental sequences after the first `skip` buffered bits, if it finds them in `bytes` bytes. It takes
+    /// none.
     #[inline(always)]
     pub fn sequences_ahead(&self, skip: usize, bytes: usize, count: usize) -> Option<Sequences>
         requires bytes { (1 ≤ bytes) × (bytes ≤ 7) }
@@ -118,7 +117,7 @@ impl<I: Intake> BitReader<I> {
         self.window.sequences_ahead(skip, bytes, count)
     }
 
-    /// Returns the sixteen words of `width` bits that wait behind the first `skip` bits. It takes none.
+    /// Returns the sixteen words of `width` bits after the first `skip` buffered bits. It takes none.
     #[inline(always)]
     pub fn words_ahead(&self, skip: usize, width: u32) -> u8x16
         requires width { width ≤ 8 }
@@ -131,7 +130,7 @@ impl<I: Intake> BitReader<I> {
         self.window.words_ahead(skip, width)
     }
 
-    /// Returns the eight words of `width` bits that wait behind the first `skip` bits. It takes none.
+    /// Returns the eight words of `width` bits after the first `skip` buffered bits. It takes none.
     #[inline(always)]
     pub fn wide_words_ahead(&self, skip: usize, width: u32) -> u32x8
         requires width { (1 ≤ width) × (width ≤ 24) }
@@ -144,7 +143,7 @@ impl<I: Intake> BitReader<I> {
         self.window.wide_words_ahead(skip, width)
     }
 
-    /// Takes the next `count` bits, which wait, and ticks once for each.
+    /// Takes the next `count` buffered bits, and ticks once for each.
     #[inline(always)]
     pub fn pass(&mut self, count: usize, meter: &mut Meter)
         requires going { self.old.refusal ≡ None }

@@ -27,7 +27,7 @@ impl<const N: usize> BitSink<N> {
     /// Appends the `count` binary digits of `value`, and then the `width` lowest ones of each of the words, all most significant
     /// first, and ticks once for each digit.
     ///
-    /// The digits go out 64 at a time, for which words of 8, 16 or 32 digits come in eights.
+    /// It writes 64 digits at a time. Words have 8, 16 or 32 digits, and come in eights.
     #[inline(always)]
     pub fn put_number_and_whole_words(
         &mut self,

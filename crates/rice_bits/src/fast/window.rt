@@ -1,4 +1,4 @@
-//! Calls of a window for the fast decoder: words and sequences that wait together.
+//! Calls of a window for the fast decoder: several buffered words or sequences at a time.
 ghost use Rattle.std.specs.Prelude.{◌≡◌, ◌+◌, ◌-◌, ◌*◌, ◌^◌, ◌<◌, ◌≤◌, flat_map, length, take, drop, All, IfSome};
 ghost use Rattle.rice_bits.specs.Bits.{fundamental_sequence, word};
 ghost use Rattle.rice_bits.specs.fast.lanes.Sequences.{BeginWithSequences};
@@ -20,7 +20,7 @@ const WORDS: usize = 64;
 impl Window {
     ghost use Rattle.rice_bits.specs.read.Window.{IsWindow, Passes, window_bits};
 
-    /// Returns the number that `width` bits behind the first `skip` spell.
+    /// Returns the number of the `width` bits after the first `skip`.
     #[inline(always)]
     pub fn number_ahead(&self, skip: usize, width: u32) -> u32
         requires window { IsWindow self.now }
@@ -32,7 +32,7 @@ impl Window {
         number_from(&self.buffer, self.at + skip, width) as u32
     }
 
-    /// Returns the number that the first `width` bits spell.
+    /// Returns the number of the first `width` bits.
     #[inline(always)]
     pub fn first_number_ahead(&self, width: u32) -> u32
         requires window { IsWindow self.now }
@@ -44,7 +44,7 @@ impl Window {
         front_digits(self.first_bits_ahead(), width) as u32
     }
 
-    /// As `sequences_ahead`, where these bytes end within the first 57 bits.
+    /// Does what `sequences_ahead` does, if these bytes end within the first 57 bits.
     #[inline(always)]
     pub fn sequences_soon(&self, skip: usize, bytes: usize, count: usize) -> Option<Sequences>
         requires window { IsWindow self.now }
@@ -58,7 +58,7 @@ impl Window {
         first_sequences(self.first_bits_ahead() << skip, bytes, count)
     }
 
-    /// Returns the first `count` fundamental sequences behind the first `skip` bits, if they end within so many bytes.
+    /// Returns the first `count` fundamental sequences after the first `skip` bits, if it finds them in `bytes` bytes.
     #[inline(always)]
     pub fn sequences_ahead(&self, skip: usize, bytes: usize, count: usize) -> Option<Sequences>
         requires window { IsWindow self.now }
@@ -75,7 +75,7 @@ impl Window {
         )
     }
 
-    /// Returns the sixteen words of `width` bits behind the first `skip` bits.
+    /// Returns the sixteen words of `width` bits after the first `skip` bits.
     #[inline(always)]
     pub fn words_ahead(&self, skip: usize, width: u32) -> u8x16
         requires window { IsWindow self.now }
@@ -89,7 +89,7 @@ impl Window {
         sixteen_words_from(&self.buffer, self.at + skip, width)
     }
 
-    /// Returns the eight words of `width` bits behind the first `skip` bits.
+    /// Returns the eight words of `width` bits after the first `skip` bits.
     #[inline(always)]
     pub fn wide_words_ahead(&self, skip: usize, width: u32) -> u32x8
         requires window { IsWindow self.now }
@@ -103,8 +103,8 @@ impl Window {
         eight_words_from(&self.buffer, self.at + skip, width)
     }
 
-    /// Takes words of `width` bits, one for each place of `words`, and returns their number. It takes none if fewer
-    /// wait, or if there are more than 64 places.
+    /// Takes words of `width` bits, one for each place of `words`, and returns their number. It takes none if fewer are buffered, or if
+    /// there are more than 64 places.
     #[inline(always)]
     pub fn take_words(&mut self, width: u32, words: &mut [u32]) -> usize
         requires window { IsWindow self.old }
@@ -123,8 +123,7 @@ impl Window {
         words.len()
     }
 
-    /// Takes the fundamental sequences in the bits ahead, at most one for each place of `zeros`, and returns their
-    /// number.
+    /// Takes fundamental sequences from the next bits, at most one for each place of `zeros`, and returns their number.
     #[inline(always)]
     pub fn take_sequences(&mut self, zeros: &mut [u32]) -> usize
         requires window { IsWindow self.old }

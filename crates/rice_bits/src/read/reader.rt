@@ -1,4 +1,4 @@
-//! Reads the bits of what an intake gives.
+//! Reads the bits of an intake's bytes.
 ghost use Rattle.std.specs.Prelude.{◌≡◌, ℕ, ◌+◌, ◌-◌, ◌*◌, ◌%◌, ◌^◌, ◌<◌, ◌≤◌, ◌&&◌, Bool, true, false, List, [], ◌++◌, length, replicate, take, IfOk, IfErr, OnOk, IfSome, IfNone, IsSome, Option, None};
 ghost use Rattle.std.specs.Io.KnownBytes.{Consumes};
 ghost use Rattle.rice_bits.specs.Limits.{step_limit, most_bits_read, most_bytes_read, most_at_once};
@@ -16,15 +16,14 @@ use std::marker::Model;
 /// The most bytes that a reader takes from its intake.
 const LIMIT: u64 = 1 << 49;
 
-/// Reads the bits of the bytes that an intake gives, most significant first.
+/// Reads the bits of an intake's bytes, most significant first.
 ///
-/// Over a slice it takes 4,160 bytes of memory. In contracts its value is a record of the bits that were given and wait,
-/// the number of bits taken, whether all since the mark were 0, the refusal, the intake, and what the intake tells of
-/// its bytes and failures.
+/// Over a slice it takes 4,160 bytes of memory. In contracts its value is a record of the buffered bits, the number of bits taken, whether
+/// all since the mark were 0, and the refusal. The record also has the intake, and its reported bytes and failures.
 ///
-/// The intake is called only when a bit is asked for and none waits: for at most 4,096 bytes at a time, and never
-/// past 2^49 bytes in all. After 2^49 bytes it is called once, for one byte (own rule). A call that is refused has
-/// taken all bits that were left; each later `take` or `take_fs` returns the same refusal and takes nothing.
+/// It calls the intake only when a bit is requested and none is buffered: for at most 4,096 bytes at a time, and never past 2^49 bytes in
+/// all. After 2^49 bytes it calls once, for one byte (own rule). A refused call has taken all remaining bits; each later `take` or
+/// `take_fs` returns the same refusal and takes nothing.
 #[derive(Drop)]
 pub struct BitReader<I: Intake> {
     intake: I,
@@ -46,7 +45,7 @@ impl<I: Intake> Model for BitReader<I> {
     ghost invariant = { λ s. IsReader (I.failed s.intake) s.window s.refusal };
 }
 
-/// Asks the intake for the bytes after the first `given`, and returns how many it put at the front of `buffer`.
+/// Requests the bytes after the first `given` from the intake, and returns how many it put at the start of `buffer`.
 fn ask_intake<I: Intake>(
     intake: &mut I,
     buffer: &mut [u8],
@@ -83,7 +82,7 @@ fn ask_intake<I: Intake>(
     Ok(count)
 }
 
-/// Draws bytes from the intake when no bit waits.
+/// Refills the window from the intake when no bit is buffered.
 fn draw_bytes<I: Intake>(
     intake: &mut I,
     window: &mut Window,
@@ -164,7 +163,7 @@ impl<I: Intake> BitReader<I> {
         }
     }
 
-    /// Returns the intake, as the last call of its `fill` left it. Bits that wait are lost.
+    /// Returns the intake, as the last call of its `fill` left it. Buffered bits are lost.
     pub fn into_inner(self) -> I
         ensures value { result ≡ self.intake }
         ensures left { I.left result ≡ self.left }
@@ -203,10 +202,9 @@ impl<I: Intake> BitReader<I> {
         }
     }
 
-    /// Takes the next `width` bits and returns the number that they spell, most significant first. It ticks once
-    /// for each bit taken.
+    /// Takes the next `width` bits, and returns their number, most significant bit first. It ticks once for each bit taken.
     ///
-    /// An error says why the bits were not there: [`BitFault`] has each case.
+    /// An error says why these bits are missing: [`BitFault`] has each case.
     #[inline]
     pub fn take(&mut self, width: u32, meter: &mut Meter) -> Result<u32, BitFault>
         requires width { width ≤ 32 }
@@ -289,11 +287,10 @@ impl<I: Intake> BitReader<I> {
         value as u32
     }
 
-    /// Takes the bits up to and including the next 1, and returns the number of zeros before it: the number that a
-    /// fundamental sequence spells (CCSDS 121.0-B-3, section 3, fundamental sequence). It ticks once for each bit
-    /// taken.
+    /// Takes a fundamental sequence, the bits up to and including the next 1, and returns the number of zeros in it (CCSDS 121.0-B-3,
+    /// section 3, fundamental sequence). It ticks once for each bit taken.
     ///
-    /// An error says why there was no 1: [`BitFault`] has each case.
+    /// An error says why there is no 1: [`BitFault`] has each case.
     #[inline]
     pub fn take_fs(&mut self, meter: &mut Meter) -> Result<u64, BitFault>
         requires meter { meter.old + (most_bits_read - self.old.taken) < step_limit }
@@ -319,7 +316,7 @@ impl<I: Intake> BitReader<I> {
         }
     }
 
-    /// Takes a fundamental sequence if its 1 comes soon.
+    /// Takes a fundamental sequence if its 1 is near.
     #[inline]
     fn take_fs_if_soon(&mut self, meter: &mut Meter) -> Option<u64>
         requires meter { meter.old + (most_bits_read - self.old.taken) < step_limit }
@@ -337,8 +334,7 @@ impl<I: Intake> BitReader<I> {
         Some(count - 1)
     }
 
-    /// Takes a fundamental sequence, and calls the intake when no 1 waits. If it leaves a refusal, the result means
-    /// nothing.
+    /// Takes a fundamental sequence, and calls the intake if no 1 is buffered. If it leaves a refusal, the result means nothing.
     #[inline(never)]
     fn take_fs_with_draws(&mut self, meter: &mut Meter) -> u64
         requires meter { meter.old + (most_bits_read - self.old.taken) < step_limit }
@@ -400,8 +396,8 @@ impl<I: Intake> BitReader<I> {
         Ok((zeros, false))
     }
 
-    /// Takes the 0 to 7 bits up to the next multiple of 8 of [`taken`](Self::taken), whatever they are, and ticks
-    /// once for each. These bits are always there. A 1 among them counts as no 1 since the mark.
+    /// Takes the 0 to 7 bits up to the next multiple of 8 of [`taken`](Self::taken), whatever they are, and ticks once for each. They are
+    /// always buffered. A 1 among them counts as no 1 since the mark.
     pub fn align(&mut self, meter: &mut Meter)
         requires meter { meter.old + bits_to_byte self.old.taken < step_limit }
         ensures bits { (bits : List Bool) × (length bits ≡ bits_to_byte self.old.taken) ×
@@ -422,7 +418,7 @@ impl<I: Intake> BitReader<I> {
         meter.tick(gap);
     }
 
-    /// Takes up to `most` digits, at least one. Returns the number that they spell, and their count.
+    /// Takes up to `most` digits, at least one. Returns their number and their count.
     fn take_some_digits(&mut self, most: u32, meter: &mut Meter) -> Result<(u64, u32), BitFault>
         requires going { self.old.refusal ≡ None }
         requires some { 0 < most }

@@ -9,13 +9,13 @@ use crate::bits::digits::front_digits;
 use crate::bits::eight_bytes::{at_least_57_bits_from, store_zeros};
 use crate::read::words::number_from;
 
-/// The most bytes that are asked for at a time.
+/// The greatest number of bytes requested at a time.
 pub const PIECE: usize = 4096;
 
 /// The size of the buffer: eight bytes more, so that eight can be loaded from each byte on.
 const ROOM: usize = PIECE + 8;
 
-/// The number of bits that are surely in the eight bytes that any bit is in, from that bit on.
+/// The number of bits that eight bytes always have from any bit of the first byte on.
 pub const AHEAD: usize = 57;
 
 /// The bytes that an intake gave last, and a place among their bits.
@@ -52,7 +52,7 @@ impl Window {
         }
     }
 
-    /// Makes the first `count` bytes of the buffer the ones that wait, and forgets all others.
+    /// Makes the first `count` bytes of the buffer its content, and forgets all others.
     pub fn hold_new_bytes(&mut self, count: usize)
         requires size { length self.old.buffer ≡ buffer_len }
         requires count { count ≤ most_at_once }
@@ -69,7 +69,7 @@ impl Window {
         store_zeros(&mut self.buffer, count, 8);
     }
 
-    /// Returns the number of bits that wait.
+    /// Returns the number of buffered bits.
     #[inline]
     pub fn waiting(&self) -> usize
         requires { IsWindow self.now }
@@ -125,7 +125,7 @@ impl Window {
         true
     }
 
-    /// Returns the next bits at the front of a word, followed by zeros: all that wait, or at least 57 of them.
+    /// Returns the next bits at the start of a word, followed by zeros: all buffered bits, or at least 57 of them.
     #[inline]
     pub fn first_bits_ahead(&self) -> u64
         requires { IsWindow self.now }
@@ -136,7 +136,7 @@ impl Window {
         at_least_57_bits_from(&self.buffer, self.at)
     }
 
-    /// Takes the first `width` bits if more wait.
+    /// Takes the first `width` bits if more are buffered.
     #[inline]
     pub fn take_if_more_wait(&mut self, width: u32) -> Option<u64>
         requires window { IsWindow self.old }
@@ -170,7 +170,7 @@ impl Window {
         number
     }
 
-    /// Returns the number of bits up to and including the first 1, if it comes soon.
+    /// Returns the number of bits up to and including the first 1. Returns `None` only if the first 57 buffered bits, or all, are 0.
     #[inline]
     pub fn len_of_sequence_ahead(&self) -> Option<u64>
         requires { IsWindow self.now }

@@ -5,7 +5,7 @@ ghost use Rattle.rice_bits.specs.Bits.{bits_of, word};
 use crate::bits::digits::digits_behind;
 use crate::bits::eight_bytes::load;
 
-/// Returns the number that the `width` bits from bit `at` on spell.
+/// Returns the number of the `width` bits from bit `at` on.
 #[inline]
 pub fn number_from(bytes: &[u8], at: usize, width: u32) -> u64
     requires width { width ≤ 32 }

@@ -39,7 +39,7 @@ fn read_low_entropy<I: Intake>(
     })
 }
 
-/// Reads all bits of one coded data set, and refuses none that has its form.
+/// Reads all bits of one coded data set. It refuses no possible coded data set.
 pub fn read_set<I: Intake>(
     setting: &Setting,
     block: u64,

@@ -1,4 +1,4 @@
-//! Decodes coded data sets, a block a call.
+//! Decodes coded data sets, one block per call.
 ghost use Rattle.std.specs.Prelude.{◌≡◌, ◌≢◌, ℕ, ◌+◌, ◌-◌, ◌*◌, ◌<◌, ◌≤◌, [], length, None, Option, Some, IfSome, IfNone, Ok, pos, true};
 ghost use Rattle.rice_bits.specs.Limits.{step_limit, most_bits_read};
 ghost use Rattle.rice_samples.specs.Parameters.{IsSample};
@@ -95,10 +95,10 @@ pub(crate) fn skip_padding<I: Intake>(
     }
 }
 
-/// Decodes coded data sets, a block a call.
+/// Decodes coded data sets, one block per call.
 ///
-/// In contracts its value is its state: the setting, the place of the next block, the sample before it, the zero blocks of a run
-/// that are still to come, and what it answers once it has stopped.
+/// In contracts its value is its state: setting, place of the next block, sample before it, remaining zero blocks of a run, and the answer
+/// since it stopped.
 #[derive(Drop)]
 pub struct Decoder {
     setting: Setting,
@@ -123,7 +123,7 @@ impl Decoder {
     ghost use Rattle.rice_code.specs.decode.Decoder.{Answers, GivesFromRun, RepeatsBlocks, with_mark};
     ghost use Rattle.rice_code.specs.declared.decode.call_results.Step.TheVariants.{Block};
 
-    /// Returns a decoder at the beginning of a code.
+    /// Returns a decoder at the start of a code.
     pub fn new(setting: Setting) -> Self
         ensures { result
             ≡ record { setting = setting; block = 0; before = pos 0; run = 0; stopped = None } }
@@ -138,8 +138,7 @@ impl Decoder {
         }
     }
 
-    /// Returns a decoder that goes on at block `block` of its interval, after the sample `before`, where `run` zero blocks of a
-    /// run are still to come.
+    /// Returns a decoder that continues at block `block` of its interval, after the sample `before`, with `run` zero blocks of a run left.
     pub fn at(setting: Setting, block: u32, before: i64, run: u32) -> Self
         requires { IsDecoderState setting block before run None }
         ensures { result
@@ -177,21 +176,21 @@ impl Decoder {
         self.before
     }
 
-    /// Returns the number of zero blocks of a run that are still to come.
+    /// Returns the number of zero blocks left of a run.
     pub fn run(&self) -> u32
         ensures { result ≡ self.now.run }
     {
         self.run
     }
 
-    /// Returns the number of samples of a run that are still to come.
+    /// Returns the number of samples left of a run.
     pub fn waiting(&self) -> u64
         ensures { result ≡ self.now.run * self.now.setting.block }
     {
         self.run as u64 * self.setting.block() as u64
     }
 
-    /// Goes past the next `count` blocks of a run: each of their samples is the sample before them.
+    /// Passes the next `count` blocks of a run: each of their samples is the sample before them.
     pub fn pass_blocks_of_run(&mut self, count: u32)
         requires run { count ≤ self.old.run }
         requires preprocess { self.old.setting.preprocess ≡ true }
@@ -208,7 +207,7 @@ impl Decoder {
 
     /// Restores the samples of the next block.
     ///
-    /// A decoder that has found the end or has refused returns the same again at each later call.
+    /// Once a decoder has found the end or refused, each later call returns the same.
     pub fn next_block<I: Intake>(
         &mut self,
         reader: &mut BitReader<I>,

@@ -1,4 +1,4 @@
-//! Reads what follows an identifier: a block by each option, or a run.
+//! Reads the fields after an identifier: a block by each option, or a run.
 ghost use Rattle.std.specs.Prelude.{◌≡◌, ℕ, ◌+◌, ◌-◌, ◌/◌, ◌^◌, ◌<◌, ◌≤◌, Bool, true, List, ◌++◌, length, take, drop, Option, None, IfOk, IfErr};
 ghost use Rattle.rice_bits.specs.Limits.{most_bits_read};
 ghost use Rattle.rice_bits.specs.read.Reader.{Takes, Stops};
@@ -62,7 +62,7 @@ pub fn read_reference<I: Intake>(
     Ok(Some(value))
 }
 
-/// Writes a 0 at the place of the reference sample, if there is one. Returns where the residuals that are sent begin.
+/// Writes a 0 at the place of the reference sample, if there is one. Returns the place of the first residual that is sent.
 #[inline(always)]
 pub fn write_zero_for_reference(reference: Option<u32>, residuals: &mut [u32]) -> usize
     requires { 0 < length residuals.old }
@@ -99,7 +99,7 @@ pub fn read_run<I: Intake>(
     Ok((reference, zeros))
 }
 
-/// Reads a block that is not compressed.
+/// Reads a block that is coded by no compression.
 pub fn read_no_compression<I: Intake>(
     setting: &Setting,
     block: u64,

@@ -7,8 +7,7 @@ ghost use Rattle.rice_code.specs.decode.RowsOfFields.{HasRoom, AreCounted, PairR
 
 use rice_bits::{BitFault, BitReader, Intake, Meter};
 
-/// Returns the pair that the number `g` stands for. It counts the sum of the two up from 0, and ticks once for each
-/// turn.
+/// Returns the pair with the number `g`. It searches for the sum of the two from 0 upwards, and ticks once for each turn.
 pub fn pair_by_search(g: u64, meter: &mut Meter) -> (u32, u32)
     requires g { g ≤ most_bits_read }
     requires meter { meter.old + g < step_limit }
@@ -26,7 +25,7 @@ pub fn pair_by_search(g: u64, meter: &mut Meter) -> (u32, u32)
     ((sum - rest) as u32, rest as u32)
 }
 
-/// Reads a codeword for each pair of places of `out`, one after another, and writes the pair that it stands for.
+/// Reads a codeword for each pair of places of `out`, one after another, and writes its pair there.
 #[inline(never)]
 pub fn read_pairs<I: Intake>(
     reader: &mut BitReader<I>,

@@ -63,8 +63,8 @@ pub fn restore_block(
     last
 }
 
-/// Restores the samples of a zero block after the sample `p`: each is the reference sample, or `p` if there is none. Returns the last
-/// of them.
+/// Restores the samples of a zero block after the sample `p`: each is the reference sample, or else `p`, or without prediction 0. Returns
+/// the last of them.
 pub fn restore_zero_block(
     setting: &Setting,
     block: u64,

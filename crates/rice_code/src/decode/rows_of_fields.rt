@@ -1,4 +1,4 @@
-//! Reads rows of words and of the counts that fundamental sequences spell.
+//! Reads rows of words, and rows of the counts of fundamental sequences.
 ghost use Rattle.std.specs.Prelude.{◌≡◌, ◌*◌, ◌+◌, ◌^◌, ◌<◌, ◌≤◌, Bool, List, length, None, IfOk, IfErr, OnOk};
 ghost use Rattle.rice_bits.specs.Limits.{most_bits_read};
 ghost use Rattle.rice_bits.specs.read.Reader.{Stops};

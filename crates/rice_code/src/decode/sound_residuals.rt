@@ -1,4 +1,4 @@
-//! Joins the parts of residuals, and says whether residuals are sound.
+//! Joins the parts of residuals, and checks that residuals are sound.
 ghost use Rattle.std.specs.Prelude.{◌≡◌, ◌-◌, ◌/◌, ◌^◌, ◌<◌, ◌≤◌, ◌↔◌, IsTrue, length, slice_index, OnSome, All};
 ghost use Rattle.rice_bits.specs.read.JoinedParts.{joined_parts};
 
@@ -30,8 +30,7 @@ pub fn are_below(residuals: &[u32], count: u64) -> bool
     all
 }
 
-/// Returns whether all residuals are below 2^`bits`, of which the high parts, without `k` digits, are as small as those of such
-/// numbers.
+/// Returns whether all residuals are below 2^`bits`. Their high parts, without `k` digits, must be as small as those of such numbers.
 #[inline(always)]
 pub fn are_below_as_high_parts(bits: u32, k: u32, residuals: &[u32]) -> bool
     requires bits { (1 ≤ bits) × (bits ≤ 32) }
@@ -45,8 +44,8 @@ pub fn are_below_as_high_parts(bits: u32, k: u32, residuals: &[u32]) -> bool
     are_below(residuals, 1 << bits)
 }
 
-/// Returns whether the residuals of a block by second extension are sound: all are below `count`, and the first is 0
-/// where the block has a reference sample.
+/// Returns whether the residuals of a block by second extension are sound: all are below `count`, and the first is 0 if the block has a
+/// reference sample.
 pub fn are_sound(reference: Option<u32>, residuals: &[u32], count: u64) -> bool
     requires some { 0 < length residuals.now }
     requires count { (0 < count) × (count ≤ 2 ^ 32) }

@@ -45,7 +45,7 @@ fn best_split(setting: &Setting, block: &HeldBlock<'_>, meter: &mut Meter) -> (u
     (best, least)
 }
 
-/// Returns the option of minimal cost: of several, no compression, or second extension, or the smallest split.
+/// Returns the option of minimal cost. Of several, it prefers no compression, then second extension, then the smallest split.
 pub fn choose(setting: &Setting, block: &HeldBlock<'_>, meter: &mut Meter) -> Choice
     requires sound { IsSoundData setting.now block.now }
     requires meter { meter.old + setting.now.block * (k_max setting.now + 2) < step_limit }

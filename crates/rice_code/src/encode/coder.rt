@@ -11,10 +11,10 @@ use rice_bits::Meter;
 use rice_samples::Setting;
 use std::marker::Model;
 
-/// Takes samples one by one, and appends the code of each segment of 64 blocks, or fewer at the end of a reference interval, once it
-/// is whole (CCSDS 121.0-B-3, sections 3 to 5).
+/// Takes samples one by one, and appends the code of each whole segment (CCSDS 121.0-B-3, sections 3 to 5). A segment has 64 blocks, or
+/// fewer at the end of a reference interval.
 ///
-/// In contracts its value is what it holds of the segment that it fills, and `HasTaken` tells which samples it has taken.
+/// In contracts its value is the state of its open segment, and `HasTaken` says which samples it has taken.
 #[derive(Drop)]
 pub struct Coder {
     segment: OpenSegment,
@@ -48,8 +48,8 @@ impl Coder {
         }
     }
 
-    /// Returns a coder that goes on after whole segments: its next segment begins at the place `start` of
-    /// its interval, and the last sample before it is `previous`.
+    /// Returns a coder that continues after whole segments. Its next segment begins at the place `start` of its interval, after the sample
+    /// `previous`.
     pub fn resume(setting: Setting, start: u32, previous: i64) -> Self
         requires { (xs : List ℤ) × HasTaken (state_between setting start previous) xs }
         ensures { result ≡ state_between setting start previous }
@@ -59,21 +59,21 @@ impl Coder {
         }
     }
 
-    /// Returns the place in its interval at which the segment begins that is not whole yet.
+    /// Returns the place in its interval where the open segment begins.
     pub fn start(&self) -> u32
         ensures { result ≡ self.now.start }
     {
         self.segment.start()
     }
 
-    /// Returns the last sample that it has taken, or 0.
+    /// Returns the last sample taken, or 0.
     pub fn previous(&self) -> i64
         ensures { result ≡ self.now.previous }
     {
         self.segment.previous()
     }
 
-    /// Returns the number of samples whose segment is not whole yet: fewer than 64 blocks of them.
+    /// Returns the number of samples in the open segment: fewer than 64 blocks.
     pub fn pending(&self) -> u32
         ensures value { (xs : List ℤ) → HasTaken self.now xs →
             result + cut self.now.setting (length xs) ≡ length xs }
@@ -82,10 +82,10 @@ impl Coder {
         self.segment.len() as u32
     }
 
-    /// Takes the sample `x`. Where it makes a segment whole, appends the code of the segment, with the
-    /// padding of an interval that it ends where intervals are padded.
+    /// Takes the sample `x`. If it completes a segment, appends the code of the segment. If this ends an interval, and intervals are
+    /// padded, appends the padding.
     ///
-    /// A step is a sample, a bit put, padding aside, or a look at a residual.
+    /// A step is a sample, a bit put, except padding, or a look at a residual.
     pub fn push(&mut self, x: i64, sink: &mut SegmentSink, meter: &mut Meter)
         requires sample { IsSample self.old.setting x }
         requires room { length sink.old ≤ 7 }
@@ -97,7 +97,7 @@ impl Coder {
         let _count = self.push_counted(x, sink, meter);
     }
 
-    /// Does what `push` does, and returns the number of bits that were appended, padding aside.
+    /// Does what `push` does, and returns the number of appended bits, without padding.
     pub fn push_counted(&mut self, x: i64, sink: &mut SegmentSink, meter: &mut Meter) -> u64
         requires sample { IsSample self.old.setting x }
         requires room { length sink.old ≤ 7 }
@@ -116,8 +116,8 @@ impl Coder {
         }
     }
 
-    /// Fills the last block by repeating the last sample, a step for each, and appends the code of the
-    /// samples that are pending. Pads neither an interval that is left unfinished nor the end.
+    /// Fills the last block by repeating the last sample, a step for each, and appends the code of the pending samples. It pads neither an
+    /// unfinished interval nor the end.
     pub fn finish(self, sink: &mut SegmentSink, meter: &mut Meter)
         requires room { length sink.old ≤ 7 }
         requires meter { meter.old + segment_steps self.setting < step_limit }
@@ -129,8 +129,8 @@ impl Coder {
         let _count = coder.finish_counted(sink, meter);
     }
 
-    /// Does what `finish` does, and returns the number of bits that were appended, padding aside. It leaves the coder as a new one,
-    /// which has taken no samples: a coder that is moved is copied, residuals and all, and one that is borrowed is not.
+    /// Does what `finish` does, returns the number of appended bits, without padding, and resets the coder to one that has taken no
+    /// samples. A moved coder is copied, residuals and all; a borrowed one is not.
     pub fn finish_counted(&mut self, sink: &mut SegmentSink, meter: &mut Meter) -> u64
         requires room { length sink.old ≤ 7 }
         requires meter { meter.old + segment_steps self.old.setting < step_limit }

@@ -1,4 +1,4 @@
-//! Puts the fields of coded data sets that stand for residuals.
+//! Puts the fields of residuals in coded data sets.
 ghost use Rattle.std.specs.Prelude.{◌≡◌, ◌+◌, ◌-◌, ◌%◌, ◌^◌, ◌<◌, ◌≤◌, length, drop};
 ghost use Rattle.rice_samples.specs.blocks.Pairs.{pair_code};
 ghost use Rattle.rice_code.specs.encode.BitBuffer.{sink_bits, HasRoomFor};

@@ -1,11 +1,11 @@
-//! A block that is to be coded.
+//! A block to code.
 ghost use Rattle.std.specs.Prelude.{◌≡◌};
 ghost use Rattle.rice_code.specs.code.SoundBlocks.{block_with};
 
 use rice_samples::Block;
 use std::marker::Model;
 
-/// A block that is to be coded: its reference sample, where it has one, and its residuals.
+/// A block to code: its reference sample, if it has one, and its residuals.
 ///
 /// In contracts its value is the data of the block.
 #[derive(Drop)]
@@ -24,7 +24,7 @@ impl<'a> Model for HeldBlock<'a> {
 }
 
 impl<'a> HeldBlock<'a> {
-    /// Joins the reference sample, if there is one, and the residuals.
+    /// Returns the block of the reference sample, if there is one, and the residuals.
     #[inline(always)]
     pub fn new(reference: Option<u32>, residuals: Block<'a>) -> Self
         ensures { result ≡ block_with reference residuals.entry }
@@ -35,7 +35,7 @@ impl<'a> HeldBlock<'a> {
         }
     }
 
-    /// Returns the reference sample, as a word, where the block has one.
+    /// Returns the reference sample, as a word, if the block has one.
     #[inline(always)]
     pub fn reference(&self) -> Option<u32>
         ensures { result ≡ self.now.reference }

@@ -16,20 +16,20 @@ use rice_bits::Meter;
 use rice_samples::{Segment, Setting, pattern, residual};
 use std::marker::Model;
 
-/// The residuals of a segment that is not coded yet, and what is known of it.
+/// The residuals of a segment that is not coded yet, with its reference and its place.
 ///
-/// In contracts its value is all of this but the length at which the segment is whole.
+/// In contracts its value is all of this except the length of the whole segment.
 #[derive(Drop)]
 pub struct OpenSegment {
     setting: Setting,
     residuals: Segment,
     /// The reference of its first block.
     reference: Option<u32>,
-    /// The sample before the next.
+    /// The sample before the next one.
     previous: i64,
     /// The place in its interval of its first block.
     start: u32,
-    /// The number of residuals that make it whole.
+    /// The number of residuals of the whole segment.
     end: usize,
 }
 
@@ -83,7 +83,7 @@ impl OpenSegment {
         self.start
     }
 
-    /// Returns the sample before the next.
+    /// Returns the sample before the next one.
     pub fn previous(&self) -> i64
         ensures { result ≡ self.now.previous }
     {
@@ -98,7 +98,7 @@ impl OpenSegment {
         self.residuals.len()
     }
 
-    /// Returns whether the residuals make the segment whole.
+    /// Returns whether the segment is whole.
     pub fn is_whole(&self) -> bool
         ensures { IsTrue result ↔ IsWhole self.now }
     {
@@ -141,8 +141,7 @@ impl OpenSegment {
         push_copies(&mut self.residuals, residual, count, meter);
     }
 
-    /// Appends the code of its blocks, with the padding of the interval that they end. Returns the
-    /// number of its bits, padding aside.
+    /// Appends the code of its blocks, with the padding of an interval that they end. Returns the number of appended bits, without padding.
     pub fn code(&self, sink: &mut SegmentSink, meter: &mut Meter) -> u64
         requires blocks { HoldsSoundBlocks self.now }
         requires room { HasRoomForSegment self.now.setting sink.old }
@@ -166,7 +165,7 @@ impl OpenSegment {
         bits
     }
 
-    /// Goes on to the next segment.
+    /// Begins the next segment.
     pub fn begin_next(&mut self)
         requires { IsWhole self.old }
         ensures { self.new ≡ state_after_segment self.old }
@@ -178,7 +177,7 @@ impl OpenSegment {
         self.start = start;
     }
 
-    /// Goes back to the first segment, without residuals.
+    /// Begins the first segment again, without residuals.
     pub fn begin_first(&mut self)
         ensures { self.new ≡ empty_state self.old.setting }
     {

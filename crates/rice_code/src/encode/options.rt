@@ -1,4 +1,4 @@
-//! Writing coded data sets: a block by each option, and runs of zero blocks.
+//! Writes coded data sets: a block by each option, and runs of zero blocks.
 ghost use Rattle.std.specs.Prelude.{◌≡◌, ◌+◌, ◌-◌, ◌*◌, ◌^◌, ◌<◌, ◌≤◌, ◌++◌, None, length, drop, IfSome};
 ghost use Rattle.rice_bits.specs.Bits.{word};
 ghost use Rattle.rice_samples.specs.Parameters.{k_max, value_count};
@@ -117,8 +117,7 @@ pub fn put_split(
     put_low(residuals, from, k, sink, meter);
 }
 
-/// Puts a run of `z` zero blocks, which reaches the end of the segment, or of the last segment, where
-/// `to_end` is true.
+/// Puts a run of `z` zero blocks. `to_end` says whether it reaches the end of the segment, or the last block.
 pub fn put_run(
     setting: &Setting,
     reference: Option<u32>,

@@ -1,5 +1,5 @@
-//! The decoder of levels and of bytes. It does what the plain decoder does, and its contracts are the same; it looks at several
-//! fields at once, and counts the turns of the plain search.
+//! The decoder of levels and of bytes. It does what the plain decoder does, by the same contracts. It looks at several fields at once, and
+//! counts the turns of the plain search.
 
 mod coded_data_set;
 pub mod decoder;

@@ -1,5 +1,5 @@
-//! The coder of rows of samples. It does what the plain coder does, and its contracts are the same; it looks at several residuals at
-//! once, gathers fields before they are put, and counts the looks that the plain search takes.
+//! The coder of rows of samples. It does what the plain coder does, by the same contracts. It looks at several residuals at once, gathers
+//! fields before it puts them, and counts the looks of the plain search.
 
 mod bit_buffer;
 mod blocks;

@@ -1,4 +1,4 @@
-//! A block of residuals, which is read only by calls that count their steps.
+//! A block of residuals. Only calls that count their steps read it.
 ghost use Rattle.std.specs.Prelude.{◌≡◌, ℕ, ◌+◌, ◌-◌, ◌/◌, ◌^◌, ◌==◌, ◌<◌, ◌≤◌, length, slice_index, sum_by};
 ghost use Rattle.std.specs.List.{list_all};
 ghost use Rattle.rice_bits.specs.Limits.{step_limit};
@@ -10,10 +10,10 @@ use crate::blocks::tests_and_sums::{all_zero, sum_shifted};
 use rice_bits::Meter;
 use std::marker::Model;
 
-/// The residuals of a block, an even number of them up to 64, lent by a segment. Contracts see their list.
+/// The residuals of a block, an even number from 2 to 64, borrowed from a segment. Contracts see their list.
 ///
-/// Each look at a residual is a step: `is_zero`, `sum_shifted` and `pair_sum` tick one for each residual of the block, `at` ticks one,
-/// and `len` none. No other call of the plain coder reveals anything about the residuals. A block is never empty.
+/// Each look at a residual is a step: `is_zero`, `sum_shifted` and `pair_sum` tick one for each residual of the block, `at` ticks one, and
+/// `len` none. No other call of the plain coder depends on the residuals.
 #[derive(Drop)]
 pub struct Block<'a> {
     pub(crate) items: &'a [u32],
@@ -73,7 +73,7 @@ impl Block<'_> {
         sum_shifted(self.look(meter), k)
     }
 
-    /// Returns the number of bits of the codewords that second extension sends for the pairs of residuals.
+    /// Returns the number of bits of the second-extension codewords of the pairs of residuals.
     #[inline]
     pub fn pair_sum(&self, meter: &mut Meter) -> u128
         requires { meter.old + length self.now < step_limit }

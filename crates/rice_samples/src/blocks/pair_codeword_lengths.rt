@@ -1,4 +1,4 @@
-//! The lengths of the codewords that second extension sends for pairs of residuals.
+//! The lengths of the second-extension codewords of pairs of residuals.
 ghost use Rattle.std.specs.Prelude.{◌≡◌, ◌+◌, ◌^◌, ◌<◌, ◌≤◌, length, sum_by};
 ghost use Rattle.rice_samples.specs.blocks.Pairs.{pair_code, pair_codes};
 ghost use Rattle.rice_samples.specs.Parameters.{IsBlockSize};

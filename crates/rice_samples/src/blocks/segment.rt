@@ -7,7 +7,7 @@ use crate::Block;
 use arrayvec::ArrayVec;
 use std::marker::Model;
 
-/// The residuals of a segment, at most 4,096: 64 blocks of 64. Contracts see their list. They can be read only through blocks.
+/// The residuals of a segment, at most 4,096: 64 blocks of 64. Contracts see their list. Only blocks give access to them.
 #[derive(Drop)]
 pub struct Segment {
     residuals: ArrayVec<u32, 4096>,
@@ -58,8 +58,7 @@ impl Segment {
         self.residuals.clear();
     }
 
-    /// Returns block `i`: the `size` residuals from number `i * size` on, where `size` is an even number
-    /// from 2 to 64.
+    /// Returns block `i`: the `size` residuals from number `i * size` on. `size` is an even number from 2 to 64.
     pub fn block(&self, i: usize, size: usize) -> Block<'_>
         requires size { IsBlockSize size }
         requires inside { i * size + size ≤ length self.now }

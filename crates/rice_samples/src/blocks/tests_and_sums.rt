@@ -5,7 +5,7 @@ ghost use Rattle.rice_samples.specs.Parameters.{IsBlockSize};
 
 use std::simd::prelude::*;
 
-/// Returns whether all numbers are 0.
+/// Returns true only if all numbers are 0.
 pub(crate) fn all_zero(items: &[u32]) -> bool
     requires { IsBlockSize (length items.now) }
     ensures { result ≡ list_all (λ d. d == 0) items.now }

@@ -1,4 +1,4 @@
-//! Levels of samples from the bytes of several.
+//! Reads the levels of several samples from their bytes.
 ghost use Rattle.std.specs.Prelude.{◌≡◌, true, ◌*◌, ◌^◌, ◌<◌, ◌≤◌, All, length, take};
 ghost use Rattle.rice_samples.specs.Parameters.{value_count, values_at, width as width_of};
 ghost use Rattle.rice_samples.specs.bytes.Spelling.{ReadsSamples, spellings};
@@ -9,8 +9,8 @@ use crate::bytes::spelling::sample_of;
 use crate::patterns::number_of_bytes;
 use rice_bits::low_digits;
 
-/// Reads the levels of the samples that the bytes spell, `width()` bytes each, up to the first bytes that spell no sample, and
-/// returns their number. What `levels` holds after them is unspecified.
+/// Reads the levels of samples of `width()` bytes each, up to the first bytes that are no sample, and returns their number. The contents of
+/// `levels` after them are unspecified.
 pub fn read_legal_levels(setting: &Setting, bytes: &[u8], levels: &mut [u32]) -> usize
     requires { length bytes.now ≡ width_of setting.now * length levels.old }
     ensures count { result ≤ length levels.new }

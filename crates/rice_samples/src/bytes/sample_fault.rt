@@ -1,7 +1,7 @@
-//! Why a reader of samples gives no more.
+//! Why a reader of samples stops.
 use thiserror::Error;
 
-/// The reason why a reader gives no more samples.
+/// The reason why a reader returns no more samples.
 #[derive(Clone, Copy, Debug, PartialEq, Eq, Error)]
 pub enum SampleFault {
     /// The intake failed, and counts one failure more.
@@ -13,7 +13,7 @@ pub enum SampleFault {
     /// The intake gave a byte after 2^48 others (own rule).
     #[error("input is too long")]
     TooLong,
-    /// The next bytes spell no sample.
+    /// The next bytes are those of no sample.
     #[error("sample is out of range")]
     OutOfRange,
 }

@@ -1,4 +1,4 @@
-//! Reads the samples that the bytes of an intake spell.
+//! Reads samples from the bytes of an intake.
 ghost use Rattle.std.specs.Prelude.{◌≡◌, ℕ, true, false, ◌+◌, ◌-◌, ◌*◌, ◌^◌, ◌<◌, ◌≤◌, [], List, Option, All, length, take, drop, IfOk, IfErr, OnOk, OnErr};
 ghost use Rattle.std.specs.Io.KnownBytes.{IsAtEnd, Keeps};
 ghost use Rattle.rice_bits.specs.Limits.{most_at_once};
@@ -14,23 +14,23 @@ use crate::fast::level_row::LevelRow;
 use rice_bits::{Intake, ReadFault};
 use std::marker::Model;
 
-/// The most bytes of samples that are read.
+/// The greatest number of bytes of samples that are read.
 pub const MOST_INPUT: u64 = 1 << 48;
 
 /// The size of a read, in bytes.
 const PIECE: usize = 4096;
 
-/// Reads the samples that the bytes of an intake spell, several at a time.
+/// Reads samples from the bytes of an intake, several at a time.
 ///
-/// The intake is called only when no whole sample waits: for at most 4,096 bytes at a time, less those that wait, and for
-/// at most 2^48 in all. After 2^48 bytes it is called once, for one byte (own rule).
+/// It calls the intake only when no whole sample is buffered: for at most 4,096 bytes at a time, less those buffered, and at most 2^48 in
+/// all. After 2^48 bytes it calls once, for one byte (own rule).
 #[derive(Drop)]
 pub struct SampleReader {
     setting: Setting,
     buffer: [u8; PIECE],
-    /// The place in the buffer of the bytes that wait.
+    /// The place of the next byte in the buffer.
     at: usize,
-    /// The place behind them.
+    /// The place after the last byte.
     end: usize,
     given: u64,
 }
@@ -97,7 +97,7 @@ fn move_to_front(buffer: &mut [u8], filled: usize, waiting: usize)
 }
 
 impl SampleReader {
-    /// Returns a reader that was given nothing.
+    /// Returns a reader that has read nothing.
     pub fn new(setting: Setting) -> Self
         ensures { result ≡ unread setting }
     {
@@ -185,10 +185,10 @@ impl SampleReader {
         count
     }
 
-    /// Reads the levels of the next samples, as many as wait and `levels` has room for, and returns their number: 0 at the end of
-    /// the intake. What `levels` holds after them is unspecified.
+    /// Reads the levels of the buffered samples, as many as `levels` has room for, and returns their number: 0 at the end of the intake.
+    /// The contents of `levels` after them are unspecified.
     ///
-    /// An error says why the next sample could not be read: [`SampleFault`] has each case. Those before it were all given.
+    /// An error says why the next sample cannot be read: [`SampleFault`] has each case. All samples before it were returned.
     pub fn next_levels<I: Intake>(
         &mut self,
         intake: &mut I,

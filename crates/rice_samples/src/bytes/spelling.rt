@@ -1,4 +1,4 @@
-//! The one spelling of each sample in bytes.
+//! The unique bytes of each sample.
 ghost use Rattle.std.specs.Prelude.{◌≡◌, ◌≢◌, length, ℤ, IfNone, IfSome};
 ghost use Rattle.rice_samples.specs.Parameters.{IsSample, width};
 ghost use Rattle.rice_samples.specs.bytes.Spelling.{spelling};
@@ -7,8 +7,8 @@ use crate::Setting;
 use crate::patterns::{bytes_with, digits_of, number_of_bytes};
 use arrayvec::ArrayVec;
 
-/// Returns the sample that `width()` bytes spell, or `None` if they spell no sample: if the unused high bits
-/// are not 0 or, of a signed sample, not its sign (own rule).
+/// Returns the sample with these `width()` bytes. Returns `None` if there is none: the unused high bits are not 0 or, if samples are
+/// signed, not the sign (own rule).
 #[inline]
 pub fn sample_of(setting: &Setting, bytes: &[u8]) -> Option<i64>
     requires { length bytes.now ≡ width setting.now }
@@ -26,7 +26,7 @@ pub fn sample_of(setting: &Setting, bytes: &[u8]) -> Option<i64>
     }
 }
 
-/// Returns the spelling of a sample: `width()` bytes.
+/// Returns the `width()` bytes of a sample.
 #[inline]
 pub fn bytes_of(setting: &Setting, x: i64) -> ArrayVec<u8, 4>
     requires { IsSample setting.now x }

@@ -1,4 +1,4 @@
-//! Spells samples whose unused bits are anything.
+//! Sets the unused bits of samples.
 ghost use Rattle.std.specs.Prelude.{◌≡◌, length};
 ghost use Rattle.rice_samples.specs.Parameters.{width};
 ghost use Rattle.rice_samples.specs.bytes.UnusedBits.{SpellsOne, SpellsPatterns};
@@ -9,8 +9,8 @@ use crate::patterns::number_of_bytes;
 use crate::predict::preprocessor::from_pattern;
 use rice_bits::low_digits;
 
-/// Gives the unused high bits of samples of `width()` bytes each what they have in a spelling: 0 or, of a signed sample, its sign. The
-/// lowest `bits()` bits stay, and so do bytes at the end that are too few for a sample.
+/// Sets the unused high bits of samples of `width()` bytes each to 0 or, if samples are signed, to the sign. The lowest `bits()` bits stay,
+/// and so do bytes at the end that are too few for a sample.
 pub fn set_unused_bits(setting: &Setting, bytes: &mut [u8])
     ensures { SpellsPatterns setting.now bytes.old bytes.new }
 {

@@ -1,4 +1,4 @@
-//! The bytes of several samples.
+//! Writes the bytes of several samples.
 ghost use Rattle.std.specs.Prelude.{◌≡◌, ◌+◌, ◌*◌, ◌%◌, ◌<◌, ◌≤◌, All, length, take};
 ghost use Rattle.rice_samples.specs.Parameters.{value_count, values_at, width as width_of};
 ghost use Rattle.rice_samples.specs.bytes.Spelling.{spellings};
@@ -8,7 +8,7 @@ use crate::fast::three_bytes::write_threes;
 use crate::patterns::store_word;
 use rice_bits::low_digits;
 
-/// Writes the spellings of the samples with these levels, `width()` bytes each, one after another.
+/// Writes the bytes of the samples with these levels, `width()` bytes each.
 #[inline(always)]
 pub fn write_spellings(setting: &Setting, levels: &[u32], bytes: &mut [u8])
     requires legal { All (λ l. l < value_count setting.now) levels.now }
@@ -37,8 +37,8 @@ fn write_others(setting: &Setting, levels: &[u32], bytes: &mut [u8])
     write_spellings_laid_out(setting, width, setting.msb(), levels, bytes);
 }
 
-/// Writes the spellings, as `write_spellings` does. It is laid out for a width and an order of bytes that the
-/// compiler knows, which are those of the setting.
+/// Does what `write_spellings` does. `width` and `msb` repeat those of the setting, so that a compiler that knows them specialises the
+/// code.
 #[inline(always)]
 fn write_spellings_laid_out(
     setting: &Setting,
@@ -61,8 +61,8 @@ fn write_spellings_laid_out(
     }
 }
 
-/// Writes the spellings of whole eights of samples with these levels, `WIDTH` bytes each, one after another. It may write up to 8 bytes
-/// behind them.
+/// Writes the bytes of samples with these levels, `WIDTH` bytes each; their number is a multiple of 8. It may write up to 8 bytes after
+/// them.
 #[inline(always)]
 pub fn write_spellings_by_eights<const WIDTH: usize>(
     setting: &Setting,

@@ -1,4 +1,4 @@
-//! Calls of a block for the fast coder.
+//! Calls of the fast coder on a block.
 ghost use Rattle.std.specs.Prelude.{◌≡◌, All, ◌+◌, ◌-◌, ◌*◌, ◌%◌, ◌^◌, ◌==◌, ◌<◌, ◌≤◌, ◌++◌, drop, flat_map, min, length, slice_index, sum_by};
 ghost use Rattle.std.specs.List.{list_all};
 ghost use Rattle.rice_bits.specs.Limits.{step_limit};
@@ -15,7 +15,7 @@ use rice_bits::{BitSink, Meter};
 /// A look at a residual is a step here too. `four_at` ticks four, `put_digits` and `put_number_and_whole_digits` one for each residual
 /// that they put and one for each digit, and `first_stop` and `first_stop_of_small_residuals` the looks of the definition.
 impl Block<'_> {
-    /// Returns the same block, of a length that the compiler knows where it knows `size`.
+    /// Returns the same block. Where the compiler knows `size`, it then knows the length.
     #[inline(always)]
     pub fn sized(&self, size: usize) -> Block<'_>
         requires { length self.now ≡ size }
@@ -25,7 +25,7 @@ impl Block<'_> {
         Block::of(all_of(items, size))
     }
 
-    /// As `is_zero`, by a loop for the size of the block.
+    /// Does what `is_zero` does, by a loop for the size of the block.
     #[inline]
     pub fn is_zero_by_size(&self, meter: &mut Meter) -> bool
         requires { meter.old + length self.now < step_limit }
@@ -35,11 +35,11 @@ impl Block<'_> {
         all_zero(self.look(meter))
     }
 
-    /// Returns the first `k`, up to `limit`, at which one more digit takes no more than `price` off the sum of the
-    /// residuals without their `k` lowest binary digits, and this sum.
+    /// Returns the first `k`, up to `limit`, at which one more digit lowers the sum by at most `price`, and the sum. It sums the residuals
+    /// without their `k` lowest binary digits.
     ///
-    /// A step here is a look of the definition, and bounds the looks taken: it ticks each residual once for each sum from
-    /// `k = 0` up to the one after the result, if that is not above `limit`, though it may take fewer of these sums.
+    /// It ticks as the definition counts: each residual once for each sum from `k = 0` to one past the result, at most `limit`. It may
+    /// compute fewer sums.
     #[inline(always)]
     pub fn first_stop(&self, limit: u32, price: u64, meter: &mut Meter) -> (u32, u64)
         requires limit { limit ≤ 29 }
@@ -55,7 +55,7 @@ impl Block<'_> {
         (k, sum)
     }
 
-    /// Does what `first_stop` does, for residuals that are so small that their sum is below 2^32.
+    /// Does what `first_stop` does, for residuals below 2^26, so that their sum is below 2^32.
     #[inline(always)]
     pub fn first_stop_of_small_residuals(
         &self,
@@ -90,7 +90,7 @@ impl Block<'_> {
         pair_sum_in_32_bits(items) as u64
     }
 
-    /// Returns residuals number `i` to `i + 3`, for a step each.
+    /// Returns residuals number `i` to `i + 3`, for one step each.
     #[inline]
     pub fn four_at(&self, i: usize, meter: &mut Meter) -> (u32, u32, u32, u32)
         requires inside { i + 3 < length self.now }
@@ -106,8 +106,8 @@ impl Block<'_> {
         (items[i], items[i + 1], items[i + 2], items[i + 3])
     }
 
-    /// Appends the `width` lowest binary digits of each residual from number `from` on to the sink, for a step each, and a step
-    /// for each digit.
+    /// Appends the `width` lowest binary digits of each residual from number `from` on to the sink, for one step per residual and one per
+    /// digit.
     #[inline(always)]
     pub fn put_digits<const N: usize>(
         &self,
@@ -132,8 +132,8 @@ impl Block<'_> {
         sink.put_words(coded, width, meter);
     }
 
-    /// Appends the `count` binary digits of `value`, and then the `width` lowest ones of each residual, where these come in
-    /// eights, to the sink, for a step for each residual, and a step for each digit. The digits go out 64 at a time.
+    /// Appends the `count` binary digits of `value`, and then the `width` lowest ones of each residual, to the sink, 64 at a time. The
+    /// residuals come in eights. It ticks one step per residual and one per digit.
     #[inline(always)]
     pub fn put_number_and_whole_digits<const N: usize>(
         &self,

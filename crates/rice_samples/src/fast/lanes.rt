@@ -34,21 +34,21 @@ pub trait Lanes: Copy {
         requires { x < 2 ^ bits }
         ensures { numbers result ≡ replicate COUNT x };
 
-    /// Returns numbers as a vector.
+    /// Reads a vector from numbers in memory.
     fn read(from: &[Self::Number]) -> Self
         requires { length from.now ≡ COUNT }
         ensures { numbers result ≡ map number from.now };
 
-    /// Returns a number in memory.
+    /// Converts a number to its form in memory.
     fn number_of(x: u32) -> Self::Number
         requires { x < 2 ^ bits }
         ensures { number result ≡ x };
 
-    /// Returns the number.
+    /// Converts a number from its form in memory.
     fn value(x: Self::Number) -> u32
         ensures { result ≡ number x };
 
-    /// Returns a difference that wraps at the bits of a lane as one that wraps at 32 bits.
+    /// Converts a difference that wraps at the bits of a lane to one that wraps at 32 bits.
     fn widened_way(x: Self::Number) -> u32
         ensures { result ≡ if nat_lt (number x) (2 ^ (bits - 1)) then number x else number x + (2 ^ 32 - 2 ^ bits) };
 
@@ -66,7 +66,7 @@ pub trait Lanes: Copy {
         ensures { numbers result
             ≡ zip2 (λ a b. (a + (2 ^ bits - b)) % 2 ^ bits) (numbers self) (numbers other) };
 
-    /// Returns by how much each number is above the other, or 0.
+    /// Returns by how much each number exceeds the other, or 0.
     fn above(self, other: Self) -> Self
         ensures { numbers result ≡ zip2 (λ a b. a - b) (numbers self) (numbers other) };
 
@@ -78,25 +78,25 @@ pub trait Lanes: Copy {
     fn half(self) -> Self
         ensures { numbers result ≡ map (λ a. a / 2) (numbers self) };
 
-    /// Returns the bits that both numbers of a lane have.
+    /// Returns the bits set in both numbers of a lane.
     fn and(self, other: Self) -> Self
         ensures { numbers result ≡ zip2 bit_and (numbers self) (numbers other) };
 
-    /// Returns the bits that one number of a lane has, or both.
+    /// Returns the bits set in either number of a lane.
     fn or(self, other: Self) -> Self
         ensures { numbers result ≡ zip2 bit_or (numbers self) (numbers other) };
 
-    /// Returns the bits that one number of a lane has, and not the other.
+    /// Returns the bits set in just one number of a lane.
     fn xor(self, other: Self) -> Self
         ensures { numbers result ≡ zip2 bit_xor (numbers self) (numbers other) };
 
-    /// Returns the numbers times a power of 2, if they are so small that this fits.
+    /// Returns the numbers times 2^`width`, if all of these fit.
     fn times_power_of_two(self, width: u32) -> Self
         requires { width < bits }
         ensures { All (λ m. m ≤ (2 ^ bits - 1) / 2 ^ width) (numbers self) →
             numbers result ≡ map (λ m. m * 2 ^ width) (numbers self) };
 
-    /// Returns whether all numbers are 0.
+    /// Returns true only if all numbers are 0.
     fn is_zero(self) -> bool
         ensures { result ≡ true → numbers self ≡ replicate COUNT 0 };
 

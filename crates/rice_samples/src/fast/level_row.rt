@@ -1,4 +1,4 @@
-//! Room for the levels of several samples.
+//! A buffer for the levels of several samples.
 ghost use Rattle.std.specs.Prelude.{◌≡◌, true, ◌+◌, ◌*◌, ◌<◌, ◌≤◌, All, IfSome, length, take, drop};
 ghost use Rattle.rice_samples.specs.Parameters.{value_count, values_at, width as width_of};
 ghost use Rattle.rice_samples.specs.bytes.LevelRow.{IsRowRead};
@@ -16,8 +16,8 @@ const SAMPLES: usize = 512;
 /// stores to that stack, since processors compare twelve bits of an address first.
 const APART: usize = 512;
 
-/// Room for the levels of 512 samples: in bytes, where those of at most 8 bits are read by sixteens, in halves of words, where samples
-/// have at most 16 bits, or in words.
+/// A buffer for the levels of 512 samples: bytes for at most 8 bits, if sixteen are read at once; halves of words for at most 16 bits; or
+/// words.
 ///
 /// In contracts its value is the list of the levels.
 #[derive(Drop)]
@@ -57,7 +57,7 @@ fn is_read_in_bytes(setting: &Setting) -> bool
 }
 
 impl LevelRow {
-    /// Returns a row. What it holds is unspecified.
+    /// Returns a row with unspecified contents.
     pub fn new() -> Self
         ensures { length result ≡ 512 }
     {
@@ -70,9 +70,9 @@ impl LevelRow {
         }
     }
 
-    /// Reads the levels of the samples at the front of the bytes, at least one of which is whole, as many as are whole and there is
-    /// room for, up to the first bytes that spell no sample, and returns their number: 0 if the first bytes spell none. What the row
-    /// holds after them is unspecified.
+    /// Reads the levels of the samples at the start of `bytes`, which have at least one whole sample, and returns their number. It stops at
+    /// the first bytes that are no sample, or at the end of the whole samples or of the room. The contents of the row after them are
+    /// unspecified.
     pub fn read_first(&mut self, setting: &Setting, bytes: &[u8]) -> usize
         requires { width_of setting.now ≤ length bytes.now }
         ensures count { result ≤ length self.new }

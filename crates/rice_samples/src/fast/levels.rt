@@ -5,7 +5,7 @@ ghost use Rattle.rice_samples.specs.predict.Residuals.{last_number};
 use std::marker::Model;
 use std::simd::prelude::*;
 
-/// The levels of several samples, each in a byte, in half a word of 32 bits or in a whole one.
+/// The levels of several samples, each in a byte, in half a word of 32 bits or in a word.
 ///
 /// In contracts its value is their list.
 #[derive(Drop)]
@@ -34,7 +34,7 @@ impl<'a> Model for Levels<'a> {
 }
 
 impl<'a> Levels<'a> {
-    /// Returns these levels, which stand in a byte each.
+    /// Returns levels of one byte each.
     #[inline(always)]
     pub fn of_bytes(levels: &'a [u8]) -> Self
         ensures { result ≡ levels.now }
@@ -44,7 +44,7 @@ impl<'a> Levels<'a> {
         }
     }
 
-    /// Returns these levels, which stand in half a word each.
+    /// Returns levels of half a word each.
     #[inline(always)]
     pub fn of_halves(levels: &'a [u16]) -> Self
         ensures { result ≡ levels.now }
@@ -54,7 +54,7 @@ impl<'a> Levels<'a> {
         }
     }
 
-    /// Returns these levels, which stand in a word each.
+    /// Returns levels of one word each.
     #[inline(always)]
     pub fn of_words(levels: &'a [u32]) -> Self
         ensures { result ≡ levels.now }
@@ -88,7 +88,7 @@ impl<'a> Levels<'a> {
         }
     }
 
-    /// Returns the first level, or `default` where there is none.
+    /// Returns the first level, or `default` if there is none.
     #[inline(always)]
     pub fn first_or(&self, default: u32) -> u32
         ensures { result ≡ slice_index_or self.now 0 default }
@@ -109,7 +109,7 @@ impl<'a> Levels<'a> {
         }
     }
 
-    /// Returns the last level, or `default` where there is none.
+    /// Returns the last level, or `default` if there is none.
     #[inline(always)]
     pub fn last_or(&self, default: u32) -> u32
         ensures { result ≡ last_number default self.now }
@@ -143,7 +143,7 @@ impl<'a> Levels<'a> {
         }
     }
 
-    /// Returns the levels behind the first `count`.
+    /// Returns the levels after the first `count`.
     #[inline(always)]
     pub fn behind(&self, count: usize) -> Levels<'a>
         requires { count ≤ length self.now }

@@ -1,4 +1,4 @@
-//! The bytes of samples that use all bits of these, from the bytes of their patterns, sixteen at a time.
+//! The bytes of samples that use all their bits, from the bytes of their patterns, sixteen at a time.
 ghost use Rattle.std.specs.Prelude.{◌≡◌, ◌⊎◌, ◌^◌, ◌<◌, All, length};
 ghost use Rattle.rice_samples.specs.bytes.PatternLanes.{OrdersWords, turned_in_fours};
 
@@ -6,8 +6,8 @@ use crate::Setting;
 use crate::fast::spelling_lanes::byte_pairs_swapped;
 use std::simd::prelude::*;
 
-/// Returns the bytes that spell samples of `WIDTH` bytes, all bits of which they use. Their patterns stand in sixteen bytes, one
-/// after another, each with its most significant byte first.
+/// Returns the bytes of samples of `WIDTH` bytes that use all bits of these. `patterns` has their patterns in sixteen bytes, each with its
+/// most significant byte first.
 #[inline(always)]
 pub fn bytes_of_patterns<const WIDTH: usize>(setting: &Setting, patterns: u8x16) -> u8x16
     requires width { (WIDTH ≡ 1) ⊎ ((WIDTH ≡ 2) ⊎ (WIDTH ≡ 4)) }

@@ -1,4 +1,4 @@
-//! The residuals of a segment, in a row that is no longer than its setting asks for.
+//! The residuals of a segment, in a row no longer than its setting needs.
 ghost use Rattle.std.specs.Prelude.{◌≡◌, ℕ, ◌+◌, ◌*◌, ◌<◌, ◌≤◌, [], ◌∷◌, ◌++◌, All, length, map, slice_range};
 ghost use Rattle.rice_samples.specs.Limits.{longest_segment};
 ghost use Rattle.rice_samples.specs.Parameters.{value_count, values_at};
@@ -9,8 +9,7 @@ use crate::fast::residuals_of_levels::from_levels::{write_patterns, write_residu
 use crate::{Block, Levels, Setting};
 use std::marker::Model;
 
-/// The residuals of a segment, at most `N`, which are at most 4,096. Contracts see their list. They can be read only through
-/// blocks.
+/// The residuals of a segment, at most `N`, which is at most 4,096. Contracts see their list. Only blocks give access to them.
 #[derive(Drop)]
 pub struct Residuals<const N: usize> {
     items: [u32; N],
@@ -70,8 +69,7 @@ impl<const N: usize> Residuals<N> {
         self.len += 1;
     }
 
-    /// Adds the residuals of the samples with these levels: of the first one after the sample at level `p`, and of each other after
-    /// the one before it.
+    /// Adds the residuals of the samples with these levels: the first after the sample at level `p`, each other after the one before it.
     #[inline(always)]
     pub fn push_residuals_of_levels(&mut self, setting: &Setting, p: u32, levels: &Levels<'_>)
         requires before { p < value_count setting.now }
@@ -111,8 +109,7 @@ impl<const N: usize> Residuals<N> {
         self.len = 0;
     }
 
-    /// Returns block `i`: the `size` residuals from number `i * size` on, where `size` is an even number
-    /// from 2 to 64.
+    /// Returns block `i`: the `size` residuals from number `i * size` on. `size` is an even number from 2 to 64.
     #[inline]
     pub fn block(&self, i: usize, size: usize) -> Block<'_>
         requires size { IsBlockSize size }

@@ -1,5 +1,5 @@
-//! From residuals to the levels of samples: in `near` and `parts` several near samples at once, in those named by turns samples one
-//! after another, whether near or far.
+//! From residuals to levels of samples: `near` and `parts` restore several near samples at once; `parts_in_turn` and `turns` restore one
+//! after another, near or far.
 
 pub mod levels;
 pub mod near;

@@ -9,7 +9,7 @@ use crate::fast::lanes::bytes::Bytes;
 use crate::fast::lanes::halves::Halves;
 use std::simd::prelude::*;
 
-/// Returns the bytes that spell sixteen samples of at most 8 bits, of which these are the levels.
+/// Returns the bytes of the sixteen samples of at most 8 bits with these levels.
 #[inline(always)]
 pub fn spelled_in_one_byte(setting: &Setting, levels: Bytes) -> u8x16
     requires narrow { setting.now.bits ≤ 8 }
@@ -20,7 +20,7 @@ pub fn spelled_in_one_byte(setting: &Setting, levels: Bytes) -> u8x16
     levels.lanes - u8x16::splat(setting.offset() as u8)
 }
 
-/// Returns the bytes that spell eight samples of 9 to 16 bits, of which these are the levels.
+/// Returns the bytes of the eight samples of 9 to 16 bits with these levels.
 #[inline(always)]
 pub fn spelled_in_two_bytes(setting: &Setting, levels: Halves) -> u8x16
     requires wide { 8 < setting.now.bits }

@@ -1,4 +1,4 @@
-//! Where the sum of residuals stops falling, digit by digit.
+//! Where one more digit no longer lowers the sum of residuals by enough.
 ghost use Rattle.std.specs.Prelude.{◌≡◌, All, ℕ, ◌+◌, ◌*◌, ◌/◌, ◌^◌, ◌<◌, ◌≤◌, length, sum_by};
 ghost use Rattle.rice_samples.specs.Parameters.{IsBlockSize};
 ghost use Rattle.rice_samples.specs.blocks.Stops.{IsFirstStop};

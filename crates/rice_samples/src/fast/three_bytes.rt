@@ -6,7 +6,7 @@ ghost use Rattle.rice_samples.specs.bytes.Spelling.{spellings};
 use crate::Setting;
 use std::simd::prelude::*;
 
-/// Writes the spellings of the samples with these levels, three bytes each, one after another. It may write more behind them.
+/// Writes the bytes of the samples with these levels, three bytes each. It may write more after them.
 #[inline(always)]
 pub fn write_threes(setting: &Setting, levels: &[u32], bytes: &mut [u8])
     requires three { width_of setting.now ≡ 3 }

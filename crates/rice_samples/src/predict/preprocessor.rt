@@ -7,9 +7,10 @@ ghost use Rattle.rice_samples.specs.predict.NearNumbers.{way as way_of};
 use crate::Setting;
 use crate::patterns::{digits_of, value_of_digits};
 
-/// Returns the residual of the sample `x` after the sample `p`: below 2^n. Twice the distance, less one
-/// for a smaller sample, as far as the range of samples reaches to both sides of `p`, and beyond
-/// that the distance and that reach (CCSDS 121.0-B-3, section 4, prediction error mapper).
+/// Returns the residual of the sample `x` after the sample `p`, below 2^n (CCSDS 121.0-B-3, section 4, prediction error mapper).
+///
+/// Let the reach be the distance from `p` to the nearer end of the range of samples. Up to the reach, the residual is twice the distance,
+/// less one for a smaller sample. Beyond it, it is the distance plus the reach.
 #[inline]
 pub fn residual(setting: &Setting, p: i64, x: i64) -> u32
     requires before { IsSample setting.now p }

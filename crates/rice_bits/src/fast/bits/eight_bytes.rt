@@ -26,7 +26,7 @@ fn word_of_64_bits_from(bytes: &[u8], at: usize) -> u64
     at_least_57_bits_from(bytes, at) | (ninth >> (8 - at % 8))
 }
 
-/// Returns the eight bytes that the 64 bits from bit `at` on spell.
+/// Returns the eight bytes of the 64 bits from bit `at` on.
 #[inline(always)]
 pub fn eight_bytes_from(bytes: &[u8], at: usize) -> u8x8
     requires { at / 8 + 9 ≤ length bytes.now }

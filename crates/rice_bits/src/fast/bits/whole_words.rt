@@ -8,9 +8,8 @@ use crate::bits::eight_bytes::join_bytes;
 use crate::fast::bits::eight_bytes::store_word;
 use std::simd::prelude::*;
 
-/// Joins the `count` digits of `value`, and then those of the words, to the first `bits` bits, but for the last
-/// `bits % 8 + count`, which stand behind whole bytes. Returns how many bits there are then, and a number that ends in the
-/// digits that are left.
+/// Joins the `count` digits of `value`, and then those of the words, to the first `bits` bits. It omits the last `bits % 8 + count` digits,
+/// so that it ends with a whole byte. Returns the number of bits then, and a number that ends in the omitted digits.
 #[inline(always)]
 pub fn join_all_but_last_digits(
     bytes: &mut [u8],

@@ -1,4 +1,4 @@
-//! Four words joined in pairs, in lanes.
+//! Joins four words in pairs, in lanes.
 ghost use Rattle.std.specs.Prelude.{◌≡◌, ◌+◌, ◌*◌, ◌%◌, ◌^◌, ◌<◌, ◌≤◌, ◌++◌, [], ◌∷◌, All, length, map, slice_index};
 ghost use Rattle.rice_bits.specs.Bits.{word};
 

@@ -89,7 +89,7 @@ fn with_ends_of_byte(front: u64, place: usize, before: u8x16) -> u8x16
     before | lanes_moved_by_ones(more, place, count_zeros_in_first_bytes(front, place))
 }
 
-/// Returns the ends of the ones of the first bytes of a word, as many as there are lanes for, and zeros behind them.
+/// Returns the ends of the ones of the first bytes of a word, up to the number of lanes, and zeros after them.
 #[inline(always)]
 pub fn first_ends(front: u64, bytes: usize) -> u8x16
     requires { (1 ≤ bytes) × (bytes ≤ 7) }

@@ -15,7 +15,7 @@ fn excess_over(a: u8x16, b: u8x16) -> u8x16
     a.saturating_sub(b)
 }
 
-/// Returns 0 and then all numbers but the last.
+/// Returns 0, and then all numbers but the last.
 #[inline(always)]
 pub fn zero_and_all_but_last(numbers: u8x16) -> u8x16
     requires { length numbers ≡ 16 }
@@ -29,7 +29,7 @@ pub fn zero_and_all_but_last(numbers: u8x16) -> u8x16
     )
 }
 
-/// Returns how many bits stand between each of these ends and the one before it, and before the first.
+/// Returns the number of bits between each of these ends and the one before it, and before the first.
 #[inline(always)]
 pub fn gaps_of(ends: u8x16) -> u8x16
     requires { length ends ≡ 16 }
@@ -41,8 +41,7 @@ pub fn gaps_of(ends: u8x16) -> u8x16
     )
 }
 
-/// Returns the number of bits of the first `count` fundamental sequences of a word, whose ends are among those of its first
-/// bytes.
+/// Returns the number of bits of the first `count` fundamental sequences of a word, which end in its first bytes.
 #[inline(always)]
 pub fn len_of_sequences(front: u64, bytes: usize, ends: u8x16, count: usize) -> usize
     requires bytes { (1 ≤ bytes) × (bytes ≤ 7) }

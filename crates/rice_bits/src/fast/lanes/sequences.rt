@@ -7,15 +7,15 @@ use crate::fast::lanes::ends::{count_ones_in_first_bytes, first_ends};
 use crate::fast::lanes::gaps::{gaps_of, len_of_sequences};
 use std::simd::prelude::*;
 
-/// Fundamental sequences that follow one another: the numbers of their zeros in the first lanes, and the number of all their
-/// bits. Later lanes are unspecified.
+/// Successive fundamental sequences: the numbers of their zeros in the first lanes, and the number of all their bits. Later lanes are
+/// unspecified.
 #[derive(Clone, Copy)]
 pub struct Sequences {
     pub numbers: u8x16,
     pub len: usize,
 }
 
-/// Returns the first `count` fundamental sequences of a word, if they end within its first bytes.
+/// Returns the first `count` fundamental sequences of a word, if it finds them in its first `bytes` bytes.
 #[inline(always)]
 pub fn first_sequences(front: u64, bytes: usize, count: usize) -> Option<Sequences>
     requires bytes { (1 ≤ bytes) × (bytes ≤ 7) }

@@ -50,8 +50,8 @@ fn write_ends_of_bytes(bytes: &[u8], before: u8, found: usize, ends: &mut [u8]) 
     all
 }
 
-/// Writes the ends of the first ones of `front`, at least `wanted` of them if they are among its first 56 bits, after
-/// the first place. Returns their number.
+/// Writes the ends of the first ones of `front` after the first place of `ends`, and returns their number. It searches the first 56 bits at
+/// most, for `wanted` of them.
 #[inline(always)]
 pub fn find_ends(front: u64, wanted: usize, ends: &mut [u8]) -> usize
     requires room { length ends.old ≡ 64 }
@@ -66,7 +66,7 @@ pub fn find_ends(front: u64, wanted: usize, ends: &mut [u8]) -> usize
     write_ends_of_bytes(&bytes[4..7], 32, found, ends)
 }
 
-/// Returns how many bits stand between an end and the next, for each of eight ends from the place `at` on.
+/// Returns the number of bits between an end and the next, for each of eight ends from the place `at` on.
 #[inline(always)]
 pub fn eight_narrow_gaps(ends: &[u8], at: usize) -> u16x8
     requires { at + 9 ≤ length ends.now }
@@ -144,7 +144,7 @@ fn write_gaps_by_fours(ends: &[u8], zeros: &mut [u32])
     four_gaps(ends, last).copy_to_slice(&mut zeros[last..]);
 }
 
-/// Writes how many bits stand between each of the first ends and the next, one number to each place of `zeros`.
+/// Writes the number of bits between each of the first ends and the next, one to each place of `zeros`.
 #[inline]
 pub fn write_gaps(ends: &[u8], zeros: &mut [u32])
     requires room { length zeros.old < length ends.now }

@@ -1,4 +1,4 @@
-//! A buffer of bits, which puts several fields into a sink at once.
+//! A buffer of bits that puts several fields into a sink at once.
 ghost use Rattle.std.specs.Prelude.{◌≡◌, ◌+◌, ◌*◌, ◌%◌, ◌^◌, ◌<◌, ◌≤◌, ◌++◌, [], flat_map, length};
 ghost use Rattle.rice_bits.specs.Bits.{word, fundamental_sequence, put_width};
 ghost use Rattle.rice_bits.specs.fast.bits.WholeWords.{IsWholeWidth};
@@ -9,10 +9,10 @@ use rice_bits::{Meter, join};
 use rice_samples::Block;
 use std::marker::Model;
 
-/// Holds at most 56 bits that are still to be put into a sink.
+/// Holds at most 56 bits before it puts them into a sink.
 ///
-/// In contracts its value is the list of these bits. Its calls are always inlined, so that the bits stay
-/// in registers while a coded data set is written.
+/// In contracts its value is the list of these bits. Its calls are always inlined, so that the bits stay in registers while a coded data
+/// set is written.
 #[derive(Drop)]
 pub struct BitBuffer {
     value: u64,
@@ -52,7 +52,7 @@ impl BitBuffer {
         BitBuffer { value, width }
     }
 
-    /// Adds the `width` binary digits of `value`, after putting the bits before them where both do not fit.
+    /// Adds the `width` binary digits of `value`. It first puts the bits before them if both do not fit.
     #[inline(always)]
     pub fn add(&mut self, value: u64, width: u32, sink: &mut SegmentSink, meter: &mut Meter)
         requires width { width ≤ put_width }
@@ -99,7 +99,7 @@ impl BitBuffer {
         sink.put_fs(m as u64, meter);
     }
 
-    /// Adds the fundamental sequences of four numbers, all at once where they are short.
+    /// Adds the fundamental sequences of four numbers, all at once if they are short.
     #[inline(always)]
     pub fn add_four_fs(
         &mut self,
@@ -132,7 +132,7 @@ impl BitBuffer {
         self.add_fs(d, sink, meter);
     }
 
-    /// Puts the bits, and then the `width` lowest digits of each residual of the block, which come in eights.
+    /// Puts the bits, and then the `width` lowest digits of each residual of the block. Residuals come in eights.
     #[inline(always)]
     pub fn put_then_whole_words_of_block(
         &self,
@@ -155,7 +155,7 @@ impl BitBuffer {
         block.put_number_and_whole_digits(self.value, count, width, sink, meter);
     }
 
-    /// Puts the bits into the sink, and is empty then.
+    /// Puts the bits into the sink, and empties the buffer.
     #[inline(always)]
     pub fn put(&mut self, sink: &mut SegmentSink, meter: &mut Meter)
         requires { HasRoomFor 0 0 (length sink.old + length self.old) (meter.old +

@@ -1,4 +1,4 @@
-//! Coding the blocks of a segment, one by one.
+//! Codes the blocks of a segment, one by one.
 ghost use Rattle.std.specs.Prelude.{◌≡◌, ◌+◌, ◌-◌, ◌*◌, ◌<◌, ◌≤◌, ◌++◌, true, false, length, Some, None, IfSome, if◌then◌else◌};
 ghost use Rattle.rice_bits.specs.Limits.{step_limit};
 ghost use Rattle.rice_samples.specs.Parameters.{k_max, value_count};
@@ -21,8 +21,8 @@ use crate::known_len::known_or;
 use rice_bits::Meter;
 use rice_samples::{Block, Residuals};
 
-/// Appends the shortest code of a block that is not zero, of `SIZE` residuals, or of any number where `SIZE` is 0. It has the reference `word`, where `REFERENCE`
-/// is true, and else none.
+/// Appends the shortest code of a block that is not zero, of `SIZE` residuals, or of any number if `SIZE` is 0. It has the reference `word`
+/// if `REFERENCE` is true, and else none.
 ///
 /// It is never inlined, so that the loop over the blocks stays short, and takes the parts of the block,
 /// which are passed in registers.

@@ -12,20 +12,20 @@ use rice_bits::Meter;
 use rice_samples::{Levels, Setting};
 use std::marker::Model;
 
-/// What `Coder::push_some` has taken.
+/// What `SizedCoder::push_some` took and appended.
 #[derive(Clone, Copy, Debug, PartialEq, Eq)]
 pub struct Pushed {
-    /// The number of samples that were taken.
+    /// The number of samples taken.
     pub samples: usize,
-    /// The number of bits of code that were appended, padding aside.
+    /// The number of bits of code appended, without padding.
     pub bits: u64,
 }
 
-/// Takes samples, and appends the code of each segment of 64 blocks, or fewer at the end of a
-/// reference interval, once it is whole (CCSDS 121.0-B-3, sections 3 to 5).
+/// Takes samples, and appends the code of each whole segment (CCSDS 121.0-B-3, sections 3 to 5). A segment has 64 blocks, or fewer at the
+/// end of a reference interval.
 ///
-/// It has room for `N` residuals, as many as any segment of its setting has. In contracts its value is what it holds of the
-/// segment that it fills, and `HasTaken` tells which samples it has taken.
+/// It has room for `N` residuals, enough for any segment of its setting. In contracts its value is the state of its open segment, and
+/// `HasTaken` says which samples it has taken.
 #[derive(Drop)]
 pub struct SizedCoder<const N: usize> {
     segment: OpenSegment<N>,
@@ -50,7 +50,7 @@ impl<const N: usize> SizedCoder<N> {
     ghost use Rattle.rice_code.specs.code.Blocks.{fill_count_of};
     ghost use Rattle.rice_code.specs.encode.Coder.{HasTaken, AddsCode, PushesSamples, CompletesNone, CompletesAll};
 
-    /// Returns a coder that has taken no samples, where there is room for each of its segments.
+    /// Returns a coder that has taken no samples. `N` residuals must be enough for each of its segments.
     pub fn begin(setting: Setting) -> Self
         requires size { N ≤ longest_segment }
         requires room { HoldsAnySegment N setting }
@@ -63,8 +63,8 @@ impl<const N: usize> SizedCoder<N> {
         }
     }
 
-    /// Returns a coder that goes on after whole segments: its next segment begins at the place `start` of
-    /// its interval, and the last sample before it is `previous`.
+    /// Returns a coder that continues after whole segments. Its next segment begins at the place `start` of its interval, after the sample
+    /// `previous`.
     pub fn resume(setting: Setting, start: u32, previous: i64) -> Self
         requires size { N ≤ longest_segment }
         requires room { HoldsAnySegment N setting }
@@ -76,8 +76,8 @@ impl<const N: usize> SizedCoder<N> {
         }
     }
 
-    /// Goes back to the end of whole segments, as `resume` begins there: the next segment begins at the place `start` of its interval,
-    /// and the last sample before it is `previous`.
+    /// Goes back to the end of whole segments, as `resume` does. The next segment begins at the place `start` of its interval, after the
+    /// sample `previous`.
     pub fn go_back(&mut self, start: u32, previous: i64)
         requires { (xs : List ℤ) × HasTaken (state_between self.old.setting start previous) xs }
         ensures { self.new ≡ state_between self.old.setting start previous }
@@ -85,7 +85,7 @@ impl<const N: usize> SizedCoder<N> {
         self.segment.go_to(start, previous);
     }
 
-    /// Returns how many bits a sink may hold where `push_some` is to find room for the code of a segment.
+    /// Returns how many bits a sink may hold before `push_some`, so that the code of a segment fits.
     #[inline]
     pub fn most_before(&self) -> u64
         ensures value { result ≡ most_before self.now.setting }
@@ -94,21 +94,21 @@ impl<const N: usize> SizedCoder<N> {
         self.segment.most_before()
     }
 
-    /// Returns the place in its interval at which the segment begins that is not whole yet.
+    /// Returns the place in its interval where the open segment begins.
     pub fn start(&self) -> u32
         ensures { result ≡ self.now.start }
     {
         self.segment.start()
     }
 
-    /// Returns the last sample that it has taken, or 0.
+    /// Returns the last sample taken, or 0.
     pub fn previous(&self) -> i64
         ensures { result ≡ self.now.previous }
     {
         self.segment.previous()
     }
 
-    /// Returns the number of samples whose segment is not whole yet: fewer than 64 blocks of them.
+    /// Returns the number of samples in the open segment: fewer than 64 blocks.
     pub fn pending(&self) -> u32
         ensures value { (xs : List ℤ) → HasTaken self.now xs →
             result + cut self.now.setting (length xs) ≡ length xs }
@@ -117,10 +117,10 @@ impl<const N: usize> SizedCoder<N> {
         self.segment.len() as u32
     }
 
-    /// Takes the samples with these levels from the front, up to and including the one that makes a segment whole, or all of
-    /// them. Does what `push` does with each of them in turn, so only the last of them appends code.
+    /// Takes the samples with these levels, up to and including the one that completes a segment, or all of them. It does what `push` does
+    /// with each, so that only the last one appends code.
     ///
-    /// A step is a sample, a bit put, padding aside, or a look at a residual.
+    /// A step is a sample, a bit put, except padding, or a look at a residual.
     #[inline(always)]
     pub fn push_some(
         &mut self,
@@ -159,8 +159,8 @@ impl<const N: usize> SizedCoder<N> {
         }
     }
 
-    /// Fills the last block by repeating the last sample, a step for each, and appends the code of the samples that are pending.
-    /// Returns the number of bits that were appended, padding aside, and leaves the coder as a new one.
+    /// Fills the last block by repeating the last sample, a step for each, and appends the code of the pending samples. Returns the number
+    /// of appended bits, without padding, and resets the coder.
     pub fn finish_reset(&mut self, sink: &mut SegmentSink, meter: &mut Meter) -> u64
         requires room { length sink.old ≤ 7 }
         requires meter { meter.old + segment_steps self.old.setting < step_limit }

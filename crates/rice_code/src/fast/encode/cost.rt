@@ -1,5 +1,4 @@
-//! What a block costs by each option, in bits, without its head: the identifier and the reference, which are as long by
-//! each option.
+//! The cost of a block by each option, in bits, without its head: the identifier and the reference, equally long by each option.
 ghost use Rattle.std.specs.Prelude.{◌≡◌, All, ◌+◌, ◌/◌, ◌^◌, ◌<◌, ◌≤◌, length, sum_by};
 ghost use Rattle.rice_bits.specs.Limits.{step_limit};
 ghost use Rattle.rice_samples.specs.Parameters.{k_max};
@@ -25,7 +24,7 @@ pub fn no_compression_cost(setting: &PreparedSetting, block: &HeldBlock<'_>) -> 
     (coded_len(setting, block) * bits) as u64
 }
 
-/// Returns the cost of the block by second extension, without its head, where its residuals are small.
+/// Returns the cost of the block by second extension, without its head, if its residuals are below 2^12.
 #[inline(always)]
 pub fn second_extension_cost(
     setting: &PreparedSetting,
@@ -59,7 +58,7 @@ fn pairs_bits(residuals: Block<'_>) -> u64
     residuals.small_pair_sum(&mut steps)
 }
 
-/// Returns the number of residuals that a split sends: all but that at the reference place.
+/// Returns the number of residuals that a split sends: all but the one at the reference place.
 #[inline(always)]
 pub fn coded_len(setting: &PreparedSetting, block: &HeldBlock<'_>) -> u32
     requires { IsSoundData setting.now block.now }
@@ -74,8 +73,7 @@ pub fn coded_len(setting: &PreparedSetting, block: &HeldBlock<'_>) -> u32
     }
 }
 
-/// Returns the cost of the block by split `k`, without its head, where `sum` is that of the residuals without their `k`
-/// lowest digits.
+/// Returns the cost of the block by split `k`, without its head. `sum` is that of the residuals without their `k` lowest digits.
 #[inline(always)]
 pub fn split_cost(setting: &PreparedSetting, block: &HeldBlock<'_>, k: u32, sum: u64) -> u64
     requires split { k ≤ k_max setting.now }

@@ -1,14 +1,13 @@
-//! Fundamental sequences that are gathered in a number: each is a bit that is set.
+//! Gathers fundamental sequences in a number: each sets one bit.
 ghost use Rattle.std.specs.Prelude.{◌≡◌, ◌+◌, ◌<◌, ◌≤◌, ◌++◌, Bool, List, [], length};
 ghost use Rattle.rice_bits.specs.Bits.{fundamental_sequence};
 ghost use Rattle.rice_code.specs.encode.GatheredSequences.{HasFront, four_sequences, sequences_from};
 
-/// The digits of a number that is spelled by fundamental sequences, from the first on, and zeros in place of those that are
-/// still to come.
+/// The first digits of a number, from fundamental sequences, with zeros for the remaining digits.
 #[derive(Clone, Copy)]
 pub struct GatheredRow {
     pub value: u64,
-    /// The number of digits that are still to come.
+    /// The number of remaining digits.
     pub left: u64,
 }
 
@@ -55,8 +54,7 @@ pub fn digits_with_four_sequences(row: GatheredRow, four: (u32, u32, u32, u32)) 
     digits_with_sequence(three, four.3)
 }
 
-/// Begins a number of `total` digits with the fundamental sequences of the four numbers from number `from` on, which is one
-/// of the first two.
+/// Begins a number of `total` digits with the fundamental sequences of the four numbers from number `from`, 0 or 1, on.
 #[inline(always)]
 pub fn begin_sequences_with_four(four: (u32, u32, u32, u32), from: usize, total: u64) -> GatheredRow
     requires from { from ≤ 1 }

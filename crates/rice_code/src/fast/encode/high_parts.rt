@@ -1,5 +1,5 @@
-//! Writing the high parts of residuals as fundamental sequences, of 8 or 16 at once where they fit one put: those of 16 by products
-//! where all are at most 6, and else by the places of their ones.
+//! Writes the high parts of residuals as fundamental sequences, 8 or 16 at once if they fit one put. It joins 16 by products if all are at
+//! most 6, and else by the places of their ones.
 ghost use Rattle.std.specs.Prelude.{◌≡◌, ◌+◌, ◌-◌, ◌/◌, ◌%◌, ◌^◌, ◌<◌, ◌≤◌, ◌++◌, length, drop, flat_map, map, slice_index, slice_range, sum_by};
 ghost use Rattle.rice_bits.specs.Limits.{step_limit};
 ghost use Rattle.rice_bits.specs.Bits.{fundamental_sequence};
@@ -21,8 +21,8 @@ use rice_bits::Meter;
 use rice_samples::Block;
 use std::simd::prelude::*;
 
-/// Adds the fundamental sequences of the residuals from number `from` on, which is one of the first two, without their `k`
-/// lowest digits: `total` bits. Looks at all residuals.
+/// Adds the fundamental sequences of the residuals from number `from`, 0 or 1, on, without their `k` lowest digits: `total` bits. It looks
+/// at all residuals.
 #[inline(always)]
 pub fn put_high(
     block: &Block<'_>,

@@ -1,4 +1,4 @@
-//! Writing the lowest digits of residuals.
+//! Writes the lowest digits of residuals.
 ghost use Rattle.std.specs.Prelude.{◌≡◌, ◌+◌, ◌-◌, ◌*◌, ◌%◌, ◌^◌, ◌<◌, ◌≤◌, ◌++◌, length, drop, slice_range};
 ghost use Rattle.rice_bits.specs.Bits.{word};
 ghost use Rattle.rice_code.specs.encode.SentParts.{HasRoomForLow, AddsLow};

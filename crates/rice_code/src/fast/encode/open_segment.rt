@@ -19,9 +19,9 @@ use rice_bits::Meter;
 use rice_samples::{Levels, Residuals, Setting, pattern, pattern_of_level, residual};
 use std::marker::Model;
 
-/// The residuals of a segment that is not coded yet, at most `N`, and what is known of it.
+/// The residuals of a segment that is not coded yet, at most `N`, with its reference and its place.
 ///
-/// In contracts its value is all of this but the length at which the segment is whole.
+/// In contracts its value is all of this except the length of the whole segment.
 #[derive(Drop)]
 pub struct OpenSegment<const N: usize> {
     setting: PreparedSetting,
@@ -30,9 +30,9 @@ pub struct OpenSegment<const N: usize> {
     residuals: Residuals<N>,
     /// The reference of its first block.
     reference: Option<u32>,
-    /// The level of the sample before the next.
+    /// The level of the sample before the next one.
     previous: u32,
-    /// The number of residuals that make it whole.
+    /// The number of residuals of the whole segment.
     end: usize,
 }
 
@@ -95,7 +95,7 @@ impl<const N: usize> OpenSegment<N> {
         self.start
     }
 
-    /// Returns the sample before the next.
+    /// Returns the sample before the next one.
     #[inline]
     pub fn previous(&self) -> i64
         ensures { result ≡ self.now.previous }
@@ -112,7 +112,7 @@ impl<const N: usize> OpenSegment<N> {
         self.residuals.len()
     }
 
-    /// Returns the number of residuals that the segment still takes.
+    /// Returns the number of residuals that still fit.
     #[inline]
     pub fn room(&self) -> usize
         ensures { result + length self.now.residuals ≡
@@ -121,7 +121,7 @@ impl<const N: usize> OpenSegment<N> {
         self.end - self.residuals.len()
     }
 
-    /// Returns how many bits a sink may hold, so that there is room for the code of the segment behind them.
+    /// Returns how many bits a sink may hold, so that the code of the segment fits after them.
     #[inline]
     pub fn most_before(&self) -> u64
         ensures value { result ≡ most_before self.now.setting }
@@ -132,7 +132,7 @@ impl<const N: usize> OpenSegment<N> {
         8 * 16_432 - 64 * (5 + 32 * size as u64)
     }
 
-    /// Returns whether the residuals make the segment whole.
+    /// Returns whether the segment is whole.
     #[inline]
     pub fn is_whole(&self) -> bool
         ensures { IsTrue result ↔ IsWhole self.now }
@@ -225,8 +225,7 @@ impl<const N: usize> OpenSegment<N> {
         push_copies(&mut self.residuals, residual, count, meter);
     }
 
-    /// Appends the code of its blocks, with the padding of the interval that they end. Returns the
-    /// number of its bits, padding aside.
+    /// Appends the code of its blocks, with the padding of an interval that they end. Returns the number of appended bits, without padding.
     #[inline(always)]
     pub fn code(&self, sink: &mut SegmentSink, meter: &mut Meter) -> u64
         requires blocks { HoldsSoundBlocks self.now }
@@ -262,7 +261,7 @@ impl<const N: usize> OpenSegment<N> {
         self.code(sink, meter)
     }
 
-    /// Goes on to the next segment.
+    /// Begins the next segment.
     pub fn begin_next(&mut self)
         requires { IsWhole self.old }
         ensures { self.new ≡ state_after_segment self.old }
@@ -278,7 +277,7 @@ impl<const N: usize> OpenSegment<N> {
         self.start = start;
     }
 
-    /// Goes to the segment that begins at the place `start` of its interval, after the sample `previous`, without residuals.
+    /// Begins the segment at the place `start` of its interval, after the sample `previous`, without residuals.
     pub fn go_to(&mut self, start: u32, previous: i64)
         requires open { IsOpen (state_between self.old.setting start previous)
             (self.old.setting.block * blocks_left self.old.setting start) }
@@ -291,7 +290,7 @@ impl<const N: usize> OpenSegment<N> {
         self.end = residuals_from(&self.setting, start);
     }
 
-    /// Goes back to the first segment, without residuals.
+    /// Begins the first segment again, without residuals.
     pub fn begin_first(&mut self)
         ensures { self.new ≡ empty_state self.old.setting }
     {

@@ -1,4 +1,4 @@
-//! Writing coded data sets: a block by each option, and runs of zero blocks.
+//! Writes coded data sets: a block by each option, and runs of zero blocks.
 ghost use Rattle.std.specs.Prelude.{◌≡◌, ◌+◌, ◌-◌, ◌*◌, ◌%◌, ◌^◌, ◌<◌, ◌≤◌, ◌↔◌, IsTrue, ◌++◌, None, flat_map, length, IfSome};
 ghost use Rattle.rice_bits.specs.Bits.{word};
 ghost use Rattle.rice_bits.specs.fast.bits.WholeWords.{IsWholeWidth};
@@ -53,7 +53,7 @@ fn begin_set(
     fields
 }
 
-/// Appends the block, coded by no compression. What it does is laid out for `SIZE` residuals, if that is not 0.
+/// Appends the block, coded by no compression. The compiler specialises it for `SIZE` residuals, if that is not 0.
 #[inline(always)]
 pub fn put_no_compression<const SIZE: usize>(
     setting: &PreparedSetting,
@@ -146,8 +146,8 @@ pub fn put_second_extension(
     fields.put(sink, meter);
 }
 
-/// Appends the block, coded by split `k`, which takes `cost` bits without the head. There is one for each size of blocks, with a reference
-/// and without: it is inlined only where it has one caller.
+/// Appends the block, coded by split `k`, which takes `cost` bits without the head. Each size of blocks has its own, with a reference and
+/// without: it is inlined only if it has one caller.
 #[inline(always)]
 pub fn put_split<const SIZE: usize, const REFERENCE: bool>(
     setting: &PreparedSetting,
@@ -186,8 +186,7 @@ pub fn put_split<const SIZE: usize, const REFERENCE: bool>(
     fields.put(sink, meter);
 }
 
-/// Appends a run of `z` zero blocks, which reaches the end of the segment, or of the last segment, where
-/// `to_end` is true.
+/// Appends a run of `z` zero blocks. `to_end` says whether it reaches the end of the segment, or the last block.
 pub fn put_run(
     setting: &PreparedSetting,
     reference: Option<u32>,

@@ -1,4 +1,4 @@
-//! Writing the pairs of second extension.
+//! Writes the pairs of second extension.
 ghost use Rattle.std.specs.Prelude.{◌≡◌, ◌+◌, ◌-◌, ◌%◌, ◌<◌, ◌≤◌, length, flat_map};
 ghost use Rattle.rice_bits.specs.Bits.{fundamental_sequence};
 ghost use Rattle.rice_samples.specs.blocks.Pairs.{pair_code, pair_codes};

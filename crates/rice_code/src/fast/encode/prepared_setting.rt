@@ -1,4 +1,4 @@
-//! A setting, with what the code of each block asks for.
+//! A setting, with the numbers that each block needs.
 ghost use Rattle.std.specs.Prelude.{◌≡◌, ◌≤◌};
 ghost use Rattle.rice_samples.specs.Limits.{longest_interval};
 ghost use Rattle.rice_samples.specs.Parameters.{IsLegal, IsBlockSize, id_len, k_max};
@@ -7,7 +7,7 @@ ghost use Rattle.rice_samples.specs.Places.{blocks_left};
 use rice_samples::Setting;
 use std::marker::Model;
 
-/// A setting, with the numbers that each block asks for: they are computed once.
+/// A setting, with the numbers that each block needs, computed once.
 ///
 /// In contracts its value is the setting's.
 #[derive(Clone, Copy)]
@@ -35,7 +35,7 @@ impl Model for PreparedSetting {
 }
 
 impl PreparedSetting {
-    /// Computes the numbers.
+    /// Returns the setting with its numbers.
     #[inline]
     pub fn new(setting: Setting) -> Self
         ensures { result ≡ setting }
@@ -94,7 +94,7 @@ impl PreparedSetting {
         &self.setting
     }
 
-    /// Returns whether samples are predicted, and their residuals coded in place of their patterns.
+    /// Returns whether samples are predicted, and their residuals coded, not their patterns.
     #[inline]
     pub fn preprocess(&self) -> bool
         ensures { result ≡ self.now.preprocess }

@@ -1,4 +1,4 @@
-//! The fundamental sequences of 16 numbers of any size in one number: where their ones stand is summed in lanes.
+//! Joins the fundamental sequences of 16 numbers of any size in one number, by sums of the places of their ones, in lanes.
 ghost use Rattle.std.specs.Prelude.{◌≡◌, ◌^◌, ◌<◌, ◌≤◌, ◌%◌, All, List, ℕ, bit_or, flat_map, length};
 ghost use Rattle.std.specs.Simd.Lanes.{number_l};
 ghost use Rattle.rice_bits.specs.Bits.{fundamental_sequence};

@@ -1,4 +1,4 @@
-//! The fundamental sequences of 16 numbers in one number, by products in lanes instead of one bit after another.
+//! Joins the fundamental sequences of 16 numbers in one number, by products in lanes.
 ghost use Rattle.std.specs.Prelude.{◌≡◌, ◌+◌, ◌*◌, ◌^◌, ◌≤◌, ◌↔◌, All, IsTrue, drop, flat_map, length, map, min, replicate};
 ghost use Rattle.rice_bits.specs.Bits.{number_of, fundamental_sequence};
 ghost use Rattle.rice_code.specs.encode.GatheredSequences.{HasDigits};
@@ -9,7 +9,7 @@ use std::simd::prelude::*;
 /// For each number up to 6, the weight of its fundamental sequence: 2 to the number of its bits. That of 7 would not fit a byte.
 static WEIGHTS: [u8; 16] = [2, 4, 8, 16, 32, 64, 128, 0, 0, 0, 0, 0, 0, 0, 0, 0];
 
-/// Returns the numbers in lanes of a byte, 63 in place of those above, which may not fit a byte.
+/// Returns the numbers in lanes of a byte, with 63 for larger ones.
 #[inline(always)]
 pub fn numbers_in_bytes(numbers: u32x16) -> u8x16
     requires { length numbers ≡ 16 }
@@ -36,8 +36,7 @@ pub fn are_at_most_fourteen(numbers: u8x16) -> bool
     numbers.saturating_sub(u8x16::splat(14)).reduce_or() == 0
 }
 
-/// Returns the number of bits of the fundamental sequences of 16 numbers of at most 14 from number `from` on, which is one of the
-/// first two.
+/// Returns the number of bits of the fundamental sequences of 16 numbers of at most 14 from number `from`, 0 or 1, on.
 #[inline(always)]
 pub fn len_of_sequences_from(numbers: u8x16, from: usize) -> u32
     requires len { length numbers ≡ 16 }
@@ -52,8 +51,7 @@ pub fn len_of_sequences_from(numbers: u8x16, from: usize) -> u32
     all - (numbers.to_array()[0] as u32 + 1)
 }
 
-/// Returns the number whose digits are the fundamental sequences of 16 numbers of at most 6 from number `from` on, which is one
-/// of the first two: `total` bits.
+/// Returns the number whose digits are the fundamental sequences of 16 numbers of at most 6 from number `from`, 0 or 1, on: `total` bits.
 #[inline(always)]
 pub fn joined_sequences_from(numbers: u8x16, from: usize, total: u32) -> u64
     requires len { length numbers ≡ 16 }

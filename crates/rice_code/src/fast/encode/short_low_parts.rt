@@ -1,4 +1,4 @@
-//! Writing the lowest digits of eight residuals at once, where they fit one put.
+//! Writes the lowest digits of eight residuals at once, if they fit one put.
 ghost use Rattle.std.specs.Prelude.{◌≡◌, ◌+◌, ◌-◌, ◌*◌, ◌%◌, ◌^◌, ◌<◌, ◌≤◌, ◌++◌, length, slice_range, flat_map};
 ghost use Rattle.rice_bits.specs.Limits.{step_limit};
 ghost use Rattle.rice_bits.specs.Bits.{word};
@@ -35,8 +35,7 @@ static WEIGHTS: [[u32; 4]; 8] = [
     [2_097_152, 16_384, 128, 1],
 ];
 
-/// Adds the `width` lowest digits of each residual from number `from` on, which is one of the first two. Looks at all
-/// residuals.
+/// Adds the `width` lowest digits of each residual from number `from`, 0 or 1, on. It looks at all residuals.
 #[inline(always)]
 pub fn put_short_low(
     block: &Block<'_>,

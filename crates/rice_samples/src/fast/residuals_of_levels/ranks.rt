@@ -5,7 +5,7 @@ ghost use Rattle.rice_samples.specs.predict.Residuals.{rank_below, ranks_below};
 
 use crate::fast::lanes::Lanes;
 
-/// Returns the ranks of numbers up to `greatest`, each from the one at the same place in `before`.
+/// Returns the ranks of numbers up to `greatest`, each from the number at the same place of `before`.
 #[inline(always)]
 pub fn ranks<L: Lanes>(greatest: u32, before: L, numbers: L) -> L
     requires greatest { greatest < 2 ^ L.bits }
@@ -20,8 +20,8 @@ pub fn ranks<L: Lanes>(greatest: u32, before: L, numbers: L) -> L
     down.plus(up).plus(nearer.least(reach))
 }
 
-/// Writes the ranks of the first numbers up to `greatest`, as many at a time as there are lanes, as long as there are as many: of the
-/// first one from `p`, and of each other from the one before it. Returns how many it wrote.
+/// Writes the ranks of levels up to `greatest`: of the first from `p`, of each other from the one before it. It writes a whole vector at a
+/// time, while one is left, and returns how many ranks it wrote.
 #[inline(always)]
 pub fn write_ranks<L: Lanes>(
     greatest: u32,

@@ -16,7 +16,7 @@ use std::simd::prelude::*;
 /// The least level that so many others are near to that near ones are expected after it.
 const FEW_BELOW: u32 = 8;
 
-/// Returns whether few others are near to a level, since fewer than 8 are below it.
+/// Returns whether a level is below 8, so that few others are near to it.
 #[inline(always)]
 pub fn has_few_near(level: u32) -> bool
     ensures { IsTrue result ↔ (level < 8) }
@@ -24,8 +24,7 @@ pub fn has_few_near(level: u32) -> bool
     level < FEW_BELOW
 }
 
-/// Writes the levels of the samples with these residuals: the first after a sample at level `before`, and each other after the
-/// one before it.
+/// Writes the levels of the samples with these residuals: the first after a sample at level `before`, each other after the one before it.
 #[inline(always)]
 pub fn restore_near_first(setting: &Setting, before: u32, residuals: &[u32], levels: &mut [u32])
     requires can { CanRestore setting.now before residuals.now levels.old }
@@ -42,8 +41,7 @@ pub fn restore_near_first(setting: &Setting, before: u32, residuals: &[u32], lev
     }
 }
 
-/// Writes the levels of the samples with these residuals, as `restore_near_first` does. It is made for samples that are far from those
-/// before.
+/// Does what `restore_near_first` does, and is faster for samples far from those before them.
 #[inline(always)]
 pub fn restore_by_selection(setting: &Setting, before: u32, residuals: &[u32], levels: &mut [u32])
     requires can { CanRestore setting.now before residuals.now levels.old }

@@ -6,7 +6,7 @@ ghost use Rattle.rice_samples.specs.predict.NearNumbers.{near_numbers as near_nu
 
 use crate::fast::lanes::Lanes;
 
-/// Returns the way to each number, if it is near. The ways wrap, as their sums do.
+/// Returns the difference of each rank, if it is near. Differences and their sums wrap.
 #[inline(always)]
 pub fn near_ways<L: Lanes>(ranks: L) -> L
     ensures { L.numbers result ≡ map (way (2 ^ L.bits)) (L.numbers ranks) }
@@ -14,7 +14,7 @@ pub fn near_ways<L: Lanes>(ranks: L) -> L
     ranks.half().xor(L::splat(0).minus(ranks.and(L::splat(1))))
 }
 
-/// Returns, for each number, the sum of `p`, the numbers before it and its own. Sums wrap.
+/// Returns for each number the sum of `p`, the numbers before it and itself. Sums wrap.
 #[inline(always)]
 pub fn running_sums<L: Lanes>(p: u32, numbers: L) -> L
     requires { p < 2 ^ L.bits }
@@ -26,7 +26,7 @@ pub fn running_sums<L: Lanes>(p: u32, numbers: L) -> L
     eight.plus(eight.moved_by_eight()).plus(L::splat(p))
 }
 
-/// Returns the numbers with these ranks, the first from `p` and each other from the one before it, if all are near.
+/// Returns the numbers with these ranks, the first from `p`, each other from the one before it, if all are near.
 #[inline(always)]
 pub fn near_numbers<L: Lanes>(p: u32, ranks: L) -> L
     requires { p < 2 ^ L.bits }
@@ -35,7 +35,7 @@ pub fn near_numbers<L: Lanes>(p: u32, ranks: L) -> L
     running_sums(p, near_ways(ranks))
 }
 
-/// Returns by how much each rank is above those that are near. Where none is, the numbers have these ranks.
+/// Returns by how much each rank exceeds those of near numbers. If none does, `numbers` have these ranks.
 #[inline(always)]
 pub fn excess_over_near<L: Lanes>(greatest: u32, p: u32, ranks: L, numbers: L) -> L
     requires greatest { greatest < 2 ^ L.bits }
@@ -52,8 +52,8 @@ pub fn excess_over_near<L: Lanes>(greatest: u32, p: u32, ranks: L, numbers: L) -
     ranks.above(reach.plus(reach))
 }
 
-/// Returns the numbers up to `greatest` with these ranks, the first from `p` and each other from the one before it. `None` if not all
-/// are near.
+/// Returns the numbers up to `greatest` with these ranks, the first from `p`, each other from the one before it. May return `None` if not
+/// all are near.
 #[inline(always)]
 pub fn near_levels<L: Lanes>(greatest: u32, p: u32, ranks: L) -> Option<L>
     requires greatest { greatest < 2 ^ L.bits }

@@ -11,7 +11,7 @@ use crate::fast::lanes::words::Words;
 use crate::fast::restoring::near::{excess_over_near, near_numbers};
 use std::simd::prelude::*;
 
-/// Joins high parts and low parts of `width` digits, if the high parts are small enough.
+/// Joins high parts and low parts of `width` digits, if the results fit.
 #[inline(always)]
 pub fn join_parts<L: Lanes>(highs: L, lows: L, width: u32) -> L
     requires width { width < L.bits }
@@ -22,8 +22,8 @@ pub fn join_parts<L: Lanes>(highs: L, lows: L, width: u32) -> L
     highs.times_power_of_two(width).plus(lows)
 }
 
-/// Returns the levels of samples, of which the residuals have these high parts and these low parts of `width` bits: the first after
-/// a sample at level `before`, and each other after the one before it. `None` if not all are near to those before them.
+/// Returns the levels of the samples whose residuals have these high parts and low parts of `width` bits. The first is after a sample at
+/// level `before`, each other after the one before it. May return `None` if not all are near.
 #[inline(always)]
 pub fn near_levels_of_parts<L: Lanes>(
     setting: &Setting,
@@ -51,14 +51,14 @@ pub fn near_levels_of_parts<L: Lanes>(
     Some(levels)
 }
 
-/// The levels of sixteen samples of at most 16 bits: those of eight, and then of the other eight.
+/// The levels of sixteen samples of at most 16 bits: the first eight, and the other eight.
 #[derive(Clone, Copy)]
 pub struct LevelHalves {
     pub first: Halves,
     pub second: Halves,
 }
 
-/// As `near_levels_of_parts`, of sixteen samples of at most 16 bits, whose high parts are bytes.
+/// Does what `near_levels_of_parts` does, for sixteen samples of at most 16 bits, whose high parts are bytes.
 #[inline(always)]
 pub fn near_halves_of_parts(
     setting: &Setting,
@@ -89,7 +89,7 @@ pub fn near_halves_of_parts(
     Some(LevelHalves { first, second })
 }
 
-/// As `near_levels_of_parts`, of eight samples of any number of bits, whose high parts are bytes.
+/// Does what `near_levels_of_parts` does, for eight samples of any number of bits, whose high parts are bytes.
 #[inline(always)]
 pub fn near_words_of_parts(
     setting: &Setting,

@@ -1,5 +1,5 @@
-//! Levels of samples from their residuals, or from the parts of these, one after another: of samples of which many are far from the one
-//! before.
+//! Levels of samples from their residuals, or from the parts of these, one after another. It is for samples of which many are far from the
+//! one before.
 ghost use Rattle.std.specs.Prelude.{◌≡◌, ◌^◌, ◌<◌, ◌≤◌, ◌++◌, All, IfSome, length};
 ghost use Rattle.rice_samples.specs.Parameters.{value_count};
 ghost use Rattle.rice_samples.specs.predict.Residuals.{ranks_below};
@@ -15,8 +15,8 @@ use crate::fast::restoring::parts::{
 use crate::fast::restoring::turns::{bytes_in_turn, halves_in_turn};
 use std::simd::prelude::*;
 
-/// Returns the levels of the sixteen samples with these residuals: the first after a sample at level `before`, and each other after the
-/// one before it.
+/// Returns the levels of the sixteen samples with these residuals: the first after a sample at level `before`, each other after the one
+/// before it.
 #[inline(always)]
 pub fn levels_in_turn(setting: &Setting, before: u32, residuals: Bytes) -> Bytes
     requires narrow { setting.now.bits ≤ 8 }
@@ -29,8 +29,8 @@ pub fn levels_in_turn(setting: &Setting, before: u32, residuals: Bytes) -> Bytes
     bytes_in_turn(greatest, before, residuals)
 }
 
-/// Returns the levels of sixteen samples, of which the residuals have these high parts and these low parts of `width` bits: the first
-/// after a sample at level `before`, and each other after the one before it. `None` if a residual is too large.
+/// Returns the levels of the sixteen samples whose residuals have these high parts and low parts of `width` bits. The first is after a
+/// sample at level `before`, each other after the one before it. Returns `None` if a residual is too large.
 #[inline(never)]
 pub fn levels_of_parts_in_turn(
     setting: &Setting,
@@ -56,7 +56,7 @@ pub fn levels_of_parts_in_turn(
     Some(levels_in_turn(setting, before, residuals))
 }
 
-/// As `levels_of_parts_in_turn`, of samples of at most 16 bits.
+/// Does what `levels_of_parts_in_turn` does, for samples of at most 16 bits.
 #[inline(never)]
 pub fn halves_of_parts_in_turn(
     setting: &Setting,

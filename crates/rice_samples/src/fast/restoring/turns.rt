@@ -1,4 +1,4 @@
-//! Numbers from their ranks, one after another. It is made for numbers of which many are far from the one before.
+//! Numbers from their ranks, one after another. It is for numbers of which many are far from the one before.
 ghost use Rattle.std.specs.Prelude.{◌≡◌, ◌+◌, ◌-◌, ◌/◌, ◌^◌, ◌<◌, ◌≤◌, All, drop, length, map, replicate, true};
 ghost use Rattle.rice_samples.specs.predict.Residuals.{last_number, rank_below, ranks_below};
 ghost use Rattle.rice_samples.specs.predict.NearNumbers.{way as way_of};
