@@ -65,8 +65,8 @@ pub trait GoesByBlocks: Drop {
         ensures stopped { (state self.new).stopped ≡ (state self.old).stopped };
 }
 
-/// A decoder that gives the bytes of the samples of a block. `SIZE`, if it is not 0, is the number of samples of a block, and `WIDTH`, if it
-/// is not 0, that of the bytes of a sample, of which blocks may go through a fast pass.
+/// A decoder that gives the bytes of the samples of a block. `SIZE`, unless it is 0, is the number of samples of a block. `WIDTH`, unless
+/// it is 0, is the number of bytes of a sample, of which blocks may go through a fast pass.
 pub trait GivesBytes<const SIZE: usize, const WIDTH: usize>: GoesByBlocks {
     /// Reads the next block by a fast pass, and writes the bytes of its samples to the front of `bytes`, if it can. Returns whether it did;
     /// otherwise nothing has happened. It may write more after these bytes.

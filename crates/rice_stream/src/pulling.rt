@@ -19,11 +19,10 @@ use rice_samples::Setting;
 /// The most bits of a code.
 const LIMIT: u64 = 1 << 52;
 
-/// Decodes the coded data sets that are whole in a piece of the code, and writes their samples to the front of `samples`: whole
-/// blocks, as many as there is room for. The piece begins with byte `stand.bits / 8` of the code. Returns where decoding stands then,
-/// and why it ends there.
+/// Decodes the whole coded data sets of a piece of code, and writes their samples to the front of `samples`: whole blocks, as many as fit.
+/// The piece begins with byte `stand.bits / 8` of the code. Returns where decoding stands then, and why it ends there.
 ///
-/// What the piece has after that place comes again at the front of the next piece.
+/// The bytes of the piece from that place on have to come again at the front of the next piece.
 pub fn decode_more(
     setting: &Setting,
     stand: &Stand,

@@ -29,10 +29,10 @@ use rice_bits::{BitReader, Intake, Meter};
 use rice_samples::{Setting, has_few_near, write_spellings_by_eights};
 use std::marker::Model;
 
-/// Decodes coded data sets, a block a call.
+/// Decodes coded data sets, one block per call.
 ///
-/// It takes 576 bytes of memory. In contracts its value is its state: the setting, the place of the next block, the
-/// sample before it, the zero blocks of a run that are still to come, and what it answers once it has stopped.
+/// It takes 576 bytes of memory. In contracts its value is its state: the setting, the next block's place, the sample before it, the zero
+/// blocks left of a run, and its answer once stopped.
 #[derive(Drop)]
 pub struct FastDecoder {
     setting: Setting,
@@ -165,13 +165,15 @@ impl FastDecoder {
         self.block = next;
     }
 
-    /// Reads the next block, and writes the bytes of its samples, of `WIDTH` bytes each, to the front of `bytes`, if its coded data set
-    /// is buffered and fits the fast pass. `SIZE`, if it is not 0, is the number of samples of a block.
+    /// Reads the next block, if it fits the fast pass and its coded data set is buffered. Writes the bytes of its samples, `WIDTH` each, to
+    /// the front of `bytes`. `SIZE`, unless it is 0, is the number of samples of a block.
     ///
-    /// The pass takes a block by a split with short fundamental sequences, and one without compression, of samples of one byte or of those
-    /// that are not predicted and fill their bytes. Samples of more than two bytes, or by a split above 8, have to be near to those before
-    /// them. Returns whether it took the block; otherwise nothing has happened, and [`next_levels`](Self::next_levels) gives it. It may
-    /// write up to 32 bytes more after those of the block.
+    /// The pass takes a block by a split with short fundamental sequences. It takes a block without compression if samples have one byte,
+    /// or are not predicted and fill their bytes. Samples of more than two bytes, or by a split above 8, have to be near to those before
+    /// them.
+    ///
+    /// Returns whether it took the block. Otherwise nothing has happened, and [`next_levels`](Self::next_levels) gives it. It may write up
+    /// to 32 bytes more after those of the block.
     #[inline(always)]
     pub fn next_bytes<I: Intake, const SIZE: usize, const WIDTH: usize>(
         &mut self,

@@ -16,8 +16,7 @@ use rice_samples::Setting;
 /// bytes.
 const LOOKS: u64 = 208;
 
-/// Returns the split of the block that waits, if it is one that leaves few low bits, and so many bits wait that all of the block may
-/// be looked at. Its samples have `WIDTH` bytes.
+/// Returns the next block's split, if it leaves few low bits and at least 208 bits are buffered. Samples have `WIDTH` bytes.
 #[inline(always)]
 pub fn split_of_block_ahead<I: Intake, const WIDTH: usize>(
     setting: &Setting,
@@ -37,7 +36,7 @@ pub fn split_of_block_ahead<I: Intake, const WIDTH: usize>(
     Some(id - 1)
 }
 
-/// The level of the last sample of a block that waits, and the number of bits of its coded data set.
+/// The level of the last sample of the next block, and the number of bits of its coded data set.
 #[derive(Clone, Copy)]
 pub struct SpelledBlock {
     pub last: u32,
@@ -55,9 +54,11 @@ pub fn has_rows<const SIZE: usize>(size: usize) -> bool
     if SIZE == 0 { size > 16 } else { SIZE > 16 }
 }
 
-/// Writes the bytes of the block of `size` samples of `WIDTH` bytes that waits, by split `k`, after a sample at level `before`, if its
-/// fundamental sequences are short and, by `TURNS`, no residual is too large, else all samples are near to those before them. It takes
-/// nothing, and may write more behind these bytes. `SIZE` is `size`, where it is not 0.
+/// Writes the bytes of the next block, of `size` samples of `WIDTH` bytes, by split `k`, after a sample at level `before`. `SIZE` is
+/// `size`, unless it is 0.
+///
+/// Returns `None` if its fundamental sequences are long. By `TURNS` it also does where a residual is too large, and otherwise where a
+/// sample is far from the one before it. It takes no bits, and may write more after these bytes.
 #[inline(always)]
 pub fn spell_ahead<I: Intake, const SIZE: usize, const WIDTH: usize, const TURNS: bool>(
     setting: &Setting,
@@ -155,7 +156,7 @@ fn spell_in_rows<I: Intake, const SIZE: usize, const WIDTH: usize, const TURNS: 
     })
 }
 
-/// Takes the next `len` bits, which are a block that was looked at, as if after [`mark`](BitReader::mark).
+/// Takes the next `len` bits, which are those of a block, as if after [`mark`](BitReader::mark).
 #[inline(always)]
 pub fn take_ahead<I: Intake>(reader: &mut BitReader<I>, len: usize, meter: &mut Meter)
     requires going { reader.old.refusal ≡ None }

@@ -14,8 +14,8 @@ use std::simd::prelude::*;
 /// in the mean, and of four rows one is often longer than six bytes.
 const ROW_BYTES: usize = 7;
 
-/// The parts of the residuals of a block that waits, in the first places, the level after which its first sample is restored, and the
-/// number of bits of its coded data set.
+/// The parts of the residuals of the next block, in the first places. `from` is the level after which its first sample is restored, and
+/// `len` the number of bits of its coded data set.
 #[derive(Clone, Copy)]
 pub struct PartRows {
     pub from: u32,
@@ -135,8 +135,9 @@ fn high_parts_of_row_ahead<I: Intake>(
     })
 }
 
-/// Writes the high parts of the residuals of a block of `size` samples whose fundamental sequences wait behind the first `skip` bits, if
-/// each row of them is in one look, and returns the number of their bits. Those that are omitted, one or none, are zeros.
+/// Writes the high parts of the residuals of the next block, of `size` samples, and returns the number of their bits. Their fundamental
+/// sequences begin after `skip` bits. Returns `None` if a row of them is longer than one look. Parts that are omitted, none or one, are
+/// zeros.
 #[inline(always)]
 pub fn write_high_parts_ahead<I: Intake>(
     reader: &BitReader<I>,

@@ -14,8 +14,8 @@ use rice_samples::{
 };
 use std::simd::prelude::*;
 
-/// The parts of the residuals of a block that waits, in the first lanes, the level after which its first sample is restored, and the
-/// number of bits of its coded data set.
+/// The parts of the residuals of the next block, in the first lanes. `from` is the level after which its first sample is restored, and
+/// `len` the number of bits of its coded data set.
 #[derive(Clone, Copy)]
 pub struct PartLanes {
     pub from: u32,
@@ -178,9 +178,11 @@ fn parts_behind_reference_ahead<I: Intake, const WIDTH: usize>(
     })
 }
 
-/// Writes the bytes of a row of `size` samples of `WIDTH` bytes, the first after a sample at level `from`, whose residuals have these parts: by
-/// `TURNS` if no residual is too large, else if all of them are near to those before them. Returns the level of the last. It may write
-/// more behind these bytes.
+/// Writes the bytes of a row of `size` samples of `WIDTH` bytes, the first after a sample at level `from`, whose residuals have these
+/// parts. Returns the level of the last.
+///
+/// By `TURNS` it returns `None` only if a residual is too large, and otherwise if a sample is far from the one before it. It may write more
+/// after these bytes.
 #[inline(always)]
 pub fn spell_parts<const WIDTH: usize, const TURNS: bool>(
     setting: &Setting,

@@ -1,5 +1,5 @@
-//! Blocks of predicted samples, by a split, in one pass from bits to levels, in lanes of 32 bits: of samples of 17 to 32 bits, and of 9
-//! to 16 bits where more than 8 low bits are sent.
+//! Blocks of predicted samples, by a split, from bits to levels, in lanes of 32 bits. Samples have 17 to 32 bits, or 9 to 16 bits where a
+//! split sends more than 8 low bits.
 ghost use Rattle.std.specs.Prelude.{◌≡◌, ◌+◌, ◌-◌, ◌*◌, ◌%◌, ◌^◌, ◌<◌, ◌≤◌, ◌++◌, All, IfSome, drop, length, replicate, slice_index_or, take, true};
 ghost use Rattle.rice_bits.specs.Bits.{word};
 ghost use Rattle.rice_samples.specs.Parameters.{id_len, k_max, value_at, value_count};
@@ -22,8 +22,8 @@ const LOOK: u64 = 64;
 /// The number of bytes in which the fundamental sequences of a block of eight samples have to end.
 const EIGHT_BYTES: usize = 5;
 
-/// Returns the split of the block that waits, if samples are predicted, it is one of 1 to 24 of samples of more than 16 bits or one above 8
-/// of samples of 9 to 16 bits, and so many bits wait that the first sequences may be looked at.
+/// Returns the next block's split, if this pass may decode it. Samples have to be predicted, the split 1 to 24 (above 16 bits a sample) or
+/// above 8 (9 to 16 bits), and at least 101 bits buffered.
 #[inline(always)]
 pub fn wide_split_ahead<I: Intake>(setting: &Setting, reader: &BitReader<I>) -> Option<u32>
     ensures preprocess { IfSome result (λ k. setting.now.preprocess ≡ true) }
@@ -229,8 +229,8 @@ fn restore_rows_ahead<I: Intake>(
     })
 }
 
-/// Writes the levels of the samples of the block that waits, by split `k`, after a sample at level `before`, if its
-/// fundamental sequences are short and all samples are near to those before them. It takes nothing.
+/// Writes the levels of the samples of the next block, by split `k`, after a sample at level `before`. Returns `None` if its fundamental
+/// sequences are long, or a sample is far from the one before it. It takes no bits.
 ///
 /// There is one for each `WIDTH` of samples in bytes: it is inlined only where it has one caller.
 #[inline(always)]
