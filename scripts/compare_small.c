@@ -32,6 +32,8 @@ struct answer {
 static struct answer ours, small;
 static uint8_t samples[4 * MOST_SAMPLES + 8], code[ROOM];
 static uint64_t number, calls, statuses[STATUSES];
+/* How often a kind of block was decoded with each status. */
+static uint64_t seldoms[8][STATUSES];
 
 static uint64_t seed = 0x9e3779b97f4a7c15u;
 static uint32_t next(void) {
@@ -203,6 +205,59 @@ static void compare_drains(const struct rice_setting *s, size_t size) {
     }
 }
 
+/* Codes that are written bit by bit. */
+static size_t written;
+static void put(uint32_t value, uint32_t digits) {
+    for (uint32_t i = digits; i > 0; i--, written++) {
+        if (written % 8 == 0) code[written / 8] = 0;
+        code[written / 8] |= (uint8_t)((value >> (i - 1) & 1) << (7 - written % 8));
+    }
+}
+static void put_sequence(uint32_t zeros) {
+    for (; zeros > 0; zeros--) put(0, 1);
+    put(1, 1);
+}
+
+/* What the last but one of five blocks is, which the fast decoder reads in a seldom way or leaves to the plain one. */
+enum seldom { FEW_BITS, LONG_SEQUENCE, TOO_LARGE, FAR, PAIR_TOO_LARGE, NO_COMPRESSION, RUN, SELDOM };
+static const char *const seldom_names[] = {"too few bits", "a long sequence", "a residual too large", "far samples", "a pair too large", "no compression", "a run"};
+
+/* A block by split 1 or by another way. A reference sample comes first, of 1 and zeros. */
+static void put_block(const struct rice_setting *s, bool first, bool seldom, enum seldom kind) {
+    uint32_t id = s->bits <= 8 ? 3 : s->bits <= 16 ? 4 : 5, high = s->bits - 1, k = kind == FAR ? s->bits > 4 ? s->bits - 3 : 1 : 1;
+    bool pairs = seldom && kind == PAIR_TOO_LARGE, zeros = seldom && kind == RUN, plain = seldom && kind == NO_COMPRESSION;
+    k = seldom && k < (1u << id) - 3 ? k : 1;
+    put(pairs || zeros ? 0 : plain ? (1u << id) - 1 : k + 1, id);
+    if (pairs || zeros) put(pairs, 1);
+    if (first && s->preprocess) put(1u << high, s->bits);
+    uint32_t sent = s->block - (first && s->preprocess), sequences = zeros ? 1 : pairs ? s->block / 2 : plain ? 0 : sent;
+    const uint32_t long_ones[SELDOM] = {0, 50, 3u << (high < 12 ? high : 12), 5, 60, 0, 0};
+    for (uint32_t i = 0; i < sequences; i++) put_sequence(seldom && i == 2 ? long_ones[kind] : kind == PAIR_TOO_LARGE || zeros ? 0 : i % 3);
+    for (uint32_t i = 0; i < sent && !pairs && !zeros; i++) put(next(), plain ? s->bits : k);
+}
+
+/* Decodes such codes at once and in pieces that end anywhere, all samples or some of the last block. */
+static void compare_seldom(const struct rice_setting *setting, enum seldom kind) {
+    struct rice_setting s = *setting;
+    s.block = 8u << below(4), s.any_block = false, s.bits = kind == PAIR_TOO_LARGE ? 1 + below(3) : 5 + below(28), s.interval = 1 + below(6);
+    if (rice_check(&s) != RICE_DONE) return;
+    written = 0;
+    for (uint32_t i = 0; i < 5 - (kind == FEW_BITS); i++) {
+        put_block(&s, i % s.interval == 0, i == 3, kind);
+        if (s.pad && (i + 1) % s.interval == 0) while (written % 8) put(0, 1);
+    }
+    while (written % 8) put(0, 1);
+    for (uint32_t extra = 0; extra < 2; extra++) {
+        begin_call();
+        uint64_t count = 5 * s.block - below(2 * s.block);
+        ours.status = rice_decode(&s, count, code, written / 8, ours.bytes, ROOM, &ours.report);
+        small.status = small_rice_decode(&s, count, code, written / 8, small.bytes, ROOM, &small.report);
+        compare(seldom_names[kind]);
+        seldoms[kind][ours.status]++;
+    }
+    compare_drains(&s, written / 8);
+}
+
 static void try(void) {
     struct rice_setting s = any_setting();
     compare_settings(&s);
@@ -212,6 +267,7 @@ static void try(void) {
     compare_decode(&s, coded);
     if (number % EACH_ROOM == 0) compare_each_room(&s, coded);
     compare_drains(&s, coded);
+    for (enum seldom kind = 0; kind < SELDOM; kind++) compare_seldom(&s, kind);
 }
 
 int main(int argc, char **argv) {
@@ -220,6 +276,9 @@ int main(int argc, char **argv) {
     for (number = 0; number < inputs; number++) try();
     for (uint32_t status = 0; status < STATUSES; status++) {
         if (statuses[status]) printf("calls: %s: %" PRIu64 "\n", rice_status_text(status), statuses[status]);
+    }
+    for (enum seldom kind = 0; kind < SELDOM; kind++) {
+        printf("%s: decoded %" PRIu64 " times, refused %" PRIu64 ", cut %" PRIu64 "\n", seldom_names[kind], seldoms[kind][RICE_DONE], seldoms[kind][RICE_RESIDUAL_TOO_LARGE], seldoms[kind][RICE_CODE_ENDS]);
     }
     printf("compare-small: %" PRIu64 " inputs, %" PRIu64 " calls of each library, none that differs\n", inputs, calls);
     return 0;

@@ -5,10 +5,8 @@ ghost use Rattle.rice_samples.specs.Parameters.{width as width_of};
 ghost use Rattle.rice_code.specs.declared.decode.call_results.Step.TheVariants.{Block};
 ghost use Rattle.rice_stream.specs.BlockBytes.{AnswersBytes};
 
-use crate::write::write_levels;
-use arrayvec::ArrayVec;
 use rice_bits::{BitReader, Intake, Meter};
-use rice_code::{CodeFault, FastDecoder, Step};
+use rice_code::{CodeFault, Step};
 use rice_samples::Setting;
 
 /// A decoder that goes from block to block.
@@ -75,7 +73,7 @@ pub trait GivesBytes<const SIZE: usize, const WIDTH: usize>: GoesByBlocks {
         setting: &Setting,
         reader: &mut BitReader<I>,
         meter: &mut Meter,
-        bytes: &mut [u8; 512],
+        bytes: &mut [u8; 448],
     ) -> bool
         requires setting { (Self.state self.old).setting ≡ setting.now }
         requires size { 0 < SIZE → SIZE ≡ setting.now.block }
@@ -90,15 +88,13 @@ pub trait GivesBytes<const SIZE: usize, const WIDTH: usize>: GoesByBlocks {
         ensures going { reader.new.refusal ≡ None }
         ensures stopped { (Self.state self.new).stopped ≡ None };
 
-    /// Reads the next block, and writes the bytes of its samples to the front of `bytes`. It may write more after them. `levels` are room
-    /// for it.
+    /// Reads the next block, and writes the bytes of its samples to the front of `bytes`. It may write more after them.
     fn bytes_of_next<I: Intake>(
         &mut self,
         setting: &Setting,
         reader: &mut BitReader<I>,
         meter: &mut Meter,
-        levels: &mut ArrayVec<u32, 64>,
-        bytes: &mut [u8; 512],
+        bytes: &mut [u8; 448],
     ) -> Result<Step, CodeFault>
         requires setting { (Self.state self.old).setting ≡ setting.now }
         requires stopped { (Self.state self.old).stopped ≡ None }
@@ -123,8 +119,7 @@ pub(crate) fn next_bytes<
     setting: &Setting,
     reader: &mut BitReader<I>,
     meter: &mut Meter,
-    levels: &mut ArrayVec<u32, 64>,
-    bytes: &mut [u8; 512],
+    bytes: &mut [u8; 448],
 ) -> Result<Step, CodeFault>
     requires setting { (D.state decoder.old).setting ≡ setting.now }
     requires size { 0 < SIZE → SIZE ≡ setting.now.block }
@@ -141,91 +136,5 @@ pub(crate) fn next_bytes<
     if decoder.pass(setting, reader, meter, bytes) {
         return Ok(Step::Block);
     }
-    decoder.bytes_of_next(setting, reader, meter, levels, bytes)
-}
-
-/// The decoder with a fast pass.
-impl GoesByBlocks for FastDecoder {
-    ghost state = { λ d. d };
-
-    fn start(setting: Setting) -> Self {
-        FastDecoder::new(setting)
-    }
-
-    fn resume(setting: Setting, block: u32, before: i64, run: u32) -> Self {
-        FastDecoder::at(setting, block, before, run)
-    }
-
-    fn place(&self) -> u32 {
-        self.block()
-    }
-
-    fn sample_before(&self) -> i64 {
-        self.before()
-    }
-
-    fn blocks_of_run(&self) -> u32 {
-        self.run()
-    }
-
-    #[inline(always)]
-    fn is_repeating(&self) -> bool {
-        self.repeats()
-    }
-
-    #[inline(always)]
-    fn pass_blocks(&mut self, count: u32) {
-        self.pass_blocks_of_run(count);
-    }
-}
-
-impl<const SIZE: usize, const WIDTH: usize> GivesBytes<SIZE, WIDTH> for FastDecoder {
-    #[inline(always)]
-    fn pass<I: Intake>(
-        &mut self,
-        setting: &Setting,
-        reader: &mut BitReader<I>,
-        meter: &mut Meter,
-        bytes: &mut [u8; 512],
-    ) -> bool {
-        let _taken = reader.taken();
-        let _block = setting.block();
-        WIDTH > 0 && self.next_bytes::<I, SIZE, WIDTH>(reader, meter, bytes)
-    }
-
-    #[inline(always)]
-    fn bytes_of_next<I: Intake>(
-        &mut self,
-        setting: &Setting,
-        reader: &mut BitReader<I>,
-        meter: &mut Meter,
-        levels: &mut ArrayVec<u32, 64>,
-        bytes: &mut [u8; 512],
-    ) -> Result<Step, CodeFault> {
-        bytes_by_levels(self, setting, reader, meter, levels, bytes)
-    }
-}
-
-/// As `bytes_of_next`, of any block, by the levels of its samples.
-#[inline(never)]
-fn bytes_by_levels<I: Intake>(
-    decoder: &mut FastDecoder,
-    setting: &Setting,
-    reader: &mut BitReader<I>,
-    meter: &mut Meter,
-    levels: &mut ArrayVec<u32, 64>,
-    bytes: &mut [u8; 512],
-) -> Result<Step, CodeFault>
-    requires setting { decoder.old.setting ≡ setting.now }
-    requires stopped { decoder.old.stopped ≡ None }
-    requires going { reader.old.refusal ≡ None }
-    requires room { meter.old + 2 * (most_bits_read - reader.old.taken) + 64 < step_limit }
-    ensures gives { AnswersBytes reader.old reader.new meter.old meter.new decoder.old decoder.new bytes.new result }
-    ensures going { decoder.new.stopped ≡ None → reader.new.refusal ≡ None }
-    ensures block { result ≡ Ok Block → decoder.new.stopped ≡ None }
-{
-    let _taken = reader.taken();
-    let answer = decoder.next_levels(reader, meter, levels);
-    write_levels(setting, levels.as_slice(), bytes);
-    answer
+    decoder.bytes_of_next(setting, reader, meter, bytes)
 }

@@ -8,12 +8,12 @@ ghost use Rattle.rice_stream.specs.DevicesInCalls.{Fails};
 ghost use Rattle.rice_stream.specs.Decodes.{DecodesBetween, DecodesWithin, Reports, wanted_of, ended_fault, refusal_fault};
 
 use crate::block_decoder::{GivesBytes, GoesByBlocks};
+use crate::fast_decoder::FastBlocks;
 use crate::outcome::{Fault, Outcome, Report};
 use crate::runs::write_run;
 use crate::write::write_all;
-use arrayvec::ArrayVec;
 use rice_bits::{BitReader, Intake, Meter, Outlet};
-use rice_code::{CodeFault, FastDecoder, Step, known_or};
+use rice_code::{CodeFault, Step, known_or};
 use rice_samples::Setting;
 
 /// Returns how many samples of the next block are wanted after the first `written`.
@@ -103,12 +103,12 @@ pub fn decode<I: Intake, O: Outlet>(
         return decode_sizes::<I, O, 2>(setting, asked, intake, outlet);
     }
     if has_pass::<3>(setting) {
-        return decode_blocks::<FastDecoder, I, O, 0, 3>(setting, asked, intake, outlet);
+        return decode_blocks::<FastBlocks, I, O, 0, 3>(setting, asked, intake, outlet);
     }
     if has_pass::<4>(setting) {
-        return decode_blocks::<FastDecoder, I, O, 0, 4>(setting, asked, intake, outlet);
+        return decode_blocks::<FastBlocks, I, O, 0, 4>(setting, asked, intake, outlet);
     }
-    decode_blocks::<FastDecoder, I, O, 0, 0>(setting, asked, intake, outlet)
+    decode_blocks::<FastBlocks, I, O, 0, 0>(setting, asked, intake, outlet)
 }
 
 /// Returns whether samples have `WIDTH` bytes, and the fast pass may take blocks of them. Where predicted samples have few bits, most
@@ -140,11 +140,11 @@ fn decode_sizes<I: Intake, O: Outlet, const WIDTH: usize>(
     ensures idle { asked ≡ Some 0 → result.1 ≡ intake }
 {
     match setting.block() {
-        8 => decode_blocks::<FastDecoder, I, O, 8, WIDTH>(setting, asked, intake, outlet),
-        16 => decode_blocks::<FastDecoder, I, O, 16, WIDTH>(setting, asked, intake, outlet),
-        32 => decode_blocks::<FastDecoder, I, O, 32, WIDTH>(setting, asked, intake, outlet),
-        64 => decode_blocks::<FastDecoder, I, O, 64, WIDTH>(setting, asked, intake, outlet),
-        _ => decode_blocks::<FastDecoder, I, O, 0, WIDTH>(setting, asked, intake, outlet),
+        8 => decode_blocks::<FastBlocks, I, O, 8, WIDTH>(setting, asked, intake, outlet),
+        16 => decode_blocks::<FastBlocks, I, O, 16, WIDTH>(setting, asked, intake, outlet),
+        32 => decode_blocks::<FastBlocks, I, O, 32, WIDTH>(setting, asked, intake, outlet),
+        64 => decode_blocks::<FastBlocks, I, O, 64, WIDTH>(setting, asked, intake, outlet),
+        _ => decode_blocks::<FastBlocks, I, O, 0, WIDTH>(setting, asked, intake, outlet),
     }
 }
 
@@ -186,7 +186,7 @@ fn pass_whole<D: GivesBytes<SIZE, WIDTH>, I: Intake, const SIZE: usize, const WI
     decoder: &mut D,
     reader: &mut BitReader<I>,
     meter: &mut Meter,
-    bytes: &mut [u8; 512],
+    bytes: &mut [u8; 448],
 ) -> bool
     requires setting { (D.state decoder.old).setting ≡ setting.now }
     requires size { 0 < SIZE → SIZE ≡ setting.now.block }
@@ -235,8 +235,7 @@ pub(crate) fn decode_blocks<
     let mut reader = BitReader::new(intake);
     let mut meter = Meter::new();
     // Declared here, and not where they are filled, so that they are not cleared for each block.
-    let mut levels = ArrayVec::new();
-    let mut bytes = [0; 512];
+    let mut bytes = [0; 448];
     let mut written = 0u64;
     'decode_all: loop {
         let count = wanted(asked, written, block);
@@ -274,7 +273,7 @@ pub(crate) fn decode_blocks<
                 }
             }
         }
-        let answer = decoder.bytes_of_next(&own, &mut reader, &mut meter, &mut levels, &mut bytes);
+        let answer = decoder.bytes_of_next(&own, &mut reader, &mut meter, &mut bytes);
         let step = match answer {
             Ok(step) => step,
             Err(fault) => {

@@ -6,6 +6,7 @@ pub mod block_decoder;
 pub mod decoding;
 pub mod encoding;
 pub mod engines;
+pub mod fast_decoder;
 pub mod feeding;
 pub mod laws;
 pub mod outcome;

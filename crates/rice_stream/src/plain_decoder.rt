@@ -1,6 +1,7 @@
 //! The plain decoder for engines: one block of samples per call.
-ghost use Rattle.std.specs.Prelude.{◌≡◌, ◌-◌, ◌<◌, ◌≤◌, All, length};
-ghost use Rattle.rice_samples.specs.Parameters.{IsSample, value_count, values_at};
+ghost use Rattle.std.specs.Prelude.{◌≡◌, ◌-◌, ◌*◌, ◌<◌, ◌≤◌, All, length, take};
+ghost use Rattle.rice_samples.specs.Parameters.{IsSample, value_count, values_at, width as width_of};
+ghost use Rattle.rice_samples.specs.bytes.Spelling.{spellings};
 
 use crate::block_decoder::{GivesBytes, GoesByBlocks};
 use arrayvec::ArrayVec;
@@ -20,6 +21,19 @@ fn write_levels_of(setting: &Setting, samples: &[i64], levels: &mut ArrayVec<u32
         let level = setting.level(samples[i]);
         levels.push(level as u32);
     }
+}
+
+/// Writes the bytes of these samples to the front of `bytes`. A call, so that its levels take no stack while a block is read.
+#[inline(never)]
+fn write_samples(setting: &Setting, samples: &[i64], bytes: &mut [u8; 448])
+    requires legal { All (IsSample setting.now) samples.now }
+    requires few { length samples.now ≤ 64 }
+    ensures { take (width_of setting.now * length samples.now) bytes.new ≡ spellings setting.now samples.now }
+{
+    let mut levels = ArrayVec::new();
+    write_levels_of(setting, samples, &mut levels);
+    let len = setting.width() as usize * levels.len();
+    write_spellings(setting, levels.as_slice(), &mut bytes[..len]);
 }
 
 impl GoesByBlocks for Decoder {
@@ -63,7 +77,7 @@ impl<const SIZE: usize, const WIDTH: usize> GivesBytes<SIZE, WIDTH> for Decoder 
         setting: &Setting,
         reader: &mut BitReader<I>,
         meter: &mut Meter,
-        bytes: &mut [u8; 512],
+        bytes: &mut [u8; 448],
     ) -> bool {
         false
     }
@@ -73,15 +87,12 @@ impl<const SIZE: usize, const WIDTH: usize> GivesBytes<SIZE, WIDTH> for Decoder 
         setting: &Setting,
         reader: &mut BitReader<I>,
         meter: &mut Meter,
-        levels: &mut ArrayVec<u32, 64>,
-        bytes: &mut [u8; 512],
+        bytes: &mut [u8; 448],
     ) -> Result<Step, CodeFault> {
         let _taken = reader.taken();
         let mut samples = ArrayVec::new();
         let answer = self.next_block(reader, meter, &mut samples);
-        write_levels_of(setting, samples.as_slice(), levels);
-        let len = setting.width() as usize * levels.len();
-        write_spellings(setting, levels.as_slice(), &mut bytes[..len]);
+        write_samples(setting, samples.as_slice(), bytes);
         answer
     }
 }

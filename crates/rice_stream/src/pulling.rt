@@ -9,11 +9,11 @@ ghost use Rattle.rice_stream.specs.Pulling.{DecodesOn, GivesAtStand, HasComeTo, 
 
 use crate::block_decoder::{GivesBytes, GoesByBlocks, next_bytes};
 use crate::decoding::{has_pass, known_width};
+use crate::fast_decoder::FastBlocks;
 use crate::pulled_runs::{stand_behind, write_next_of_run};
 use crate::stand::{Pause, Stand};
-use arrayvec::ArrayVec;
 use rice_bits::{BitReader, Meter, SliceIn};
-use rice_code::{CodeFault, FastDecoder, Step, known_or};
+use rice_code::{CodeFault, Step, known_or};
 use rice_samples::Setting;
 
 /// The most bits of a code.
@@ -43,12 +43,12 @@ pub fn decode_more(
         return decode_piece_of_sizes::<2>(setting, stand, piece, samples);
     }
     if has_pass::<3>(setting) {
-        return decode_piece::<FastDecoder, 0, 3>(setting, stand, piece, samples);
+        return decode_piece::<FastBlocks, 0, 3>(setting, stand, piece, samples);
     }
     if has_pass::<4>(setting) {
-        return decode_piece::<FastDecoder, 0, 4>(setting, stand, piece, samples);
+        return decode_piece::<FastBlocks, 0, 4>(setting, stand, piece, samples);
     }
-    decode_piece::<FastDecoder, 0, 0>(setting, stand, piece, samples)
+    decode_piece::<FastBlocks, 0, 0>(setting, stand, piece, samples)
 }
 
 /// Does what `decode_more` does, by one loop for all shapes of blocks.
@@ -81,11 +81,11 @@ fn decode_piece_of_sizes<const WIDTH: usize>(
     ensures { DecodesOn setting.now stand.now piece.now samples.old samples.new result.0 result.1 }
 {
     match setting.block() {
-        8 => decode_piece::<FastDecoder, 8, WIDTH>(setting, stand, piece, samples),
-        16 => decode_piece::<FastDecoder, 16, WIDTH>(setting, stand, piece, samples),
-        32 => decode_piece::<FastDecoder, 32, WIDTH>(setting, stand, piece, samples),
-        64 => decode_piece::<FastDecoder, 64, WIDTH>(setting, stand, piece, samples),
-        _ => decode_piece::<FastDecoder, 0, WIDTH>(setting, stand, piece, samples),
+        8 => decode_piece::<FastBlocks, 8, WIDTH>(setting, stand, piece, samples),
+        16 => decode_piece::<FastBlocks, 16, WIDTH>(setting, stand, piece, samples),
+        32 => decode_piece::<FastBlocks, 32, WIDTH>(setting, stand, piece, samples),
+        64 => decode_piece::<FastBlocks, 64, WIDTH>(setting, stand, piece, samples),
+        _ => decode_piece::<FastBlocks, 0, WIDTH>(setting, stand, piece, samples),
     }
 }
 
@@ -104,18 +104,16 @@ fn decode_piece<D: GivesBytes<SIZE, WIDTH>, const SIZE: usize, const WIDTH: usiz
     requires stand { IsSomeStand setting.now stand.now }
     ensures { DecodesOn setting.now stand.now piece.now samples.old samples.new result.0 result.1 }
 {
-    let own = *setting;
-    let width = known_width::<WIDTH>(&own);
-    let block = known_or::<SIZE>(own.block() as usize);
+    let width = known_width::<WIDTH>(setting);
+    let block = known_or::<SIZE>(setting.block() as usize);
     let size = width * block;
-    let mut decoder = D::resume(own, stand.block, stand.previous, stand.run);
+    let mut decoder = D::resume(*setting, stand.block, stand.previous, stand.run);
     let mut reader = BitReader::new(SliceIn::new(piece));
     if !skip_bits(&mut reader, piece, (stand.bits % 8) as u32) {
         let _intake = reader.into_inner();
         unreachable!()
     }
-    let mut levels = ArrayVec::new();
-    let mut bytes = [0; 512];
+    let mut bytes = [0; 448];
     let mut here = *stand;
     let mut at = 0;
     'decode_all: while samples.len() - at >= size {
@@ -124,19 +122,12 @@ fn decode_piece<D: GivesBytes<SIZE, WIDTH>, const SIZE: usize, const WIDTH: usiz
             return (here, Pause::Blank);
         }
         if decoder.is_repeating() {
-            let (next, len) = write_next_of_run(&own, &here, &mut decoder, &reader, at, samples);
+            let (next, len) = write_next_of_run(setting, &here, &mut decoder, &reader, at, samples);
             here = next;
             at += len;
             continue 'decode_all;
         }
-        let found = match give_next_block(
-            &own,
-            &here,
-            &mut decoder,
-            &mut reader,
-            &mut levels,
-            &mut bytes,
-        ) {
+        let found = match give_next_block(setting, &here, &mut decoder, &mut reader, &mut bytes) {
             Ok(found) => found,
             Err(fault) => {
                 let _intake = reader.into_inner();
@@ -204,8 +195,7 @@ fn give_next_block<D: GivesBytes<SIZE, WIDTH>, const SIZE: usize, const WIDTH: u
     stand: &Stand,
     decoder: &mut D,
     reader: &mut BitReader<SliceIn<'_>>,
-    levels: &mut ArrayVec<u32, 64>,
-    bytes: &mut [u8; 512],
+    bytes: &mut [u8; 448],
 ) -> Result<Option<Stand>, CodeFault>
     requires size { 0 < SIZE → SIZE ≡ setting.now.block }
     requires width { 0 < WIDTH → WIDTH ≡ width_of setting.now }
@@ -216,7 +206,7 @@ fn give_next_block<D: GivesBytes<SIZE, WIDTH>, const SIZE: usize, const WIDTH: u
     let before = reader.taken();
     let mut meter = Meter::new();
     meter.tick(stand.steps);
-    match next_bytes(decoder, setting, reader, &mut meter, levels, bytes)? {
+    match next_bytes(decoder, setting, reader, &mut meter, bytes)? {
         Step::Block => {}
         Step::Done => return Ok(None),
     }
