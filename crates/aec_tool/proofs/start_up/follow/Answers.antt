@@ -1,4 +1,4 @@
-use Rattle.std.proofs.Common.{◌≡◌, ◌∙◌, ℕ, Bool, true, false, List, Option, Result, codes, refl, subst, sym}
+use Rattle.std.proofs.Common.{rules, ◌≡◌, ◌∙◌, ℕ, Bool, true, false, List, Option, Result, codes, refl, subst, sym}
 use Rattle.clap.specs.Words.{found_of}
 use Rattle.clap.specs.declared.parser.matches.Found.{Found}
 use Rattle.rice_bits.specs.device.OutletRoom.{Room}
@@ -35,7 +35,7 @@ returns-in-Ok g c = λ o told.
       did.0,
       did.1,
       follows_test g.S.Source.Intake.left g.S.Source.Intake.failed g.S.Dest.Outlet.taken g.S.Dest.Outlet.failed (found_of c.args.matches.now) _ _ _
-          c.is_test.ensures c.if-is_test.true c.is_verbose-verbose.ensures c.in-Ok.ensures did.2,
+          c.is_test.ensures c.if-is_test.true c.is_verbose-verbose.ensures c.in-Ok.ensures (search rules),
     )
 
 pub returns-in-Err : goal.returns-in-Err
@@ -52,7 +52,7 @@ returns-in-Ok-plan_of g c = λ o told.
       did.0,
       did.1,
       follows_plan g.S.Source.Intake.left g.S.Source.Intake.failed g.S.Dest.Outlet.taken g.S.Dest.Outlet.failed (found_of c.args.matches.now) _ _ _
-          c.is_test.ensures c.if-is_test.false c.is_verbose-verbose.ensures c.in-Ok-plan_of.ensures did.2,
+          c.is_test.ensures c.if-is_test.false c.is_verbose-verbose.ensures c.in-Ok-plan_of.ensures (search rules),
     )
 
 pub returns-in-Err-plan_of : goal.returns-in-Err-plan_of

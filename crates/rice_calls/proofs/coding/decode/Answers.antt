@@ -1,4 +1,4 @@
-use Rattle.std.proofs.Common.{refl, sym, ◌∙◌, subst}
+use Rattle.std.proofs.Common.{rules, refl, sym, ◌∙◌, subst}
 use Rattle.rice_calls.proofs.lemmas.ReturnedSamples.{decode_suffices}
 use Rattle.rice_calls.specs.AsAsked.{Asked, DecodesAsAsked}
 use Rattle.rice_calls.proofs.coding.decode.Goals as goal
@@ -8,9 +8,9 @@ returns-in-Ok g c =
     let a = c.args in
     let b = c.decode_into in
     subst (λ (t : Asked). DecodesAsAsked t a.count a.code.now a.samples.now b.new.samples b.new.report b.result) (sym c.in-Ok.is ∙ c.legal.ensures.answer) (record {
-      ok = b.ensures;
+      ok = search rules;
       refused = tt;
-      room = decode_suffices c.in-Ok.setting a.count a.code.now a.samples.now b.new.samples b.new.report b.result b.ensures;
+      room = search (rules, decode_suffices);
     })
 
 pub returns-in-Err : goal.returns-in-Err

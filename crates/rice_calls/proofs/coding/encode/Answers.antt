@@ -1,4 +1,4 @@
-use Rattle.std.proofs.Common.{refl, sym, ◌∙◌, subst}
+use Rattle.std.proofs.Common.{rules, refl, sym, ◌∙◌, subst}
 use Rattle.rice_calls.proofs.lemmas.ReturnedSamples.{encode_suffices}
 use Rattle.rice_calls.specs.AsAsked.{Asked, EncodesAsAsked}
 use Rattle.rice_calls.proofs.coding.encode.Goals as goal
@@ -8,9 +8,9 @@ returns-in-Ok g c =
     let a = c.args in
     let b = c.encode_into in
     subst (λ (t : Asked). EncodesAsAsked t a.samples.now a.code.now b.new.code b.new.report b.result) (sym c.in-Ok.is ∙ c.legal.ensures.answer) (record {
-      ok = b.ensures;
+      ok = search rules;
       refused = tt;
-      room = encode_suffices c.in-Ok.setting a.samples.now a.code.now b.new.code b.new.report b.result c.in-Ok.ensures.legal b.ensures;
+      room = search (rules, encode_suffices);
     })
 
 pub returns-in-Err : goal.returns-in-Err

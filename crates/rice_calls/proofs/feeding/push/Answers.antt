@@ -1,4 +1,4 @@
-use Rattle.std.proofs.Common.{refl, sym, ◌∙◌, subst, IfOk, List, ℤ}
+use Rattle.std.proofs.Common.{rules, refl, sym, ◌∙◌, subst, IfOk, List, ℤ}
 use Rattle.rice_stream.specs.Feeding.{IsSeam}
 use Rattle.rice_calls.proofs.lemmas.RoomOfPieceSuffices.{push_room_suffices}
 use Rattle.rice_calls.specs.AsAsked.{Asked, PushesAsAsked}
@@ -12,8 +12,8 @@ returns-in-Ok g c =
     let stands = subst (λ (t : Asked). IfOk t (λ s. (xs : List ℤ) × IsSeam s c.args.feed.now.seam xs)) (sym same) c.requires in
     let room = (push_room_suffices c.in-Ok.setting c.in-Ok.ensures.legal stands.0 a.samples.now a.code.now b.new.code b.new.report b.result).0 in
     subst (λ (t : Asked). PushesAsAsked t a.samples.now a.code.now b.new.code a.feed.now b.new.feed b.new.report b.result) same (record {
-      ok = b.ensures;
-      room = room a.feed.now b.new.feed stands.1 (b.ensures stands.0 stands.1);
+      ok = λ xs stands_for. search (rules, b.ensures);
+      room = room a.feed.now b.new.feed stands.1 (search (rules, b.ensures));
       refused = tt;
     })
 
