@@ -67,13 +67,13 @@ pub trait GoesByBlocks: Drop {
 /// it is 0, is the number of bytes of a sample, of which blocks may go through a fast pass.
 pub trait GivesBytes<const SIZE: usize, const WIDTH: usize>: GoesByBlocks {
     /// Reads the next block by a fast pass, and writes the bytes of its samples to the front of `bytes`, if it can. Returns whether it did;
-    /// otherwise nothing has happened. It may write more after these bytes.
+    /// otherwise nothing has happened. It may write more after these bytes, for which there is room behind 64 samples of four bytes.
     fn pass<I: Intake>(
         &mut self,
         setting: &Setting,
         reader: &mut BitReader<I>,
         meter: &mut Meter,
-        bytes: &mut [u8; 448],
+        bytes: &mut [u8; 320],
     ) -> bool
         requires setting { (Self.state self.old).setting ≡ setting.now }
         requires size { 0 < SIZE → SIZE ≡ setting.now.block }
@@ -94,7 +94,7 @@ pub trait GivesBytes<const SIZE: usize, const WIDTH: usize>: GoesByBlocks {
         setting: &Setting,
         reader: &mut BitReader<I>,
         meter: &mut Meter,
-        bytes: &mut [u8; 448],
+        bytes: &mut [u8; 320],
     ) -> Result<Step, CodeFault>
         requires setting { (Self.state self.old).setting ≡ setting.now }
         requires stopped { (Self.state self.old).stopped ≡ None }
@@ -119,7 +119,7 @@ pub(crate) fn next_bytes<
     setting: &Setting,
     reader: &mut BitReader<I>,
     meter: &mut Meter,
-    bytes: &mut [u8; 448],
+    bytes: &mut [u8; 320],
 ) -> Result<Step, CodeFault>
     requires setting { (D.state decoder.old).setting ≡ setting.now }
     requires size { 0 < SIZE → SIZE ≡ setting.now.block }

@@ -186,7 +186,7 @@ fn pass_whole<D: GivesBytes<SIZE, WIDTH>, I: Intake, const SIZE: usize, const WI
     decoder: &mut D,
     reader: &mut BitReader<I>,
     meter: &mut Meter,
-    bytes: &mut [u8; 448],
+    bytes: &mut [u8; 320],
 ) -> bool
     requires setting { (D.state decoder.old).setting ≡ setting.now }
     requires size { 0 < SIZE → SIZE ≡ setting.now.block }
@@ -235,7 +235,7 @@ pub(crate) fn decode_blocks<
     let mut reader = BitReader::new(intake);
     let mut meter = Meter::new();
     // Declared here, and not where they are filled, so that they are not cleared for each block.
-    let mut bytes = [0; 448];
+    let mut bytes = [0; 320];
     let mut written = 0u64;
     'decode_all: loop {
         let count = wanted(asked, written, block);

@@ -65,7 +65,7 @@ impl<const SIZE: usize, const WIDTH: usize> GivesBytes<SIZE, WIDTH> for FastBloc
         setting: &Setting,
         reader: &mut BitReader<I>,
         meter: &mut Meter,
-        bytes: &mut [u8; 448],
+        bytes: &mut [u8; 320],
     ) -> bool {
         let _taken = reader.taken();
         let _block = setting.block();
@@ -81,7 +81,7 @@ impl<const SIZE: usize, const WIDTH: usize> GivesBytes<SIZE, WIDTH> for FastBloc
         setting: &Setting,
         reader: &mut BitReader<I>,
         meter: &mut Meter,
-        bytes: &mut [u8; 448],
+        bytes: &mut [u8; 320],
     ) -> Result<Step, CodeFault> {
         bytes_by_levels(
             &mut self.decoder,
@@ -102,7 +102,7 @@ fn bytes_by_levels<I: Intake>(
     reader: &mut BitReader<I>,
     meter: &mut Meter,
     levels: &mut ArrayVec<u32, 64>,
-    bytes: &mut [u8; 448],
+    bytes: &mut [u8; 320],
 ) -> Result<Step, CodeFault>
     requires setting { decoder.old.setting ≡ setting.now }
     requires stopped { decoder.old.stopped ≡ None }

@@ -25,7 +25,7 @@ fn write_levels_of(setting: &Setting, samples: &[i64], levels: &mut ArrayVec<u32
 
 /// Writes the bytes of these samples to the front of `bytes`. A call, so that its levels take no stack while a block is read.
 #[inline(never)]
-fn write_samples(setting: &Setting, samples: &[i64], bytes: &mut [u8; 448])
+fn write_samples(setting: &Setting, samples: &[i64], bytes: &mut [u8; 320])
     requires legal { All (IsSample setting.now) samples.now }
     requires few { length samples.now ≤ 64 }
     ensures { take (width_of setting.now * length samples.now) bytes.new ≡ spellings setting.now samples.now }
@@ -77,7 +77,7 @@ impl<const SIZE: usize, const WIDTH: usize> GivesBytes<SIZE, WIDTH> for Decoder 
         setting: &Setting,
         reader: &mut BitReader<I>,
         meter: &mut Meter,
-        bytes: &mut [u8; 448],
+        bytes: &mut [u8; 320],
     ) -> bool {
         false
     }
@@ -87,7 +87,7 @@ impl<const SIZE: usize, const WIDTH: usize> GivesBytes<SIZE, WIDTH> for Decoder 
         setting: &Setting,
         reader: &mut BitReader<I>,
         meter: &mut Meter,
-        bytes: &mut [u8; 448],
+        bytes: &mut [u8; 320],
     ) -> Result<Step, CodeFault> {
         let _taken = reader.taken();
         let mut samples = ArrayVec::new();

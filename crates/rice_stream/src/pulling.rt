@@ -113,7 +113,7 @@ fn decode_piece<D: GivesBytes<SIZE, WIDTH>, const SIZE: usize, const WIDTH: usiz
         let _intake = reader.into_inner();
         unreachable!()
     }
-    let mut bytes = [0; 448];
+    let mut bytes = [0; 320];
     let mut here = *stand;
     let mut at = 0;
     'decode_all: while samples.len() - at >= size {
@@ -195,7 +195,7 @@ fn give_next_block<D: GivesBytes<SIZE, WIDTH>, const SIZE: usize, const WIDTH: u
     stand: &Stand,
     decoder: &mut D,
     reader: &mut BitReader<SliceIn<'_>>,
-    bytes: &mut [u8; 448],
+    bytes: &mut [u8; 320],
 ) -> Result<Option<Stand>, CodeFault>
     requires size { 0 < SIZE → SIZE ≡ setting.now.block }
     requires width { 0 < WIDTH → WIDTH ≡ width_of setting.now }

@@ -11,7 +11,7 @@ use rice_bits::Outlet;
 use rice_samples::{Setting, bytes_of};
 
 /// The bytes of a run that are written at once, at most.
-pub const ROOM: usize = 448;
+pub const ROOM: usize = 320;
 
 /// Fills the bytes with `count` copies of the pattern.
 fn repeat_bytes(pattern: &[u8], count: usize, bytes: &mut [u8])
@@ -54,7 +54,7 @@ pub(crate) fn blocks_at_once(setting: &Setting, asked: Option<u64>, written: u64
     requires wanted { wanted_of asked written setting.now.block ≡ setting.now.block }
     ensures some { 1 ≤ result }
     ensures run { result ≤ run }
-    ensures room { width_of setting.now * setting.now.block * result ≤ 448 }
+    ensures room { width_of setting.now * setting.now.block * result ≤ 320 }
     ensures wanted { IfSome asked (λ n. written + setting.now.block * result ≤ n) }
 {
     let block = setting.block() as u64;
@@ -81,7 +81,7 @@ pub fn write_run<D: GoesByBlocks, O: Outlet>(
     asked: Option<u64>,
     written: u64,
     decoder: &mut D,
-    bytes: &mut [u8; 448],
+    bytes: &mut [u8; 320],
     outlet: &mut O,
 ) -> Result<u64, u64>
     requires run { 1 ≤ (D.state decoder.old).run }

@@ -89,7 +89,7 @@ pub fn write_whole<const N: usize, O: Outlet>(
 
 /// Writes the bytes of samples with these levels to the front of `bytes`. It may write more after them.
 #[inline(always)]
-pub fn write_levels(setting: &Setting, levels: &[u32], bytes: &mut [u8; 448])
+pub fn write_levels(setting: &Setting, levels: &[u32], bytes: &mut [u8; 320])
     requires legal { All (λ l. l < value_count setting.now) levels.now }
     requires few { length levels.now ≤ 64 }
     ensures { take (width_of setting.now * length levels.now) bytes.new

@@ -6,7 +6,7 @@ use Rattle.rice_stream.proofs.runs.write_run.Goals as goal
 
 pub slice_bounds-spelled-end : goal.slice_bounds-spelled-end
 slice_bounds-spelled-end g c =
-    let e : c.width-width.result * (c.block-block.result * c.blocks_at_once-blocks.result) ≤ 448 =
+    let e : c.width-width.result * (c.block-block.result * c.blocks_at_once-blocks.result) ≤ 320 =
     (let w = c.width-width.ensures.value in let b = c.block-block.ensures.value in rw (w, b) (let r = c.blocks_at_once-blocks.ensures.room in omega (arith, r))) in
     omega (arith, e)
 
