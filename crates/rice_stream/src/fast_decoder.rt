@@ -1,5 +1,5 @@
 //! The fast decoder for engines, with room for the levels of a block.
-ghost use Rattle.std.specs.Prelude.{◌≡◌, ◌+◌, ◌-◌, ◌*◌, ◌<◌, ◌≤◌, None, Ok};
+ghost use Rattle.std.specs.Prelude.{◌≡◌, ◌+◌, ◌-◌, ◌*◌, ◌<◌, None, Ok};
 ghost use Rattle.rice_bits.specs.Limits.{step_limit, most_bits_read};
 ghost use Rattle.rice_code.specs.declared.decode.call_results.Step.TheVariants.{Block};
 ghost use Rattle.rice_stream.specs.BlockBytes.{AnswersBytes};

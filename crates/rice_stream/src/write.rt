@@ -1,5 +1,5 @@
 //! Writes all bytes of a slice or of a sink, and the bytes of samples.
-ghost use Rattle.std.specs.Prelude.{◌≡◌, ◌+◌, ◌*◌, ◌%◌, ◌^◌, ◌<◌, ◌≤◌, All, length, drop, take, OnOk, OnErr, IfErr};
+ghost use Rattle.std.specs.Prelude.{◌≡◌, ◌+◌, ◌*◌, ◌^◌, ◌<◌, ◌≤◌, All, length, drop, take, OnOk, OnErr, IfErr};
 ghost use Rattle.rice_bits.specs.device.OutletRoom.{Appends};
 ghost use Rattle.rice_bits.specs.Bits.{whole_bytes, bits_in_bytes};
 ghost use Rattle.rice_samples.specs.Parameters.{value_count, values_at, width as width_of};

@@ -22,9 +22,9 @@ first_spelled s n samples bytes few spelled =
 
 -- where nothing has happened
 pub progress_unchanged : {I : Type 0} {s : Parameters} {asked : Option ℕ} {start : Reader I} {out_old out : Option Room} {p q : DecoderState} {r t : Reader I} {steps steps_new written : ℕ}
-    → q ≡ p → t ≡ r → steps_new ≡ steps → DecodingProgress s asked start out_old out p r steps written → DecodingProgress s asked start out_old out q t steps_new written
+    → (q ≡ p) × (t ≡ r) × (steps_new ≡ steps) → DecodingProgress s asked start out_old out p r steps written → DecodingProgress s asked start out_old out q t steps_new written
 progress_unchanged {s = s} {asked = asked} {start = start} {out_old = out_old} {out = out} {p = p} {q = q} {r = r} {t = t} {steps = steps}
-    {steps_new = steps_new} {written = written} same_state same_reader same_steps runs =
-    subst (λ (x : DecoderState). DecodingProgress s asked start out_old out x t steps_new written) (sym same_state)
-    (subst (λ (x : Reader _). DecodingProgress s asked start out_old out p x steps_new written) (sym same_reader)
-    (subst (λ (n : ℕ). DecodingProgress s asked start out_old out p r n written) (sym same_steps) runs))
+    {steps_new = steps_new} {written = written} same runs =
+    subst (λ (x : DecoderState). DecodingProgress s asked start out_old out x t steps_new written) (sym same.0)
+    (subst (λ (x : Reader _). DecodingProgress s asked start out_old out p x steps_new written) (sym same.1)
+    (subst (λ (n : ℕ). DecodingProgress s asked start out_old out p r n written) (sym same.2) runs))

@@ -1,5 +1,5 @@
 //! Decodes coded data sets, a block a call.
-ghost use Rattle.std.specs.Prelude.{◌≡◌, ◌≢◌, ◌+◌, ◌-◌, ◌*◌, ◌%◌, ◌^◌, ◌<◌, ◌≤◌, ◌↔◌, IsTrue, true, false, All, [], length, take, None, Option, Some, IfSome, Ok, pos};
+ghost use Rattle.std.specs.Prelude.{◌≡◌, ◌≢◌, ◌+◌, ◌-◌, ◌*◌, ◌^◌, ◌<◌, ◌≤◌, ◌↔◌, IsTrue, true, false, All, [], length, take, None, Option, Some, IfSome, Ok, pos};
 ghost use Rattle.rice_bits.specs.Limits.{step_limit, most_bits_read};
 ghost use Rattle.rice_samples.specs.Parameters.{id_len, k_max, value_at, value_count, values_at, width as width_of};
 ghost use Rattle.rice_samples.specs.Places.{blocks_left};

@@ -4,7 +4,7 @@ ghost use Rattle.rice_bits.specs.Limits.{step_limit, most_bits_read};
 ghost use Rattle.rice_bits.specs.Bits.{word};
 ghost use Rattle.rice_bits.specs.read.Reader.{Takes};
 ghost use Rattle.rice_samples.specs.Parameters.{id_len, value_at, value_count};
-ghost use Rattle.rice_code.specs.decode.BlocksInOnePass.{HasLanes, HasWidth, SpelledAhead, lanes_of};
+ghost use Rattle.rice_code.specs.decode.BlocksInOnePass.{HasLanes, HasWidth, SpelledAhead};
 ghost use Rattle.rice_code.specs.decode.Decoder.{with_mark};
 
 use crate::fast::decode::split_in_sixteens::{parts_in_rows_ahead, spell_rows_of_parts};

@@ -33,8 +33,7 @@ returns-in-Err-answer-clause-call g c =
     let old = c.decode_all in
     let mid = c.pass_whole.new in
     let new = c.bytes_of_next-answer.new in
-    let same = c.pass_whole.ensures.none c.if-pass_whole.false in
-    let runs = progress_unchanged same.0 same.1 same.2 i.runs in
+    let runs = progress_unchanged (c.pass_whole.ensures.none c.if-pass_whole.false) i.runs in
     let legal = c.block-block.ensures.legal in
     let says = c.in-Err-answer.ensures.gives in
     let some = block_is_wanted c.args.asked old.written c.wanted-count.ensures.value c.block-block.ensures.value c.if-count-eq0.false in
@@ -49,8 +48,7 @@ returns-in-Done-clause-call g c =
     let old = c.decode_all in
     let mid = c.pass_whole.new in
     let new = c.bytes_of_next-answer.new in
-    let same = c.pass_whole.ensures.none c.if-pass_whole.false in
-    let runs = progress_unchanged same.0 same.1 same.2 i.runs in
+    let runs = progress_unchanged (c.pass_whole.ensures.none c.if-pass_whole.false) i.runs in
     let legal = c.block-block.ensures.legal in
     let says = c.in-Ok-answer.ensures.gives in
     let a = subst (λ t. Advances mid.reader new.reader mid.meter new.meter (g.D.GoesByBlocks.state mid.decoder) (g.D.GoesByBlocks.state new.self) says.samples (Ok t)) c.in-Done.is says.advances in
@@ -66,8 +64,7 @@ returns-in-Err-write_all-clause-call g c =
     let old = c.decode_all in
     let mid = c.pass_whole.new in
     let new = c.bytes_of_next-answer.new in
-    let same = c.pass_whole.ensures.none c.if-pass_whole.false in
-    let runs = progress_unchanged same.0 same.1 same.2 i.runs in
+    let runs = progress_unchanged (c.pass_whole.ensures.none c.if-pass_whole.false) i.runs in
     let legal = c.block-block.ensures.legal in
     let says = c.in-Ok-answer.ensures.gives in
     let a = subst (λ t. Advances mid.reader new.reader mid.meter new.meter (g.D.GoesByBlocks.state mid.decoder) (g.D.GoesByBlocks.state new.self) says.samples (Ok t)) c.in-Block.is says.advances in
@@ -87,8 +84,7 @@ decode_all-preserved g c =
     let old = c.decode_all in
     let mid = c.pass_whole.new in
     let new = c.bytes_of_next-answer.new in
-    let same = c.pass_whole.ensures.none c.if-pass_whole.false in
-    let runs = progress_unchanged same.0 same.1 same.2 i.runs in
+    let runs = progress_unchanged (c.pass_whole.ensures.none c.if-pass_whole.false) i.runs in
     let legal = c.block-block.ensures.legal in
     let says = c.in-Ok-answer.ensures.gives in
     let a = subst (λ t. Advances mid.reader new.reader mid.meter new.meter (g.D.GoesByBlocks.state mid.decoder) (g.D.GoesByBlocks.state new.self) says.samples (Ok t)) c.in-Block.is says.advances in
@@ -127,7 +123,8 @@ returns-in-Err-clause-call g c =
     let all : c.wanted-count.result ≡ s.block = c.is_whole-whole.ensures (c.pass_whole.ensures.whole c.if-pass_whole.true) ∙ c.block-block.ensures.value in
     let bytes = subst (λ (t : Parameters). take (width t * length says.samples) new.bytes ≡ spellings t says.samples) runs.at_block.setting (says.spelled refl) in
     let first = first_spelled s c.wanted-count.result says.samples new.bytes (omega (arith, block.len, all)) bytes in
-    let size : c.known_width-width.result * c.known_or.result ≡ width s * c.wanted-count.result = λ j. c.known_width-width.ensures.value j * (c.known_or.ensures ∙ (c.block-block.ensures.value ∙ sym all)) j in
+    let size : c.known_width-width.result * c.known_or.result ≡ width s * c.wanted-count.result =
+    λ j. c.known_width-width.ensures.value j * (c.known_or.ensures ∙ (c.block-block.ensures.value ∙ sym all)) j in
     let front = ap (λ n. take n new.bytes) size ∙ first in
     let part = subst (λ (l : List ℕ). TakesPart (g.O.Outlet.taken old.outlet) (g.O.Outlet.taken c.write_all.new.outlet) l) front c.in-Err.ensures.err.0 in
     write_ends c.wanted-count.result (g.D.GoesByBlocks.state new.decoder) legal runs is some (gains_block legal runs a) part c.ended-in-Err.ensures.reports
@@ -148,7 +145,8 @@ decode_all-preserved-then-pass_whole g c =
     let all : c.wanted-count.result ≡ s.block = c.is_whole-whole.ensures (c.pass_whole.ensures.whole c.if-pass_whole.true) ∙ c.block-block.ensures.value in
     let bytes = subst (λ (t : Parameters). take (width t * length says.samples) new.bytes ≡ spellings t says.samples) runs.at_block.setting (says.spelled refl) in
     let first = first_spelled s c.wanted-count.result says.samples new.bytes (omega (arith, block.len, all)) bytes in
-    let size : c.known_width-width.result * c.known_or.result ≡ width s * c.wanted-count.result = λ j. c.known_width-width.ensures.value j * (c.known_or.ensures ∙ (c.block-block.ensures.value ∙ sym all)) j in
+    let size : c.known_width-width.result * c.known_or.result ≡ width s * c.wanted-count.result =
+    λ j. c.known_width-width.ensures.value j * (c.known_or.ensures ∙ (c.block-block.ensures.value ∙ sym all)) j in
     let front = ap (λ n. take n new.bytes) size ∙ first in
     let p = g.D.GoesByBlocks.state old.decoder in
     let q = g.D.GoesByBlocks.state new.decoder in
@@ -168,16 +166,19 @@ decode_all-preserved-then-pass_whole g c =
 
 pub returns-in-Err-write_run-clause-call : goal.returns-in-Err-write_run-clause-call
 returns-in-Err-write_run-clause-call g c =
-    run_fails c.block-block.ensures.legal (progress_unchanged (c.pass_whole.ensures.none c.if-pass_whole.false).0 (c.pass_whole.ensures.none c.if-pass_whole.false).1 (c.pass_whole.ensures.none c.if-pass_whole.false).2 c.decode_all.invariant.runs) c.in-Err-write_run.ensures.err c.tick-in-Err-write_run.ensures refl c.ended-in-Err-write_run.ensures.reports
+    run_fails c.block-block.ensures.legal (progress_unchanged (c.pass_whole.ensures.none c.if-pass_whole.false) c.decode_all.invariant.runs)
+    c.in-Err-write_run.ensures.err c.tick-in-Err-write_run.ensures refl c.ended-in-Err-write_run.ensures.reports
 
 pub decode_all-preserved-in-Ok-write_run : goal.decode_all-preserved-in-Ok-write_run
 decode_all-preserved-in-Ok-write_run g c = record {
-  runs = progress_with_run c.block-block.ensures.legal (progress_unchanged (c.pass_whole.ensures.none c.if-pass_whole.false).0 (c.pass_whole.ensures.none c.if-pass_whole.false).1 (c.pass_whole.ensures.none c.if-pass_whole.false).2 c.decode_all.invariant.runs) c.in-Ok-write_run.ensures.ok c.tick-in-Ok-write_run.ensures;
+  runs = progress_with_run c.block-block.ensures.legal (progress_unchanged (c.pass_whole.ensures.none c.if-pass_whole.false) c.decode_all.invariant.runs)
+      c.in-Ok-write_run.ensures.ok c.tick-in-Ok-write_run.ensures;
   writes = c.in-Ok-write_run.ensures.failures ∙ c.decode_all.invariant.writes;
 }
 
 pub decode_all-smaller-in-Ok-write_run : goal.decode_all-smaller-in-Ok-write_run
 decode_all-smaller-in-Ok-write_run g c =
-    let less = run_shrinks c.block-block.ensures.legal (progress_unchanged (c.pass_whole.ensures.none c.if-pass_whole.false).0 (c.pass_whole.ensures.none c.if-pass_whole.false).1 (c.pass_whole.ensures.none c.if-pass_whole.false).2 c.decode_all.invariant.runs).at_block.setting c.in-Ok-write_run.ensures.ok in
+    let less = run_shrinks c.block-block.ensures.legal (progress_unchanged (c.pass_whole.ensures.none c.if-pass_whole.false) c.decode_all.invariant.runs).at_block.setting
+    c.in-Ok-write_run.ensures.ok in
     let same = c.pass_whole.ensures.none c.if-pass_whole.false in
     omega (arith, less, ap (λ r. r.taken) same.1, ap (λ (d : DecoderState). d.run * d.setting.block) same.0)
