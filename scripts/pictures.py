@@ -154,7 +154,7 @@ def house():
         ("encode", 395, "-|>", ("bytes", "levels", "residuals of a\nsegment", "an option for\neach block", "fields", "bits", "bytes"),
          ("SampleReader", "push_some", "search", "options", "BitBuffer", "write_whole")),
         ("decode", 265, "<|-", ("bytes", "levels of a\nblock", "residuals of a\nblock", "a coded\ndata set", "words and\nsequences", "bits", "bytes"),
-         ("write_block", "restoring", "options", "fields", "BitReader", "Intake")),
+         ("write_all", "restoring", "options", "fields", "BitReader", "Intake")),
     ]
     owners = (None, "rice_samples", "rice_samples", "rice_code", "rice_code", "rice_bits", None)
     for name, y, style, stages, steps in ways:
