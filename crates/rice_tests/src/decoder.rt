@@ -1,6 +1,6 @@
 //! Tests of the decoder: samples, bits, steps and refusals.
 ghost use Rattle.std.specs.Prelude.{◌≡◌, ◌+◌, ◌*◌, ◌^◌, ◌<◌, ◌≤◌, true, None};
-ghost use Rattle.rice_code.specs.decode.BlocksInOnePass.{ArePredicted};
+ghost use Rattle.rice_samples.specs.Parameters.{width as width_of};
 
 use arrayvec::ArrayVec;
 use rice_base_tests::case_table::{Columns, bytes_of, number_of, samples_of, setting_of};
@@ -196,12 +196,12 @@ fn repeated_samples() -> Result<(), Fail> {
     cases.end()
 }
 
-/// Returns whether blocks are of 8 samples that may be given as bytes.
+/// Returns whether blocks are of 8 samples of one byte.
 fn has_eights(setting: &Setting) -> bool
     ensures size { result ≡ true → 8 ≡ setting.now.block }
-    ensures samples { result ≡ true → ArePredicted setting.now 1 }
+    ensures width { result ≡ true → 1 ≡ width_of setting.now }
 {
-    setting.bits() <= 8 && setting.preprocess() && setting.block() == 8
+    setting.bits() <= 8 && setting.block() == 8
 }
 
 /// Asks a decoder for the bytes of a block of which all bits wait, which may then be asked once more.
@@ -211,8 +211,7 @@ fn next_eight_bytes<I: Intake>(
     reader: &mut BitReader<I>,
     meter: &mut Meter,
     bytes: &mut [u8; 40],
-    ends: &mut [u32; 64],
-) -> usize
+) -> bool
     requires setting { decoder.old.setting ≡ setting.now }
     requires stopped { decoder.old.stopped ≡ None }
     requires going { reader.old.refusal ≡ None }
@@ -224,12 +223,12 @@ fn next_eight_bytes<I: Intake>(
 {
     let _taken = reader.taken();
     if !has_eights(setting) {
-        return 0;
+        return false;
     }
-    decoder.next_bytes::<_, 8, 1>(1, reader, meter, bytes, ends)
+    decoder.next_bytes::<_, 8, 1>(reader, meter, bytes)
 }
 
-/// A block of which all bits wait is given as bytes, with the number of its bits.
+/// A block of which all bits wait is given as bytes.
 #[test]
 fn bytes_of_a_block() -> Result<(), Fail> {
     let mut cases = Cases::new();
@@ -243,31 +242,15 @@ fn bytes_of_a_block() -> Result<(), Fail> {
     let mut meter = Meter::new();
     let mut levels = ArrayVec::new();
     let mut bytes = [0; 40];
-    let mut ends = [0; 64];
-    let none = next_eight_bytes(
-        &setting,
-        &mut decoder,
-        &mut reader,
-        &mut meter,
-        &mut bytes,
-        &mut ends,
-    );
-    cases.check(none == 0);
+    let early = next_eight_bytes(&setting, &mut decoder, &mut reader, &mut meter, &mut bytes);
+    cases.check(!early);
     let _taken = reader.taken();
     let first = decoder.next_levels(&mut reader, &mut meter, &mut levels);
     cases.check(first == Ok(Step::Block));
     if first == Ok(Step::Block) {
-        let one = next_eight_bytes(
-            &setting,
-            &mut decoder,
-            &mut reader,
-            &mut meter,
-            &mut bytes,
-            &mut ends,
-        );
-        cases.check(one == 1);
+        let taken = next_eight_bytes(&setting, &mut decoder, &mut reader, &mut meter, &mut bytes);
+        cases.check(taken);
     }
-    cases.check(ends[0] == 27);
     cases.check(bytes[..8] == [8, 9, 10, 11, 12, 13, 14, 15]);
     cases.check((reader.taken(), meter.steps()) == (58, 58));
     cases.end()
