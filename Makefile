@@ -84,7 +84,7 @@ VERSION := $(shell sed -n 's/^.define RICE_VERSION_TEXT "\(.*\)"/\1/p' include/r
 # The number behind its name is that of its interface: it grows where a program that used the library has to be built anew.
 SHARED := librice.so.0
 
-LIBRARIES := rice_bits rice_samples rice_code rice_stream
+LIBRARIES := rice_bits rice_samples rice_code rice_fast rice_stream
 sources = $(shell find $(foreach crate,$(1),$(wildcard $(addprefix crates/$(crate)/,src specs proofs))) -type f) crates.txt
 # The processes that share a check. Each takes a gigabyte or more.
 JOBS ?= $(shell n=$$(nproc); echo $$((n < 4 ? n : 4)))

@@ -164,18 +164,18 @@ def house():
         for i, text in enumerate(steps):
             arrow(axes, (107 + 127 * i, y + 2), (142 + 127 * i, y + 2), style)
             label(axes, 124 + 127 * i, y - 32, text, size=8, align="center", style="italic")
-    label(axes, 15, 205, "what is decoded in one pass goes from bits to bytes with nothing stored between (next_bytes)", size=9, style="italic")
+    label(axes, 15, 205, "what is decoded in one pass goes from bits to bytes in lanes (rice_fast)", size=9, style="italic")
     label(axes, 15, 165, "which crate stands on which", weight="bold")
-    for i, (name, text) in enumerate((("rice_bits", "bits, devices,\nmeter"), ("rice_samples", "samples,\nresiduals"), ("rice_code", "coder,\ndecoder"), ("rice_stream", "bytes to\nbytes"))):
-        box(axes, 15 + 160 * i, 60, 120, 64, f"{name}\n{text}", fill=fills.get(name, "white"), size=9)
+    for i, (name, text) in enumerate((("rice_bits", "bits, devices,\nmeter"), ("rice_samples", "samples,\nresiduals"), ("rice_code", "coder,\ndecoder"), ("rice_fast", "a block in\none pass"), ("rice_stream", "bytes to\nbytes"))):
+        box(axes, 15 + 128 * i, 60, 100, 64, f"{name}\n{text}", fill=fills.get(name, "white"), size=9)
         if i:
-            arrow(axes, (15 + 160 * i, 92), (135 + 160 * (i - 1), 92))
+            arrow(axes, (15 + 128 * i, 92), (115 + 128 * (i - 1), 92))
     box(axes, 335, 136, 280, 26, "aec_command: options, and their plan", fill="white", size=9)
-    arrow(axes, (335, 149), (280, 125))
+    arrow(axes, (335, 149), (225, 125))
     arrow(axes, (660, 140), (616, 150))
     for y, name, text in ((100, "aec_tool", "the command"), (36, "rice_calls, rice_c, rice_small", "libraries for C: compat and\nPython stand on rice_c")):
         box(axes, 660, y, 225, 52, f"{name}\n{text}", fill="white", size=9)
-        arrow(axes, (660, y + 26), (615, 92))
+        arrow(axes, (660, y + 26), (627, 92))
     label(axes, 15, 20, "An arrow goes to what is used; what that stands on may be used too.", size=9, style="italic")
 
 

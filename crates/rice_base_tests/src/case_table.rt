@@ -48,13 +48,13 @@ impl<'a> Columns<'a> {
     }
 }
 
-/// Returns the setting of options such as `n16 j32 r64 s`, those of the command line without dashes: `s` signed, `m` most
-/// significant byte first, `3` three bytes, `N` not preprocessed, `p` padded.
+/// Returns the setting of options such as `n16 j32 r64 s`, those of the command line without dashes: `s` signed, `m` most significant byte
+/// first, `3` three bytes, `N` not preprocessed, `p` padded. `any` takes a block of any even size.
 pub fn setting_of(options: &str) -> Result<Setting, Fail> {
     Ok(answer_to(options)??)
 }
 
-/// Returns what `Setting::new` returns for options such as those of `setting_of`.
+/// Returns what `Setting::new` returns for options such as those of `setting_of`, or with `any` `Setting::with_any_block`.
 pub fn answer_to(options: &str) -> Result<Result<Setting, SettingFault>, Fail> {
     let mut bits = 8;
     let mut block = 8;
@@ -64,6 +64,7 @@ pub fn answer_to(options: &str) -> Result<Result<Setting, SettingFault>, Fail> {
     let mut three = false;
     let mut preprocess = true;
     let mut pad = false;
+    let mut any = false;
     for option in options.split_whitespace() {
         match option {
             "s" => signed = true,
@@ -71,6 +72,7 @@ pub fn answer_to(options: &str) -> Result<Result<Setting, SettingFault>, Fail> {
             "3" => three = true,
             "N" => preprocess = false,
             "p" => pad = true,
+            "any" => any = true,
             _ => {
                 if let Some(number) = option.strip_prefix('n') {
                     bits = number.parse::<u32>()?;
@@ -83,6 +85,11 @@ pub fn answer_to(options: &str) -> Result<Result<Setting, SettingFault>, Fail> {
                 }
             }
         }
+    }
+    if any {
+        return Ok(Setting::with_any_block(
+            bits, block, interval, signed, msb, three, preprocess, pad,
+        ));
     }
     Ok(Setting::new(bits, block, interval, signed, msb, three, preprocess, pad))
 }

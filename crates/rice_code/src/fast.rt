@@ -1,4 +1,3 @@
-//! The fast coder and the fast decoder. The plain ones are enough to learn the code.
+//! The fast coder. The plain one is enough to learn the code.
 
-pub mod decode;
 pub mod encode;

@@ -15,7 +15,6 @@ pub use decode::call_results::{CodeFault, Step};
 pub use decode::decoder::Decoder;
 pub use encode::SegmentSink;
 pub use encode::coder::Coder;
-pub use fast::decode::decoder::FastDecoder;
 pub use fast::encode::coder::{Pushed, SizedCoder};
 pub use known_len::known_or;
 
@@ -25,5 +24,3 @@ const _: () = prove!(size_of::<SegmentSink>() == 16440);
 const _: () = prove!(size_of::<Coder>() == 16456);
 
 const _: () = prove!(size_of::<Decoder>() == 56);
-
-const _: () = prove!(size_of::<FastDecoder>() == 576);

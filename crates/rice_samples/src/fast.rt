@@ -11,4 +11,3 @@ pub mod restoring;
 pub mod spelling_lanes;
 mod stops;
 mod tests_and_sums;
-pub mod three_bytes;

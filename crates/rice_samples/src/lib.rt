@@ -17,7 +17,7 @@ pub use bytes::sample_fault::SampleFault;
 pub use bytes::sample_reader::{MOST_INPUT, SampleReader};
 pub use bytes::spelling::{bytes_of, sample_of};
 pub use bytes::unused_bits::set_unused_bits;
-pub use bytes::writing::{write_spellings, write_spellings_by_eights};
+pub use bytes::writing::write_spellings;
 pub use fast::lanes::Lanes;
 pub use fast::lanes::bytes::Bytes;
 pub use fast::lanes::halves::Halves;
@@ -27,17 +27,13 @@ pub use fast::levels::Levels;
 pub use fast::pattern_lanes::bytes_of_patterns;
 pub use fast::residuals::Residuals;
 pub use fast::residuals_of_levels::from_levels::pattern_of_level;
-pub use fast::restoring::levels::{
-    has_few_near, level_of_pattern, levels_of_patterns, restore_by_selection, restore_near_first,
-};
+pub use fast::restoring::levels::level_of_pattern;
 pub use fast::restoring::near::running_sums;
-pub use fast::restoring::parts::{
-    LevelHalves, near_halves_of_parts, near_levels_of_parts, near_words_of_parts,
+pub use fast::restoring::parts::{join_parts, near_levels_of_parts};
+pub use fast::restoring::turns::{bytes_in_turn, halves_in_turn, words_in_turn};
+pub use fast::spelling_lanes::{
+    spelled_in_four_bytes, spelled_in_one_byte, spelled_in_three_bytes, spelled_in_two_bytes,
 };
-pub use fast::restoring::parts_in_turn::{
-    halves_of_parts_in_turn, levels_in_turn, levels_of_parts_in_turn,
-};
-pub use fast::spelling_lanes::{spelled_in_one_byte, spelled_in_two_bytes};
 pub use predict::preprocessor::{from_pattern, pattern, residual, restore};
 pub use setting::{Setting, SettingFault};
 

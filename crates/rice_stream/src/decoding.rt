@@ -7,13 +7,13 @@ ghost use Rattle.rice_samples.specs.Parameters.{width as width_of};
 ghost use Rattle.rice_stream.specs.DevicesInCalls.{Fails};
 ghost use Rattle.rice_stream.specs.Decodes.{DecodesBetween, DecodesWithin, Reports, wanted_of, ended_fault, refusal_fault};
 
-use crate::block_decoder::{GivesBytes, GoesByBlocks};
-use crate::fast_decoder::FastBlocks;
+use crate::block_bytes::bytes_of_next;
+use crate::block_pass::{BlockPass, FastPass};
 use crate::outcome::{Fault, Outcome, Report};
 use crate::runs::write_run;
 use crate::write::write_all;
 use rice_bits::{BitReader, Intake, Meter, Outlet};
-use rice_code::{CodeFault, Step, known_or};
+use rice_code::{CodeFault, Decoder, Step, known_or};
 use rice_samples::Setting;
 
 /// Returns how many samples of the next block are wanted after the first `written`.
@@ -103,12 +103,12 @@ pub fn decode<I: Intake, O: Outlet>(
         return decode_sizes::<I, O, 2>(setting, asked, intake, outlet);
     }
     if has_pass::<3>(setting) {
-        return decode_blocks::<FastBlocks, I, O, 0, 3>(setting, asked, intake, outlet);
+        return decode_blocks::<FastPass, I, O, 0, 3>(setting, asked, intake, outlet);
     }
     if has_pass::<4>(setting) {
-        return decode_blocks::<FastBlocks, I, O, 0, 4>(setting, asked, intake, outlet);
+        return decode_blocks::<FastPass, I, O, 0, 4>(setting, asked, intake, outlet);
     }
-    decode_blocks::<FastBlocks, I, O, 0, 0>(setting, asked, intake, outlet)
+    decode_blocks::<FastPass, I, O, 0, 0>(setting, asked, intake, outlet)
 }
 
 /// Returns whether samples have `WIDTH` bytes, and the fast pass may take blocks of them. Where predicted samples have few bits, most
@@ -140,11 +140,11 @@ fn decode_sizes<I: Intake, O: Outlet, const WIDTH: usize>(
     ensures idle { asked ≡ Some 0 → result.1 ≡ intake }
 {
     match setting.block() {
-        8 => decode_blocks::<FastBlocks, I, O, 8, WIDTH>(setting, asked, intake, outlet),
-        16 => decode_blocks::<FastBlocks, I, O, 16, WIDTH>(setting, asked, intake, outlet),
-        32 => decode_blocks::<FastBlocks, I, O, 32, WIDTH>(setting, asked, intake, outlet),
-        64 => decode_blocks::<FastBlocks, I, O, 64, WIDTH>(setting, asked, intake, outlet),
-        _ => decode_blocks::<FastBlocks, I, O, 0, WIDTH>(setting, asked, intake, outlet),
+        8 => decode_blocks::<FastPass, I, O, 8, WIDTH>(setting, asked, intake, outlet),
+        16 => decode_blocks::<FastPass, I, O, 16, WIDTH>(setting, asked, intake, outlet),
+        32 => decode_blocks::<FastPass, I, O, 32, WIDTH>(setting, asked, intake, outlet),
+        64 => decode_blocks::<FastPass, I, O, 64, WIDTH>(setting, asked, intake, outlet),
+        _ => decode_blocks::<FastPass, I, O, 0, WIDTH>(setting, asked, intake, outlet),
     }
 }
 
@@ -156,11 +156,16 @@ pub(crate) fn is_whole(count: usize, block: u32) -> bool
 }
 
 /// Returns whether all of the next block is wanted, and it is in a run that repeats the sample before.
-fn repeats<D: GoesByBlocks>(decoder: &D, whole: bool) -> bool
-    ensures { result ≡ true → (whole ≡ true) × (0 < (D.state decoder.now).run) ×
-        ((D.state decoder.now).setting.preprocess ≡ true) }
+fn repeats<P: BlockPass<SIZE, WIDTH>, const SIZE: usize, const WIDTH: usize>(
+    decoder: &Decoder,
+    setting: &Setting,
+    whole: bool,
+) -> bool
+    requires { decoder.now.setting ≡ setting.now }
+    ensures { result ≡ true → (whole ≡ true) × (0 < decoder.now.run) ×
+        (decoder.now.setting.preprocess ≡ true) }
 {
-    whole && decoder.is_repeating()
+    whole && P::is_repeating(decoder, setting)
 }
 
 /// Returns the number of bytes of a sample, which the compiler knows where it is laid out for `WIDTH`.
@@ -180,35 +185,35 @@ pub(crate) fn known_width<const WIDTH: usize>(setting: &Setting) -> usize
 /// Reads the next block by a pass, if `whole` says that all of it is wanted, and writes the bytes of its samples to the front of `bytes`.
 /// Returns whether it did; otherwise nothing has happened.
 #[inline(always)]
-fn pass_whole<D: GivesBytes<SIZE, WIDTH>, I: Intake, const SIZE: usize, const WIDTH: usize>(
+fn pass_whole<P: BlockPass<SIZE, WIDTH>, I: Intake, const SIZE: usize, const WIDTH: usize>(
     setting: &Setting,
     whole: bool,
-    decoder: &mut D,
+    decoder: &mut Decoder,
     reader: &mut BitReader<I>,
     meter: &mut Meter,
     bytes: &mut [u8; 320],
 ) -> bool
-    requires setting { (D.state decoder.old).setting ≡ setting.now }
+    requires setting { decoder.old.setting ≡ setting.now }
     requires size { 0 < SIZE → SIZE ≡ setting.now.block }
     requires width { 0 < WIDTH → WIDTH ≡ width_of setting.now }
-    requires stopped { (D.state decoder.old).stopped ≡ None }
+    requires stopped { decoder.old.stopped ≡ None }
     requires going { reader.old.refusal ≡ None }
     requires room { meter.old + 2 * (most_bits_read - reader.old.taken) + 64 < step_limit }
     ensures whole { result ≡ true → whole ≡ true }
-    ensures some { result ≡ true → AnswersBytes reader.old reader.new meter.old meter.new (D.state decoder.old)
-        (D.state decoder.new) bytes.new (Ok Block) }
-    ensures none { result ≡ false → (D.state decoder.new ≡ D.state decoder.old) × (reader.new ≡ reader.old) ×
+    ensures some { result ≡ true → AnswersBytes reader.old reader.new meter.old meter.new decoder.old
+        decoder.new bytes.new (Ok Block) }
+    ensures none { result ≡ false → (decoder.new ≡ decoder.old) × (reader.new ≡ reader.old) ×
         (meter.new ≡ meter.old) }
     ensures going { reader.new.refusal ≡ None }
-    ensures stopped { (D.state decoder.new).stopped ≡ None }
+    ensures stopped { decoder.new.stopped ≡ None }
 {
-    whole && decoder.pass(setting, reader, meter, bytes)
+    whole && P::pass(decoder, setting, reader, meter, bytes)
 }
 
 /// Decodes, by a loop for blocks of `SIZE` samples of `WIDTH` bytes, or of any where these are 0.
 #[inline(never)]
 pub(crate) fn decode_blocks<
-    D: GivesBytes<SIZE, WIDTH>,
+    P: BlockPass<SIZE, WIDTH>,
     I: Intake,
     O: Outlet,
     const SIZE: usize,
@@ -231,7 +236,7 @@ pub(crate) fn decode_blocks<
     let block = own.block();
     let width = known_width::<WIDTH>(&own);
     let size = width * known_or::<SIZE>(block as usize);
-    let mut decoder = D::start(own);
+    let mut decoder = Decoder::new(own);
     let mut reader = BitReader::new(intake);
     let mut meter = Meter::new();
     // Declared here, and not where they are filled, so that they are not cleared for each block.
@@ -243,7 +248,7 @@ pub(crate) fn decode_blocks<
             return ended(None, written, reader, &meter);
         }
         let whole = is_whole(count, block);
-        if pass_whole(
+        if pass_whole::<P, I, SIZE, WIDTH>(
             &own,
             whole,
             &mut decoder,
@@ -259,7 +264,7 @@ pub(crate) fn decode_blocks<
             meter.tick(block as u64);
             continue 'decode_all;
         }
-        if repeats(&decoder, whole) {
+        if repeats::<P, SIZE, WIDTH>(&decoder, &own, whole) {
             match write_run(&own, asked, written, &mut decoder, &mut bytes, outlet) {
                 Ok(samples) => {
                     written += samples;
@@ -273,7 +278,7 @@ pub(crate) fn decode_blocks<
                 }
             }
         }
-        let answer = decoder.bytes_of_next(&own, &mut reader, &mut meter, &mut bytes);
+        let answer = bytes_of_next(&mut decoder, &own, &mut reader, &mut meter, &mut bytes);
         let step = match answer {
             Ok(step) => step,
             Err(fault) => {

@@ -7,6 +7,7 @@ ghost use Rattle.rice_stream.specs.Decodes.{DecodesBetween, DecodesWithin};
 ghost use Rattle.rice_stream.specs.Feeding.{IsSomeSeam, EncodesOn, EncodesToEnd};
 ghost use Rattle.rice_stream.specs.Pulling.{IsSomeStand, DecodesOn};
 
+use crate::block_pass::NoPass;
 use crate::decoding::{decode, decode_blocks};
 use crate::encoding::{encode, encode_by};
 use crate::feeding::{encode_more, encode_more_by, encode_rest, encode_rest_by};
@@ -17,7 +18,6 @@ use crate::seam::Seam;
 use crate::stand::{Pause, Stand};
 use crate::takes::OneByOne;
 use rice_bits::{Intake, Outlet};
-use rice_code::Decoder;
 use rice_samples::Setting;
 
 /// The calls that encode and decode, whole and piece by piece. All implementations write the same code and the same samples.
@@ -170,7 +170,7 @@ impl Engines for Plain {
         intake: I,
         outlet: &mut O,
     ) -> (Outcome, I) {
-        decode_blocks::<Decoder, I, O, 0, 0>(setting, asked, intake, outlet)
+        decode_blocks::<NoPass, I, O, 0, 0>(setting, asked, intake, outlet)
     }
 
     fn decode_more(
@@ -179,6 +179,6 @@ impl Engines for Plain {
         piece: &[u8],
         samples: &mut [u8],
     ) -> (Stand, Pause) {
-        decode_more_by_one_loop::<Decoder>(setting, stand, piece, samples)
+        decode_more_by_one_loop::<NoPass>(setting, stand, piece, samples)
     }
 }

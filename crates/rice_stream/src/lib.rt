@@ -2,15 +2,14 @@
 //! samples. Each returns an [`Outcome`]: what it did and, if it stopped before the end, why.
 #![tactic(auto)]
 
-pub mod block_decoder;
+pub mod block_bytes;
+pub mod block_pass;
 pub mod decoding;
 pub mod encoding;
 pub mod engines;
-pub mod fast_decoder;
 pub mod feeding;
 pub mod laws;
 pub mod outcome;
-pub mod plain_decoder;
 mod pulled_runs;
 pub mod pulling;
 pub mod rows;

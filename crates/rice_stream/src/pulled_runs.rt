@@ -5,20 +5,20 @@ ghost use Rattle.rice_samples.specs.bytes.Spelling.{spellings};
 ghost use Rattle.rice_code.specs.decode.DecoderState.{IsDecoderState};
 ghost use Rattle.rice_stream.specs.Pulling.{HasComeTo, WritesRunAt, stand_at};
 
-use crate::block_decoder::GoesByBlocks;
 use crate::runs::{blocks_at_once, spell_copies_of_sample};
 use crate::stand::Stand;
 use rice_bits::{BitReader, Meter, SliceIn};
+use rice_code::Decoder;
 use rice_samples::Setting;
 
 /// Returns where decoding stands behind `samples` samples more. The reader had taken `before` bits at `stand`, and the steps of those
 /// that it took since are ticked.
 #[inline(always)]
-pub(crate) fn stand_behind<D: GoesByBlocks>(
+pub(crate) fn stand_behind(
     stand: &Stand,
     samples: u64,
     before: u64,
-    decoder: &D,
+    decoder: &Decoder,
     reader: &BitReader<SliceIn<'_>>,
     meter: &Meter,
 ) -> Stand
@@ -27,18 +27,18 @@ pub(crate) fn stand_behind<D: GoesByBlocks>(
     requires bits { stand.now.bits + (reader.now.taken - before) < 2 ^ 64 }
     requires steps { meter.now + samples < 2 ^ 64 }
     ensures numbers { result ≡ stand_at (stand.now.samples + samples)
-        (stand.now.bits + (reader.now.taken - before)) (meter.now + samples) (D.state decoder.now) }
+        (stand.now.bits + (reader.now.taken - before)) (meter.now + samples) decoder.now }
     // What is known of each decoder.
-    ensures state { IsDecoderState (D.state decoder.now).setting (D.state decoder.now).block (D.state decoder.now).before
-        (D.state decoder.now).run (D.state decoder.now).stopped }
+    ensures state { IsDecoderState decoder.now.setting decoder.now.block decoder.now.before
+        decoder.now.run decoder.now.stopped }
 {
     Stand {
         samples: stand.samples + samples,
         bits: stand.bits + (reader.taken() - before),
         steps: meter.steps() + samples,
-        previous: decoder.sample_before(),
-        block: decoder.place(),
-        run: decoder.blocks_of_run(),
+        previous: decoder.before(),
+        block: decoder.block(),
+        run: decoder.run(),
     }
 }
 
@@ -59,19 +59,19 @@ fn spell_copies_at(setting: &Setting, sample: i64, count: usize, at: usize, samp
 
 /// Writes the samples of blocks of a run at this place. Returns where decoding stands after them, and the number of their bytes.
 #[inline(never)]
-pub(crate) fn write_next_of_run<D: GoesByBlocks>(
+pub(crate) fn write_next_of_run(
     setting: &Setting,
     stand: &Stand,
-    decoder: &mut D,
+    decoder: &mut Decoder,
     reader: &BitReader<SliceIn<'_>>,
     at: usize,
     samples: &mut [u8],
 ) -> (Stand, usize)
-    requires come { HasComeTo setting.now stand.now (D.state decoder.old) reader.now }
-    requires run { 0 < (D.state decoder.old).run }
-    requires preprocess { (D.state decoder.old).setting.preprocess ≡ true }
+    requires come { HasComeTo setting.now stand.now decoder.old reader.now }
+    requires run { 0 < decoder.old.run }
+    requires preprocess { decoder.old.setting.preprocess ≡ true }
     requires room { at + width_of setting.now * setting.now.block ≤ length samples.old }
-    ensures gives { WritesRunAt setting.now stand.now result.0 (D.state decoder.new)
+    ensures gives { WritesRunAt setting.now stand.now result.0 decoder.new
         reader.now reader.now result.1 at samples.old samples.new }
     ensures room { at + result.1 ≤ length samples.old }
     ensures len { length samples.new ≡ length samples.old }
@@ -82,9 +82,9 @@ pub(crate) fn write_next_of_run<D: GoesByBlocks>(
     let fit = ((samples.len() - at) as u64 / 4).max(block);
     let mut meter = Meter::new();
     meter.tick(stand.steps);
-    let sample = decoder.sample_before();
-    let blocks = blocks_at_once(setting, Some(fit), 0, decoder.blocks_of_run());
-    decoder.pass_blocks(blocks);
+    let sample = decoder.before();
+    let blocks = blocks_at_once(setting, Some(fit), 0, decoder.run());
+    decoder.pass_blocks_of_run(blocks);
     let count = block * blocks as u64;
     let stand = stand_behind(stand, count, reader.taken(), decoder, reader, &meter);
     let len = width * count as usize;

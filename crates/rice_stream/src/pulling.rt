@@ -7,13 +7,13 @@ ghost use Rattle.rice_samples.specs.Parameters.{width as width_of};
 ghost use Rattle.rice_code.specs.declared.decode.call_results.CodeFault.TheVariants as faults;
 ghost use Rattle.rice_stream.specs.Pulling.{DecodesOn, GivesAtStand, HasComeTo, IsSomeStand, ahead, pause_for};
 
-use crate::block_decoder::{GivesBytes, GoesByBlocks, next_bytes};
+use crate::block_bytes::next_bytes;
+use crate::block_pass::{BlockPass, FastPass};
 use crate::decoding::{has_pass, known_width};
-use crate::fast_decoder::FastBlocks;
 use crate::pulled_runs::{stand_behind, write_next_of_run};
 use crate::stand::{Pause, Stand};
 use rice_bits::{BitReader, Meter, SliceIn};
-use rice_code::{CodeFault, Step, known_or};
+use rice_code::{CodeFault, Decoder, Step, known_or};
 use rice_samples::Setting;
 
 /// The most bits of a code.
@@ -43,16 +43,16 @@ pub fn decode_more(
         return decode_piece_of_sizes::<2>(setting, stand, piece, samples);
     }
     if has_pass::<3>(setting) {
-        return decode_piece::<FastBlocks, 0, 3>(setting, stand, piece, samples);
+        return decode_piece::<FastPass, 0, 3>(setting, stand, piece, samples);
     }
     if has_pass::<4>(setting) {
-        return decode_piece::<FastBlocks, 0, 4>(setting, stand, piece, samples);
+        return decode_piece::<FastPass, 0, 4>(setting, stand, piece, samples);
     }
-    decode_piece::<FastBlocks, 0, 0>(setting, stand, piece, samples)
+    decode_piece::<FastPass, 0, 0>(setting, stand, piece, samples)
 }
 
 /// Does what `decode_more` does, by one loop for all shapes of blocks.
-pub(crate) fn decode_more_by_one_loop<D: GivesBytes<0, 0>>(
+pub(crate) fn decode_more_by_one_loop<P: BlockPass<0, 0>>(
     setting: &Setting,
     stand: &Stand,
     piece: &[u8],
@@ -62,7 +62,7 @@ pub(crate) fn decode_more_by_one_loop<D: GivesBytes<0, 0>>(
     ensures { DecodesOn setting.now stand.now piece.now samples.old samples.new result.0 result.1 }
 {
     if !is_too_long(stand.bits, piece.len()) {
-        return decode_piece::<D, 0, 0>(setting, stand, piece, samples);
+        return decode_piece::<P, 0, 0>(setting, stand, piece, samples);
     }
     (*stand, Pause::TooLong)
 }
@@ -81,18 +81,18 @@ fn decode_piece_of_sizes<const WIDTH: usize>(
     ensures { DecodesOn setting.now stand.now piece.now samples.old samples.new result.0 result.1 }
 {
     match setting.block() {
-        8 => decode_piece::<FastBlocks, 8, WIDTH>(setting, stand, piece, samples),
-        16 => decode_piece::<FastBlocks, 16, WIDTH>(setting, stand, piece, samples),
-        32 => decode_piece::<FastBlocks, 32, WIDTH>(setting, stand, piece, samples),
-        64 => decode_piece::<FastBlocks, 64, WIDTH>(setting, stand, piece, samples),
-        _ => decode_piece::<FastBlocks, 0, WIDTH>(setting, stand, piece, samples),
+        8 => decode_piece::<FastPass, 8, WIDTH>(setting, stand, piece, samples),
+        16 => decode_piece::<FastPass, 16, WIDTH>(setting, stand, piece, samples),
+        32 => decode_piece::<FastPass, 32, WIDTH>(setting, stand, piece, samples),
+        64 => decode_piece::<FastPass, 64, WIDTH>(setting, stand, piece, samples),
+        _ => decode_piece::<FastPass, 0, WIDTH>(setting, stand, piece, samples),
     }
 }
 
 /// Decodes a piece that does not pass the limit of a code, by a loop for blocks of `SIZE` samples of `WIDTH` bytes, or of any where
 /// these are 0.
 #[inline(never)]
-fn decode_piece<D: GivesBytes<SIZE, WIDTH>, const SIZE: usize, const WIDTH: usize>(
+fn decode_piece<P: BlockPass<SIZE, WIDTH>, const SIZE: usize, const WIDTH: usize>(
     setting: &Setting,
     stand: &Stand,
     piece: &[u8],
@@ -107,7 +107,7 @@ fn decode_piece<D: GivesBytes<SIZE, WIDTH>, const SIZE: usize, const WIDTH: usiz
     let width = known_width::<WIDTH>(setting);
     let block = known_or::<SIZE>(setting.block() as usize);
     let size = width * block;
-    let mut decoder = D::resume(*setting, stand.block, stand.previous, stand.run);
+    let mut decoder = Decoder::at(*setting, stand.block, stand.previous, stand.run);
     let mut reader = BitReader::new(SliceIn::new(piece));
     if !skip_bits(&mut reader, piece, (stand.bits % 8) as u32) {
         let _intake = reader.into_inner();
@@ -121,13 +121,19 @@ fn decode_piece<D: GivesBytes<SIZE, WIDTH>, const SIZE: usize, const WIDTH: usiz
         if piece.is_empty() && here.run == 0 {
             return (here, Pause::Blank);
         }
-        if decoder.is_repeating() {
+        if P::is_repeating(&decoder, setting) {
             let (next, len) = write_next_of_run(setting, &here, &mut decoder, &reader, at, samples);
             here = next;
             at += len;
             continue 'decode_all;
         }
-        let found = match give_next_block(setting, &here, &mut decoder, &mut reader, &mut bytes) {
+        let found = match give_next_block::<P, SIZE, WIDTH>(
+            setting,
+            &here,
+            &mut decoder,
+            &mut reader,
+            &mut bytes,
+        ) {
             Ok(found) => found,
             Err(fault) => {
                 let _intake = reader.into_inner();
@@ -190,23 +196,23 @@ fn skip_bits(reader: &mut BitReader<SliceIn<'_>>, piece: &[u8], skipped: u32) ->
 /// Writes the bytes of the samples of the next block to the front of `bytes`, and returns where decoding stands after it, or `None` if no 1
 /// is left.
 #[inline(always)]
-fn give_next_block<D: GivesBytes<SIZE, WIDTH>, const SIZE: usize, const WIDTH: usize>(
+fn give_next_block<P: BlockPass<SIZE, WIDTH>, const SIZE: usize, const WIDTH: usize>(
     setting: &Setting,
     stand: &Stand,
-    decoder: &mut D,
+    decoder: &mut Decoder,
     reader: &mut BitReader<SliceIn<'_>>,
     bytes: &mut [u8; 320],
 ) -> Result<Option<Stand>, CodeFault>
     requires size { 0 < SIZE → SIZE ≡ setting.now.block }
     requires width { 0 < WIDTH → WIDTH ≡ width_of setting.now }
-    requires come { HasComeTo setting.now stand.now (D.state decoder.old) reader.old }
-    ensures { GivesAtStand setting.now stand.now (D.state decoder.new) reader.old reader.new bytes.new result }
+    requires come { HasComeTo setting.now stand.now decoder.old reader.old }
+    ensures { GivesAtStand setting.now stand.now decoder.new reader.old reader.new bytes.new result }
 {
     let size = setting.block() as u64;
     let before = reader.taken();
     let mut meter = Meter::new();
     meter.tick(stand.steps);
-    match next_bytes(decoder, setting, reader, &mut meter, bytes)? {
+    match next_bytes::<P, _, SIZE, WIDTH>(decoder, setting, reader, &mut meter, bytes)? {
         Step::Block => {}
         Step::Done => return Ok(None),
     }

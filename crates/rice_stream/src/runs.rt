@@ -5,9 +5,9 @@ ghost use Rattle.rice_samples.specs.bytes.Spelling.{spellings};
 ghost use Rattle.rice_stream.specs.Decodes.{wanted_of};
 ghost use Rattle.rice_stream.specs.RunsOfBlocks.{FailsInRun, WritesRun, repeated};
 
-use crate::block_decoder::GoesByBlocks;
 use crate::write::write_counted;
 use rice_bits::Outlet;
+use rice_code::Decoder;
 use rice_samples::{Setting, bytes_of};
 
 /// The bytes of a run that are written at once, at most.
@@ -76,31 +76,31 @@ pub(crate) fn blocks_at_once(setting: &Setting, asked: Option<u64>, written: u64
 /// Writes the next blocks of a run, and goes past them. Returns how many samples were written. If the outlet fails, an error has the
 /// number of samples of those blocks that were written whole.
 #[inline(never)]
-pub fn write_run<D: GoesByBlocks, O: Outlet>(
+pub fn write_run<O: Outlet>(
     setting: &Setting,
     asked: Option<u64>,
     written: u64,
-    decoder: &mut D,
+    decoder: &mut Decoder,
     bytes: &mut [u8; 320],
     outlet: &mut O,
 ) -> Result<u64, u64>
-    requires run { 1 ≤ (D.state decoder.old).run }
-    requires preprocess { (D.state decoder.old).setting.preprocess ≡ true }
-    requires setting { (D.state decoder.old).setting ≡ setting.now }
+    requires run { 1 ≤ decoder.old.run }
+    requires preprocess { decoder.old.setting.preprocess ≡ true }
+    requires setting { decoder.old.setting ≡ setting.now }
     requires wanted { wanted_of asked written setting.now.block ≡ setting.now.block }
     requires counted { O.failed outlet.old + 1 < 2 ^ 64 }
-    ensures ok { IfOk result (λ n. WritesRun setting.now asked written (D.state decoder.old) (D.state decoder.new)
+    ensures ok { IfOk result (λ n. WritesRun setting.now asked written decoder.old decoder.new
         (O.taken outlet.old) (O.taken outlet.new) n) }
-    ensures err { IfErr result (λ n. FailsInRun setting.now asked written (D.state decoder.old)
+    ensures err { IfErr result (λ n. FailsInRun setting.now asked written decoder.old
         (O.taken outlet.old) (O.taken outlet.new) n) }
     ensures failures { OnOk result (O.failed outlet.new ≡ O.failed outlet.old) }
     ensures failure { OnErr result (O.failed outlet.new ≡ O.failed outlet.old + 1) }
 {
     let block = setting.block();
-    let _place = decoder.place();
-    let sample = decoder.sample_before();
-    let blocks = blocks_at_once(setting, asked, written, decoder.blocks_of_run());
-    decoder.pass_blocks(blocks);
+    let _place = decoder.block();
+    let sample = decoder.before();
+    let blocks = blocks_at_once(setting, asked, written, decoder.run());
+    decoder.pass_blocks_of_run(blocks);
     let count = block as usize * blocks as usize;
     let width = setting.width() as usize;
     let spelled = &mut bytes[..width * count];

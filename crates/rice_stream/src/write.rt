@@ -1,13 +1,10 @@
-//! Writes all bytes of a slice or of a sink, and the bytes of samples.
-ghost use Rattle.std.specs.Prelude.{◌≡◌, ◌+◌, ◌*◌, ◌^◌, ◌<◌, ◌≤◌, All, length, drop, take, OnOk, OnErr, IfErr};
+//! Writes all bytes of a slice or of a sink.
+ghost use Rattle.std.specs.Prelude.{◌≡◌, ◌+◌, ◌^◌, ◌<◌, length, drop, take, OnOk, OnErr, IfErr};
 ghost use Rattle.rice_bits.specs.device.OutletRoom.{Appends};
 ghost use Rattle.rice_bits.specs.Bits.{whole_bytes, bits_in_bytes};
-ghost use Rattle.rice_samples.specs.Parameters.{value_count, values_at, width as width_of};
-ghost use Rattle.rice_samples.specs.bytes.Spelling.{spellings};
 ghost use Rattle.rice_stream.specs.FailedWrites.{TakesPart};
 
 use rice_bits::{BitSink, Outlet, WriteFault};
-use rice_samples::{Setting, write_spellings, write_spellings_by_eights};
 
 /// Writes all of the bytes. Returns `WriteFault` only if the outlet fails; it has then taken fewer than all.
 #[inline(always)]
@@ -85,24 +82,4 @@ pub fn write_whole<const N: usize, O: Outlet>(
     write_all(outlet, sink.whole())?;
     sink.drop_whole();
     Ok(())
-}
-
-/// Writes the bytes of samples with these levels to the front of `bytes`. It may write more after them.
-#[inline(always)]
-pub fn write_levels(setting: &Setting, levels: &[u32], bytes: &mut [u8; 320])
-    requires legal { All (λ l. l < value_count setting.now) levels.now }
-    requires few { length levels.now ≤ 64 }
-    ensures { take (width_of setting.now * length levels.now) bytes.new
-        ≡ spellings setting.now (values_at setting.now levels.now) }
-{
-    match (setting.width(), levels.len() % 8) {
-        (1, 0) => write_spellings_by_eights::<1>(setting, levels, bytes),
-        (2, 0) => write_spellings_by_eights::<2>(setting, levels, bytes),
-        (3, 0) => write_spellings_by_eights::<3>(setting, levels, bytes),
-        (4, 0) => write_spellings_by_eights::<4>(setting, levels, bytes),
-        (width, _) => {
-            let len = width as usize * levels.len();
-            write_spellings(setting, levels, &mut bytes[..len]);
-        }
-    }
 }

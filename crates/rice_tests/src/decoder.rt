@@ -1,13 +1,16 @@
 //! Tests of the decoder: samples, bits, steps and refusals.
-ghost use Rattle.std.specs.Prelude.{◌≡◌, ◌+◌, ◌*◌, ◌^◌, ◌<◌, ◌≤◌, true, None};
+ghost use Rattle.std.specs.Prelude.{◌≡◌, ◌+◌, ◌*◌, ◌^◌, ◌<◌, ◌≤◌, true, None, Ok};
+ghost use Rattle.rice_code.specs.declared.decode.call_results.Step.TheVariants.{Block};
 ghost use Rattle.rice_samples.specs.Parameters.{width as width_of};
+ghost use Rattle.rice_fast.specs.BlocksAhead.{HasBits};
 
 use arrayvec::ArrayVec;
 use rice_base_tests::case_table::{Columns, bytes_of, number_of, samples_of, setting_of};
 use rice_base_tests::cases::Cases;
 use rice_bits::{BitReader, Intake, MemoryIn, Meter};
-use rice_code::{CodeFault, Decoder, FastDecoder, Step};
-use rice_samples::Setting;
+use rice_code::{CodeFault, Decoder, Step};
+use rice_fast::pass;
+use rice_samples::{Bytes, Setting};
 use std::alloc::Global;
 use std::test::Fail;
 
@@ -30,6 +33,8 @@ fn next<I: Intake>(
     requires going { decoder.old.stopped ≡ None → reader.old.refusal ≡ None }
     requires room { meter.old ≤ 2 * reader.old.taken }
     ensures going { decoder.new.stopped ≡ None → reader.new.refusal ≡ None }
+    ensures block { result ≡ Ok Block → decoder.new.stopped ≡ None }
+    ensures setting { decoder.new.setting ≡ decoder.old.setting }
     ensures room { meter.new ≤ 2 * reader.new.taken }
 {
     let _taken = reader.taken();
@@ -181,17 +186,17 @@ fn waiting_samples() -> Result<(), Fail> {
 fn repeated_samples() -> Result<(), Fail> {
     let mut cases = Cases::new();
     let mut reader = BitReader::new(MemoryIn::new(&[0x00, 0x00, 0x80], 4096, None));
-    let mut decoder = FastDecoder::new(setting_of("")?);
+    let setting = setting_of("")?;
+    let mut decoder = Decoder::new(setting);
     let mut meter = Meter::new();
-    let mut levels = ArrayVec::new();
-    cases.check(!decoder.repeats());
-    cases.check(decoder.next_levels(&mut reader, &mut meter, &mut levels) == Ok(Step::Block));
-    cases.check(levels.as_slice() == [0; 8].as_slice());
-    if decoder.repeats() {
+    let mut samples = ArrayVec::new();
+    cases.check(decoder.run() == 0);
+    cases.check(decoder.next_block(&mut reader, &mut meter, &mut samples) == Ok(Step::Block));
+    cases.check(samples.as_slice() == [0; 8].as_slice());
+    if decoder.run() > 0 && setting.preprocess() {
         decoder.pass_blocks_of_run(1);
     }
-    cases.check(!decoder.is_in_run());
-    cases.check(!decoder.repeats());
+    cases.check(decoder.run() == 0);
     cases.check(meter.steps() == 17);
     cases.end()
 }
@@ -200,17 +205,18 @@ fn repeated_samples() -> Result<(), Fail> {
 fn has_eights(setting: &Setting) -> bool
     ensures size { result ≡ true → 8 ≡ setting.now.block }
     ensures width { result ≡ true → 1 ≡ width_of setting.now }
+    ensures bits { result ≡ true → HasBits 0 8 setting.now }
 {
     setting.bits() <= 8 && setting.block() == 8
 }
 
-/// Asks a decoder for the bytes of a block of which all bits wait, which may then be asked once more.
-fn next_eight_bytes<I: Intake>(
+/// Asks the fast decoder for the bytes of a block of which all bits wait.
+fn pass_eight_bytes<I: Intake>(
     setting: &Setting,
-    decoder: &mut FastDecoder,
+    decoder: &mut Decoder,
     reader: &mut BitReader<I>,
     meter: &mut Meter,
-    bytes: &mut [u8; 40],
+    bytes: &mut [u8; 320],
 ) -> bool
     requires setting { decoder.old.setting ≡ setting.now }
     requires stopped { decoder.old.stopped ≡ None }
@@ -225,7 +231,7 @@ fn next_eight_bytes<I: Intake>(
     if !has_eights(setting) {
         return false;
     }
-    decoder.next_bytes::<_, 8, 1>(reader, meter, bytes)
+    pass::<Bytes, _, 8, 1>(decoder, setting, reader, meter, bytes)
 }
 
 /// A block of which all bits wait is given as bytes.
@@ -238,17 +244,16 @@ fn bytes_of_a_block() -> Result<(), Fail> {
     ];
     let mut reader = BitReader::new(MemoryIn::new(&code, 4096, None));
     let setting = setting_of("")?;
-    let mut decoder = FastDecoder::new(setting);
+    let mut decoder = Decoder::new(setting);
     let mut meter = Meter::new();
-    let mut levels = ArrayVec::new();
-    let mut bytes = [0; 40];
-    let early = next_eight_bytes(&setting, &mut decoder, &mut reader, &mut meter, &mut bytes);
-    cases.check(!early);
-    let _taken = reader.taken();
-    let first = decoder.next_levels(&mut reader, &mut meter, &mut levels);
+    let mut bytes = [0; 320];
+    // Nothing waits before the first bit is taken.
+    cases.check(!pass_eight_bytes(&setting, &mut decoder, &mut reader, &mut meter, &mut bytes));
+    let mut samples = ArrayVec::new();
+    let first = next(&mut decoder, &mut reader, &mut meter, &mut samples);
     cases.check(first == Ok(Step::Block));
     if first == Ok(Step::Block) {
-        let taken = next_eight_bytes(&setting, &mut decoder, &mut reader, &mut meter, &mut bytes);
+        let taken = pass_eight_bytes(&setting, &mut decoder, &mut reader, &mut meter, &mut bytes);
         cases.check(taken);
     }
     cases.check(bytes[..8] == [8, 9, 10, 11, 12, 13, 14, 15]);

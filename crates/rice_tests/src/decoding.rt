@@ -6,7 +6,7 @@ use rice_base_tests::case_table::{Columns, number_of, setting_of};
 use rice_base_tests::cases::Cases;
 use rice_bits::{MemoryIn, MemoryOut, ZeroIn};
 use rice_samples::Setting;
-use rice_stream::{Fault, Outcome, decode};
+use rice_stream::{Engines, Fault, Outcome, Plain, decode};
 use std::alloc::Global;
 use std::test::Fail;
 
@@ -79,6 +79,39 @@ fn codes_are_decoded(rt: HostRuntime) -> Result<(), Fail> {
     cases.end()
 }
 
+/// The same, of codes that leave the pass over a block in each of its ways: by a long sequence, far samples, a pair with a number above 63,
+/// a run, a residual too large, a value at the reference place, padding, a count that ends in a block, or the end of a piece. Zeros are
+/// behind each, so that the pass is tried. Debian's `aec` gives the same samples.
+const SELDOM: &str =
+    "24 | r64        | 4C8A72CA340000000000000032ED77513E80 00*64 | | | 646263656464616262617F7F807F7F7F7C7E7D7D7977787B |  | 24 | 138 | 162 | 162
+    24 | r64        | 4C8A72CAC020380D01D640787C1F6BBA89F4 00*64 | | | 6462636564646162FA060602F0E0F0000507060602000206 |  | 24 | 143 | 167 | 167
+    24 | r64        | 4C8A72CAFF5F2000FE03E41FED77513E80 00*64 | | | 6462636564646162FA060602F0E0F0000507060602000206 |  | 24 | 130 | 154 | 154
+    24 | r64        | 4C8A72CA16000000000000000416BBA89F40 00*64 | | | 6462636564646162616161615F5B5B5C595B5A5A56545558 |  | 24 | 139 | 176 | 176
+    24 | r64        | 4C8A72CA16000000000000000000105AEEA27D00 00*64 | | | 6462636564646162616161616065656663656464605E5F62 |  | 24 | 153 | 191 | 191
+    40 | r64        | 10730140B5DD44FA 00*64 | | | 07060606070605050505050505050505050505050505050505050505050505050204030307050609 |  | 40 | 64 | 109 | 109
+    20 | r64        | 4C8A72CA6BBA89F4D77513E8 00*64 | | | 64626365646461625F6160605C5A5B5E5B5D5C5C |  | 20 | 94 | 114 | 114
+    24 | r1 p       | 4C8A72CA10930140F900609F40C0E10120 00*64 | | | 64626365646461620908080809080707C8C6C80508040803 |  | 24 | 136 | 165 | 165
+    30 | any j10 r64    | 464A72F2B1601043FEBE4001FC07C83FC0C100 00*64 | | | 3230313332322F302F2E2D2D2D2D2C2D2D2E2D2CFA060602F0E0F0000305 |  | 30 | 146 | 184 | 184
+    54 | any j18 r64    | 464A72EAAAB2B00C030180C06030180C0603D0340D0340D0340D0340D0055555 00*64 | | | 3230313332322F302F2E2F30313233343536FAFA0505FAFA0505FAFA0505FAFA0505FAFAF9F9F8F8F7F7F6F6F5F5F4F4F3F3F2F2F1F1 |  | 54 | 256 | 319 | 319
+    24 | n12 r64    | 97D05F12C2B05060403E8DFFFA0FFF000001002003009004F001002003FA0005006007FFF0 00*64 | | | D0076608D007CD07D007D207D007C4095F00FF0FFF0FFE0FFF0FFC0FF60FF80FF70FF80FF60F5F005C005F005B00FF0F |  | 24 | 292 | 316 | 316
+    24 | n16 r64    | A9C405F00000000000000000000000000000578BB028180803305924924F71DBF71DBF71DBF71DB84924 00*64 | | | 409C9E9D409C3D9C409C429C409C9F157B1B9F157B1B9F157B1B9F157B1B9F159F159E159E159D159D159C159C159B15 |  | 24 | 334 | 362 | 362
+    16 | n24 3 r64  | 9C4AA201F800000000000000357300057600028000C00020000612007FD09000000007D09000000007D09000000007D09000000004 00*64 | | | 40548970AB8E12AA8E0FAA8E12AA8E14AA8E12AA8EFFDB0B0024F4FF23F4FFDB0BFEDB0B0024F4FF23F4FFDB0BFEDB0B |  | 16 | 422 | 438 | 438
+    16 | n32 r64    | EF73594001F8000CDC9380000015D8000002800000300000020000001D2B7500024920 00*64 | | | 00286BEEFFD846D6A1D746D69ED746D6A1D746D6A3D746D6A1D746D6FF15A905FF15A905FE15A905FE15A905FD15A905FD15A905FC15A905FC15A905FB15A905 |  | 16 | 275 | 295 | 295
+    16 | n32 r64    | D7735940000403FF0D1807868BFC00000A000006000002000000C000005FFA56EA0000000001FA56EA0000000001FA56EA0000000001FA56EA0000000001 00*64 | | | 00286BEE80F95BF7005D1EEEFD5C1EEE005D1EEE025D1EEE005D1EEE015D1EEEFF15A905FE15A90500EA56FAFFE956FAFF15A905FE15A90500EA56FAFFE956FA |  | 16 | 496 | 512 | 512
+       | r64        | 4C8A72CAC00FF18000000000 00*64 | | | 6462636564646162 | residual 1 | 8 | 92 | 100 | 100
+       | r64        | 109720 00*64 | | |  | residual 0 | 0 | 19 | 21 | 21
+       | n12 r64    | 97D05F12C2B05060403E8D7F80080000000000000000000000 00*64 | | | D0076608D007CD07D007D207D007C409 | residual 1 | 8 | 193 | 201 | 201";
+
+#[test]
+fn seldom_blocks_are_decoded(rt: HostRuntime) -> Result<(), Fail> {
+    let mut cases = Cases::new();
+    for line in SELDOM.lines() {
+        cases.of_line(line);
+        line_is_decoded(&mut cases, rt.alloc(), line)?;
+    }
+    cases.end()
+}
+
 fn line_is_decoded(cases: &mut Cases<'_>, alloc: Global, line: &str) -> Result<(), Fail> {
     let mut columns = Columns::of(line);
     let asked = number_of(columns.next())?;
@@ -96,6 +129,11 @@ fn is_decoded(cases: &mut Cases<'_>, call: &Call, asked: Option<u64>, piece: usi
     let mut outlet = MemoryOut::new(&mut room, piece, call.writes);
     let intake = MemoryIn::new(call.input.as_slice(), piece, call.reads);
     let (outcome, _) = decode(&call.setting, asked, intake, &mut outlet);
+    call.check(cases, &outcome, outlet.written());
+    let mut room = [0u8; 4200];
+    let mut outlet = MemoryOut::new(&mut room, piece, call.writes);
+    let intake = MemoryIn::new(call.input.as_slice(), piece, call.reads);
+    let (outcome, _) = Plain::decode(&call.setting, asked, intake, &mut outlet);
     call.check(cases, &outcome, outlet.written());
 }
 

@@ -1,5 +1,3 @@
 -- Words and fundamental sequences that are taken many at a time.
 pub mod EightWordPlaces
 pub mod EndsAndGaps
-pub mod Sequences
-pub mod Words

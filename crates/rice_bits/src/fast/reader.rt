@@ -1,5 +1,5 @@
-//! Calls of a reader for the fast decoder, which look at buffered bits, or take several words or sequences.
-ghost use Rattle.std.specs.Prelude.{◌≡◌, ◌+◌, ◌-◌, ◌*◌, ◌^◌, ◌<◌, ◌≤◌, length, All, drop, flat_map, take, IfSome, Option, None};
+//! Calls of a reader for the fast decoder, which look at buffered bits.
+ghost use Rattle.std.specs.Prelude.{◌≡◌, ◌+◌, ◌-◌, ◌*◌, ◌^◌, ◌<◌, ◌≤◌, length, All, drop, flat_map, take, IfSome, None};
 ghost use Rattle.rice_bits.specs.Limits.{step_limit, most_bits_read};
 ghost use Rattle.rice_bits.specs.Bits.{fundamental_sequence, word};
 ghost use Rattle.rice_bits.specs.fast.lanes.Sequences.{BeginWithSequences};
@@ -12,53 +12,6 @@ use std::simd::prelude::*;
 
 impl<I: Intake> BitReader<I> {
     ghost use Rattle.rice_bits.specs.read.Reader.{Takes};
-
-    /// Takes buffered words of `width` digits, at most one for each place of `words`, and writes them there. Returns the number of words,
-    /// which may be 0, and ticks once for each bit. Later places do not change.
-    ///
-    /// It never calls the intake, so it never fails. If it takes none, [`take`](Self::take) takes the next word.
-    #[inline(always)]
-    pub fn take_waiting(&mut self, width: u32, words: &mut [u32], meter: &mut Meter) -> usize
-        requires going { self.old.refusal ≡ None }
-        requires width { width ≤ 32 }
-        requires meter { meter.old + (most_bits_read - self.old.taken) < step_limit }
-        ensures within { result ≤ length words.new }
-        ensures fit { All (λ v. v < 2 ^ width) (take result words.new) }
-        ensures rest { drop result words.new ≡ drop result words.old }
-        ensures takes { Takes self.old self.new (flat_map (word width) (take result words.new)) }
-        ensures idle { self.new.intake ≡ self.old.intake }
-        ensures steps { meter.new + self.old.taken ≡ meter.old + self.new.taken }
-        ensures limit { self.new.taken ≤ most_bits_read }
-    {
-        let before = self.window.waiting();
-        let taken = self.window.take_words(width, words);
-        let left = self.window.waiting();
-        meter.tick((before - left) as u64);
-        taken
-    }
-
-    /// Takes buffered fundamental sequences, at most one for each place of `zeros`, and writes the numbers of their zeros there. Returns
-    /// the number of sequences, which may be 0, and ticks once for each bit. Later places do not change.
-    ///
-    /// It never calls the intake, so it never fails. If it takes none, [`take_fs`](Self::take_fs) takes the next one.
-    #[inline(always)]
-    pub fn take_waiting_fs(&mut self, zeros: &mut [u32], meter: &mut Meter) -> usize
-        requires going { self.old.refusal ≡ None }
-        requires meter { meter.old + (most_bits_read - self.old.taken) < step_limit }
-        ensures within { result ≤ length zeros.new }
-        ensures fit { All (λ m. m < 64) (take result zeros.new) }
-        ensures rest { drop result zeros.new ≡ drop result zeros.old }
-        ensures takes { Takes self.old self.new
-            (flat_map fundamental_sequence (take result zeros.new)) }
-        ensures idle { self.new.intake ≡ self.old.intake }
-        ensures steps { meter.new + self.old.taken ≡ meter.old + self.new.taken }
-        ensures limit { self.new.taken ≤ most_bits_read }
-    {
-        let before = self.window.waiting();
-        let taken = self.window.take_sequences(zeros);
-        meter.tick((before - self.window.waiting()) as u64);
-        taken
-    }
 
     /// Returns the number of buffered bits: those that it can return without a call of the intake.
     #[inline]
@@ -90,20 +43,6 @@ impl<I: Intake> BitReader<I> {
         self.window.first_number_ahead(width)
     }
 
-    /// Does what [`sequences_ahead`](Self::sequences_ahead) does, if these bytes end within the first 57 bits. One load then covers them
-    /// and a number before them.
-    #[inline(always)]
-    pub fn sequences_soon(&self, skip: usize, bytes: usize, count: usize) -> Option<Sequences>
-        requires bytes { (1 ≤ bytes) × (bytes ≤ 7) }
-        requires count { (1 ≤ count) × (count ≤ 16) }
-        requires within { skip + 8 * bytes ≤ 57 }
-        requires there { 57 ≤ length self.now.waiting }
-        ensures { IfSome result (λ s.
-            BeginWithSequences (drop skip self.now.waiting) count s.numbers s.len) }
-    {
-        self.window.sequences_soon(skip, bytes, count)
-    }
-
     /// Returns the first `count` fundamental sequences after the first `skip` buffered bits, if it finds them in `bytes` bytes. It takes
     /// none.
     #[inline(always)]
@@ -128,6 +67,19 @@ impl<I: Intake> BitReader<I> {
             ≡ take (16 * width) (drop skip self.now.waiting) }
     {
         self.window.words_ahead(skip, width)
+    }
+
+    /// Returns the eight words of `width` bits after the first `skip` buffered bits. It takes none.
+    #[inline(always)]
+    pub fn eight_words_ahead(&self, skip: usize, width: u32) -> u16x8
+        requires width { width ≤ 9 }
+        requires there { skip + 128 ≤ length self.now.waiting }
+        ensures len { length result ≡ 8 }
+        ensures fit { All (λ v. v < 2 ^ width) result }
+        ensures bits { flat_map (word width) result
+            ≡ take (8 * width) (drop skip self.now.waiting) }
+    {
+        self.window.eight_words_ahead(skip, width)
     }
 
     /// Returns the eight words of `width` bits after the first `skip` buffered bits. It takes none.

@@ -1,14 +1,8 @@
 -- The decoder.
-pub mod SplitAhead
 pub mod SetsRead
 pub mod DecoderLemmas
 pub mod RowsOfFields
 pub mod JoinedResiduals
-pub mod PlainBlocksRead
 pub mod OptionsRead
 pub mod RestoredBlocks
 pub mod SamplesRestored
-pub mod FirstLanes
-pub mod SplitInSixteens
-pub mod NoCompressionAhead
-pub mod WideAhead

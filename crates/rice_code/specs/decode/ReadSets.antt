@@ -75,7 +75,7 @@ pub record DescribesBlock (s : Parameters) (b : ℕ) (reference : Option ℕ) (s
 
 -- what is known of a coded data set by its head and residuals
 abbrev pub DescribesSet : Parameters → ℕ → SetSummary → List ℕ → CodedDataSet → Type 0
-DescribesSet s b (Residuals reference sound near) residuals set = DescribesBlock s b reference sound residuals set
+DescribesSet s b (Residuals reference sound) residuals set = DescribesBlock s b reference sound residuals set
 DescribesSet s b (Zeros reference zeros) residuals set = set ≡ run_with_zeros reference zeros
 
 -- A reader took a data set, sound or not.

@@ -35,14 +35,6 @@ pub record Row {I : Type 0} (piece : ℕ → List Bool) (P : ℕ → Type 0) (ol
 abbrev pub WordRow : {I : Type 0} → ℕ → Reader I → Reader I → ℕ → List ℕ → Type 0
 WordRow width old new count numbers = Row (word width) (λ v. v < 2 ^ width) old new count [] numbers
 
--- A reader took a fundamental sequence for each of `count` numbers. If `small`, they are known; else one is above `most`.
-pub record CountsRead {I : Type 0} (old new : Reader I) (most : ℕ) (small : Bool) (count : ℕ) (told : List ℕ) : Type 0 where
-  pub values : List ℕ
-  pub len : length values ≡ count
-  pub told_are : small ≡ true → told ≡ values
-  pub refused : small ≡ false → All (λ m. m ≤ most) values → ⊥
-  pub takes : Takes old new (flat_map fundamental_sequence values)
-
 -- A reader took a fundamental sequence for each of `count` numbers. If `small`, all are at most `most` and known.
 pub record CountRow {I : Type 0} (old new : Reader I) (most : ℕ) (small : Bool) (count : ℕ) (told : List ℕ) : Type 0 where
   pub values : List ℕ
@@ -58,10 +50,3 @@ pub record PairRow {I : Type 0} (old new : Reader I) (count : ℕ) (values : Lis
   -- each bit and each turn of the search is a step
   pub steps : new_steps + old.taken ≡ old_steps + new.taken + sum values
   pub turns : sum values ≤ length (flat_map fundamental_sequence (pair_codes values))
-
--- A reader took the codewords of `count` pairs that waited together, which have these numbers.
-pub record PairsTaken {I : Type 0} (old new : Reader I) (count : ℕ) (values : List ℕ) (old_steps new_steps : ℕ) : Type 0 where
-  pub row : PairRow old new count values old_steps new_steps
-  pub few : All (λ d. d < 64) values
-  pub counted : AreCounted old_steps new_steps old.taken new.taken
-  pub room : HasRoom new_steps new.taken

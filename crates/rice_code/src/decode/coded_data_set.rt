@@ -35,7 +35,6 @@ fn read_low_entropy<I: Intake>(
     Ok(SetSummary::Residuals {
         reference: head.reference,
         sound: head.sound,
-        near: true,
     })
 }
 
@@ -67,13 +66,11 @@ pub fn read_set<I: Intake>(
         return Ok(SetSummary::Residuals {
             reference: head.reference,
             sound: head.sound,
-            near: false,
         });
     }
     let head = read_split(setting, block, id - 1, reader, meter, residuals)?;
     Ok(SetSummary::Residuals {
         reference: head.reference,
         sound: head.sound,
-        near: true,
     })
 }

@@ -280,13 +280,7 @@ impl Decoder {
         let before = self.before;
         let residuals = &mut room[..setting.block() as usize];
         match read_set(setting, block, reader, meter, residuals) {
-            Ok(
-                SetSummary::Residuals {
-                    reference,
-                    sound,
-                    ..
-                },
-            ) => {
+            Ok(SetSummary::Residuals { reference, sound }) => {
                 if !sound {
                     return self.stop(Err(CodeFault::ResidualTooLarge));
                 }
@@ -304,9 +298,10 @@ impl Decoder {
         }
     }
 
-    /// Goes to the next block, after a data set of which `last` is the last sample of the first block, and which `run`
-    /// zero blocks follow.
-    fn go_to_next_block<I: Intake>(
+    /// Goes to the next block, after a coded data set that was taken: `last` is the last sample of its first block, and `run` zero blocks
+    /// follow. Skips the padding behind the data set.
+    #[inline]
+    pub fn go_to_next_block<I: Intake>(
         &mut self,
         last: i64,
         run: u32,

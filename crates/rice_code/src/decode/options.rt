@@ -19,16 +19,8 @@ use rice_samples::Setting;
 /// What was read of a coded data set, besides residuals.
 #[derive(Clone, Copy)]
 pub enum SetSummary {
-    /// `near` says whether most samples are expected to be near to those before them.
-    Residuals {
-        reference: Option<u32>,
-        sound: bool,
-        near: bool,
-    },
-    Zeros {
-        reference: Option<u32>,
-        zeros: u64,
-    },
+    Residuals { reference: Option<u32>, sound: bool },
+    Zeros { reference: Option<u32>, zeros: u64 },
 }
 
 /// What was read of a block, besides its residuals: the reference sample, and whether the residuals are sound.

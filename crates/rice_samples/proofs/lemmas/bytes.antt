@@ -9,4 +9,4 @@ pub mod UnusedBits
 pub mod SpellingLemmas
 pub mod SpellingLengths
 pub mod LanesOfWholeBytes
-pub mod ThreeBytes
+pub mod WordsSpelled

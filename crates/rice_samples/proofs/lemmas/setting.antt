@@ -4,4 +4,5 @@ pub mod CutLemmas
 pub mod ValuesAboveLeast
 pub mod LevelsOfSamples
 pub mod PlaceLemmas
+pub mod BitsOfLanes
 pub mod ValuesAtLevels

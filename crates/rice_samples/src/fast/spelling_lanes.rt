@@ -1,12 +1,13 @@
-//! The bytes of samples of at most 16 bits, in lanes.
-ghost use Rattle.std.specs.Prelude.{◌≡◌, ◌<◌, ◌≤◌, All, length};
-ghost use Rattle.rice_samples.specs.Parameters.{value_count, values_at};
+//! The bytes of samples, in lanes.
+ghost use Rattle.std.specs.Prelude.{◌≡◌, ◌<◌, ◌≤◌, All, length, take};
+ghost use Rattle.rice_samples.specs.Parameters.{value_count, values_at, width as width_of};
 ghost use Rattle.rice_samples.specs.bytes.Spelling.{spellings};
 ghost use Rattle.rice_samples.specs.bytes.PatternLanes.{swapped};
 
 use crate::Setting;
 use crate::fast::lanes::bytes::Bytes;
 use crate::fast::lanes::halves::Halves;
+use crate::fast::lanes::words::Words;
 use std::simd::prelude::*;
 
 /// Returns the bytes of the sixteen samples of at most 8 bits with these levels.
@@ -34,6 +35,56 @@ pub fn spelled_in_two_bytes(setting: &Setting, levels: Halves) -> u8x16
         return byte_pairs_swapped(least_byte_first);
     }
     least_byte_first
+}
+
+/// Returns the bytes of the eight samples of three bytes with these levels, in the first lanes.
+#[inline(always)]
+pub fn spelled_in_three_bytes(setting: &Setting, levels: Words) -> u8x32
+    requires three { width_of setting.now ≡ 3 }
+    requires legal { All (λ l. l < value_count setting.now) levels.lanes }
+    ensures value { take 24 result ≡ spellings setting.now (values_at setting.now levels.lanes) }
+    ensures len { length result ≡ 32 }
+{
+    let _width = setting.width();
+    let words = (levels.lanes - u32x8::splat(setting.offset() as u32)).to_le_bytes();
+    if setting.msb() {
+        return words.shuffle(
+            words,
+            [
+                2, 1, 0, 6, 5, 4, 10, 9, 8, 14, 13, 12, 18, 17, 16, 22, 21, 20, 26, 25, 24, 30, 29,
+                28, 0, 0, 0, 0, 0, 0, 0, 0,
+            ],
+        );
+    }
+    words.shuffle(
+        words,
+        [
+            0, 1, 2, 4, 5, 6, 8, 9, 10, 12, 13, 14, 16, 17, 18, 20, 21, 22, 24, 25, 26, 28, 29, 30,
+            0, 0, 0, 0, 0, 0, 0, 0,
+        ],
+    )
+}
+
+/// Returns the bytes of the eight samples of four bytes with these levels.
+#[inline(always)]
+pub fn spelled_in_four_bytes(setting: &Setting, levels: Words) -> u8x32
+    requires four { width_of setting.now ≡ 4 }
+    requires legal { All (λ l. l < value_count setting.now) levels.lanes }
+    ensures value { result ≡ spellings setting.now (values_at setting.now levels.lanes) }
+    ensures len { length result ≡ 32 }
+{
+    let _width = setting.width();
+    let words = (levels.lanes - u32x8::splat(setting.offset() as u32)).to_le_bytes();
+    if setting.msb() {
+        return words.shuffle(
+            words,
+            [
+                3, 2, 1, 0, 7, 6, 5, 4, 11, 10, 9, 8, 15, 14, 13, 12, 19, 18, 17, 16, 23, 22, 21,
+                20, 27, 26, 25, 24, 31, 30, 29, 28,
+            ],
+        );
+    }
+    words
 }
 
 /// Returns the bytes of each pair in the other order.

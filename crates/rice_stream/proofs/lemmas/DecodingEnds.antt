@@ -33,7 +33,7 @@ use Rattle.rice_code.specs.code.Forms.{IsForm}
 use Rattle.rice_code.specs.decode.ReadSets.{SetCut}
 use Rattle.rice_code.specs.declared.decode.call_results.CodeFault.{CodeFault}
 use Rattle.rice_code.specs.declared.decode.call_results.CodeFault.TheVariants as faults
-use Rattle.rice_stream.specs.DevicesInCalls.{Call, Fails, StopsBetween}
+use Rattle.rice_stream.specs.DevicesInCalls.{Call, StopsBetween}
 use Rattle.rice_stream.specs.Decodes.{CountsSteps, DecodesBetween, EndsInTurns, Reports, EndsDecoding, DecodesBytes, RunsOut, at_most, wanted_of, ended_fault, refusal_fault}
 use Rattle.rice_stream.specs.DecodingState.{DecodedSoFar, Gains, DecodingProgress, HasRead, HasSets}
 use Rattle.rice_stream.specs.FailedWrites.{TakesPart}
@@ -613,47 +613,6 @@ refusal_ends {s = s} faults.ResidualTooLarge legal runs some stops counted tells
     (record { counted = counted; reports = tells }) (λ c ys d n. (d, refl, n))
 refusal_ends faults.Read legal runs some stops counted tells = read_ends runs some stops.0 stops.1 counted tells
 refusal_ends faults.TooLong legal runs some stops counted tells = long_ends runs some stops.0 stops.1 counted tells
-
--- decoding stops, and how many reads failed before
-record StopsBehind {I : Type 0} (s : Parameters) (b : ℕ) (r new : Reader I) (steps steps_new n : ℕ) (fault : CodeFault) : Type 0 where
-  stops : StopsBy (with_mark r) new steps steps_new s b (Err fault)
-  before : r.failed ≡ n
-
--- a fault of the intake is its one failure
-stops_fail : {I : Type 0} (s : Parameters) (b : ℕ) (r new : Reader I) {steps steps_new n : ℕ} (written block writes : ℕ) (fault : CodeFault)
-    → StopsBehind s b r new steps steps_new n fault → Fails (Some (refusal_fault fault written block)) n new.failed writes writes
-stops_fail s b r new written block writes faults.CodeEnds stopped = (stopped.stops.cut.stops.refuses.2 ∙ stopped.before, refl)
-stops_fail s b r new written block writes faults.RunPastSegment stopped = (stopped.stops.takes.failures ∙ stopped.before, refl)
-stops_fail s b r new written block writes faults.ResidualTooLarge stopped = (stopped.stops.takes.failures ∙ stopped.before, refl)
-stops_fail s b r new written block writes faults.Read stopped = (stopped.stops.stops.refuses.1 ∙ ap (λ m. m + 1) stopped.before, refl)
-stops_fail s b r new written block writes faults.TooLong stopped = (stopped.stops.stops.refuses.1 ∙ stopped.before, refl)
-
--- the failures where decoding ends with this fault
-reported_fails : {f fault : Option Fault} {reads_now failed writes writes_new : ℕ} (reads : ℕ) → f ≡ fault → failed ≡ reads_now → writes_new ≡ writes
-    → Fails fault reads reads_now writes writes → Fails f reads failed writes writes_new
-reported_fails {f = f} {fault = fault} {reads_now = reads_now} {failed = failed} {writes = writes} {writes_new = writes_new} reads is there same fails =
-    subst (λ (f : Option Fault). Fails f reads failed writes writes_new) (sym is)
-    (subst (λ (n : ℕ). Fails fault reads n writes writes_new) (sym there) (subst (λ (n : ℕ). Fails fault reads reads_now writes n) (sym same) fails))
-
--- a refusal counts as a failure where the intake failed, and nowhere else
-pub refusal_fails : {I : Type 0} {s : Parameters} {asked : Option ℕ} {start : Reader I} {out_old out : Option Room} {p : DecoderState} {r new : Reader I}
-    {steps steps_new written writes writes_new : ℕ} {rep : Report} {f : Option Fault} {left : Option (List ℕ)} {failed : ℕ} (fault : CodeFault)
-    → (runs : DecodingProgress s asked start out_old out p r steps written) → (p.run ≡ 0) × StopsBy (with_mark r) new steps steps_new s runs.blocks (Err fault) → writes_new ≡ writes
-    → Reports rep f left failed new written steps_new (Some (refusal_fault fault written s.block)) → Fails f start.failed failed writes writes_new
-refusal_fails {s = s} {r = r} {new = new} {written = written} {writes = writes} fault runs stops same tells =
-    reported_fails _ tells.fault_is tells.failed_is same (stops_fail s runs.blocks r new written s.block writes fault (record { stops = stops.1; before = runs.reads }))
-
--- an end without a fault counts as none
-pub done_fails : {I : Type 0} {s : Parameters} {asked : Option ℕ} {start : Reader I} {out_old out : Option Room} {p : DecoderState} {r new : Reader I}
-    {steps steps_new written writes writes_new : ℕ} {rep : Report} {f : Option Fault} {left : Option (List ℕ)} {failed : ℕ}
-    → (runs : DecodingProgress s asked start out_old out p r steps written) → (p.run ≡ 0) × SetEnds (with_mark r) new steps steps_new s runs.blocks true → writes_new ≡ writes
-    → Reports rep f left failed new written steps_new (ended_fault asked written) → Fails f start.failed failed writes writes_new
-done_fails {asked = asked} {start = start} {new = new} {written = written} {writes = writes} runs ends same tells =
-    reported_fails _ tells.fault_is tells.failed_is same (by_count asked (ends.1.cut.stops.refuses.2 ∙ runs.reads))
-  where
-    by_count : (asked : Option ℕ) → new.failed ≡ start.failed → Fails (ended_fault asked written) start.failed new.failed writes writes
-    by_count None e = (e, refl)
-    by_count (Some n) e = (e, refl)
 
 -- nothing is decoded yet
 pub progress_at_start : {I : Type 0} {s : Parameters} {intake : I} {left : Option (List ℕ)} {failed : ℕ} {p : DecoderState} {r : Reader I} {steps : ℕ}

@@ -1,5 +1,3 @@
 -- Words and fundamental sequences that are taken many at a time.
 pub mod EightWordsLemmas
 pub mod EndsAndGapsLemmas
-pub mod FourWordsLemmas
-pub mod TakenSequences

@@ -1,28 +1,23 @@
 -- The bits that were given and not yet taken.
 use Rattle.std.proofs.Common.{◌≡◌, ℕ, zero, suc, inl, inr, ◌+◌, ◌-◌, ◌*◌, ◌/◌, ◌%◌, ◌^◌, ◌<◌, ◌≤◌, ◌≢◌, Bool, true, false}
-use Rattle.std.proofs.Common.{List, [], ◌∷◌, ◌++◌, length, take, drop, set, replicate, length-append, refl, sym, ◌∙◌, ap, arith, subst, take-take, append_assoc}
-use Rattle.std.specs.Prelude.{All, bit_or, flat_map, slice_index, slice_range, ◌==◌, ◌&&◌}
+use Rattle.std.proofs.Common.{List, [], ◌∷◌, ◌++◌, length, take, drop, replicate, length-append, refl, sym, ◌∙◌, ap, arith, take-take, append_assoc}
+use Rattle.std.specs.Prelude.{flat_map, slice_range, ◌==◌, ◌&&◌}
 use Rattle.std.proofs.lemmas.Grind.{flat_map-append}
 use Rattle.rice_bits.specs.read.Reader.{is_blank}
 use Rattle.rice_bits.proofs.lemmas.read.BlankBits.{blank-append, blank-word}
 use Rattle.std.specs.Int.{to_be_bytes, w64}
-use Rattle.std.proofs.Math.Nat.{mul-le-mul_right}
-use Rattle.std.proofs.lemmas.Nat.{mod_below, or_shifted, pow_pos, shr_split}
-use Rattle.std.specs.Simd.Lanes.{put_chunk}
-use Rattle.std.proofs.lemmas.Simd.{length-put_chunk, take_more_put_chunk}
 use Rattle.std.proofs.Math.Seq.{drop-append_seam, take-add, take-append_seam}
 use Rattle.std.proofs.lemmas.Bool.{cases_lt}
 use Rattle.std.proofs.lemmas.Bool.Decides.{nat_tests}
-use Rattle.std.proofs.lemmas.List.Elements.{All-append, All-take}
-use Rattle.std.proofs.lemmas.List.{append-nil, drop-append-le, drop-drop, drop-take, drop_more, length-drop, length-replicate, length-take-le}
-use Rattle.std.proofs.lemmas.List.{replicate-append-replicate, take-append-drop, take-append-le, take-replicate, take_all, take_at, take_more_set}
-use Rattle.rice_bits.specs.Bits.{fundamental_sequence, number_of, word, bits_of}
+use Rattle.std.proofs.lemmas.List.{drop-drop, drop-take, length-drop, length-replicate, length-take-le}
+use Rattle.std.proofs.lemmas.List.{replicate-append-replicate, take-append-drop, take-append-le, take-replicate, take_at}
+use Rattle.rice_bits.specs.Bits.{fundamental_sequence, word, bits_of}
 use Rattle.rice_bits.specs.read.Window.{IsWindow, Passes, bits_near, window_bits, window_passed}
 use Rattle.rice_bits.specs.declared.read.window.Window.{Window}
-use Rattle.rice_bits.proofs.lemmas.bits.BytesAndBits.{bits_of-append, bits_of-first, bits_of-zeros, length-bits_of}
+use Rattle.rice_bits.proofs.lemmas.bits.BytesAndBits.{bits_of-append, bits_of-zeros, length-bits_of}
 use Rattle.rice_bits.proofs.lemmas.bits.EightBytes.{bits_of-eight}
 use Rattle.rice_bits.proofs.lemmas.bits.FrontsOfWords.{front_below, take-front, word-moved, word-parts}
-use Rattle.rice_bits.proofs.lemmas.bits.WordsAndNumbers.{length-fundamental_sequence, length-word, number_of-word, word-cat, word-nil, word-split, word-zero}
+use Rattle.rice_bits.proofs.lemmas.bits.WordsAndNumbers.{length-word, word-split}
 
 -- a part of a list is its two parts
 between-join : {A : Type 0} (xs : List A) (a s e : ℕ) → a ≤ s → s ≤ e → slice_range xs a s ++ slice_range xs s e ≡ slice_range xs a e
@@ -168,51 +163,6 @@ front-ahead bits n m k r h all e =
 pub first-ahead : (bits : List Bool) (n m k r : ℕ) → n ≤ m → m + k ≡ 64 → word 64 r ≡ take m bits ++ replicate k false → word n (r / 2 ^ (64 - n)) ≡ take n bits
 first-ahead bits n m k r h all e = sym (take-front 64 n r (omega (arith, h, all))) ∙ front-ahead bits n m k r h all e
 
--- the last digits of a number are zeros
-low-zeros : (a s r : ℕ) (front : List Bool) → length front ≡ a → word (a + s) r ≡ front ++ replicate s false → r % 2 ^ s ≡ 0
-low-zeros a s r front len e =
-    let low = r % 2 ^ s in
-    let fits : low < 2 ^ s = mod_below r (2 ^ s) (pow_pos s) in
-    let zeros : word s low ≡ word s 0 =
-    sym (drop-seam (word a (r / 2 ^ s)) (word s low) a (length-word a (r / 2 ^ s)))
-    ∙ (ap (drop a) (sym (word-split a s r) ∙ e) ∙ (drop-seam front (replicate s false) a len ∙ sym (word-zero s))) in
-    sym (number_of-word s low fits) ∙ (ap number_of zeros ∙ number_of-word s 0 (pow_pos s))
-
--- bits at the front of a word, and others in place of the zeros after them
-joined-ahead : (bits : List Bool) (a s r l : ℕ) → a + s ≡ 64 → l < 2 ^ s → word 64 r ≡ take a bits ++ replicate s false
-    → word s l ≡ take s (drop a bits) → word 64 (bit_or r l) ≡ take 64 bits
-joined-ahead bits a s r l all below ahead last =
-    let h = r / 2 ^ s in
-    let len : length (take a bits) ≡ a = omega (arith, all, ap length ahead, length-word 64 r, length-append (take a bits) (replicate s false), length-replicate s false) in
-    let split : word (a + s) r ≡ take a bits ++ replicate s false = ap (λ n. word n r) all ∙ ahead in
-    let zeros : r % 2 ^ s ≡ 0 = low-zeros a s r (take a bits) len split in
-    let whole : r ≡ h * 2 ^ s = omega (arith, zeros, shr_split r s) in
-    let away : 64 - a ≡ s = omega (arith, all) in
-    let first : word a h ≡ take a bits = ap (λ n. word a (r / 2 ^ n)) (sym away) ∙ first-ahead bits a a s r (omega arith) all ahead in
-    ap (word 64) (ap (λ n. bit_or n l) whole ∙ or_shifted h s l below)
-    ∙ (ap (λ n. word n (h * 2 ^ s + l)) (sym all) ∙ (word-cat a s h l below
-    ∙ ((λ j. first j ++ last j) ∙ (sym (take-add a s bits) ∙ ap (λ n. take n bits) all))))
-
--- the first digits of a byte
-byte-front : (bytes : List ℕ) (i s b : ℕ) → i < length bytes → s ≤ 8 → b ≡ slice_index bytes i → word s (b / 2 ^ (8 - s)) ≡ take s (drop (8 * i) (bits_of bytes))
-byte-front bytes i s b h few e =
-    let rest = bits_of (drop (i + 1) bytes) in
-    let begins : drop (8 * i) (bits_of bytes) ≡ word 8 b ++ rest =
-    drop-bits_of i bytes (omega (arith, h)) ∙ (ap bits_of (drop_more bytes i 0 h) ∙ (bits_of-first (slice_index bytes i) (drop (i + 1) bytes) ∙ ap (λ n. word 8 n ++ rest) (sym e))) in
-    sym (take-front 8 s b few) ∙ (sym (take-append-le s (word 8 b) rest (omega (arith, few, length-word 8 b))) ∙ ap (take s) (sym begins))
-
--- the bits from a place on, of which the last are in a ninth byte
-pub word-ahead : (bytes : List ℕ) (at r b : ℕ) → at / 8 + 9 ≤ length bytes → b < 256 → b ≡ slice_index bytes (at / 8 + 8)
-    → word 64 r ≡ take (64 - at % 8) (drop at (bits_of bytes)) ++ replicate (at % 8) false
-    → word 64 (bit_or r (b / 2 ^ (8 - at % 8))) ≡ take 64 (drop at (bits_of bytes))
-word-ahead bytes at r b room fits e ahead =
-    let s = at % 8 in
-    let bits = bits_of bytes in
-    let place : at + (64 - s) ≡ 8 * (at / 8 + 8) = omega arith in
-    let last : word s (b / 2 ^ (8 - s)) ≡ take s (drop (64 - s) (drop at bits)) =
-    byte-front bytes (at / 8 + 8) s b (omega (arith, room)) (omega arith) e ∙ ap (take s) (ap (λ n. drop n bits) (sym place) ∙ sym (drop-drop (64 - s) at bits)) in
-    joined-ahead (drop at bits) (64 - s) s r (b / 2 ^ (8 - s)) (omega arith) (front_below 8 s b (omega arith) fits) ahead last
-
 -- all bits that wait, and zeros after them
 pub near-ahead : (w : Window) (r : ℕ) → IsWindow w → word 64 r ≡ take (64 - w.at % 8) (drop w.at (bits_of w.buffer)) ++ replicate (w.at % 8) false
     → word 64 r ≡ take (bits_near w) (window_bits w) ++ replicate (64 - bits_near w) false
@@ -267,19 +217,6 @@ words-joined width bits from m k xs ys both =
     both.behind ∙ ap (take (k * width)) (ap (λ a. drop a bits) both.place ∙ sym (drop-drop (m * width) from bits)) in
     flat_map-append (word width) xs ys ∙ ((λ j. both.front j ++ rest j) ∙ (sym (take-add (m * width) (k * width) (drop from bits)) ∙ ap (λ a. take a (drop from bits)) n))
 
--- some words more, which are written after the first `m`
-pub words-written : {k : ℕ} (width : ℕ) (bits : List Bool) (from : ℕ) {at : ℕ} (m : ℕ) (now words : List ℕ) → WordsInTurn width bits from at m k (take m now) words → length words ≡ k
-    → m + k ≤ length now
-    → flat_map (word width) (take (m + k) (put_chunk m now words)) ≡ take ((m + k) * width) (drop from bits)
-words-written {k} width bits from {at} m now words both len room =
-    ap (flat_map (word width)) (take_more_put_chunk m now words (m + k) (omega (arith, len)) room) ∙ words-joined width bits from m k (take m now) words both
-
--- what holds of each word before and of each new one holds of all when the new are written behind those
-pub all-written : (P : ℕ → Type 0) (k m : ℕ) (now words : List ℕ) → length words ≡ k → m + k ≤ length now
-    → All P (take m now) → All P words → All P (take (m + k) (put_chunk m now words))
-all-written P k m now words len room before next =
-    subst (All P) (sym (take_more_put_chunk m now words (m + k) (omega (arith, len)) room)) (All-append P (take m now) words before next)
-
 -- the first of some words are spelled by the first digits of all
 pub words-front : (width n : ℕ) (xs : List ℕ) → n ≤ length xs → flat_map (word width) (take n xs) ≡ take (n * width) (flat_map (word width) xs)
 words-front width n xs h =
@@ -288,61 +225,6 @@ words-front width n xs h =
     let both : flat_map (word width) xs ≡ front ++ flat_map (word width) (drop n xs) = ap (flat_map (word width)) (sym (take-append-drop n xs))
     ∙ flat_map-append (word width) (take n xs) (drop n xs) in
     sym (ap (take (n * width)) both ∙ take_at front (flat_map (word width) (drop n xs)) (n * width) len)
-
--- the last four words, of which some may be written again
-fours-last : (count : ℕ) (now four : List ℕ) → length now ≡ count → length four ≡ 4 → 4 ≤ count → put_chunk (count - 4) now four ≡ take (count - 4) now ++ four
-fours-last count now four len e h =
-    let written = put_chunk (count - 4) now four in
-    sym (take_all count written (omega (arith, len, length-put_chunk (count - 4) now four))) ∙ take_more_put_chunk (count - 4) now four count (omega (arith, e, h)) (omega (arith, len))
-
--- four words go last, over some that are there before them: they begin at most behind these
-pub record FourLast (m count : ℕ) (now four : List ℕ) : Type 0 where
-  pub len : length now ≡ count
-  pub four_are : length four ≡ 4
-  pub room : 4 ≤ count
-  pub reach : count ≤ m + 4
-
--- what holds of each word before the last four and of these holds of all
-pub all-last : (P : ℕ → Type 0) (m : ℕ) {count : ℕ} (now four : List ℕ) → FourLast m count now four
-    → All P (take m now) → All P four → All P (put_chunk (count - 4) now four)
-all-last P m {count} now four places before behind =
-    let part : count - 4 ≤ m = omega (arith, places.reach) in
-    let front : All P (take (count - 4) now) = subst (All P) (take-take (count - 4) m now part) (All-take P (count - 4) (take m now) before) in
-    subst (All P) (sym (fours-last count now four places.len places.four_are places.room)) (All-append P (take (count - 4) now) four front behind)
-
--- and all words are those from a place on, where the words before and the last four are
-pub words-last : (width : ℕ) (bits : List Bool) (from : ℕ) {m count : ℕ} (now four : List ℕ) → FourLast m count now four → m ≤ count
-    → flat_map (word width) (take m now) ≡ take (m * width) (drop from bits)
-    → flat_map (word width) four ≡ take (4 * width) (drop (from + (count - 4) * width) bits)
-    → flat_map (word width) (put_chunk (count - 4) now four) ≡ take (length (put_chunk (count - 4) now four) * width) (drop from bits)
-words-last width bits from {m} {count} now four places within before behind =
-    let last = count - 4 in
-    let part : last ≤ m = omega (arith, places.reach) in
-    let n : last + 4 ≡ length (put_chunk last now four) = omega (arith, places.room, places.len, length-put_chunk last now four) in
-    let front : flat_map (word width) (take last now) ≡ take (last * width) (drop from bits) =
-    ap (flat_map (word width)) (sym (take-take last m now part)) ∙ (words-front width last (take m now) (omega (arith, part, length-take-le m now (omega (arith, within, places.len))))
-    ∙ (ap (take (last * width)) before ∙ take-take (last * width) (m * width) (drop from bits) (mul-le-mul_right width part))) in
-    ap (flat_map (word width)) (fours-last count now four places.len places.four_are places.room)
-    ∙ (words-joined width bits from last 4 (take last now) four (record { place = refl; front = front; behind = behind }) ∙ ap (λ k. take (k * width) (drop from bits)) n)
-
--- one more word, from the place after the others
-pub words-more : (width : ℕ) (bits : List Bool) (from : ℕ) {at : ℕ} (now : List ℕ) {done : ℕ} (v : ℕ) → at ≡ from + done * width → done < length now
-    → flat_map (word width) (take done now) ≡ take (done * width) (drop from bits) → word width v ≡ take width (drop at bits)
-    → flat_map (word width) (take (done + 1) (set now done v)) ≡ take ((done + 1) * width) (drop from bits)
-words-more width bits from {at} now {done} v place lt before step =
-    let n : width ≡ 1 * width = omega arith in
-    let one : flat_map (word width) (v ∷ []) ≡ take (1 * width) (drop at bits) = append-nil (word width v) ∙ (step ∙ ap (λ k. take k (drop at bits)) n) in
-    ap (flat_map (word width)) (take_more_set now done v lt) ∙ words-joined width bits from done 1 (take done now) (v ∷ []) (record { place = place; front = before; behind = one })
-
--- words of no digits have no bits
-pub words-none : (width : ℕ) (words : List ℕ) (bits : List Bool) → width ≡ 0 → flat_map (word width) words ≡ take (length words * width) bits
-words-none width words bits e =
-    let none : length words * width ≡ 0 = ap (λ n. length words * n) e ∙ omega arith in
-    ap (λ n. flat_map (word n) words) e ∙ (no_bits words ∙ ap (λ n. take n bits) (sym none))
-  where
-    no_bits : (xs : List ℕ) → flat_map (word 0) xs ≡ []
-    no_bits [] = refl
-    no_bits (x ∷ xs) = ap (λ bs. bs ++ flat_map (word 0) xs) (word-nil x) ∙ no_bits xs
 
 -- the first bits that wait
 pub front-waits : (w : Window) (n : ℕ) → n ≤ w.end - w.at → take n (window_bits w) ≡ take n (drop w.at (bits_of w.buffer))
@@ -368,14 +250,6 @@ word-behind size w s x h =
     ap (drop s) (word-parts size s x (omega arith)) ∙ drop-seam front (word (size - s) x) s (length-word s (x / 2 ^ (size - s))) in
     sym (take-front size w (x * 2 ^ s % 2 ^ size) (omega arith)) ∙ (ap (take w) (word-moved size s x (omega arith))
     ∙ (take-append-le w (word (size - s) x) (replicate s false) (omega (arith, length-word (size - s) x)) ∙ ap (take w) (sym rest)))
-
--- what holds of each of four words
-pub all-four : (P : ℕ → Type 0) (a b c d : ℕ) → P a → P b → P c → P d → All P (a ∷ b ∷ c ∷ d ∷ [])
-all-four P a b c d p q r s zero o lt = p
-all-four P a b c d p q r s (suc zero) o lt = q
-all-four P a b c d p q r s (suc (suc zero)) o lt = r
-all-four P a b c d p q r s (suc (suc (suc zero))) o lt = s
-all-four P a b c d p q r s (suc (suc (suc (suc i)))) o lt = absurd (omega arith)
 
 -- a part of bits has no 1 where neither of its two parts has
 blank-parts : (bits : List Bool) (a s e : ℕ) → a ≤ s → s ≤ e
@@ -433,20 +307,6 @@ run-within zero k rest (x ∷ xs) e = omega arith
 run-within (suc m) k rest (x ∷ xs) e =
     let t : fundamental_sequence m ++ rest ≡ xs ++ replicate k false = cc in
     omega (arith, run-within m k rest xs t)
-
--- so are several sequences
-pub sequences-within : (ms : List ℕ) (k : ℕ) (rest xs : List Bool) → flat_map fundamental_sequence ms ++ rest ≡ xs ++ replicate k false
-    → length (flat_map fundamental_sequence ms) ≤ length xs
-sequences-within [] k rest xs e = omega arith
-sequences-within (m ∷ ms) k rest xs e =
-    let run = fundamental_sequence m in
-    let more = flat_map fundamental_sequence ms in
-    let len : length run ≡ m + 1 = length-fundamental_sequence m in
-    let begins : run ++ (more ++ rest) ≡ xs ++ replicate k false = sym (append_assoc run more rest) ∙ e in
-    let first = run-within m k (more ++ rest) xs begins in
-    let behind : more ++ rest ≡ drop (m + 1) xs ++ replicate k false =
-    sym (drop-seam run (more ++ rest) (m + 1) len) ∙ (ap (drop (m + 1)) begins ∙ drop-append-le (m + 1) xs (replicate k false) first) in
-    omega (arith, len, first, length-append run more, length-drop (m + 1) xs, sequences-within ms k rest (drop (m + 1) xs) behind)
 
 -- bits that are near are there
 pub near-there : (w : Window) (xs : List Bool) → IsWindow w → length xs ≤ length (take (bits_near w) (window_bits w)) → w.at + length xs ≤ w.end

@@ -1,6 +1,5 @@
 -- The places of the ones among bits.
-use Rattle.std.specs.Prelude.{◌≡◌, ℕ, ◌+◌, ◌-◌, ◌≤◌, Bool, true, false, List, [], ◌∷◌, length, take}
-use Rattle.rice_bits.specs.Bits.{word}
+use Rattle.std.specs.Prelude.{ℕ, ◌+◌, ◌-◌, Bool, true, false, List, [], ◌∷◌}
 
 -- for each 1 among the bits, how many bits stand up to and including it, together with those before all
 abbrev pub ends_after : ℕ → List Bool → List ℕ
@@ -12,10 +11,3 @@ ends_after before (false ∷ bits) = ends_after (before + 1) bits
 abbrev pub gaps : List ℕ → List ℕ
 gaps (a ∷ b ∷ ends) = (b - a - 1) ∷ gaps (b ∷ ends)
 gaps _ = []
-
--- A 0 stands at the first place, and the ends of the ones among some first bits of a word follow.
-pub record IsSearched (front : ℕ) (told : List ℕ) (found : ℕ) : Type 0 where
-  pub seen : ℕ
-  pub few : seen ≤ 56
-  pub count : found ≡ length (ends_after 0 (take seen (word 64 front)))
-  pub ends : take (found + 1) told ≡ 0 ∷ ends_after 0 (take seen (word 64 front))

@@ -17,7 +17,7 @@ fn excess_over(a: u8x16, b: u8x16) -> u8x16
 
 /// Returns 0, and then all numbers but the last.
 #[inline(always)]
-pub fn zero_and_all_but_last(numbers: u8x16) -> u8x16
+fn zero_and_all_but_last(numbers: u8x16) -> u8x16
     requires { length numbers ≡ 16 }
     ensures { result ≡ take 16 (0 ∷ numbers) }
 {

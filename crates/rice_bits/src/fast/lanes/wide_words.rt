@@ -1,9 +1,9 @@
-//! Four or eight words of up to 24 bits, or four of 32, at a time, from any bit of a slice on.
+//! Eight words of up to 24 bits at a time, from any bit of a slice on.
 ghost use Rattle.std.specs.Prelude.{◌≡◌, ◌+◌, ◌-◌, ◌*◌, ◌/◌, ◌^◌, ◌<◌, ◌≤◌, All, drop, flat_map, length, map, take};
 ghost use Rattle.rice_bits.specs.Bits.{bits_of, word};
 ghost use Rattle.rice_bits.specs.fast.lanes.WideWordPlaces.{four, quad_factors, quad_number, quad_places};
 
-use crate::fast::lanes::words::{bytes_at_places, rows_by_bit, sixteen_words_from};
+use crate::fast::lanes::words::{bytes_at_places, rows_by_bit};
 use std::simd::prelude::*;
 
 /// The places of the four bytes in which each of four words lies, the last of them first.
@@ -141,7 +141,7 @@ fn four_words_from(bytes: &[u8], at: usize, width: u32) -> u32x4
 
 /// Returns the eight words of `width` bits from bit `at` on.
 #[inline(always)]
-pub fn eight_words_from(bytes: &[u8], at: usize, width: u32) -> u32x8
+pub fn wide_words_from(bytes: &[u8], at: usize, width: u32) -> u32x8
     requires width { (1 ≤ width) × (width ≤ 24) }
     requires at { at < 2 ^ 32 }
     requires room { (at + 4 * width) / 8 + 16 ≤ length bytes.now }
@@ -152,35 +152,4 @@ pub fn eight_words_from(bytes: &[u8], at: usize, width: u32) -> u32x8
     let first = four_words_from(bytes, at, width);
     let second = four_words_from(bytes, at + 4 * width as usize, width);
     first.shuffle(second, [0, 1, 2, 3, 4, 5, 6, 7])
-}
-
-/// Returns the numbers of the bytes from each fourth of sixteen on.
-#[inline(always)]
-fn four_bytes_from_each_fourth(bytes: u8x16) -> u32x4
-    requires { length bytes ≡ 16 }
-    ensures { result ≡ map (λ j. quad_number bytes ((0 + j * 32) / 8)) four }
-{
-    let last_first = [3, 2, 1, 0, 7, 6, 5, 4, 11, 10, 9, 8, 15, 14, 13, 12];
-    u32x4::from_le_bytes(bytes_at_places(bytes, u8x16::from_array(last_first)))
-}
-
-/// Returns the numbers that sixteen bytes spell, four bytes each.
-#[inline(always)]
-fn numbers_of_four_bytes_each(bytes: u8x16) -> u32x4
-    requires { length bytes ≡ 16 }
-    ensures len { length result ≡ 4 }
-    ensures bits { flat_map (word 32) result ≡ bits_of bytes }
-{
-    four_bytes_from_each_fourth(bytes)
-}
-
-/// Returns the four words of 32 bits from bit `at` on.
-#[inline(always)]
-pub fn four_words_of_32_bits_from(bytes: &[u8], at: usize) -> u32x4
-    requires at { at < 2 ^ 32 }
-    requires room { at / 8 + 24 ≤ length bytes.now }
-    ensures len { length result ≡ 4 }
-    ensures bits { flat_map (word 32) result ≡ take 128 (drop at (bits_of bytes.now)) }
-{
-    numbers_of_four_bytes_each(sixteen_words_from(bytes, at, 8))
 }

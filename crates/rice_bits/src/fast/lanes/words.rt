@@ -148,7 +148,7 @@ fn eight_words_in_sixteen_bytes(bytes: u8x16, width: u32, before: usize) -> u16x
 
 /// Returns the eight words of `width` bits from bit `at` on.
 #[inline(always)]
-fn eight_words_from(bytes: &[u8], at: usize, width: u32) -> u16x8
+pub fn eight_words_from(bytes: &[u8], at: usize, width: u32) -> u16x8
     requires width { width ≤ 9 }
     requires room { at / 8 + 16 ≤ length bytes.now }
     ensures len { length result ≡ 8 }

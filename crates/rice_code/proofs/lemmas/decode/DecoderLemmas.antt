@@ -61,11 +61,11 @@ run_given {old} {new} {first} {last} {s} {b} r zeros z read run blocks len legal
 }
 
 -- a sound block was taken, and its samples are given
-pub block_given : {I : Type 0} {old new : Reader I} {first last : ℕ} {s : Parameters} {b : ℕ} (p : ℤ) (r : Option ℕ) (near : Bool) (samples : List ℤ) {items : List ℕ}
-    → SetRead old new first last s b (Residuals r true near) items
+pub block_given : {I : Type 0} {old new : Reader I} {first last : ℕ} {s : Parameters} {b : ℕ} (p : ℤ) (r : Option ℕ) (samples : List ℤ) {items : List ℕ}
+    → SetRead old new first last s b (Residuals r true) items
     → length samples ≡ s.block → All (IsSample s) samples → block_data s b p samples ≡ block_with r items
     → TakesSet old new first last s b p samples 0
-block_given p r near samples {items} read len legal says =
+block_given p r samples {items} read len legal says =
     let d = read.tells in
     let told = d.told refl in
     let same : block_with r items ≡ d.contents = (λ i. record { reference = sym d.reference_is i; residuals = sym told.3 i }) in

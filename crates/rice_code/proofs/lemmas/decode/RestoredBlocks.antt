@@ -1,12 +1,10 @@
 -- Samples of a block, restored.
-use Rattle.std.proofs.Common.{◌≡◌, ℕ, suc, ◌+◌, ◌*◌, ◌/◌, ◌%◌, ◌<◌, ◌==◌, Bool, true, false, cond, List, [], ◌∷◌, ◌++◌, length, map}
-use Rattle.std.proofs.Common.{take, drop, append-nil, refl, sym, ◌∙◌, ap, arith, Option, Some, None, ℤ, zero, subst, ◌≤◌, inl, inr, replicate}
-use Rattle.std.specs.List.{refill}
+use Rattle.std.proofs.Common.{◌≡◌, ℕ, suc, ◌+◌, ◌*◌, ◌/◌, ◌%◌, ◌<◌, ◌==◌, Bool, true, false, cond, List, [], ◌∷◌, length, map}
+use Rattle.std.proofs.Common.{drop, refl, sym, ◌∙◌, ap, arith, Option, Some, None, ℤ, zero, subst, ◌≤◌, inl, inr, replicate}
 use Rattle.std.specs.Prelude.{All, IfSome, IfNone, OnSome, is_some, slice_index, slice_index_or, ◌&&◌}
 use Rattle.std.proofs.lemmas.Nat.{div-mul-add}
 use Rattle.std.proofs.Math.Nat.{mul_comm}
 use Rattle.std.proofs.lemmas.Nat.{mod-mul-add}
-use Rattle.std.proofs.lemmas.List.{drop_all, take_all}
 use Rattle.std.proofs.Math.Dec.{eqb-suc-zero}
 use Rattle.rice_samples.specs.Parameters.{Parameters, IsSample, level, value_count}
 use Rattle.rice_samples.proofs.lemmas.setting.LevelsOfSamples.{same_level}
@@ -103,12 +101,6 @@ contents_behind {s} {b} p x {v} (d ∷ ds) ys h behind r pat =
     let rest : residuals s (s.block * b + 1) x ys ≡ ds = ranks_within 1 x ys h e refl (omega (arith, behind.len, behind.more)) ∙ r in
     contents_are s b p (Some v) (d ∷ ds) (x ∷ ys) h (λ i. one i ∷ rest i) pat
 
--- a list that is filled again with as many items as it has becomes these items
-pub refill_all : {A : Type 0} (xs ys : List A) → length ys ≡ length xs → refill (length xs) xs ys ≡ ys
-refill_all xs ys e =
-    ap (λ v. take (length xs) (ys ++ v)) (drop_all (length ys) xs (omega (arith, e)))
-    ∙ (ap (take (length xs)) (append-nil ys) ∙ take_all (length xs) ys (omega (arith, e)))
-
 -- a sample that gives a residual of 0 first gives it again and again
 pub zeros_restored : (s : Parameters) (b : ℕ) (p x : ℤ) (r : Option ℕ) → IsReference s b r → 1 ≤ s.block → residual_at s r true p x ≡ 0
     → IfSome r (λ v. pattern s x ≡ v) → block_data s b p (replicate s.block x) ≡ zero_block s r
@@ -172,9 +164,3 @@ contents_restored {s} {b} p x {r = Some v} {ds = d ∷ ds} (y ∷ ys) h pre of_b
     let at : y ≡ x = same_first s x y begins.legal (restored.legal 0 x (omega arith)) (first ∙ of_block.zero) in
     let rest_behind : ranks s x ys ≡ ds = ap (λ q. ranks s q ys) (sym at) ∙ rest in
     ap (λ q. block_data s b p (q ∷ ys)) at ∙ contents_behind p x (d ∷ ds) ys h (record { len = of_block.len; more = omega arith; zero = of_block.zero }) rest_behind begins.some
-
--- without preprocessing a block has no reference
-pub contents_plain : (s : Parameters) (b : ℕ) (p : ℤ) (r : Option ℕ) (ds : List ℕ) (xs : List ℤ) → IsReference s b r → s.preprocess ≡ false
-    → map (pattern s) xs ≡ ds → block_data s b p xs ≡ record { reference = r; residuals = ds }
-contents_plain s b p None ds xs h e m = contents_of_patterns s b p ds xs h e m
-contents_plain s b p (Some v) ds xs h e m = absurd (let f : true ≡ false = sym (reference_preprocesses s b v h) ∙ e in cc)

@@ -112,10 +112,10 @@ low_set_cut {old} {mid} {new} first {last} {s} {b} {id} {f} lt e t steps cut =
     behind false y h = absurd (let none : false ≡ true = h in cc)
 
 -- one whose identifier and block by no compression were read was read
-pub no_compression_set : {I : Type 0} {old mid new : Reader I} {first second last : ℕ} {s : Parameters} {b id : ℕ} (r : Option ℕ) (sound near : Bool) {items : List ℕ}
+pub no_compression_set : {I : Type 0} {old mid new : Reader I} {first second last : ℕ} {s : Parameters} {b id : ℕ} (r : Option ℕ) (sound : Bool) {items : List ℕ}
     → id ≡ 2 ^ id_len s - 1 → Takes old mid (word (id_len s) id) → second + old.taken ≡ first + mid.taken
-    → BlockRead mid new second last s b NoCompression (record { reference = r; sound = sound }) items → SetRead old new first last s b (Residuals r sound near) items
-no_compression_set {old} {mid} {new} r sound near e t steps read = record {
+    → BlockRead mid new second last s b NoCompression (record { reference = r; sound = sound }) items → SetRead old new first last s b (Residuals r sound) items
+no_compression_set {old} {mid} {new} r sound e t steps read = record {
   set = NoCompression read.contents;
   form = read.form;
   takes = rw (← e) (takes-append old mid new _ _ t read.takes);
@@ -132,10 +132,10 @@ no_compression_set {old} {mid} {new} r sound near e t steps read = record {
 }
 
 -- one whose identifier and block by a split were read was read
-pub split_set : {I : Type 0} {old mid new : Reader I} {first second last : ℕ} {s : Parameters} {b : ℕ} (id k : ℕ) (r : Option ℕ) (sound near : Bool) {items : List ℕ}
+pub split_set : {I : Type 0} {old mid new : Reader I} {first second last : ℕ} {s : Parameters} {b : ℕ} (id k : ℕ) (r : Option ℕ) (sound : Bool) {items : List ℕ}
     → id ≡ k + 1 → Takes old mid (word (id_len s) id) → second + old.taken ≡ first + mid.taken
-    → BlockRead mid new second last s b (Split k) (record { reference = r; sound = sound }) items → SetRead old new first last s b (Residuals r sound near) items
-split_set {old} {mid} {new} id k r sound near e t steps read = record {
+    → BlockRead mid new second last s b (Split k) (record { reference = r; sound = sound }) items → SetRead old new first last s b (Residuals r sound) items
+split_set {old} {mid} {new} id k r sound e t steps read = record {
   set = Split k read.contents;
   form = read.form;
   takes = rw (← e) (takes-append old mid new _ _ t read.takes);
@@ -237,10 +237,10 @@ run_low_cut {old} {mid} {new} second s b {bits} {f} t before stops behind cut = 
     none bits h (RemainderOfSegment r) more form low e = h r 4 more form cc
 
 -- the bit is a 1, and a block by second extension was read behind it
-pub second_low : {I : Type 0} {old mid new : Reader I} {first second last : ℕ} {s : Parameters} {b v : ℕ} (r : Option ℕ) (sound near : Bool) {items : List ℕ}
+pub second_low : {I : Type 0} {old mid new : Reader I} {first second last : ℕ} {s : Parameters} {b v : ℕ} (r : Option ℕ) (sound : Bool) {items : List ℕ}
     → v < 2 → 0 < v → Takes old mid (word 1 v) → second + old.taken ≡ first + mid.taken
-    → BlockRead mid new second last s b SecondExtension (record { reference = r; sound = sound }) items → LowEntropyRead old new first last s b (Residuals r sound near) items
-second_low {old} {mid} {new} {v} r sound near lt pos t steps read = record {
+    → BlockRead mid new second last s b SecondExtension (record { reference = r; sound = sound }) items → LowEntropyRead old new first last s b (Residuals r sound) items
+second_low {old} {mid} {new} {v} r sound lt pos t steps read = record {
   set = SecondExtension read.contents;
   low = tt;
   form = read.form;

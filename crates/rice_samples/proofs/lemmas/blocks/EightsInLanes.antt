@@ -1,7 +1,7 @@
 -- Chunks of eight numbers in the lanes of a vector.
 use Rattle.std.proofs.Common.{◌≡◌, ◌≢◌, ℕ, zero, suc, ◌+◌, ◌-◌, ◌*◌, ◌/◌, ◌%◌, ◌^◌, ◌<◌, ◌≤◌, ◌==◌, Bool, true, false, ◌&&◌, List}
 use Rattle.std.proofs.Common.{[], ◌∷◌, ◌++◌, map, length, take, drop, get_or, sum_by, refl, sym, ◌∙◌, ap, subst, arith, inl, inr, Fits, w32}
-use Rattle.std.specs.Prelude.{bit_or, replicate, sum}
+use Rattle.std.specs.Prelude.{bit_or, replicate}
 use Rattle.std.specs.List.{list_all}
 use Rattle.std.specs.Simd.Lanes.{zip2, Each1, Each2, chunk, sum_l, fold_l}
 use Rattle.std.proofs.lemmas.Bool.Decides.{nat_tests}
@@ -69,14 +69,6 @@ pub map_same : (xs : List ℕ) → map (λ d. d) xs ≡ xs
 map_same [] = refl
 map_same (x ∷ xs) = ap (λ ys. x ∷ ys) (map_same xs)
 
--- the sum of eight numbers
-pub sum_of_eight : (ds : List ℕ) → length ds ≡ 8 → fold_l (λ s x. s + x) 0 (map (λ d. d) (take 8 ds)) ≡ sum ds
-sum_of_eight ds n =
-    let whole : take (8 * 1) ds ≡ ds = take_all 1 ds (omega arith) (omega arith) in
-    let lanes = map (λ d. d) (take 8 ds) in
-    let same : 0 + sum_l lanes ≡ sum_l lanes = omega arith in
-    fold-sum 0 lanes ∙ (same ∙ (sum_map (λ d. d) (take 8 ds) ∙ ap sum whole))
-
 -- digits
 
 fold_or_above : (a : ℕ) (xs : List ℕ) → (a ≤ fold_l bit_or a xs) × Each1 (λ x. x ≤ fold_l bit_or a xs) xs
@@ -101,11 +93,6 @@ parts_below limit (x ∷ xs) (y ∷ ys) n h =
     let l = le_or_l x y in
     let r = le_or_r x y in
     ((omega (arith, h.0), rest.0), (omega (arith, h.0), rest.1))
-
--- what holds of each number of two lists holds of each of both together
-pub Each1-append : (P : ℕ → Type 0) (xs ys : List ℕ) → Each1 P xs → Each1 P ys → Each1 P (xs ++ ys)
-Each1-append P [] ys h k = k
-Each1-append P (x ∷ xs) ys h k = (h.0, Each1-append P xs ys h.1 k)
 
 -- zeros
 

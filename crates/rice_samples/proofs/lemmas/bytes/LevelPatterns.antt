@@ -3,7 +3,7 @@ use Rattle.std.proofs.Common.{◌≡◌, ℕ, ◌+◌, ◌-◌, ◌*◌, ◌%◌
 use Rattle.std.proofs.Common.{refl, ap, arith, sym, ◌∙◌, List, [], ◌∷◌, ◌++◌, length, take, map, get_or, slice_set, pos, negsuc, neg_ℤ, ◌+ℤ◌}
 use Rattle.std.specs.Prelude.{bit_and}
 use Rattle.std.proofs.lemmas.Int.{ints}
-use Rattle.std.proofs.lemmas.List.{map-append, map_more, take_more, take_more_set}
+use Rattle.std.proofs.lemmas.List.{map-append, map_more, take_more_set}
 use Rattle.std.proofs.lemmas.Nat.{and_mask, mod-mul-add, mod_below, pow-add, pow_pos}
 use Rattle.std.proofs.Math.Nat.{mod-add-mod, mul-le-mul_right}
 use Rattle.std.proofs.Math.Pow.{mod-mod-pow, pow_mono}
@@ -44,15 +44,6 @@ unsigned_patterns s (l ∷ levels) e = λ j. one s.signed e j ∷ unsigned_patte
     one : (signed : Bool) → signed ≡ false → twos_complement s.bits (cond signed (neg_ℤ (pos (2 ^ (s.bits - 1)))) (pos 0) +ℤ pos l) ≡ l
     one true e = absurd (let f : true ≡ false = e in cc)
     one false e = ap (twos_complement s.bits) (let z : pos 0 +ℤ pos l ≡ pos l = omega (arith, ints) in z)
-
--- one more by its pattern
-pub one_of_pattern : (s : Parameters) (l i : ℕ) (levels vs : List ℕ) → i < length levels → i < length vs
-    → map (pattern s) (values_at s (take i levels)) ≡ take i vs → pattern s (value_at s l) ≡ get_or vs i 0 →
-    map (pattern s) (values_at s (take (i + 1) (slice_set levels i l))) ≡ take (i + 1) vs
-one_of_pattern s l i levels vs h k e r =
-    let values : values_at s (take (i + 1) (slice_set levels i l)) ≡ values_at s (take i levels) ++ value_at s l ∷ [] = ap (values_at s)
-    (take_more_set levels i l h) ∙ map-append (value_at s) (take i levels) (l ∷ []) in
-    ap (map (pattern s)) values ∙ (map-append (pattern s) (values_at s (take i levels)) (value_at s l ∷ []) ∙ ((λ j. e j ++ r j ∷ []) ∙ sym (take_more vs i 0 k)))
 
 -- one more pattern
 pub one_pattern : (s : Parameters) (v i : ℕ) (now levels : List ℕ) → i < length now → i < length levels

@@ -1,5 +1,5 @@
 -- Samples of at most 8 bits that are spelled in lanes.
-use Rattle.std.proofs.Common.{◌≡◌, ℕ, zero, suc, ◌+◌, ◌-◌, ◌*◌, ◌%◌, ◌^◌, ◌<◌, ◌≤◌, Bool, true, false, cond, List, [], ◌∷◌, ◌++◌, length, replicate, take, refl, sym, ◌∙◌, ap, arith}
+use Rattle.std.proofs.Common.{◌≡◌, ℕ, zero, suc, ◌+◌, ◌-◌, ◌*◌, ◌%◌, ◌^◌, ◌<◌, ◌≤◌, Bool, true, false, cond, List, [], ◌∷◌, ◌++◌, length, replicate, refl, sym, ◌∙◌, ap, arith}
 use Rattle.std.specs.Prelude.{All, nat_le, ◌&&◌}
 use Rattle.std.specs.Int.{bytes_high_first, bytes_low_first}
 use Rattle.std.specs.Simd.Lanes.{zip2}
@@ -40,14 +40,3 @@ bytes-spelled s (suc n) o (l ∷ levels) h few e len legal =
     let one = byte_of_level s l o h few e (legal 0 0 (omega arith)) in
     let rest = bytes-spelled s n o levels h few e (omega arith) (λ i d lt. legal (suc i) d (omega (arith, lt))) in
     λ j. sym one j ++ rest j
-
--- of the spellings the first are those of the first samples
-pub bytes-front : (s : Parameters) (n : ℕ) (levels : List ℕ) → 1 ≤ s.bits → s.bits ≤ 8 → All (λ l. l < value_count s) levels
-    → take n (spellings s (values_at s levels)) ≡ spellings s (values_at s (take n levels))
-bytes-front s zero levels h few legal = refl
-bytes-front s (suc n) [] h few legal = refl
-bytes-front s (suc n) (l ∷ levels) h few legal =
-    let o = offset s in
-    let one = byte_of_level s l o h few refl (legal 0 0 (omega arith)) in
-    let rest = bytes-front s n levels h few (λ i d lt. legal (suc i) d (omega (arith, lt))) in
-    ap (λ b. take (suc n) (b ++ spellings s (values_at s levels))) one ∙ (ap (λ z. (l + (256 - o)) % 256 ∷ z) rest ∙ ap (λ b. b ++ spellings s (values_at s (take n levels))) (sym one))

@@ -2,14 +2,13 @@
 use Rattle.std.proofs.Common.{◌≡◌, ℕ, zero, suc, ◌+◌, ◌-◌, ◌*◌, ◌/◌, ◌%◌, ◌^◌, ◌<◌, ◌≤◌, min, List, [], ◌∷◌, map, length, get_or, take, replicate, refl, sym, ◌∙◌, ap, subst, arith}
 use Rattle.std.specs.Prelude.{All, bit_and, bit_or}
 use Rattle.std.specs.Int.Bits.{bit_xor}
-use Rattle.std.specs.Simd.Lanes.{Each1, zip2, put_chunk}
+use Rattle.std.specs.Simd.Lanes.{Each1, zip2}
 use Rattle.rice_samples.proofs.lemmas.blocks.EightsInLanes.{parts_below}
 use Rattle.rice_samples.proofs.lemmas.lanes.OneVector.{zeros_below, each_zero}
-use Rattle.std.proofs.lemmas.Simd.{put_chunk_whole}
 use Rattle.std.proofs.lemmas.List.{get_or-replicate}
-use Rattle.rice_samples.specs.predict.Residuals.{ranks_below, last_number}
-use Rattle.std.proofs.lemmas.Nat.{le-div, pow_pos, pow-add}
-use Rattle.std.proofs.Math.Nat.{div-lt_iff_lt-mul, mod-eq_of_lt, mul-le-mul_right, pow-le-pow_right}
+use Rattle.rice_samples.specs.predict.Residuals.{ranks_below}
+use Rattle.std.proofs.lemmas.Nat.{pow_pos, pow-add}
+use Rattle.std.proofs.Math.Nat.{div-lt_iff_lt-mul, mod-eq_of_lt, mul-le-mul_right}
 use Rattle.rice_bits.specs.read.JoinedParts.{joined_parts}
 use Rattle.rice_samples.specs.predict.NearNumbers.{way, near_numbers, bound}
 use Rattle.rice_samples.proofs.lemmas.predict.NearEights.{way_lane}
@@ -40,14 +39,6 @@ lanes_are_near {m} {g} {p} {n} ds xs {before} low high some many long numbers fi
     vector_is_near ds low high many numbers (shifted ∙ ap (λ q. take n (q ∷ xs)) (ap (λ qs. get_or qs (n - 1) 0) firsts ∙ get_or-replicate n (n - 1) p 0 (omega arith)))
     (bounds ∙ rw (reaches, lefts, lasts) (lanes_of_bounds m g n before long)) overs
 
--- what a loop that restores near numbers row by row keeps
-pub record Restored (g p at : ℕ) (ds levels : List ℕ) (last : ℕ) : Type 0 where
-  pub len : length levels ≡ length ds
-  pub low : last ≤ g
-  pub last_is : last ≡ last_number p (take at levels)
-  pub fit : All (λ x. x ≤ g) (take at levels)
-  pub ranked : ranks_below (g + 1) p (take at levels) ≡ take at ds
-
 -- where the digits of two vectors together are 0, both are zeros
 pub both_zeros : (n : ℕ) (xs ys : List ℕ) {zs : List ℕ} → length xs ≡ n → length ys ≡ n → zs ≡ zip2 bit_or xs ys → zs ≡ replicate n 0 → (xs ≡ replicate n 0) × (ys ≡ replicate n 0)
 both_zeros n xs ys h k e none =
@@ -71,22 +62,3 @@ lanes_joined k w (m ∷ ms) (l ∷ ls) h e few low =
     let first = one_joined k w m l h (few 0 0 (omega arith)) (low 0 0 (omega arith)) in
     let rest = lanes_joined k w ms ls h (omega arith) (λ i d lt. few (suc i) d (omega (arith, lt))) (λ i d lt. low (suc i) d (omega (arith, lt))) in
     λ j. first j ∷ rest j
-
--- high parts of a byte fit lanes that have eight bits more than the low parts
-pub bytes_raised : (k w : ℕ) (ms : List ℕ) → w + 8 ≤ k → All (λ m. m < 256) ms → All (λ m. m ≤ (2 ^ k - 1) / 2 ^ w) ms
-bytes_raised k w ms room small = λ i d lt. one (get_or ms i d) (small i d lt)
-  where
-    one : (m : ℕ) → m < 256 → m ≤ (2 ^ k - 1) / 2 ^ w
-    one m h =
-        let some = pow_pos w in
-        let part : (m + 1) * 2 ^ w ≤ 256 * 2 ^ w = mul-le-mul_right (2 ^ w) (omega (arith, h)) in
-        let most : 2 ^ (w + 8) ≤ 2 ^ k = pow-le-pow_right {n = 2} (omega arith) {i = w + 8} {j = k} room in
-        let same : 2 ^ (w + 8) ≡ 2 ^ w * 256 = pow-add 2 w 8 in
-        le-div m (2 ^ k - 1) (2 ^ w) some (omega (arith, some, part, most, same))
-
--- levels that fill their places are those of the samples
-pub row_stored : {count : ℕ} (g p : ℕ) (levels row : List ℕ) {ds after : List ℕ} → g + 1 ≡ count → length levels ≡ length row → after ≡ put_chunk 0 levels row
-    → All (λ x. x ≤ g) row → ranks_below (g + 1) p row ≡ ds → All (λ l. l < count) after × (ranks_below count p after ≡ ds)
-row_stored {count} g p levels row above many is fit ranked =
-    let stored = is ∙ put_chunk_whole levels row many in
-    (subst (All (λ l. l < count)) (sym stored) (λ k d lt. let x = fit k d lt in omega (arith, x, above)), (λ j. ranks_below (sym above j) p (stored j)) ∙ ranked)

@@ -1,62 +1,22 @@
 -- Sixteen samples of at most 16 bits in two vectors of eight lanes.
 use Rattle.std.proofs.Common.{◌≡◌, ℕ, zero, suc, ◌+◌, ◌-◌, ◌*◌, ◌/◌, ◌%◌, ◌^◌, ◌<◌, ◌≤◌, true, false, cond}
-use Rattle.std.proofs.Common.{List, [], ◌∷◌, ◌++◌, get_or, length, replicate, take, drop, refl, sym, ◌∙◌, ap, arith, length-append}
+use Rattle.std.proofs.Common.{List, [], ◌∷◌, ◌++◌, get_or, length, replicate, drop, refl, sym, ◌∙◌, ap, arith}
 use Rattle.std.specs.Prelude.{All}
 use Rattle.std.specs.Int.{bytes_high_first, bytes_low_first}
 use Rattle.std.specs.Simd.Lanes.{Each1, digits_l, number_l, pick_l, zip2}
 use Rattle.std.proofs.lemmas.Bool.Decides.{nat_tests}
-use Rattle.std.proofs.lemmas.List.Elements.{All-append}
 use Rattle.std.proofs.lemmas.Simd.{length-zip2}
-use Rattle.rice_bits.specs.read.JoinedParts.{joined_parts}
 use Rattle.rice_samples.specs.Parameters.{Parameters, value_at, value_count, values_at, width}
-use Rattle.rice_samples.specs.predict.LevelsOfParts.{AreLevelsOfParts}
 use Rattle.rice_samples.specs.bytes.PatternLanes.{swapped}
-use Rattle.rice_samples.specs.predict.Residuals.{last_number, ranks_below, twos_complement}
+use Rattle.rice_samples.specs.predict.Residuals.{last_number, twos_complement}
 use Rattle.rice_samples.specs.bytes.Spelling.{spelling, spellings}
 use Rattle.rice_samples.specs.bytes.ValueRange.{offset}
 use Rattle.rice_samples.proofs.lemmas.bytes.LevelPatterns.{word_of_level}
 use Rattle.rice_samples.proofs.lemmas.bytes.SpellingLemmas.{offset_limit}
 use Rattle.rice_samples.proofs.lemmas.predict.JoinedPartsInLanes.{bytes_of, parted}
 use Rattle.rice_bits.proofs.lemmas.fast.lanes.SixteenLanes.{sixteen_lanes}
-use Rattle.rice_samples.proofs.lemmas.predict.RestoredLevels.{ranks_below-append}
 
 -- high and low parts
-
-one_word : (w m l : ℕ) → w ≤ 8 → m < 256 → l < 2 ^ w → (m * 2 ^ w % 65536 + l) % 65536 ≡ m * 2 ^ w + l
-one_word zero m l h k lt = omega (arith, k, lt)
-one_word (suc zero) m l h k lt = omega (arith, k, lt)
-one_word (suc (suc zero)) m l h k lt = omega (arith, k, lt)
-one_word (suc (suc (suc zero))) m l h k lt = omega (arith, k, lt)
-one_word (suc (suc (suc (suc zero)))) m l h k lt = omega (arith, k, lt)
-one_word (suc (suc (suc (suc (suc zero))))) m l h k lt = omega (arith, k, lt)
-one_word (suc (suc (suc (suc (suc (suc zero)))))) m l h k lt = omega (arith, k, lt)
-one_word (suc (suc (suc (suc (suc (suc (suc zero))))))) m l h k lt = omega (arith, k, lt)
-one_word (suc (suc (suc (suc (suc (suc (suc (suc zero)))))))) m l h k lt = omega (arith, k, lt)
-one_word (suc (suc (suc (suc (suc (suc (suc (suc (suc w))))))))) m l h k lt = absurd (omega (arith, h))
-
--- high parts of a byte, moved up at most 8 places in lanes of 16 bits, and with the low parts added, are the joined numbers
-pub words-joined : (w n : ℕ) (ms ls : List ℕ) → w ≤ 8 → length ms ≡ n → length ls ≡ n → All (λ m. m < 256) ms → All (λ l. l < 2 ^ w) ls
-    → zip2 (λ a b. (a + b) % 65536) (zip2 (λ c s. c * 2 ^ s % 65536) ms (replicate n w)) ls ≡ joined_parts w ms ls
-words-joined w n [] ls h e f small low = refl
-words-joined w zero (m ∷ ms) ls h e f small low = absurd (omega (arith, e))
-words-joined w (suc n) (m ∷ ms) [] h e f small low = absurd (omega (arith, f))
-words-joined w (suc n) (m ∷ ms) (l ∷ ls) h e f small low =
-    let one = one_word w m l h (small 0 0 (omega arith)) (low 0 0 (omega arith)) in
-    let rest = words-joined w n ms ls h (omega (arith, e)) (omega (arith, f)) (λ i d lt. small (suc i) d (omega (arith, lt))) (λ i d lt. low (suc i) d (omega (arith, lt))) in
-    λ j. one j ∷ rest j
-
--- there are as many joined numbers as high parts, where there are as many low parts
-pub length-joined : (w : ℕ) (ms ls : List ℕ) → length ms ≡ length ls → length (joined_parts w ms ls) ≡ length ms
-length-joined w [] ls e = refl
-length-joined w (m ∷ ms) [] e = absurd (omega (arith, e))
-length-joined w (m ∷ ms) (l ∷ ls) e = ap suc (length-joined w ms ls (omega (arith, e)))
-
-joined-halves : (k n : ℕ) (ms ls : List ℕ) → length ms ≡ length ls → joined_parts k (take n ms) (take n ls) ++ joined_parts k (drop n ms) (drop n ls) ≡ joined_parts k ms ls
-joined-halves k zero ms ls e = refl
-joined-halves k (suc n) [] [] e = refl
-joined-halves k (suc n) [] (l ∷ ls) e = absurd (omega (arith, e))
-joined-halves k (suc n) (m ∷ ms) [] e = absurd (omega (arith, e))
-joined-halves k (suc n) (m ∷ ms) (l ∷ ls) e = ap (λ ds. (m * 2 ^ k + l) ∷ ds) (joined-halves k n ms ls (omega (arith, e)))
 
 -- the last of so many numbers
 pub last_is : (p n : ℕ) (xs : List ℕ) → length xs ≡ suc n → last_number p xs ≡ get_or xs n 0
@@ -65,33 +25,6 @@ last_is p zero (x ∷ []) e = refl
 last_is p zero (x ∷ y ∷ xs) e = absurd (omega (arith, e))
 last_is p (suc n) (x ∷ []) e = absurd (omega (arith, e))
 last_is p (suc n) (x ∷ y ∷ xs) e = last_is x n (y ∷ xs) (omega (arith, e))
-
--- parts of sixteen levels, and the levels in two halves
-pub record HalfLengths (highs lows first second : List ℕ) : Type 0 where
-  pub highs_are : length highs ≡ 16
-  pub lows_are : length lows ≡ 16
-  pub first_is : length first ≡ 8
-  pub second_is : length second ≡ 8
-
--- the levels of both halves are levels
-pub record HalvesFit (greatest : ℕ) (first second : List ℕ) : Type 0 where
-  pub front : All (λ x. x ≤ greatest) first
-  pub back : All (λ x. x ≤ greatest) second
-
--- the levels of both halves
-pub halves_are : {s : Parameters} {before width : ℕ} (greatest : ℕ) {last : ℕ} {highs lows : List ℕ} (first second : List ℕ) → greatest + 1 ≡ value_count s → HalfLengths highs lows first second
-    → last ≡ get_or first 7 0 → HalvesFit greatest first second
-    → ranks_below (greatest + 1) before first ≡ joined_parts width (take 8 highs) (take 8 lows) → ranks_below (greatest + 1) last second ≡ joined_parts width (drop 8 highs) (drop 8 lows)
-    → AreLevelsOfParts s before width highs lows (first ++ second)
-halves_are {before} {width} greatest {highs} {lows} first second count lens e fit ranked more = record {
-  len = length-append first second ∙ omega (arith, lens.first_is, lens.second_is, lens.highs_are);
-  legal = λ i d lt. let x = All-append (λ x. x ≤ greatest) first second fit.front fit.back i d lt in omega (arith, x, count);
-  ranked =
-      ap (λ n. ranks_below n before (first ++ second)) (sym count)
-      ∙ (ranks_below-append (greatest + 1) before first second
-      ∙ ((λ j. ranked j ++ (ap (λ p. ranks_below (greatest + 1) p second) (last_is before 7 first lens.first_is ∙ sym e) ∙ more) j) ∙ joined-halves width 8 highs lows
-      (lens.highs_are ∙ sym lens.lows_are)));
-}
 
 -- spellings
 
@@ -155,10 +88,6 @@ high-spelled s {n = suc n} {o} (l ∷ levels) h wide few order e len legal =
 pub pairs_swapped : (xs : List ℕ) → length xs ≡ 16 → pick_l 0 (xs ++ xs) (1 ∷ 0 ∷ 3 ∷ 2 ∷ 5 ∷ 4 ∷ 7 ∷ 6 ∷ 9 ∷ 8 ∷ 11 ∷ 10 ∷ 13 ∷ 12 ∷ 15 ∷ 14 ∷ []) ≡ swapped xs
 pairs_swapped xs n = sixteen_lanes (λ xs. pick_l 0 (xs ++ xs) (1 ∷ 0 ∷ 3 ∷ 2 ∷ 5 ∷ 4 ∷ 7 ∷ 6 ∷ 9 ∷ 8 ∷ 11 ∷ 10 ∷ 13 ∷ 12 ∷ 15 ∷ 14 ∷ []) ≡ swapped xs)
     (λ a0 a1 a2 a3 a4 a5 a6 a7 a8 a9 a10 a11 a12 a13 a14 a15. refl) xs n
-
--- lanes 0 to 7 of sixteen, picked, are the first eight
-pub first_eight : (xs : List ℕ) → length xs ≡ 16 → pick_l 0 (xs ++ xs) (0 ∷ 1 ∷ 2 ∷ 3 ∷ 4 ∷ 5 ∷ 6 ∷ 7 ∷ []) ≡ take 8 xs
-first_eight xs n = sixteen_lanes (λ xs. pick_l 0 (xs ++ xs) (0 ∷ 1 ∷ 2 ∷ 3 ∷ 4 ∷ 5 ∷ 6 ∷ 7 ∷ []) ≡ take 8 xs) (λ a0 a1 a2 a3 a4 a5 a6 a7 a8 a9 a10 a11 a12 a13 a14 a15. refl) xs n
 
 -- and lanes 8 to 15 the last eight
 pub last_eight : (xs : List ℕ) → length xs ≡ 16 → pick_l 0 (xs ++ xs) (8 ∷ 9 ∷ 10 ∷ 11 ∷ 12 ∷ 13 ∷ 14 ∷ 15 ∷ []) ≡ drop 8 xs

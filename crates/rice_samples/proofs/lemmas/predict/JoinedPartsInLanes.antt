@@ -2,7 +2,6 @@
 use Rattle.std.proofs.Common.{◌≡◌, ℕ, zero, suc, ◌+◌, ◌*◌, ◌/◌, ◌%◌, ◌^◌, ◌<◌, ◌≤◌, List, [], ◌∷◌, length, map, replicate, refl, ◌∙◌, ap, arith, Fits, w8}
 use Rattle.std.specs.Prelude.{All}
 use Rattle.std.specs.Simd.Lanes.{Each1, digits_l, number_l, zip2}
-use Rattle.rice_bits.specs.read.JoinedParts.{joined_parts}
 
 -- bytes as pairs, and back
 
@@ -94,24 +93,3 @@ highs-raised w ms h e fits small =
     ∙ all_pairs w 8 ms h e (each_of (λ m. m ≤ 255 / 2 ^ w) ms small))
 
 -- parts are joined
-
-one_lane : (k m l : ℕ) → k ≤ 7 → m ≤ 255 / 2 ^ k → l < 2 ^ k → (m * 2 ^ k + l) % 256 ≡ m * 2 ^ k + l
-one_lane zero m l h few low = omega arith
-one_lane (suc zero) m l h few low = omega arith
-one_lane (suc (suc zero)) m l h few low = omega arith
-one_lane (suc (suc (suc zero))) m l h few low = omega arith
-one_lane (suc (suc (suc (suc zero)))) m l h few low = omega arith
-one_lane (suc (suc (suc (suc (suc zero))))) m l h few low = omega arith
-one_lane (suc (suc (suc (suc (suc (suc zero)))))) m l h few low = omega arith
-one_lane (suc (suc (suc (suc (suc (suc (suc zero))))))) m l h few low = omega arith
-one_lane (suc (suc (suc (suc (suc (suc (suc (suc k)))))))) m l h few low = absurd (omega arith)
-
--- with the low parts added lane by lane they are the joined numbers
-pub bytes-joined : (k : ℕ) (ms ls : List ℕ) → k ≤ 7 → length ls ≡ length ms → All (λ m. m ≤ 255 / 2 ^ k) ms → All (λ l. l < 2 ^ k) ls
-    → zip2 (λ a b. (a + b) % 256) (map (λ m. m * 2 ^ k) ms) ls ≡ joined_parts k ms ls
-bytes-joined k [] ls h e few low = refl
-bytes-joined k (m ∷ ms) [] h e few low = refl
-bytes-joined k (m ∷ ms) (l ∷ ls) h e few low =
-    let first = one_lane k m l h (few 0 0 (omega arith)) (low 0 0 (omega arith)) in
-    let rest = bytes-joined k ms ls h (omega arith) (λ i d lt. few (suc i) d (omega (arith, lt))) (λ i d lt. low (suc i) d (omega (arith, lt))) in
-    λ j. first j ∷ rest j

@@ -1,12 +1,11 @@
 -- Near numbers, eight at a time; `near_ranks` holds for any number of them.
-use Rattle.std.proofs.Common.{◌≡◌, inl, inr, ℕ, zero, suc, ◌+◌, ◌-◌, ◌*◌, ◌/◌, ◌%◌, ◌^◌, ◌<◌, ◌≤◌, min, max, cond}
+use Rattle.std.proofs.Common.{◌≡◌, ℕ, zero, suc, ◌+◌, ◌-◌, ◌*◌, ◌/◌, ◌%◌, ◌^◌, ◌<◌, ◌≤◌, min, max, cond}
 use Rattle.std.proofs.Common.{List, [], ◌∷◌, map, length, take, refl, sym, ◌∙◌, ap, subst, arith, nat_lt, ◌==◌}
 use Rattle.std.specs.Prelude.{bit_and}
 use Rattle.std.specs.Int.Bits.{bit_xor, xor_add_and, xor_zero_r}
 use Rattle.std.specs.Simd.Lanes.{zip2, Each1, Each2, sel_l}
 use Rattle.std.proofs.lemmas.Bool.Decides.{nat_tests}
-use Rattle.std.proofs.lemmas.Bool.{cases_lt}
-use Rattle.std.proofs.lemmas.Nat.{and_mask, mod_below, pow_pos}
+use Rattle.std.proofs.lemmas.Nat.{and_mask, pow_pos}
 use Rattle.std.proofs.Math.Nat.{mod-eq_of_lt, add-mod_right}
 use Rattle.rice_samples.specs.predict.Residuals.{rank_below, ranks_below}
 use Rattle.rice_samples.specs.predict.NearNumbers.{way, near_numbers, reach, bound}
@@ -77,21 +76,6 @@ select_max (x ∷ xs) (y ∷ ys) =
 
 -- the test
 
-no_excess_within : (m : ℕ) (ds bs : List ℕ) → Each1 (λ d. d < m) ds → Each1 (λ b. b < m) bs → length ds ≡ length bs
-    → Each1 (λ x. x ≤ 0) (zip2 (λ a b. (a + (m - b)) % m) (zip2 max ds bs) bs) → Each2 (λ d b. d ≤ b) ds bs
-no_excess_within m [] bs h k n t = tt
-no_excess_within m (d ∷ ds) [] h k n t = absurd (omega arith)
-no_excess_within m (d ∷ ds) (b ∷ bs) h k n t = (one d b h.0 k.0 t.0, no_excess_within m ds bs h.1 k.1 (omega arith) t.1)
-  where
-    one : (d b : ℕ) → d < m → b < m → (max d b + (m - b)) % m ≤ 0 → d ≤ b
-    one d b h k t = elim (cases_lt b d) [
-      | inr le ↦ le
-      | inl lt ↦ (
-          let up : max d b + (m - b) ≡ (d - b) + m = omega arith in
-          let over : (max d b + (m - b)) % m ≡ d - b = ap (λ n. n % m) up ∙ (add-mod_right (d - b) m ∙ mod-eq_of_lt (omega arith)) in
-          absurd (omega arith))
-    ]
-
 bound_is : (m g p : ℕ) → p ≤ g → g < m → bound m g p ≡ 2 * min p (g - p)
 bound_is m g p h k =
     let up : g + (m - p) ≡ (g - p) + m = omega arith in
@@ -133,12 +117,3 @@ near_ranks m g p (d ∷ ds) h k t =
     let one = near_one m g p d h k t.0 in
     let rest = near_ranks m g ((p + way m d) % m) ds one.0 k t.1 in
     ((one.0, rest.0), λ j. one.1 j ∷ rest.1 j)
-
-bounds_below : (m g : ℕ) (xs : List ℕ) → 0 < m → Each1 (λ b. b < m) (map (bound m g) xs)
-bounds_below m g [] h = tt
-bounds_below m g (x ∷ xs) h = (mod_below (reach m g x + reach m g x) m h, bounds_below m g xs h)
-
--- as many levels as ranks, eight
-pub record EightOfEach (levels ds : List ℕ) : Type 0 where
-  pub same : length levels ≡ length ds
-  pub eight : length ds ≡ 8

@@ -1,10 +1,9 @@
 -- Near numbers, as many at a time as a vector has lanes.
-use Rattle.std.proofs.Common.{◌≡◌, inl, inr, ℕ, zero, suc, ◌+◌, ◌-◌, ◌/◌, ◌%◌, ◌^◌, ◌<◌, ◌≤◌, min, max, cond, Bool, List}
+use Rattle.std.proofs.Common.{◌≡◌, inl, inr, ℕ, zero, suc, ◌+◌, ◌-◌, ◌%◌, ◌^◌, ◌<◌, ◌≤◌, max, cond, Bool, List}
 use Rattle.std.proofs.Common.{[], ◌∷◌, map, length, take, drop, get_or, replicate, refl, sym, ◌∙◌, ap, subst, arith, Fits, nat_lt}
-use Rattle.std.specs.Prelude.{All, bit_and}
+use Rattle.std.specs.Prelude.{All}
 use Rattle.std.specs.Int.{Width}
 use mir.Val.{bits, hbits}
-use Rattle.std.specs.Int.Bits.{bit_xor}
 use Rattle.std.specs.Simd.Lanes.{zip2, Each1, Each2, sel_l, top}
 use Rattle.std.proofs.lemmas.Bool.{cases_lt}
 use Rattle.std.proofs.lemmas.List.{length-replicate, length-take-le}
@@ -17,18 +16,9 @@ use Rattle.rice_samples.specs.Parameters.{Parameters, value_count}
 use Rattle.rice_samples.specs.predict.LevelsOfParts.{AreLevelsOfParts}
 use Rattle.rice_samples.specs.predict.NearNumbers.{way, near_numbers, bound}
 use Rattle.rice_samples.proofs.lemmas.blocks.EightsInLanes.{length-map}
-use Rattle.rice_samples.proofs.lemmas.predict.NearEights.{select_max, length-near_numbers, near_ranks, way_lane}
+use Rattle.rice_samples.proofs.lemmas.predict.NearEights.{select_max, length-near_numbers, near_ranks}
 
 -- ways
-
--- in n lanes, half of each rank, with its digits turned over where the rank is odd, is its way
-pub vector_of_ways : (w : Width) (n : ℕ) (ds : List ℕ) → length ds ≡ n → Each1 (Fits w) ds
-    → zip2 bit_xor (zip2 (λ d s. d / 2 ^ s) ds (replicate n 1)) (zip2 (λ a b. (a + (2 ^ bits w - b)) % 2 ^ bits w) (replicate n 0) (zip2 bit_and ds (replicate n 1))) ≡ map (way (2 ^ bits w)) ds
-vector_of_ways w n [] e fits = refl
-vector_of_ways w zero (d ∷ ds) e fits = absurd (omega arith)
-vector_of_ways w (suc n) (d ∷ ds) e fits =
-    let rest = vector_of_ways w n ds (omega arith) fits.1 in
-    λ j. way_lane (bits w) d fits.0.fits j ∷ rest j
 
 -- near numbers are running sums of ways
 pub sums_of_ways : (m p : ℕ) (ds : List ℕ) → running_sums m p (map (way m) ds) ≡ near_numbers m p ds
@@ -39,14 +29,6 @@ sums_of_ways m p (d ∷ ds) = ap (λ xs. (p + way m d) % m ∷ xs) (sums_of_ways
 
 abbrev masks : Width → List ℕ → List ℕ → List Bool
 masks w xs ys = map (top (hbits w)) (zip2 (λ a b. cond (nat_lt a b) (2 ^ bits w - 1) 0) xs ys)
-
-abbrev up_to_greatest : ℕ → ℕ → ℕ → List ℕ → List ℕ
-up_to_greatest n m g xs = zip2 (λ a b. (a + (m - b)) % m) (replicate n g) xs
-
-of_least : (n m g : ℕ) (xs : List ℕ) → length xs ≡ n → zip2 (λ x y. (x + y) % m) (zip2 min xs (up_to_greatest n m g xs)) (zip2 min xs (up_to_greatest n m g xs)) ≡ map (bound m g) xs
-of_least n m g [] e = refl
-of_least zero m g (x ∷ xs) e = absurd (omega arith)
-of_least (suc n) m g (x ∷ xs) e = ap (λ z. bound m g x ∷ z) (of_least n m g xs (omega arith))
 
 -- the tests
 

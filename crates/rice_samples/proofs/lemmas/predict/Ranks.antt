@@ -15,10 +15,6 @@ rank_fits count p x hp hx = grind (arith, nat_tests)
 pub rank_injective : (count p x y : ℕ) → p < count → x < count → y < count → rank_below count p x ≡ rank_below count p y → x ≡ y
 rank_injective count p x y hp hx hy e = grind (arith, nat_tests)
 
--- how far the range reaches to both sides
-reach : ℕ → ℕ → ℕ
-reach count p = min p (count - 1 - p)
-
 -- the fold
 pub rank_above : (count p x : ℕ) → p < count → x < count → p ≤ x → x - p ≤ min p (count - 1 - p) → rank_below count p x ≡ 2 * (x - p)
 rank_above count p x hp hx le near = grind (arith, nat_tests)

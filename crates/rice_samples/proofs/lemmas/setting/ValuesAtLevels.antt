@@ -1,5 +1,5 @@
 -- Values by their levels.
-use Rattle.std.proofs.Common.{◌≡◌, ℕ, zero, suc, ◌-◌, ◌<◌, List, [], ◌∷◌, length, replicate, All, refl, sym, ap, arith, ◌∙◌, ℤ, pos, slice_index_or}
+use Rattle.std.proofs.Common.{◌≡◌, ℕ, suc, ◌-◌, ◌<◌, List, [], ◌∷◌, length, All, refl, sym, ap, arith, ◌∙◌, ℤ, pos, slice_index_or}
 use Rattle.std.proofs.lemmas.List.{get_or-map, length-map}
 use Rattle.std.proofs.lemmas.List.Elements.{All-map}
 use Rattle.rice_samples.specs.Parameters.{Parameters, IsSample, least, level, value_at, value_count, values_at}
@@ -27,11 +27,6 @@ length-values s ls = length-map ls (value_at s)
 pub ranks_of_values : (s : Parameters) (p : ℕ) (ls : List ℕ) → ranks s (value_at s p) (values_at s ls) ≡ ranks_below (value_count s) p ls
 ranks_of_values s p [] = refl
 ranks_of_values s p (l ∷ ls) = λ i. rank_below (value_count s) (level_of_value s p i) (level_of_value s l i) ∷ ranks_of_values s l ls i
-
--- the values at one level again and again are its value again and again
-pub values_replicate : (s : Parameters) (n l : ℕ) → values_at s (replicate n l) ≡ replicate n (value_at s l)
-values_replicate s zero l = refl
-values_replicate s (suc n) l = ap (λ xs. value_at s l ∷ xs) (values_replicate s n l)
 
 -- the last of some samples, where there are any, stands at the last place
 pub last_at : (p d : ℤ) (xs : List ℤ) → 0 < length xs → last_of p xs ≡ slice_index_or xs (length xs - 1) d

@@ -51,21 +51,3 @@ pub fn excess_over_near<L: Lanes>(greatest: u32, p: u32, ranks: L, numbers: L) -
     let reach = before.least(L::splat(greatest).minus(before));
     ranks.above(reach.plus(reach))
 }
-
-/// Returns the numbers up to `greatest` with these ranks, the first from `p`, each other from the one before it. May return `None` if not
-/// all are near.
-#[inline(always)]
-pub fn near_levels<L: Lanes>(greatest: u32, p: u32, ranks: L) -> Option<L>
-    requires greatest { greatest < 2 ^ L.bits }
-    requires before { p ≤ greatest }
-    ensures fit { IfSome result (λ l. All (λ x. x ≤ greatest) (L.numbers l)) }
-    ensures ranks { IfSome result (λ l.
-        ranks_below (greatest + 1) p (L.numbers l) ≡ L.numbers ranks) }
-{
-    let levels = near_numbers(p, ranks);
-    if excess_over_near(greatest, p, ranks, levels).is_zero() {
-        Some(levels)
-    } else {
-        None
-    }
-}

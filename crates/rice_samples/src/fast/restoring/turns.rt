@@ -8,12 +8,11 @@ use crate::fast::lanes::bytes::Bytes;
 use crate::fast::lanes::halves::Halves;
 use crate::fast::lanes::words::Words;
 use crate::fast::restoring::near::near_ways;
-use crate::fast::restoring::parts::last_eight_widened;
 use std::simd::prelude::*;
 
 /// Returns sixteen numbers up to `greatest` with these ranks: the first from `p`, and each other from the one before it.
 #[inline(always)]
-pub(crate) fn bytes_in_turn(greatest: u32, p: u32, ranks: Bytes) -> Bytes
+pub fn bytes_in_turn(greatest: u32, p: u32, ranks: Bytes) -> Bytes
     requires greatest { greatest < 2 ^ 8 }
     requires before { p ≤ greatest }
     requires ranks { All (λ d. d ≤ greatest) ranks.lanes }
@@ -52,9 +51,22 @@ fn last_eight_are_zeros(numbers: Bytes) -> bool
     last_eight_widened(numbers.lanes).is_zero()
 }
 
+/// Returns the last eight numbers, in lanes of 16 bits.
+#[inline(always)]
+fn last_eight_widened(numbers: u8x16) -> Halves
+    requires { length numbers ≡ 16 }
+    ensures { result.lanes ≡ drop 8 numbers }
+{
+    Halves::of(
+        numbers
+            .shuffle(numbers, [8, 9, 10, 11, 12, 13, 14, 15])
+            .cast::<u16>(),
+    )
+}
+
 /// Returns eight numbers up to `greatest` with these ranks: the first from `p`, and each other from the one before it.
 #[inline(always)]
-pub(crate) fn halves_in_turn(greatest: u32, p: u32, ranks: Halves) -> Halves
+pub fn halves_in_turn(greatest: u32, p: u32, ranks: Halves) -> Halves
     requires greatest { greatest < 2 ^ 16 }
     requires before { p ≤ greatest }
     requires ranks { All (λ d. d ≤ greatest) ranks.lanes }
@@ -74,22 +86,21 @@ pub(crate) fn halves_in_turn(greatest: u32, p: u32, ranks: Halves) -> Halves
     Halves::of(u16x8::from_array(numbers))
 }
 
-/// Writes eight numbers up to `greatest` with these ranks: the first from `p`, and each other from the one before it.
+/// Returns eight numbers up to `greatest` with these ranks: the first from `p`, and each other from the one before it.
 #[inline(always)]
-pub(crate) fn write_words_in_turn(greatest: u32, p: u32, ranks: &[u32], numbers: &mut [u32])
+pub fn words_in_turn(greatest: u32, p: u32, ranks: Words) -> Words
     requires before { p ≤ greatest }
-    requires ranks { All (λ d. d ≤ greatest) ranks.now }
-    requires eight { length ranks.now ≡ 8 }
-    requires len { length numbers.old ≡ 8 }
-    ensures len { length numbers.new ≡ 8 }
-    ensures fit { All (λ x. x ≤ greatest) numbers.new }
-    ensures ranks { ranks_below (greatest + 1) p numbers.new ≡ ranks.now }
+    requires ranks { All (λ d. d ≤ greatest) ranks.lanes }
+    ensures fit { All (λ x. x ≤ greatest) result.lanes }
+    ensures ranks { ranks_below (greatest + 1) p result.lanes ≡ ranks.lanes }
 {
-    let words = Words::read(ranks);
-    let ways = near_ways(words).lanes.to_array();
-    let half_ranks = half_ranks(words).lanes.to_array();
-    let highs = distances_below(greatest, words).lanes.to_array();
-    write_selected::<Words, 8>(greatest, p, ranks, &ways, &half_ranks, &highs, numbers);
+    let ways = near_ways(ranks).lanes.to_array();
+    let half_ranks = half_ranks(ranks).lanes.to_array();
+    let highs = distances_below(greatest, ranks).lanes.to_array();
+    let all = ranks.lanes.to_array();
+    let mut numbers = [0; 8];
+    write_selected::<Words, 8>(greatest, p, &all, &ways, &half_ranks, &highs, &mut numbers);
+    Words::of(u32x8::from_array(numbers))
 }
 
 /// Returns half of each rank, up.

@@ -17,7 +17,7 @@ use Rattle.rice_stream.proofs.decoding.decode_blocks.Goals as goal
 
 pub decode_all-init : goal.decode_all-init
 decode_all-init g c = record {
-  runs = progress_at_start c.args.asked (g.O.Outlet.taken c.args.outlet.now) c.block-block.ensures.legal c.start-decoder.ensures c.new-reader.ensures c.new-meter.ensures;
+  runs = progress_at_start c.args.asked (g.O.Outlet.taken c.args.outlet.now) c.block-block.ensures.legal c.new-decoder.ensures c.new-reader.ensures c.new-meter.ensures;
   writes = refl;
 }
 
@@ -51,7 +51,7 @@ returns-in-Done-clause-call g c =
     let runs = progress_unchanged (c.pass_whole.ensures.none c.if-pass_whole.false) i.runs in
     let legal = c.block-block.ensures.legal in
     let says = c.in-Ok-answer.ensures.gives in
-    let a = subst (λ t. Advances mid.reader new.reader mid.meter new.meter (g.D.GoesByBlocks.state mid.decoder) (g.D.GoesByBlocks.state new.self) says.samples (Ok t)) c.in-Done.is says.advances in
+    let a = subst (λ t. Advances mid.reader new.reader mid.meter new.meter mid.decoder new.decoder says.samples (Ok t)) c.in-Done.is says.advances in
     let some = block_is_wanted c.args.asked old.written c.wanted-count.ensures.value c.block-block.ensures.value c.if-count-eq0.false in
     let tells = reports_as c.end_of.ensures c.ended-in-Done.ensures.reports in
     let ends = decoding_is_done legal runs a in
@@ -67,7 +67,7 @@ returns-in-Err-write_all-clause-call g c =
     let runs = progress_unchanged (c.pass_whole.ensures.none c.if-pass_whole.false) i.runs in
     let legal = c.block-block.ensures.legal in
     let says = c.in-Ok-answer.ensures.gives in
-    let a = subst (λ t. Advances mid.reader new.reader mid.meter new.meter (g.D.GoesByBlocks.state mid.decoder) (g.D.GoesByBlocks.state new.self) says.samples (Ok t)) c.in-Block.is says.advances in
+    let a = subst (λ t. Advances mid.reader new.reader mid.meter new.meter mid.decoder new.decoder says.samples (Ok t)) c.in-Block.is says.advances in
     let some = block_is_wanted c.args.asked old.written c.wanted-count.ensures.value c.block-block.ensures.value c.if-count-eq0.false in
     let is = c.wanted-count.ensures.value ∙ ap (wanted_of c.args.asked old.written) c.block-block.ensures.value in
     let block = samples_of_block s runs.at_block.setting runs.at_block.going a in
@@ -75,7 +75,7 @@ returns-in-Err-write_all-clause-call g c =
     let first = first_spelled s c.wanted-count.result says.samples new.bytes (omega (arith, block.len, c.wanted-count.ensures.most, c.block-block.ensures.value)) bytes in
     let front = ap (λ n. take (n * c.wanted-count.result) new.bytes) c.known_width-width.ensures.value ∙ first in
     let part = subst (λ (l : List ℕ). TakesPart (g.O.Outlet.taken old.outlet) (g.O.Outlet.taken c.write_all-in-decode_all.new.outlet) l) front c.in-Err-write_all.ensures.err.0 in
-    write_ends c.wanted-count.result (g.D.GoesByBlocks.state new.self) legal runs is some (gains_block legal runs a) part c.ended-in-Err-write_all.ensures.reports
+    write_ends c.wanted-count.result new.decoder legal runs is some (gains_block legal runs a) part c.ended-in-Err-write_all.ensures.reports
 
 pub decode_all-preserved : goal.decode_all-preserved
 decode_all-preserved g c =
@@ -87,15 +87,15 @@ decode_all-preserved g c =
     let runs = progress_unchanged (c.pass_whole.ensures.none c.if-pass_whole.false) i.runs in
     let legal = c.block-block.ensures.legal in
     let says = c.in-Ok-answer.ensures.gives in
-    let a = subst (λ t. Advances mid.reader new.reader mid.meter new.meter (g.D.GoesByBlocks.state mid.decoder) (g.D.GoesByBlocks.state new.self) says.samples (Ok t)) c.in-Block.is says.advances in
+    let a = subst (λ t. Advances mid.reader new.reader mid.meter new.meter mid.decoder new.decoder says.samples (Ok t)) c.in-Block.is says.advances in
     let some = block_is_wanted c.args.asked old.written c.wanted-count.ensures.value c.block-block.ensures.value c.if-count-eq0.false in
     let is = c.wanted-count.ensures.value ∙ ap (wanted_of c.args.asked old.written) c.block-block.ensures.value in
     let block = samples_of_block s runs.at_block.setting runs.at_block.going a in
     let bytes = subst (λ (t : Parameters). take (width t * length says.samples) new.bytes ≡ spellings t says.samples) runs.at_block.setting (says.spelled (ap Ok c.in-Block.is)) in
     let first = first_spelled s c.wanted-count.result says.samples new.bytes (omega (arith, block.len, c.wanted-count.ensures.most, c.block-block.ensures.value)) bytes in
     let front = ap (λ n. take (n * c.wanted-count.result) new.bytes) c.known_width-width.ensures.value ∙ first in
-    let p = g.D.GoesByBlocks.state mid.decoder in
-    let q = g.D.GoesByBlocks.state new.self in
+    let p = mid.decoder in
+    let q = new.decoder in
     let at = runs.at_block in
     let old_run : p.run * p.setting.block ≡ p.run * s.block = ap (λ t. p.run * t.block) at.setting in
     let new_run : q.run * q.setting.block ≡ q.run * s.block = ap (λ t. q.run * t.block) (says.setting ∙ at.setting) in
@@ -127,7 +127,7 @@ returns-in-Err-clause-call g c =
     λ j. c.known_width-width.ensures.value j * (c.known_or.ensures ∙ (c.block-block.ensures.value ∙ sym all)) j in
     let front = ap (λ n. take n new.bytes) size ∙ first in
     let part = subst (λ (l : List ℕ). TakesPart (g.O.Outlet.taken old.outlet) (g.O.Outlet.taken c.write_all.new.outlet) l) front c.in-Err.ensures.err.0 in
-    write_ends c.wanted-count.result (g.D.GoesByBlocks.state new.decoder) legal runs is some (gains_block legal runs a) part c.ended-in-Err.ensures.reports
+    write_ends c.wanted-count.result new.decoder legal runs is some (gains_block legal runs a) part c.ended-in-Err.ensures.reports
 
 pub decode_all-preserved-then-pass_whole : goal.decode_all-preserved-then-pass_whole
 decode_all-preserved-then-pass_whole g c =
@@ -148,8 +148,8 @@ decode_all-preserved-then-pass_whole g c =
     let size : c.known_width-width.result * c.known_or.result ≡ width s * c.wanted-count.result =
     λ j. c.known_width-width.ensures.value j * (c.known_or.ensures ∙ (c.block-block.ensures.value ∙ sym all)) j in
     let front = ap (λ n. take n new.bytes) size ∙ first in
-    let p = g.D.GoesByBlocks.state old.decoder in
-    let q = g.D.GoesByBlocks.state new.decoder in
+    let p = old.decoder in
+    let q = new.decoder in
     let at = runs.at_block in
     let old_run : p.run * p.setting.block ≡ p.run * s.block = ap (λ t. p.run * t.block) at.setting in
     let new_run : q.run * q.setting.block ≡ q.run * s.block = ap (λ t. q.run * t.block) (says.setting ∙ at.setting) in

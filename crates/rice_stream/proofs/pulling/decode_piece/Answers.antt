@@ -23,7 +23,7 @@ decode_all-init g c =
     let k = stand.bits % 8 in
     let fits : FitsSigned w64 stand.previous = search rules in
     record {
-      state = c.resume-decoder.ensures ∙ ap (λ (z : ℤ). state_of c.args.setting.now (record stand { previous = z })) (to_z-of_z w64 stand.previous fits);
+      state = c.at-decoder.ensures ∙ ap (λ (z : ℤ). state_of c.args.setting.now (record stand { previous = z })) (to_z-of_z w64 stand.previous fits);
       reads = record {
         going = reader.going took;
         failed = reader.failed took;
@@ -97,7 +97,7 @@ decode_all-preserved g c =
     let here = c.decode_all.here in
     let next = c.in-Some.next in
     let says = c.in-Ok.ensures in
-    let k = subst (λ (v : Option Stand). IfSome v (λ next. GoesOnAt s here next (g.D.GoesByBlocks.state new.decoder) r new.reader × (length says.samples ≡ s.block)
+    let k = subst (λ (v : Option Stand). IfSome v (λ next. GoesOnAt s here next new.decoder r new.reader × (length says.samples ≡ s.block)
     × (take (width s * s.block) new.bytes ≡ spellings s says.samples))) c.in-Some.is says.goes_on in
     let n = c.known_width-width.result * c.known_or-block.result in
     let size : n ≡ width s * s.block = λ j. c.known_width-width.ensures.value j * (c.known_or-block.ensures ∙ c.block.ensures.value) j in

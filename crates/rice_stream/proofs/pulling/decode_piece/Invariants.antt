@@ -5,7 +5,7 @@ use Rattle.rice_stream.proofs.pulling.decode_piece.Given as goal
 
 abbrev pub invariant-decode_all : goal.invariant-decode_all
 invariant-decode_all g l = record {
-  state : (g.D.GoesByBlocks.state l.decoder) ≡ state_of l.setting l.here;
+  state : l.decoder ≡ state_of l.setting l.here;
   reads : IsReadFrom l.here l.reader;
   aligned : 0 < length l.piece → l.reader.taken % 8 ≡ l.here.bits % 8;
   within : l.at ≤ length l.samples;

@@ -22,7 +22,7 @@ returns-in_err-next_bytes g c =
       samples = says.samples;
       goes_on = tt;
       takes = λ o front given h. stops_next c.args.setting.now o front given c.requires.come.reads
-          (subst (λ (d : DecoderState). Advances c.args.reader.now new.reader c.tick.new.self new.meter d (g.D.GoesByBlocks.state new.decoder) says.samples
+          (subst (λ (d : DecoderState). Advances c.args.reader.now new.reader c.tick.new.self new.meter d new.decoder says.samples
           (Err c.in_err-next_bytes.field-0.0)) c.requires.come.state says.advances);
     })
 
@@ -30,13 +30,13 @@ pub returns-in-Done : goal.returns-in-Done
 returns-in-Done g c =
     let new = c.next_bytes.new in
     let says = c.in_ok-next_bytes.ensures.gives in
-    let a = subst (λ t. Advances c.args.reader.now new.reader c.tick.new.self new.meter (g.D.GoesByBlocks.state c.args.decoder.now) (g.D.GoesByBlocks.state new.decoder) says.samples (Ok t))
+    let a = subst (λ t. Advances c.args.reader.now new.reader c.tick.new.self new.meter c.args.decoder.now new.decoder says.samples (Ok t))
     c.in-Done.is says.advances in
     record {
       samples = says.samples;
       goes_on = tt;
       takes = λ o front given h. done_next c.args.setting.now o front given c.requires.come.reads
-          (subst (λ (d : DecoderState). Advances c.args.reader.now new.reader c.tick.new.self new.meter d (g.D.GoesByBlocks.state new.decoder) says.samples (Ok Done)) c.requires.come.state a);
+          (subst (λ (d : DecoderState). Advances c.args.reader.now new.reader c.tick.new.self new.meter d new.decoder says.samples (Ok Done)) c.requires.come.state a);
     }
 
 pub returns : goal.returns
@@ -45,8 +45,8 @@ returns g c =
     let stand = c.args.stand.now in
     let old = c.args.reader.now in
     let new = c.next_bytes.new.reader in
-    let p = g.D.GoesByBlocks.state c.args.decoder.now in
-    let q = g.D.GoesByBlocks.state c.next_bytes.new.decoder in
+    let p = c.args.decoder.now in
+    let q = c.next_bytes.new.decoder in
     let meter = c.next_bytes.new.meter in
     let bytes = c.next_bytes.new.bytes in
     let says = c.in_ok-next_bytes.ensures.gives in

@@ -12,27 +12,27 @@ slice_bounds-spelled-end g c =
 
 pub spell_copies_of_sample-requires-clause-sample : goal.spell_copies_of_sample-requires-clause-sample
 spell_copies_of_sample-requires-clause-sample g c =
-    let p = g.D.GoesByBlocks.state c.args.decoder.now in
-    let z = c.sample_before-sample.result in
-    let same : to_z w64 (of_z w64 z) ≡ z = to_z-of_z {w = w64} {z = z} (record { sfits = c.sample_before-sample.type_inv }) in
-    let legal : IsSample c.args.setting.now p.before = subst (λ t. IsSample t p.before) c.requires.setting c.place-place.ensures.state.sample in
-    subst (IsSample c.args.setting.now) (sym (same ∙ c.sample_before-sample.ensures)) legal
+    let p = c.args.decoder.now in
+    let z = c.before-sample.result in
+    let same : to_z w64 (of_z w64 z) ≡ z = to_z-of_z {w = w64} {z = z} (record { sfits = c.before-sample.type_inv }) in
+    let legal : IsSample c.args.setting.now p.before = subst (λ t. IsSample t p.before) c.requires.setting c.block-place.ensures.state.sample in
+    subst (IsSample c.args.setting.now) (sym (same ∙ c.before-sample.ensures)) legal
 
 pub returns-in-Err-clause-err : goal.returns-in-Err-clause-err
 returns-in-Err-clause-err g c =
-    let p = g.D.GoesByBlocks.state c.args.decoder.now in
+    let p = c.args.decoder.now in
     let s = c.args.setting.now in
-    let z = c.sample_before-sample.result in
-    let same : to_z w64 (of_z w64 z) ≡ p.before = to_z-of_z {w = w64} {z = z} (record { sfits = c.sample_before-sample.type_inv }) ∙ c.sample_before-sample.ensures in
+    let z = c.before-sample.result in
+    let same : to_z w64 (of_z w64 z) ≡ p.before = to_z-of_z {w = w64} {z = z} (record { sfits = c.before-sample.type_inv }) ∙ c.before-sample.ensures in
     let blocks = c.blocks_at_once-blocks in
     let width = c.width-width.ensures in
     let block = c.block-block.ensures in
     let spelled = c.spell_copies_of_sample.ensures ∙ ap (λ x. spellings s (replicate (c.block-block.result * blocks.result) x)) same in
     let taken = c.in-Err.ensures.err in
-    run_cut blocks.result (g.D.GoesByBlocks.state c.pass_blocks.new.self)
+    run_cut blocks.result c.pass_blocks_of_run.new.self
     (record {
       block = omega (arith, block.value, block.range);
       width_some = omega (arith, width.value, width.range);
       width_is = width.value;
       block_is = block.value;
-    }) c.pass_blocks.ensures.gives c.pass_blocks.ensures.run blocks.ensures.wanted spelled taken.0 taken.1
+    }) c.pass_blocks_of_run.ensures.gives c.pass_blocks_of_run.ensures.run blocks.ensures.wanted spelled taken.0 taken.1

@@ -6,7 +6,7 @@ use Rattle.std.specs.List.{range_with_len}
 use Rattle.std.specs.Simd.Lanes.{Each1, digits_l, number_l, pick_l}
 use Rattle.std.proofs.Math.Seq.{take-add}
 use Rattle.std.proofs.lemmas.Grind.{same_number_lists}
-use Rattle.std.proofs.lemmas.List.{drop-drop, drop-take, length-drop, take_all}
+use Rattle.std.proofs.lemmas.List.{drop-drop, drop-take, length-drop}
 use Rattle.std.proofs.lemmas.List.Elements.{All-cons, All-nil}
 use Rattle.std.proofs.lemmas.List.FromFn.{get_or-map-range_with_len}
 use Rattle.std.proofs.lemmas.Simd.{Each1-get_or, get_or_wider, pick_l_whole}
@@ -86,17 +86,6 @@ quad_word q bytes h fit =
     pair_word (q + 2) bytes (omega (arith, h)) fit ∙ ap (take 16) (ap (λ n. drop n bits) place ∙ sym (drop-drop 16 (8 * q) bits)) in
     word-cat 16 16 (pair_number bytes q) (pair_number bytes (q + 2)) (pair_below bytes (q + 2) fit)
     ∙ ((λ j. first j ++ second j) ∙ sym (take-add 16 16 (drop (8 * q) bits)))
-
--- four numbers of four bytes each have the digits of sixteen bytes
-pub whole_lanes : (bytes : List ℕ) → length bytes ≡ 16 → ((i : ℕ) → get_or bytes i 0 < 256)
-    → flat_map (word 32) (map (λ j. quad_number bytes ((0 + j * 32) / 8)) four) ≡ bits_of bytes
-whole_lanes bytes n fit =
-    let a0 = quad_word 0 bytes (omega (arith, n)) fit in
-    let a1 = quad_word 4 bytes (omega (arith, n)) fit in
-    let a2 = quad_word 8 bytes (omega (arith, n)) fit in
-    let a3 = quad_word 12 bytes (omega (arith, n)) fit in
-    (λ i. a0 i ++ (a1 i ++ (a2 i ++ (a3 i ++ [])))) ∙ (pieces-joined 32 (bits_of bytes) 0 4
-    ∙ (take-bits_of 16 bytes (omega (arith, n)) ∙ ap bits_of (take_all 16 bytes (omega (arith, n)))))
 
 -- words
 

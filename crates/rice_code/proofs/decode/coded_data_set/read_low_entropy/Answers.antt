@@ -23,7 +23,7 @@ returns-in_err-reference-clause-err g c =
 
 pub returns-clause-ok : goal.returns-clause-ok
 returns-clause-ok g c =
-    second_low c.in_ok-head.head.reference c.in_ok-head.head.sound true
+    second_low c.in_ok-head.head.reference c.in_ok-head.head.sound
     c.in_ok-bit.ensures.ok.0 (omega arith) c.in_ok-bit.ensures.ok.1 c.in_ok-bit.ensures.steps c.in_ok-head.ensures.ok
 
 pub returns-in_err-head-clause-err : goal.returns-in_err-head-clause-err

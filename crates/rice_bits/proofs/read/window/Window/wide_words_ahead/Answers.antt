@@ -7,16 +7,16 @@ overflow_add-self c =
     let h = c.requires.window in
     record { fits = omega (arith, c.requires.there, length-window c.args.self.now h, h.ordered, h.fits) }
 
-pub eight_words_from-requires-clause-at : goal.eight_words_from-requires-clause-at
-eight_words_from-requires-clause-at c =
+pub wide_words_from-requires-clause-at : goal.wide_words_from-requires-clause-at
+wide_words_from-requires-clause-at c =
     let h = c.requires.window in
     omega (arith, c.requires.there, length-window c.args.self.now h, h.ordered, h.fits)
 
-pub eight_words_from-requires-clause-room : goal.eight_words_from-requires-clause-room
-eight_words_from-requires-clause-room c =
+pub wide_words_from-requires-clause-room : goal.wide_words_from-requires-clause-room
+wide_words_from-requires-clause-room c =
     let h = c.requires.window in
     omega (arith, c.requires.there, length-window c.args.self.now h, h.size, h.ordered, h.fits)
 
 pub returns-clause-bits : goal.returns-clause-bits
 returns-clause-bits c =
-    c.eight_words_from.ensures.bits ∙ sym (part-waits c.args.self.now c.args.skip (8 * c.args.width) c.requires.window (omega (arith, c.requires.there)))
+    c.wide_words_from.ensures.bits ∙ sym (part-waits c.args.self.now c.args.skip (8 * c.args.width) c.requires.window (omega (arith, c.requires.there)))

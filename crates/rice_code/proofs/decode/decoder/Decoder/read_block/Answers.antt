@@ -16,7 +16,7 @@ returns-else-not-sound-clause-reads g c =
     let read = rw (c.in-Ok-Residuals.field-0-is, c.if-not-sound.false) at c.in-Ok-Residuals.ensures.ok in
     let contents = rw (to_z-of_z w64 st.before b) at last.ensures.contents in
     let is_last = rw (to_z-of_z w64 st.before b) at last.ensures.last in
-    let set = block_given st.before c.in-Ok-Residuals.reference _ xs read last.ensures.len last.ensures.legal contents in
+    let set = block_given st.before c.in-Ok-Residuals.reference xs read last.ensures.len last.ensures.legal contents in
     let f : SFits w64 last.result = search rules in
     let moves = rw (← c.self.view_is, to_z-of_z w64 last.result f) at c.go_to_next_block.ensures.moves in
     rw (← c.self.view_is, c.go_to_next_block.ensures.block)
@@ -44,7 +44,7 @@ returns-else-not-sound-clause-waiting g c =
     let b : SFits w64 st.before = search rules in
     let read = rw (c.in-Ok-Residuals.field-0-is, c.if-not-sound.false) at c.in-Ok-Residuals.ensures.ok in
     let contents = rw (to_z-of_z w64 st.before b) at last.ensures.contents in
-    let set = block_given st.before c.in-Ok-Residuals.reference _ last.new.samples.items read last.ensures.len last.ensures.legal contents in
+    let set = block_given st.before c.in-Ok-Residuals.reference last.new.samples.items read last.ensures.len last.ensures.legal contents in
     let same : c.mark.new.self.taken ≡ c.args.reader.now.taken = ap (λ r. r.taken) (c.mark.ensures.going c.requires.going) in
     let bound = samples_by_bits c.self.invariant.legal set in
     let waits : c.go_to_next_block.new.self.run ≡ 0 = ap (λ r. r.run) c.go_to_next_block.ensures.moves in

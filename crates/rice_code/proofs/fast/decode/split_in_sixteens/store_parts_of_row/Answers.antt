@@ -1,6 +1,0 @@
-use Rattle.std.proofs.Common.{◌+◌, ◌*◌, arith}
-use Rattle.std.proofs.lemmas.Simd.{take_more_put_chunk}
-use Rattle.rice_code.proofs.fast.decode.split_in_sixteens.store_parts_of_row.Goals as goal
-
-pub returns-clause-value : goal.returns-clause-value
-returns-clause-value c = take_more_put_chunk (16 * c.args.row) c.args.rows.now c.args.numbers (16 * (c.args.row + 1)) (omega (arith, c.requires.lanes)) c.requires.row

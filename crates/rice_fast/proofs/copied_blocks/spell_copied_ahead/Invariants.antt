@@ -1,0 +1,8 @@
+use Rattle.std.proofs.Common.{◌*◌}
+use Rattle.rice_fast.specs.CopiedBlocks.{WordsAhead}
+use Rattle.rice_fast.proofs.copied_blocks.spell_copied_ahead.Given as goal
+
+abbrev pub invariant-loop-i : goal.invariant-loop-i
+invariant-loop-i g l = record {
+  words : WordsAhead l.reader.waiting l.setting g.row.WIDTH (16 * l.i) l.bytes;
+}

@@ -1,0 +1,40 @@
+use Rattle.std.proofs.Common.{◌≡◌, ◌+◌, ◌∙◌, ap, arith, drop, subst, sym, take}
+use Rattle.std.proofs.lemmas.List.{length-take-le}
+use Rattle.rice_samples.specs.Parameters.{id_len}
+use Rattle.rice_fast.specs.FieldsAhead.{HeadAhead}
+use Rattle.rice_fast.proofs.lemmas.BlocksAhead.{pairs_block_ahead}
+use Rattle.rice_fast.proofs.fields.pair_fields_ahead.Goals as goal
+
+pub overflow_add-result : goal.overflow_add-result
+overflow_add-result g c = (let inside = c.in_ok-pairs.ensures.within in record { fits = omega (arith, inside, c.taken-taken.ensures.waiting) })
+
+pub returns : goal.returns
+returns g c =
+    let a = c.args in
+    let s = a.setting.now in
+    let w = a.reader.now.waiting in
+    let head = c.head_ahead-head in
+    let pairs = c.in_ok-pairs in
+    let highs = c.pairs_ahead.new.residuals in
+    let legal = c.block-block.ensures.legal.block in
+    let id : id_len s ≡ g.L.SampleLanes.ID_LEN = g.met.L.SampleLanes.id_is s c.requires.bits in
+    let begin = subst (λ n. HeadAhead w s a.block a.before n head.result.from head.result.omitted head.result.len) (ap (λ n. n + 1) (c.ID_LEN-2.ensures ∙ sym id)) head.ensures in
+    let bit = c.number_ahead-bit.ensures.bits ∙ ap (λ n. take 1 (drop n w)) (c.ID_LEN.ensures ∙ sym id) in
+    record {
+      begins = head.ensures.begins;
+      few = head.ensures.few;
+      narrow = omega arith;
+      whole = λ same. absurd (omega (arith, same, g.met.L.SampleLanes.splits s c.requires.bits.most));
+      places = c.pairs_ahead.array_long;
+      there = pairs.ensures.within;
+      block = λ lows levels len ahead near within. pairs_block_ahead c.requires.id c.number_ahead-bit.ensures.below (omega (arith, c.if-bit-eq0.false)) bit begin pairs.ensures (record {
+        some = omega (arith, legal, c.requires.size);
+        size_is = c.requires.size;
+        preprocess = c.requires.preprocess;
+        highs_are = length-take-le a.size highs (omega (arith, c.pairs_ahead.array_long, legal, c.requires.size));
+        lows_are = len;
+        ahead = ahead;
+        near = near;
+        within = within;
+      });
+    }

@@ -1,0 +1,44 @@
+use Rattle.std.proofs.Common.{◌≡◌, ◌≤◌, ◌∙◌, arith, refl, replicate, subst, sym}
+use Rattle.std.proofs.lemmas.Bool.Decides.{nat_tests}
+use Rattle.std.proofs.lemmas.List.{length-take-le}
+use Rattle.rice_samples.specs.Parameters.{id_len}
+use Rattle.rice_fast.specs.FieldsAhead.{AreFields, HeadAhead}
+use Rattle.rice_fast.proofs.lemmas.BlocksAhead.{uncompressed_ahead}
+use Rattle.rice_fast.proofs.fields.uncompressed_fields_ahead.Goals as goal
+
+pub returns : goal.returns
+returns g c =
+    let a = c.args in
+    let s = a.setting.now in
+    let w = a.reader.now.waiting in
+    let head = c.head_ahead-head in
+    let legal = c.block-block.ensures.legal.block in
+    let bits = c.bits.ensures.value in
+    let id : id_len s ≡ g.L.SampleLanes.ID_LEN = g.met.L.SampleLanes.id_is s c.requires.bits in
+    let begin = subst (λ n. HeadAhead w s a.block a.before n head.result.from head.result.omitted head.result.len) (c.ID_LEN.ensures ∙ sym id) head.ensures in
+    let id_few : id_len s ≤ 5 = grind (arith, nat_tests) in
+    let most : a.size ≤ 64 = omega (arith, legal, c.requires.size) in
+    subst (λ k. AreFields w s a.block a.before a.size g.L.Lanes.bits (replicate 80 0) (record {
+      from = head.result.from;
+      omitted = head.result.omitted;
+      k = k;
+      words = head.result.len;
+      turns = 0;
+    })) (sym bits) (record {
+      begins = head.ensures.begins;
+      few = head.ensures.few;
+      narrow = c.requires.bits.most;
+      whole = λ same. refl;
+      places = refl;
+      there = omega (arith, head.ensures.short, c.requires.there, c.block-block.ensures.legal.bits_to, id_few);
+      block = λ lows levels len ahead near within. uncompressed_ahead c.requires.id begin (record {
+        some = omega (arith, legal, c.requires.size);
+        size_is = c.requires.size;
+        preprocess = c.requires.preprocess;
+        highs_are = length-take-le a.size (replicate 80 0) (omega (arith, most));
+        lows_are = len;
+        ahead = ahead;
+        near = near;
+        within = within;
+      }) most;
+    })

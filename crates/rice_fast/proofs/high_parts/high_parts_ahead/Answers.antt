@@ -1,0 +1,53 @@
+use Rattle.std.proofs.Common.{◌≡◌, ◌+◌, ◌*◌, ◌≤◌, ◌∙◌, ap, arith, length, take, subst, sym}
+use Rattle.std.proofs.lemmas.List.{length-take-le}
+use Rattle.rice_fast.specs.FieldsAhead.{HighsAhead, rows_len}
+use Rattle.rice_fast.proofs.lemmas.HighParts.{highs-row, row_inside, rows_before, rows_end, stored_row}
+use Rattle.rice_fast.proofs.high_parts.high_parts_ahead.Goals as goal
+
+pub overflow_add-skip : goal.overflow_add-skip
+overflow_add-skip g c = let inside = c.loop-row.invariant.rows.within in record { fits = omega (arith, inside, c.taken-taken.ensures.waiting) }
+
+pub overflow_add-len : goal.overflow_add-len
+overflow_add-len g c = let inside = c.in_ok-next.ensures.some.within in record { fits = omega (arith, inside, c.taken-taken.ensures.waiting) }
+
+pub loop-row-init : goal.loop-row-init
+loop-row-init g c =
+    let first = c.in_ok-first in
+    let n = c.row_len in
+    let one : rows_len c.args.size 1 ≡ 0 + n.result = omega (arith, n.ensures.end) in
+    record {
+      places = c.store_row.ensures.len ∙ c.told-highs;
+      rows =
+          subst (λ xs. HighsAhead c.args.reader.now.waiting c.args.skip c.args.omitted xs first.first.len)
+          (sym (ap (λ n. take n c.store_row.new.rows) one ∙ stored_row 0 n.result first.first.numbers c.args.highs.now c.store_row.new.rows n.ensures.some.1 (omega arith)
+          first.ensures.lanes c.store_row.ensures.value))
+          first.ensures.some;
+    }
+
+pub loop-row-preserved : goal.loop-row-preserved
+loop-row-preserved g c =
+    let w = c.args.reader.now.waiting in
+    let skip = c.args.skip in
+    let o = c.args.omitted in
+    let size = c.args.size in
+    let l = c.loop-row in
+    let next = c.in_ok-next.next in
+    let row = c.row_len-in-loop-row in
+    let inside = row_inside size l.row c.requires.size.1 c.loop-row-test.true in
+    let before = subst (λ n. HighsAhead w skip o (take n l.highs) l.len) (rows_before size l.row inside.1) l.invariant.rows in
+    let few : o ≤ length (take (16 * l.row) l.highs) = omega (arith, c.requires.omitted, l.auto.row, length-take-le (16 * l.row) l.highs (omega (arith, inside.0, l.invariant.places))) in
+    let stored = stored_row l.row row.result next.numbers l.highs c.store_row-in-loop-row.new.rows row.ensures.some.1 (omega (arith, inside.0, l.invariant.places)) c.in_ok-next.ensures.lanes
+    c.store_row-in-loop-row.ensures.value in
+    record {
+      places = c.store_row-in-loop-row.ensures.len ∙ l.invariant.places;
+      rows = subst (λ xs. HighsAhead w skip o xs (l.len + next.len)) (sym (ap (λ n. take n c.store_row-in-loop-row.new.rows) (sym row.ensures.end) ∙ stored))
+          (highs-row few before c.in_ok-next.ensures.some);
+    }
+
+pub returns : goal.returns
+returns g c =
+    let l = c.loop-row in
+    record {
+      some = subst (λ n. HighsAhead c.args.reader.now.waiting c.args.skip c.args.omitted (take n l.highs) l.len)
+          (rows_end c.args.size l.row (omega (arith, c.loop-row-test.false))) l.invariant.rows;
+    }

@@ -1,0 +1,9 @@
+use Rattle.std.proofs.Common.{◌≡◌, length, take}
+use Rattle.rice_fast.specs.FieldsAhead.{HighsAhead, rows_len}
+use Rattle.rice_fast.proofs.high_parts.high_parts_ahead.Given as goal
+
+abbrev pub invariant-loop-row : goal.invariant-loop-row
+invariant-loop-row g l = record {
+  places : length l.highs ≡ 80;
+  rows : HighsAhead l.fn.reader.waiting l.fn.skip l.fn.omitted (take (rows_len l.fn.size l.row) l.highs) l.len;
+}

@@ -1,0 +1,10 @@
+-- The lemmas of the proofs, by what they speak of.
+pub mod BlocksAhead
+pub mod BlocksTaken
+pub mod CopiedBlocks
+pub mod FirstLanes
+pub mod HighParts
+pub mod LaneLaws
+pub mod Pairs
+pub mod Rows
+pub mod WordsOneByOne

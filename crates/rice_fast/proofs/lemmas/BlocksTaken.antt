@@ -1,0 +1,68 @@
+-- A block that was looked at, taken and spelled.
+use Rattle.std.proofs.Common.{◌≡◌, ℕ, ℤ, suc, ◌+◌, ◌-◌, ◌*◌, ◌≤◌, Bool, List, length, take, sym, ◌∙◌, ap, subst, arith}
+use Rattle.std.proofs.lemmas.List.{length-take-le}
+use Rattle.rice_bits.specs.read.Reader.{Reader, Takes}
+use Rattle.rice_samples.specs.Parameters.{Parameters, IsLegal, value_at, values_at, width}
+use Rattle.rice_samples.specs.predict.Residuals.{last_of}
+use Rattle.rice_samples.proofs.lemmas.setting.ValuesAtLevels.{last_value, length-values}
+use Rattle.rice_samples.proofs.lemmas.predict.HalfLanes.{last_is as last_at}
+use Rattle.rice_code.specs.code.CodedDataSets.{bits_of_set}
+use Rattle.rice_code.specs.code.Layout.{padding}
+use Rattle.rice_code.specs.decode.Decoder.{Skips, TakesSet, with_mark}
+use Rattle.rice_code.specs.decode.DecoderState.{DecoderState, next_block_place}
+use Rattle.rice_code.proofs.lemmas.decode.DecoderLemmas.{answers_block, samples_by_bits}
+use Rattle.rice_fast.specs.BlocksAhead.{GivesBytes, SpelledAhead}
+
+-- the bits of a block that waited are taken, at a step for each and for each turn of a search, and what fills the data set is skipped
+pub record TakesBlock {I : Type 0} (start marked middle new : Reader I) (first steps last len searched : ℕ) (p : DecoderState) : Type 0 where
+  pub mark : marked ≡ with_mark start
+  pub bits : Takes marked middle (take len marked.waiting)
+  pub steps_are : steps ≡ first + len + searched
+  pub filled : Skips middle new (padding p.setting (p.block + 1 + 0) middle.taken)
+  pub counted : last + middle.taken ≡ steps + new.taken
+  pub further : middle.taken ≤ new.taken
+
+-- the bytes of such a block
+pub bytes_given : {I : Type 0} {start marked middle new : Reader I} {first steps last : ℕ} {p q : DecoderState} {len l searched : ℕ} {bytes : List ℕ}
+    → IsLegal p.setting → SpelledAhead start.waiting p.setting p.block p.before l len searched bytes → TakesBlock start marked middle new first steps last len searched p
+    → q ≡ record p { block = next_block_place p.setting p.block; before = value_at p.setting l; run = 0 }
+    → GivesBytes start new first last p q bytes
+bytes_given {start} {marked} {middle} {new} {first} {steps} {last} {p} {q} {len} {l} {searched} {bytes} legal spelled takes moves =
+    let s = p.setting in
+    let ahead = spelled.ahead in
+    let levels = spelled.levels in
+    let samples = values_at s levels in
+    let many : length samples ≡ length levels = length-values s levels in
+    let size : length levels ≡ s.block = sym many ∙ ahead.gives.len in
+    let same : marked.waiting ≡ start.waiting = ap (λ r. r.waiting) takes.mark in
+    let bits : take len marked.waiting ≡ bits_of_set s ahead.set = ap (take len) same ∙ ahead.bits in
+    let taken_len : length (take len marked.waiting) ≡ len = ap (λ w. length (take len w)) same ∙ length-take-le len start.waiting ahead.within in
+    let taken = takes.bits.taken in
+    let set : TakesSet marked middle first steps s p.block p.before samples 0 = record {
+      set = ahead.set;
+      form = ahead.form;
+      run_sound = ahead.run_sound;
+      residuals_sound = ahead.residuals_sound;
+      takes = subst (Takes marked middle) bits takes.bits;
+      gives = ahead.gives;
+      steps = omega (arith, takes.steps_are, taken, taken_len, ahead.turns_are);
+    } in
+    let from_start : TakesSet (with_mark start) middle first steps s p.block p.before samples 0 = subst (λ r. TakesSet r middle first steps s p.block p.before samples 0) takes.mark set in
+    let end : length levels ≡ suc (length levels - 1) = omega (arith, size, legal.block.0) in
+    let value : value_at s l ≡ last_of p.before samples =
+    ap (value_at s) (spelled.last_is ∙ last_at spelled.from (length levels - 1) levels end) ∙ last_value s p.before levels (omega (arith, size, legal.block.0)) in
+    let bound = samples_by_bits legal from_start in
+    let none : q.run ≡ 0 = ap (λ r. r.run) moves in
+    record {
+      samples = samples;
+      answers = answers_block start last p from_start takes.filled takes.counted value moves;
+      spelled = ap (λ n. take (width s * n) bytes) many ∙ spelled.spelled;
+      by_bits = rw none (omega (arith, bound, takes.further));
+    }
+
+-- a block behind the place and the sample at which a decoder stands
+pub spelled_at : {waiting : List Bool} {s : Parameters} {b : ℕ} {x : ℤ} (p : DecoderState) {l len searched : ℕ} {bytes : List ℕ} → p.setting ≡ s → b ≡ p.block → x ≡ p.before
+    → SpelledAhead waiting s b x l len searched bytes → SpelledAhead waiting p.setting p.block p.before l len searched bytes
+spelled_at {waiting} {s} {b} {x} p {l} {len} {searched} {bytes} setting block before spelled =
+    subst (λ x. SpelledAhead waiting p.setting p.block x l len searched bytes) before
+    (subst (λ b. SpelledAhead waiting p.setting b x l len searched bytes) block (subst (λ s. SpelledAhead waiting s b x l len searched bytes) (sym setting) spelled))

@@ -1,0 +1,257 @@
+-- Blocks without compression, copied as the bytes that they are.
+use Rattle.std.proofs.Common.{◌≡◌, ℕ, zero, suc, ◌+◌, ◌-◌, ◌*◌, ◌/◌, ◌^◌, ◌<◌, ◌≤◌, ◌==◌, Bool, true, false, cond, List, [], ◌∷◌, ◌++◌}
+use Rattle.std.proofs.Common.{length, take, drop, map, refl, sym, ◌∙◌, ap, subst, arith, take-take, take-append-drop, length-append, None, ℤ, pos, inl, inr, ◌⊎◌}
+use Rattle.std.specs.Prelude.{All, flat_map, nat_le, slice_index_or, ◌&&◌}
+use Rattle.std.specs.Simd.Lanes.{put_chunk}
+use Rattle.std.proofs.Math.Nat.{mul-div_cancel_left, mul-le-mul_right}
+use Rattle.std.proofs.Math.Seq.{take-add}
+use Rattle.std.proofs.lemmas.Bool.{cases_lt}
+use Rattle.std.proofs.lemmas.Bool.Decides.{nat_tests}
+use Rattle.std.proofs.lemmas.Grind.{flat_map-append}
+use Rattle.std.proofs.lemmas.List.{drop-drop, drop-take, drop_at, get_or-map, length-take-le, take_at}
+use Rattle.std.proofs.lemmas.List.Elements.{All-append, All-nil, All-take}
+use Rattle.std.proofs.lemmas.Simd.{take_more_put_chunk}
+use Rattle.rice_bits.specs.Bits.{number_of, word}
+use Rattle.rice_bits.specs.read.Reader.{Reader, Takes}
+use Rattle.rice_bits.proofs.lemmas.bits.WordsAndNumbers.{length-word, number_of-word}
+use Rattle.rice_samples.specs.Parameters.{Parameters, IsLegal, IsSample, id_len, value_at, value_count, width}
+use Rattle.rice_samples.specs.Places.{place}
+use Rattle.rice_samples.specs.predict.Residuals.{last_of, pattern}
+use Rattle.rice_samples.specs.bytes.PatternLanes.{OrdersWords}
+use Rattle.rice_samples.specs.bytes.Spelling.{ordered_bytes}
+use Rattle.rice_samples.proofs.lemmas.bytes.LanesOfWholeBytes.{SamplesOfWords, samples_of_words}
+use Rattle.rice_samples.proofs.lemmas.predict.DistinctPatternsAndResiduals.{same_pattern}
+use Rattle.rice_samples.proofs.lemmas.setting.ValuesAboveLeast.{sample_at}
+use Rattle.rice_samples.proofs.lemmas.setting.LevelsOfSamples.{pattern_fits}
+use Rattle.rice_samples.proofs.lemmas.setting.ValuesAtLevels.{last_at}
+use Rattle.rice_code.specs.code.Blocks.{BlockData}
+use Rattle.rice_code.specs.code.CodedDataSets.{NoCompression, bits_of_set}
+use Rattle.rice_code.specs.code.Forms.{IsReference}
+use Rattle.rice_fast.specs.BlocksAhead.{GivesBytes}
+use Rattle.rice_code.specs.decode.Decoder.{TakesSet, with_mark}
+use Rattle.rice_code.specs.decode.DecoderState.{DecoderState, next_block_place}
+use Rattle.rice_fast.specs.CopiedBlocks.{IsCopied, CopiedBlock, WordsAhead, copied_bits}
+use Rattle.rice_code.proofs.lemmas.decode.DecoderLemmas.{answers_block, samples_by_bits}
+use Rattle.rice_code.proofs.lemmas.decode.RestoredBlocks.{contents_of_patterns}
+use Rattle.rice_fast.proofs.lemmas.BlocksTaken.{TakesBlock}
+
+-- the width of copied words is that in which their samples are spelled
+pub copied_width : (s : Parameters) (w : ℕ) → IsCopied s w → w ≡ width s
+copied_width s w h = elim h.widths [
+  | inl e ↦ (let b : s.bits ≡ 8 = omega (arith, h.whole, e) in let v : width s ≡ 1 = grind (arith, nat_tests) in e ∙ sym v)
+  | inr other ↦ elim other [
+    | inl e ↦ (let b : s.bits ≡ 16 = omega (arith, h.whole, e) in let v : width s ≡ 2 = grind (arith, nat_tests) in e ∙ sym v)
+    | inr e ↦
+        let b : s.bits ≡ 32 = omega (arith, h.whole, e) in
+        let v : width s ≡ 4 = ap (λ n. cond (nat_le n 8) 1 (cond (nat_le n 16) 2 (cond (s.three && nat_le n 24) 3 4))) b ∙ ap (λ t. cond t 3 4) (never s.three) in
+        e ∙ sym v
+  ]
+]
+  where
+    never : (three : Bool) → (three && false) ≡ false
+    never true = refl
+    never false = refl
+
+some_bytes : (s : Parameters) (w : ℕ) → IsCopied s w → 0 < w
+some_bytes s w h = elim h.widths [ inl e ↦ omega (arith, e) | inr other ↦ elim other [ inl e ↦ omega (arith, e) | inr e ↦ omega (arith, e) ] ]
+
+-- words of whole bytes
+length-ordered : (msb : Bool) (w v : ℕ) → (w ≡ 1) ⊎ ((w ≡ 2) ⊎ (w ≡ 4)) → length (ordered_bytes msb w v) ≡ w
+length-ordered true w v widths = elim widths [
+  | inl e ↦ ap (λ k. length (ordered_bytes true k v)) e ∙ sym e
+  | inr other ↦ elim other [ inl e ↦ ap (λ k. length (ordered_bytes true k v)) e ∙ sym e | inr e ↦ ap (λ k. length (ordered_bytes true k v)) e ∙ sym e ]
+]
+length-ordered false w v widths = elim widths [
+  | inl e ↦ ap (λ k. length (ordered_bytes false k v)) e ∙ sym e
+  | inr other ↦ elim other [ inl e ↦ ap (λ k. length (ordered_bytes false k v)) e ∙ sym e | inr e ↦ ap (λ k. length (ordered_bytes false k v)) e ∙ sym e ]
+]
+
+-- texts of words that are all as long, the first of them, and the one at a place
+length-texts : {A : Type 0} (f : ℕ → List A) (k : ℕ) (ws : List ℕ) → ((v : ℕ) → length (f v) ≡ k) → length (flat_map f ws) ≡ k * length ws
+length-texts f k [] each = omega arith
+length-texts f k (v ∷ ws) each =
+    let more : k * suc (length ws) ≡ k + k * length ws = omega arith in
+    length-append (f v) (flat_map f ws) ∙ ((λ j. each v j + length-texts f k ws each j) ∙ sym more)
+
+first-texts : {A : Type 0} (f : ℕ → List A) (k n : ℕ) (ws : List ℕ) → ((v : ℕ) → length (f v) ≡ k) → n ≤ length ws → take (k * n) (flat_map f ws) ≡ flat_map f (take n ws)
+first-texts f k n ws each h =
+    let front = flat_map f (take n ws) in
+    let len : length front ≡ k * n = length-texts f k (take n ws) each ∙ ap (λ m. k * m) (length-take-le n ws h) in
+    let both : flat_map f ws ≡ front ++ flat_map f (drop n ws) = ap (flat_map f) (sym (take-append-drop n ws)) ∙ flat_map-append f (take n ws) (drop n ws) in
+    ap (take (k * n)) both ∙ take_at front (flat_map f (drop n ws)) (k * n) len
+
+text-at : {A : Type 0} (f : ℕ → List A) (k i : ℕ) (ws : List ℕ) → ((v : ℕ) → length (f v) ≡ k) → i < length ws → take k (drop (k * i) (flat_map f ws)) ≡ f (slice_index_or ws i 0)
+text-at f k i [] each h = absurd (omega (arith, h))
+text-at f k zero (v ∷ ws) each h =
+    let none : k * 0 ≡ 0 = omega arith in
+    ap (λ n. take k (drop n (f v ++ flat_map f ws))) none ∙ take_at (f v) (flat_map f ws) k (each v)
+text-at f k (suc i) (v ∷ ws) each h =
+    let more : k * suc i ≡ k + k * i = omega arith in
+    ap (λ n. take k (drop n (f v ++ flat_map f ws))) more
+    ∙ (ap (take k) (sym (drop-drop (k * i) k (f v ++ flat_map f ws)) ∙ ap (drop (k * i)) (drop_at (f v) (flat_map f ws) k (each v))) ∙ text-at f k i ws each (omega (arith, h)))
+
+-- no words at all
+pub no_words : (waiting : List Bool) (s : Parameters) (w : ℕ) (bytes : List ℕ) → WordsAhead waiting s w (16 * 0) bytes
+no_words waiting s w bytes = record { words = []; counted = omega arith; fit = All-nil (λ v. v < 2 ^ (8 * w)); bits = refl; spelled = refl }
+
+-- the words of sixteen bytes more wait behind others, and their bytes are written behind those of the others
+pub words_more : {waiting : List Bool} {s : Parameters} {w : ℕ} (i : ℕ) {old patterns spelled : List ℕ} → WordsAhead waiting s w (16 * i) old
+    → OrdersWords s.msb w patterns spelled → length patterns ≡ 16 → length spelled ≡ 16 → 16 * i + 16 ≤ length old
+    → flat_map (word 8) patterns ≡ take 128 (drop (id_len s + 128 * i) waiting) → WordsAhead waiting s w (16 * (i + 1)) (put_chunk (16 * i) old spelled)
+words_more {waiting} {s} {w} i {old} {spelled} h o sixteen len room read =
+    let here : 16 * (i + 1) ≡ 16 * i + 16 = omega arith in
+    let bits_here : 8 * (16 * (i + 1)) ≡ 8 * (16 * i) + 128 = omega arith in
+    let at : id_len s + 128 * i ≡ id_len s + 8 * (16 * i) = omega arith in
+    let rest = drop (id_len s) waiting in
+    let more : flat_map (word (8 * w)) o.words ≡ take 128 (drop (8 * (16 * i)) rest) = o.bits
+    ∙ (read ∙ ap (take 128) (ap (λ n. drop n waiting) at ∙ sym (drop-drop (8 * (16 * i)) (id_len s) waiting))) in
+    record {
+      words = h.words ++ o.words;
+      counted = ap (λ n. w * n) (length-append h.words o.words)
+          ∙ (let d : w * (length h.words + length o.words) ≡ w * length h.words + w * length o.words = omega arith in omega (arith, d, h.counted, o.count, sixteen));
+      fit = All-append (λ v. v < 2 ^ (8 * w)) h.words o.words h.fit o.fit;
+      bits = flat_map-append (word (8 * w)) h.words o.words ∙ ((λ j. h.bits j ++ more j) ∙ (sym (take-add (8 * (16 * i)) 128 rest) ∙ ap (λ n. take n rest) (sym bits_here)));
+      spelled = take_more_put_chunk (16 * i) old spelled (16 * (i + 1)) (omega (arith, here, len)) (omega (arith, here, room))
+          ∙ ((λ j. h.spelled j ++ o.ordered_are j) ∙ sym (flat_map-append (ordered_bytes s.msb w) h.words o.words));
+    }
+
+-- and so many of them as a block has
+pub block_words : (waiting : List Bool) (s : Parameters) (w n : ℕ) (bytes : List ℕ) → IsCopied s w → WordsAhead waiting s w n bytes → w * s.block ≤ n → WordsAhead waiting s w (w * s.block) bytes
+block_words waiting s w n bytes copied h le =
+    let count = s.block in
+    let few : count ≤ length h.words = within w (some_bytes s w copied) count (length h.words) (omega (arith, le, h.counted)) in
+    let digits : 8 * (w * count) ≡ 8 * w * count = omega arith in
+    let part : 8 * (w * count) ≤ 8 * n = omega (arith, le) in
+    record {
+      words = take count h.words;
+      counted = ap (λ m. w * m) (length-take-le count h.words few);
+      fit = All-take (λ v. v < 2 ^ (8 * w)) count h.words h.fit;
+      bits =
+          sym (first-texts (word (8 * w)) (8 * w) count h.words (λ v. length-word (8 * w) v) few) ∙ (ap (λ m. take m (flat_map (word (8 * w)) h.words)) (sym digits)
+          ∙ (ap (take (8 * (w * count))) h.bits ∙ take-take (8 * (w * count)) (8 * n) (drop (id_len s) waiting) part));
+      spelled =
+          sym (take-take (w * count) n bytes le) ∙ (ap (take (w * count)) h.spelled ∙ first-texts (ordered_bytes s.msb w) w count h.words (λ v. length-ordered s.msb w v copied.widths) few);
+    }
+  where
+    within : (w : ℕ) → 0 < w → (a b : ℕ) → w * a ≤ w * b → a ≤ b
+    within w some a b h =
+        elim (cases_lt b a) [
+          | inr le ↦ le
+          | inl more ↦
+              let m : suc b * w ≤ a * w = mul-le-mul_right w more in
+              let x : suc b * w ≡ w * b + w = omega arith in
+              let y : a * w ≡ w * a = omega arith in
+              absurd (omega (arith, m, x, y, h, some))
+        ]
+
+-- samples of whole bytes
+record WholeBytes (s : Parameters) (w : ℕ) : Type 0 where
+  some : 1 ≤ s.bits
+  whole : s.bits ≡ 8 * w
+
+-- words that are the patterns of samples
+record PatternsOfSamples (s : Parameters) (w i : ℕ) (words : List ℕ) (samples : List ℤ) : Type 0 where
+  words_are : length words ≡ suc i
+  len : length samples ≡ suc i
+  fit : All (λ v. v < 2 ^ (8 * w)) words
+  legal : All (IsSample s) samples
+  same : map (pattern s) samples ≡ words
+
+-- the sample at a level is the last one if it has its word
+last_is_at : (waiting : List Bool) {s : Parameters} (w : ℕ) {i l : ℕ} (p : ℤ) {words : List ℕ} (samples : List ℤ) → WholeBytes s w → PatternsOfSamples s w i words samples
+    → flat_map (word (8 * w)) words ≡ take (8 * (w * suc i)) (drop (id_len s) waiting)
+    → l < value_count s → word (8 * w) (pattern s (value_at s l)) ≡ take (8 * w) (drop (id_len s + 8 * (w * suc i - w)) waiting) → value_at s l ≡ last_of p samples
+last_is_at waiting {s} w {i} {l} p {words} samples bytes of_samples bits small last =
+    let n = 8 * w in
+    let rest = drop (id_len s) waiting in
+    let z = slice_index_or words i 0 in
+    let x = slice_index_or samples i (pos 0) in
+    let inside : i < length words = omega (arith, of_samples.words_are) in
+    let within : i < length samples = omega (arith, of_samples.len) in
+    let all : 8 * (w * suc i) ≡ n * i + n = omega arith in
+    let at : id_len s + 8 * (w * suc i - w) ≡ id_len s + n * i = (let d : w * suc i ≡ w * i + w = omega arith in omega (arith, d)) in
+    let read : word n z ≡ take n (drop (n * i) rest) =
+    sym (text-at (word n) n i words (λ v. length-word n v) inside)
+    ∙ (ap (λ b. take n (drop (n * i) b)) (bits ∙ ap (λ m. take m rest) all) ∙ (ap (take n) (drop-take (n * i) n rest) ∙ take-take n n (drop (n * i) rest) (omega arith))) in
+    let same : word n (pattern s (value_at s l)) ≡ word n z = last ∙ (ap (λ m. take n (drop m waiting)) at ∙ (ap (take n) (sym (drop-drop (n * i) (id_len s) waiting)) ∙ sym read)) in
+    let sample = sample_at s l small in
+    let fits : pattern s (value_at s l) < 2 ^ n = subst (λ m. pattern s (value_at s l) < 2 ^ m) bytes.whole (pattern_fits s (value_at s l) bytes.some sample) in
+    let told : pattern s (value_at s l) ≡ z = sym (number_of-word n (pattern s (value_at s l)) fits) ∙ (ap number_of same ∙ number_of-word n z (of_samples.fit i 0 inside)) in
+    let pat : pattern s x ≡ z = sym (get_or-map (pattern s) samples i (pos 0) 0 within) ∙ ap (λ ws. slice_index_or ws i 0) of_samples.same in
+    let end : length samples - 1 ≡ i = omega (arith, of_samples.len) in
+    same_pattern s (value_at s l) x bytes.some sample (of_samples.legal i (pos 0) within) (told ∙ sym pat) ∙ sym
+    (last_at p (pos 0) samples (omega (arith, of_samples.len)) ∙ ap (λ m. slice_index_or samples m (pos 0)) end)
+
+-- the samples of a block
+samples_in : (s : Parameters) (w : ℕ) (words : List ℕ) → IsLegal s → IsCopied s w → All (λ v. v < 2 ^ (8 * w)) words → SamplesOfWords s w words
+samples_in s w words legal copied fit = samples_of_words s w words legal.bits_from copied.whole (copied_width s w copied) fit
+
+counted_words : (s : Parameters) (w n : ℕ) → IsCopied s w → w * n ≡ w * s.block → n ≡ s.block
+counted_words s w n copied e = sym (mul-div_cancel_left n (some_bytes s w copied)) ∙ (ap (λ m. m / w) e ∙ mul-div_cancel_left s.block (some_bytes s w copied))
+
+-- a buffered block that is taken, and the bytes of its samples, of which the last has level `l`
+pub copied_given : {I : Type 0} {start marked middle new : Reader I} {first steps last l w : ℕ} {p q : DecoderState} {bytes : List ℕ}
+    → IsLegal p.setting → IsCopied p.setting w → CopiedBlock start.waiting p.setting w bytes → l < value_count p.setting
+    → word (8 * w) (pattern p.setting (value_at p.setting l)) ≡ take (8 * w) (drop (id_len p.setting + 8 * (w * p.setting.block - w)) start.waiting)
+    → TakesBlock start marked middle new first steps last (copied_bits p.setting w) 0 p
+    → q ≡ record p { block = next_block_place p.setting p.block; before = value_at p.setting l; run = 0 }
+    → GivesBytes start new first last p q bytes
+copied_given {start} {marked} {middle} {new} {first} {steps} {last} {l} {w} {p} {q} {bytes} legal copied h small read taken moves =
+    let s = p.setting in
+    let len = copied_bits s w in
+    let words = h.words in
+    let given = samples_in s w words.words legal copied words.fit in
+    let samples = given.samples in
+    let count : length words.words ≡ s.block = counted_words s w (length words.words) copied words.counted in
+    let many : length samples ≡ s.block = given.len ∙ count in
+    let some = legal.block.0 in
+    let one : suc (s.block - 1) ≡ s.block = omega (arith, some) in
+    let last_is = last_is_at start.waiting {s = s} w p.before samples (record { some = legal.bits_from; whole = copied.whole })
+    (record { words_are = count ∙ sym one; len = many ∙ sym one; fit = words.fit; legal = given.legal; same = given.patterns })
+    (words.bits ∙ ap (λ n. take (8 * (w * n)) (drop (id_len s) start.waiting)) (sym one)) small
+    (read ∙ ap (λ n. take (8 * w) (drop (id_len s + 8 * (w * n - w)) start.waiting)) (sym one)) in
+    let reference : IsReference s p.block None = record { there = sym (ap (λ v. v && (place s p.block == 0)) copied.preprocess); fits = tt } in
+    let c : BlockData = record { reference = None; residuals = words.words } in
+    let contents = contents_of_patterns s p.block p.before words.words samples reference copied.preprocess given.patterns in
+    let same : marked.waiting ≡ start.waiting = ap (λ r. r.waiting) taken.mark in
+    let text : take len marked.waiting ≡ bits_of_set s (NoCompression c) =
+    ap (take len) same ∙ (take-add (id_len s) (8 * (w * s.block)) start.waiting
+    ∙ (λ j. sym h.id j ++ (sym words.bits ∙ ap (λ n. flat_map (word n) words.words) (sym copied.whole)) j)) in
+    let taken_len : length (take len marked.waiting) ≡ len = ap (λ b. length (take len b)) same ∙ length-take-le len start.waiting h.there in
+    let bits = taken.bits.taken in
+    let set : TakesSet marked middle first steps s p.block p.before samples 0 = record {
+      set = NoCompression c;
+      form = (record { reference = reference; len = count }, tt, subst (λ n. All (λ v. v < 2 ^ n) words.words) (sym copied.whole) words.fit);
+      run_sound = tt;
+      residuals_sound = tt;
+      takes = subst (Takes marked middle) text taken.bits;
+      gives = record {
+        len = many;
+        legal = given.legal;
+        blocks_are = ap (λ b. b ∷ []) contents;
+      };
+      steps = omega (arith, taken.steps_are, bits, taken_len);
+    } in
+    let from_start : TakesSet (with_mark start) middle first steps s p.block p.before samples 0 = subst (λ r. TakesSet r middle first steps s p.block p.before samples 0) taken.mark set in
+    let bound = samples_by_bits legal from_start in
+    let zero_run : q.run ≡ 0 = ap (λ r. r.run) moves in
+    let bytes_are : width s * length samples ≡ w * s.block = λ j. sym (copied_width s w copied) j * many j in
+    record {
+      samples = samples;
+      answers = answers_block start last p from_start taken.filled taken.counted last_is moves;
+      spelled = ap (λ n. take n bytes) bytes_are ∙ (words.spelled ∙ sym given.spelled);
+      by_bits = rw zero_run (omega (arith, bound, taken.further));
+    }
+
+-- the same by the setting of a decoder
+pub copied_at : {I : Type 0} {start marked middle new : Reader I} {first steps last l w : ℕ} {s : Parameters} (p : DecoderState) {q : DecoderState} {bytes : List ℕ}
+    → p.setting ≡ s → IsLegal s → IsCopied s w → CopiedBlock start.waiting s w bytes → l < value_count s
+    → word (8 * w) (pattern s (value_at s l)) ≡ take (8 * w) (drop (id_len s + 8 * (w * s.block - w)) start.waiting)
+    → TakesBlock start marked middle new first steps last (copied_bits s w) 0 p
+    → q ≡ record p { block = next_block_place p.setting p.block; before = value_at p.setting l; run = 0 }
+    → GivesBytes start new first last p q bytes
+copied_at {start} {marked} {middle} {new} {first} {steps} {last} {l} {w} {s} p {q} {bytes} same legal copied h small read taken moves =
+    copied_given (subst IsLegal (sym same) legal) (subst (λ s. IsCopied s w) (sym same) copied) (subst (λ s. CopiedBlock start.waiting s w bytes) (sym same) h)
+    (subst (λ s. l < value_count s) (sym same) small)
+    (subst (λ s. word (8 * w) (pattern s (value_at s l)) ≡ take (8 * w) (drop (id_len s + 8 * (w * s.block - w)) start.waiting)) (sym same) read)
+    (subst (λ s. TakesBlock start marked middle new first steps last (copied_bits s w) 0 p) (sym same) taken) moves

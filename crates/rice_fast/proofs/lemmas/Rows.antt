@@ -1,0 +1,271 @@
+-- Rows of samples of a block, restored and spelled one after another.
+use Rattle.std.proofs.Common.{◌≡◌, ℕ, zero, suc, ◌+◌, ◌-◌, ◌*◌, ◌^◌, ◌<◌, ◌≤◌, Bool, List, [], ◌∷◌, ◌++◌, length, take, drop, take-take, take-append-drop, replicate, refl, sym, ◌∙◌, ap, subst, arith, append_assoc, length-append, Option, None, Some}
+use Rattle.std.specs.Prelude.{All, IfSome, flat_map, slice_index_or}
+use Rattle.std.proofs.Math.Seq.{take-add, take-append_seam}
+use Rattle.std.proofs.Math.Nat.{add-mul, mul-add, mul-le-mul_right}
+use Rattle.std.proofs.lemmas.Grind.{flat_map-append}
+use Rattle.std.proofs.lemmas.Nat.{pow_pos}
+use Rattle.std.proofs.lemmas.List.{drop-append-le, drop-replicate, get_or-take, length-drop, length-take-le, take-append-le, take-replicate, take_all}
+use Rattle.std.proofs.lemmas.List.Elements.{All-append, All-cons, All-nil, All-replicate, All-take}
+use Rattle.rice_bits.specs.Bits.{word}
+use Rattle.rice_bits.specs.read.JoinedParts.{joined_parts}
+use Rattle.rice_bits.proofs.lemmas.read.WindowLemmas.{words-front}
+use Rattle.rice_samples.specs.Parameters.{Parameters, value_at, value_count, values_at, width}
+use Rattle.rice_samples.specs.bytes.Spelling.{spelling, spellings}
+use Rattle.rice_samples.specs.predict.LevelsOfParts.{AreLevelsOfParts}
+use Rattle.rice_samples.specs.predict.Residuals.{last_number, rank_below, ranks_below}
+use Rattle.rice_samples.proofs.lemmas.bytes.SpellingLengths.{length-spellings}
+use Rattle.rice_samples.proofs.lemmas.predict.HalfLanes.{last_is as last_at}
+use Rattle.rice_samples.proofs.lemmas.predict.RestoredLevels.{ranks_below-append}
+use Rattle.rice_samples.proofs.lemmas.setting.ValuesAtLevels.{length-values}
+use Rattle.rice_fast.specs.FieldsAhead.{LowsAhead}
+use Rattle.rice_fast.specs.RowsAhead.{RowsAhead, SpellsParts}
+use Rattle.rice_fast.specs.declared.fields.Fields.{Fields}
+use Rattle.rice_fast.proofs.lemmas.HighParts.{behind-both, first_of}
+
+-- a row of words: those of the first lanes, behind the numbers that are omitted
+pub lanes_lows : {waiting : List Bool} {skip k many : ℕ} (o count : ℕ) (words : List ℕ) {row : List ℕ} → o ≤ 1 → 1 ≤ count → count ≤ many → length words ≡ many
+    → All (λ l. l < 2 ^ k) words → flat_map (word k) words ≡ take (many * k) (drop skip waiting) → row ≡ take count (replicate o 0 ++ words) ++ replicate (many - count) 0
+    → LowsAhead waiting skip o k (take count row) × All (λ l. l < 2 ^ k) row
+lanes_lows {waiting} {skip} {k} {many} zero count words {row} few some most len low bits is =
+    let first : take count row ≡ take count words = first_of count many words row (omega (arith, len, most)) is in
+    let n : length (take count row) - 0 ≡ count = omega (arith, ap length first, length-take-le count words (omega (arith, len, most))) in (
+      record {
+        zeros = refl;
+        low = subst (All (λ l. l < 2 ^ k)) (sym first) (All-take (λ l. l < 2 ^ k) count words low);
+        spelled =
+            ap (flat_map (word k)) first
+            ∙ (words-front k count words (omega (arith, len, most)) ∙ (ap (take (count * k)) bits ∙ (take-take (count * k) (many * k) (drop skip waiting) (mul-le-mul_right k most)
+            ∙ ap (λ m. take (m * k) (drop skip waiting)) (sym n))));
+      },
+      subst (All (λ l. l < 2 ^ k)) (sym is) (All-append (λ l. l < 2 ^ k) (take count words) (replicate (many - count) 0) (All-take (λ l. l < 2 ^ k) count words low)
+          (All-replicate (λ l. l < 2 ^ k) (many - count) 0 (pow_pos k))),
+    )
+lanes_lows {waiting} {skip} {k} {many} (suc zero) (suc m) words {row} few some most len low bits is =
+    let first : take (suc m) row ≡ 0 ∷ take m words = first_of (suc m) many (0 ∷ words) row (omega (arith, len, most)) is in
+    let n : length (take (suc m) row) - 1 ≡ m = omega (arith, ap length first, length-take-le m words (omega (arith, len, most))) in
+    let all = All-cons (λ l. l < 2 ^ k) 0 (take m words) (pow_pos k) (All-take (λ l. l < 2 ^ k) m words low) in (
+      record {
+        zeros = ap (take 1) first;
+        low = subst (All (λ l. l < 2 ^ k)) (sym first) all;
+        spelled =
+            ap (λ xs. flat_map (word k) (drop 1 xs)) first
+            ∙ (words-front k m words (omega (arith, len, most)) ∙ (ap (take (m * k)) bits ∙ (take-take (m * k) (many * k) (drop skip waiting) (mul-le-mul_right k (omega (arith, most)))
+            ∙ ap (λ c. take (c * k) (drop skip waiting)) (sym n))));
+      },
+      subst (All (λ l. l < 2 ^ k)) (sym is) (All-append (λ l. l < 2 ^ k) (0 ∷ take m words) (replicate (many - suc m) 0) all (All-replicate (λ l. l < 2 ^ k) (many - suc m) 0 (pow_pos k))),
+    )
+lanes_lows (suc zero) zero words few some most len low bits is = absurd (omega (arith, some))
+lanes_lows (suc (suc o)) count words few some most len low bits is = absurd (omega (arith, few))
+
+-- one row more of words
+lows-row : {waiting : List Bool} {skip omitted k at : ℕ} {lows : List ℕ} (row : List ℕ) → omitted ≤ length lows → LowsAhead waiting skip omitted k lows
+    → at ≡ skip + (length lows - omitted) * k → LowsAhead waiting at 0 k row → LowsAhead waiting skip omitted k (lows ++ row)
+lows-row {waiting} {skip} {omitted} {k} {at} {lows} row few before place more =
+    let part = length lows - omitted in
+    let count = length row in
+    let plain : count - 0 ≡ count = omega arith in
+    let both : part + count ≡ length (lows ++ row) - omitted = omega (arith, length-append lows row, few) in
+    let all : part * k + count * k ≡ (length (lows ++ row) - omitted) * k = sym (add-mul part count k) ∙ ap (λ n. n * k) both in
+    record {
+      zeros = take-append-le omitted lows row few ∙ before.zeros;
+      low = All-append (λ l. l < 2 ^ k) lows row before.low more.low;
+      spelled =
+          ap (flat_map (word k)) (drop-append-le omitted lows row few)
+          ∙ (flat_map-append (word k) (drop omitted lows) row ∙ ((λ j. before.spelled j ++ (more.spelled ∙ (ap (λ n. take (n * k) (drop at waiting)) plain ∙ ap (λ m. take (count * k) (drop m waiting)) place)) j)
+          ∙ (behind-both waiting skip (part * k) (count * k) ∙ ap (λ n. take n (drop skip waiting)) all)));
+    }
+
+-- the ranks of the first numbers are the first of all ranks, and what the first parts join to is the first of all joined parts
+take-ranks : (n count p : ℕ) (xs : List ℕ) → ranks_below count p (take n xs) ≡ take n (ranks_below count p xs)
+take-ranks zero count p xs = refl
+take-ranks (suc n) count p [] = refl
+take-ranks (suc n) count p (x ∷ xs) = ap (λ ds. rank_below count p x ∷ ds) (take-ranks n count x xs)
+
+take-joined : (n k : ℕ) (ms ls : List ℕ) → take n (joined_parts k ms ls) ≡ joined_parts k (take n ms) (take n ls)
+take-joined zero k ms ls = refl
+take-joined (suc n) k [] ls = refl
+take-joined (suc n) k (m ∷ ms) [] = refl
+take-joined (suc n) k (m ∷ ms) (l ∷ ls) = ap (λ ds. (m * 2 ^ k + l) ∷ ds) (take-joined n k ms ls)
+
+joined-append : (k : ℕ) (hs ls more_highs more_lows : List ℕ) → length ls ≡ length hs
+    → joined_parts k (hs ++ more_highs) (ls ++ more_lows) ≡ joined_parts k hs ls ++ joined_parts k more_highs more_lows
+joined-append k [] [] more_highs more_lows e = refl
+joined-append k [] (l ∷ ls) more_highs more_lows e = absurd (omega (arith, e))
+joined-append k (h ∷ hs) [] more_highs more_lows e = absurd (omega (arith, e))
+joined-append k (h ∷ hs) (l ∷ ls) more_highs more_lows e = ap (λ ds. (h * 2 ^ k + l) ∷ ds) (joined-append k hs ls more_highs more_lows (omega (arith, e)))
+
+-- the last of two rows of numbers is the last of the second, or if it has none the last of the first
+last-append : (p : ℕ) (xs ys : List ℕ) → last_number p (xs ++ ys) ≡ last_number (last_number p xs) ys
+last-append p [] ys = refl
+last-append p (x ∷ xs) ys = last-append x xs ys
+
+-- the spellings of two lists, and of the first of some levels
+spelled_both : (s : Parameters) (xs ys : List ℕ) → spellings s (values_at s xs) ++ spellings s (values_at s ys) ≡ spellings s (values_at s (xs ++ ys))
+spelled_both s [] ys = refl
+spelled_both s (x ∷ xs) ys = append_assoc (spelling s (value_at s x)) (spellings s (values_at s xs)) (spellings s (values_at s ys)) ∙ ap (λ l. spelling s (value_at s x) ++ l) (spelled_both s xs ys)
+
+front_spelled : (s : Parameters) (count : ℕ) (levels : List ℕ) → count ≤ length levels
+    → take (width s * count) (spellings s (values_at s levels)) ≡ spellings s (values_at s (take count levels))
+front_spelled s count levels most =
+    let first = spellings s (values_at s (take count levels)) in
+    let rest = spellings s (values_at s (drop count levels)) in
+    let len : length first ≡ width s * count = length-spellings s (values_at s (take count levels))
+    ∙ ap (λ n. width s * n) (length-values s (take count levels) ∙ length-take-le count levels most) in
+    ap (λ ls. take (width s * count) (spellings s (values_at s ls))) (sym (take-append-drop count levels))
+    ∙ (ap (take (width s * count)) (sym (spelled_both s (take count levels) (drop count levels)))
+    ∙ (ap (λ n. take n (first ++ rest)) (sym len) ∙ take-append_seam first rest))
+
+-- a row of lanes whose levels were restored and spelled, and the first samples of it
+pub row_spelled : {s : Parameters} {p k many : ℕ} (count : ℕ) {highs lows levels bytes : List ℕ} → 1 ≤ count → count ≤ many → length highs ≡ many
+    → AreLevelsOfParts s p k highs lows levels → take (width s * many) bytes ≡ spellings s (values_at s levels)
+    → SpellsParts s p k count (take count highs) (take count lows) (slice_index_or levels (count - 1) 0) bytes
+row_spelled {s} {p} {k} {many} count {highs} {lows} {levels} {bytes} some most len near spelled =
+    let all : length levels ≡ many = near.len ∙ len in
+    let first = take count levels in
+    let first_len : length first ≡ count = length-take-le count levels (omega (arith, all, most)) in
+    let fewer : width s * count ≤ width s * many = (let m = mul-le-mul_right (width s) most in let a : count * width s ≡ width s * count = omega arith in let b : many * width s ≡ width s * many = omega arith in omega (arith, m, a, b)) in
+    record {
+      levels = first;
+      near = record {
+        len = first_len ∙ sym (length-take-le count highs (omega (arith, len, most)));
+        legal = All-take (λ l. l < value_count s) count levels near.legal;
+        ranked = take-ranks count (value_count s) p levels ∙ (ap (take count) near.ranked ∙ take-joined count k highs lows);
+      };
+      last_is = sym (get_or-take count levels (count - 1) 0 (omega (arith, some)));
+      spelled =
+          sym (take-take (width s * count) (width s * many) bytes fewer)
+          ∙ (ap (take (width s * count)) spelled ∙ (front_spelled s count levels (omega (arith, all, most))
+          ∙ ap (λ ls. spellings s (values_at s ls)) (sym (take_all count first (omega (arith, first_len))))));
+    }
+
+-- what holds of a value, if there is one
+pub if_some : {A : Type 0} (P Q : A → Type 0) (x : Option A) → ((a : A) → P a → Q a) → IfSome x P → IfSome x Q
+if_some P Q None f h = tt
+if_some P Q (Some a) f h = f a h
+
+-- without compression a low part is a whole residual
+pub whole_parts : {s : Parameters} {p k many : ℕ} {highs lows zeros levels : List ℕ} → length lows ≡ many → highs ≡ replicate many 0 → zeros ≡ replicate many 0
+    → AreLevelsOfParts s p 0 lows zeros levels → AreLevelsOfParts s p k highs lows levels
+whole_parts {s} {p} {k} {many} {highs} {lows} {zeros} {levels} len none blank near = record {
+  len = near.len ∙ (len ∙ (sym (length-zeros many) ∙ ap length (sym none)));
+  legal = near.legal;
+  ranked = near.ranked ∙ (ap (joined_parts 0 lows) blank ∙ (same many k lows len ∙ ap (λ hs. joined_parts k hs lows) (sym none)));
+}
+  where
+    length-zeros : (n : ℕ) → length {A = ℕ} (replicate n 0) ≡ n
+    length-zeros zero = refl
+    length-zeros (suc n) = ap suc (length-zeros n)
+
+    same : (n k : ℕ) (ls : List ℕ) → length ls ≡ n → joined_parts 0 ls (replicate n 0) ≡ joined_parts k (replicate n 0) ls
+    same zero k [] e = refl
+    same zero k (l ∷ ls) e = absurd (omega (arith, e))
+    same (suc n) k [] e = absurd (omega (arith, e))
+    same (suc n) k (l ∷ ls) e =
+        let one : l * 2 ^ 0 + 0 ≡ 0 * 2 ^ k + l = omega arith in
+        let rest = same n k ls (omega (arith, e)) in
+        λ j. one j ∷ rest j
+
+-- before the first row no sample is spelled
+pub no_rows : (waiting : List Bool) (s : Parameters) (f : Fields) (highs bytes : List ℕ) → f.from < value_count s → RowsAhead waiting s f highs 0 f.from bytes
+no_rows waiting s f highs bytes begins =
+    let none : width s * 0 ≡ 0 = omega arith in
+    record {
+      levels = [];
+      lows = [];
+      len = refl;
+      words = λ some. absurd (omega (arith, some));
+      near = record { len = refl; legal = All-nil (λ l. l < value_count s); ranked = refl };
+      last_is = refl;
+      legal = begins;
+      spelled = ap (λ n. take n bytes) none;
+    }
+
+-- where the words of a row begin: those before it are passed, and behind the first row none is omitted
+pub record RowPlace (f : Fields) (at omitted place : ℕ) : Type 0 where
+  pub few : omitted ≤ 1
+  pub first : at ≡ 0 → omitted ≡ f.omitted
+  pub later : 0 < at → omitted ≡ 0
+  pub begins : place ≡ f.words + (at - f.omitted) * f.k
+
+pub first_place : (f : Fields) → f.omitted ≤ 1 → RowPlace f 0 f.omitted f.words
+first_place f few =
+    let none : 0 - f.omitted ≡ 0 = omega arith in
+    let words_of : (0 - f.omitted) * f.k ≡ 0 * f.k = ap (λ n. n * f.k) none in
+    record { few = few; first = λ _. refl; later = λ some. absurd (omega (arith, some)); begins = omega (arith, words_of) }
+
+pub next_place : {f : Fields} {at omitted place : ℕ} (count : ℕ) → f.omitted ≤ 1 → 1 ≤ count → RowPlace f at omitted place → RowPlace f (at + count) 0 (place + (count - omitted) * f.k)
+next_place {f} {at} {omitted} {place} count few some here = record {
+  few = omega arith;
+  first = λ none. absurd (omega (arith, none, some));
+  later = λ more. refl;
+  begins = ap (λ p. p + (count - omitted) * f.k) here.begins ∙ moved at here.first here.later;
+}
+  where
+    moved : (at : ℕ) → (at ≡ 0 → omitted ≡ f.omitted) → (0 < at → omitted ≡ 0) → f.words + (at - f.omitted) * f.k + (count - omitted) * f.k ≡ f.words + (at + count - f.omitted) * f.k
+    moved zero first later =
+        let e : count - omitted ≡ count - f.omitted = ap (λ o. count - o) (first refl) in
+        let start : 0 - f.omitted ≡ 0 = omega arith in
+        let none : (0 - f.omitted) * f.k ≡ 0 * f.k = ap (λ n. n * f.k) start in
+        let same : count - omitted ≡ 0 + count - f.omitted = omega (arith, e) in
+        let part : (count - omitted) * f.k ≡ (0 + count - f.omitted) * f.k = ap (λ n. n * f.k) same in
+        omega (arith, none, part)
+    moved (suc n) first later =
+        let passed : count - omitted ≡ count - 0 = ap (λ o. count - o) (later (omega arith)) in
+        let e : count - omitted ≡ count = omega (arith, passed) in
+        let all : suc n - f.omitted + count ≡ suc n + count - f.omitted = omega (arith, few) in
+        let parts : (suc n + count - f.omitted) * f.k ≡ (suc n - f.omitted) * f.k + count * f.k = ap (λ m. m * f.k) (sym all) ∙ add-mul (suc n - f.omitted) count f.k in
+        let part : (count - omitted) * f.k ≡ count * f.k = ap (λ m. m * f.k) e in
+        omega (arith, parts, part)
+
+-- the high parts of a row, where all are zeros
+pub zeros_of_row : (at many : ℕ) {highs row : List ℕ} → at + many ≤ 80 → highs ≡ replicate 80 0 → row ≡ take many (take (80 - at) (drop at highs)) → row ≡ replicate many 0
+zeros_of_row at many {highs} inside zeros is =
+    is ∙ (take-take many (80 - at) (drop at highs) (omega (arith, inside)) ∙ (ap (λ xs. take many (drop at xs)) zeros ∙ (ap (take many) (drop-replicate at 80 0) ∙ take-replicate many (80 - at) 0 (omega (arith, inside)))))
+
+-- one row more
+pub one_row_more : {waiting : List Bool} {s : Parameters} {f : Fields} {at omitted place count last l : ℕ} {highs row bytes : List ℕ} (now : List ℕ) → f.omitted ≤ 1 → 1 ≤ count
+    → at + count ≤ length highs → RowPlace f at omitted place → RowsAhead waiting s f highs at last bytes → length row ≡ count → LowsAhead waiting place omitted f.k row
+    → SpellsParts s last f.k count (take count (drop at highs)) row l (drop (width s * at) now) → take (width s * at) now ≡ take (width s * at) bytes
+    → RowsAhead waiting s f highs (at + count) l now
+one_row_more {waiting} {s} {f} {at} {omitted} {place} {count} {last} {l} {highs} {row} {bytes} now few some room here before row_len more spelled front =
+    let part = take count (drop at highs) in
+    let levels = before.levels ++ spelled.levels in
+    let behind : length (drop at highs) ≡ length highs - at = length-drop at highs in
+    let many : length spelled.levels ≡ count = spelled.near.len ∙ length-take-le count (drop at highs) (omega (arith, behind, room)) in
+    let end : length spelled.levels ≡ suc (count - 1) = omega (arith, many, some) in
+    let last_level : l ≡ last_number last spelled.levels = spelled.last_is ∙ sym (last_at last (count - 1) spelled.levels end) in
+    let whole : take count spelled.levels ≡ spelled.levels = take_all count spelled.levels (omega (arith, many)) in
+    let same : length before.lows ≡ length (take at highs) = before.len ∙ sym (length-take-le at highs (omega (arith, room))) in
+    let place_of : width s * (at + count) ≡ width s * at + width s * count = mul-add (width s) at count in
+    record {
+      levels = levels;
+      lows = before.lows ++ row;
+      len = length-append before.lows row ∙ (λ j. before.len j + row_len j);
+      words = λ _. words at here before.lows before.len before.words;
+      near = record {
+        len = length-append before.levels spelled.levels ∙ ((λ j. before.near.len j + spelled.near.len j) ∙ (sym (length-append (take at highs) part) ∙ ap length (sym (take-add at count highs))));
+        legal = All-append (λ l. l < value_count s) before.levels spelled.levels before.near.legal spelled.near.legal;
+        ranked =
+            ranks_below-append (value_count s) f.from before.levels spelled.levels
+            ∙ ((λ j. before.near.ranked j ++ (ap (λ r. ranks_below (value_count s) r spelled.levels) (sym before.last_is) ∙ spelled.near.ranked) j)
+            ∙ (sym (joined-append f.k (take at highs) before.lows part row same) ∙ ap (λ hs. joined_parts f.k hs (before.lows ++ row)) (sym (take-add at count highs))));
+      };
+      last_is = last_level ∙ (ap (λ p. last_number p spelled.levels) before.last_is ∙ sym (last-append f.from before.levels spelled.levels));
+      legal = subst (λ v. v < value_count s) (sym spelled.last_is) (spelled.near.legal (count - 1) 0 (omega (arith, many, some)));
+      spelled =
+          ap (λ n. take n now) place_of
+          ∙ (take-add (width s * at) (width s * count) now
+          ∙ ((λ j. (front ∙ before.spelled) j ++ (spelled.spelled ∙ ap (λ ls. spellings s (values_at s ls)) whole) j) ∙ spelled_both s before.levels spelled.levels));
+    }
+  where
+    words : (n : ℕ) → RowPlace f n omitted place → (lows : List ℕ) → length lows ≡ n → (0 < n → LowsAhead waiting f.words f.omitted f.k lows) → LowsAhead waiting f.words f.omitted f.k (lows ++ row)
+    words zero here [] e h =
+        let none : 0 - f.omitted ≡ 0 = omega arith in
+        let words_of : (0 - f.omitted) * f.k ≡ 0 * f.k = ap (λ n. n * f.k) none in
+        let start : place ≡ f.words = here.begins ∙ omega (arith, words_of) in
+        subst (λ p. LowsAhead waiting p f.omitted f.k row) start (subst (λ o. LowsAhead waiting place o f.k row) (here.first refl) more)
+    words zero here (x ∷ lows) e h = absurd (omega (arith, e))
+    words (suc n) here lows e h =
+        let later : omitted ≡ 0 = here.later (omega arith) in
+        lows-row row (omega (arith, few, e)) (h (omega arith)) (here.begins ∙ ap (λ m. f.words + (m - f.omitted) * f.k) (sym e)) (subst (λ o. LowsAhead waiting place o f.k row) later more)

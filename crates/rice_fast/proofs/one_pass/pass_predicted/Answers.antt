@@ -1,0 +1,33 @@
+use Rattle.std.proofs.Common.{◌≡◌, ◌∙◌, ap, arith, refl, rules, subst, sym, SFits, w64}
+use Rattle.std.proofs.lemmas.Int.{to_z-of_z}
+use Rattle.rice_samples.specs.Parameters.{IsSample, level, value_at}
+use Rattle.rice_samples.proofs.lemmas.setting.ValuesAtLevels.{value_of_level}
+use Rattle.rice_code.specs.decode.DecoderState.{next_block_place}
+use Rattle.rice_fast.proofs.lemmas.BlocksTaken.{bytes_given, spelled_at}
+use Rattle.rice_fast.proofs.one_pass.pass_predicted.Goals as goal
+
+pub value_at-last-requires : goal.value_at-last-requires
+value_at-last-requires g c = c.in-Some.ensures.legal
+
+pub returns-clause-some : goal.returns-clause-some
+returns-clause-some g c _ =
+    let p = c.args.decoder.now in
+    let s = c.args.setting.now in
+    let block = c.block-block.ensures in
+    let found = c.in-Some.spelled in
+    let before : SFits w64 c.before-2.result = search rules in
+    let f : SFits w64 c.value_at-last.result = search rules in
+    let level_is = rw (to_z-of_z w64 c.before-2.result before) at c.level-before.ensures.value in
+    let sample = subst (λ t. IsSample t p.before) c.requires.setting block.state.sample in
+    let same : value_at s c.level-before.result ≡ p.before = ap (value_at s) level_is ∙ (ap (λ x. value_at s (level s x)) c.before-2.ensures ∙ value_of_level s p.before sample) in
+    let spelled = spelled_at p c.requires.setting block.place same c.in-Some.ensures in
+    let last : c.value_at-last.result ≡ value_at p.setting found.last = c.value_at-last.ensures.value ∙ ap (λ t. value_at t found.last) (sym c.requires.setting) in
+    let moves = rw (to_z-of_z w64 c.value_at-last.result f) at c.go_to_next_block-answer.ensures.moves in
+    bytes_given block.state.legal spelled (record {
+      mark = refl;
+      bits = c.take_ahead.ensures.takes;
+      steps_are = omega (arith, c.take_ahead.ensures.steps, c.tick.ensures);
+      filled = c.go_to_next_block-answer.ensures.skips;
+      counted = c.go_to_next_block-answer.ensures.steps;
+      further = omega (arith, c.go_to_next_block-answer.ensures.few);
+    }) (moves ∙ (λ j. record { setting = p.setting; block = next_block_place p.setting p.block; before = last j; run = 0; stopped = p.stopped }))

@@ -1,0 +1,45 @@
+use Rattle.std.proofs.Common.{◌≡◌, ◌-◌, ◌*◌, ◌≤◌, ◌∙◌, ap, arith, length, take}
+use Rattle.std.proofs.Math.Nat.{mul-le-mul_right}
+use Rattle.std.proofs.lemmas.List.{length-take-le}
+use Rattle.rice_samples.specs.Parameters.{width}
+use Rattle.rice_fast.proofs.one_pass.spell_fields_ahead.Goals as goal
+
+pub overflow_add-fields : goal.overflow_add-fields
+overflow_add-fields g c =
+    let f = c.in_ok-fields.fields in
+    let fields = c.in_ok-fields.ensures in
+    let there = fields.there in
+    let narrow = fields.narrow in
+    let legal = c.block-block.ensures.legal.block in
+    let part : c.args.size * f.k ≤ 64 * f.k = mul-le-mul_right f.k (omega (arith, legal, c.requires.size)) in
+    record { fits = omega (arith, there, narrow, g.met.L.Lanes.most_bits, part, c.taken-taken.ensures.waiting) }
+
+pub overflow_add-fields-2 : goal.overflow_add-fields-2
+overflow_add-fields-2 g c =
+    let f = c.in_ok-fields.fields in
+    let fields = c.in_ok-fields.ensures in
+    let there = fields.there in
+    let narrow = fields.narrow in
+    let legal = c.block-block.ensures.legal.block in
+    let part : c.args.size * f.k ≤ 64 * f.k = mul-le-mul_right f.k (omega (arith, legal, c.requires.size)) in
+    record { fits = omega (arith, there, narrow, g.met.L.Lanes.most_bits, part, c.taken-taken.ensures.waiting, c.LOOK.ensures, g.met.L.SampleLanes.look) }
+
+pub returns : goal.returns
+returns g c =
+    let s = c.args.setting.now in
+    let size = c.args.size in
+    let f = c.in_ok-fields.fields in
+    let fields = c.in_ok-fields.ensures in
+    let rows = c.in_ok-last.ensures in
+    let places = fields.places in
+    let legal = c.block-block.ensures.legal.block in
+    let part : (size - f.omitted) * f.k ≤ size * f.k = mul-le-mul_right f.k (omega arith) in
+    let len : length rows.levels ≡ size = rows.near.len ∙ length-take-le size c.fields_ahead.new.highs (omega (arith, places, legal, c.requires.size)) in
+    record {
+      levels = rows.levels;
+      ahead = fields.block rows.lows rows.levels rows.len (rows.words (omega (arith, legal, c.requires.size))) rows.near (omega (arith, part, c.if-waiting-fields.false, c.waiting.ensures));
+      from = f.from;
+      last_is = rows.last_is;
+      legal = rows.legal;
+      spelled = ap (λ n. take (width s * n) c.spell_rows.new.bytes) len ∙ rows.spelled;
+    }

@@ -1,0 +1,23 @@
+use Rattle.std.proofs.Common.{◌≡◌, ◌+◌, ◌*◌, ◌/◌, ◌<◌, ◌∷◌, ◌++◌, ◌∙◌, [], ap, arith, length, length-set, set, sum, sym, take}
+use Rattle.std.proofs.lemmas.List.{length-take-le, take_more}
+use Rattle.rice_samples.specs.blocks.Pairs.{pair_codes}
+use Rattle.rice_code.proofs.lemmas.decode.RowsOfFields.{pair_codes-push, sum-push2, two_more}
+use Rattle.rice_fast.proofs.pairs.write_pairs.Goals as goal
+
+pub loop-i-preserved : goal.loop-i-preserved
+loop-i-preserved c =
+    let l = c.loop-i in
+    let codes = c.args.codes.now in
+    let a = c.pair_of-first.result.0 in
+    let b = c.pair_of-first.result.1 in
+    let front = take (l.i + l.i) l.numbers in
+    let room : l.i < length l.numbers / 2 = omega (arith, c.loop-i-test.true, c.requires.few, l.invariant.long) in
+    let two = two_more l.i l.numbers a b room in
+    let len : length front ≡ l.i + l.i = length-take-le (l.i + l.i) l.numbers (omega (arith, room)) in
+    record {
+      pairs = ap pair_codes two ∙ (pair_codes-push l.i front a b len
+          ∙ ((λ j. l.invariant.pairs j ++ c.pair_of-first.ensures j ∷ []) ∙ sym (take_more codes l.i 0 c.loop-i-test.true)));
+      total = omega (arith, l.invariant.total, ap sum two, sum-push2 front a b);
+      few = omega (arith, l.invariant.few);
+      long = length-set (set l.numbers (2 * l.i) a) (2 * l.i + 1) b ∙ (length-set l.numbers (2 * l.i) a ∙ l.invariant.long);
+    }

@@ -1,0 +1,15 @@
+use Rattle.std.proofs.Common.{◌≡◌, ◌≤◌, ◌-◌, length}
+use Rattle.rice_fast.specs.RowsAhead.{RowsAhead}
+use Rattle.rice_fast.proofs.lemmas.Rows.{RowPlace}
+use Rattle.rice_fast.proofs.rows.spell_rows.Given as goal
+
+abbrev pub invariant-loop-at : goal.invariant-loop-at
+invariant-loop-at g l = record {
+  within : l.at ≤ l.fn.size;
+  long : length l.bytes ≡ 320;
+  here : RowPlace l.fn.fields l.at l.omitted l.place;
+  rows : RowsAhead l.fn.reader.waiting l.fn.setting l.fn.fields l.fn.highs l.at l.last l.bytes;
+}
+
+abbrev pub decreases-loop-at : goal.decreases-loop-at
+decreases-loop-at g l = l.fn.size - l.at

@@ -1,0 +1,5 @@
+-- What the parts of the pass say to each other: blocks that wait, their fields, and rows of their samples.
+pub mod BlocksAhead
+pub mod CopiedBlocks
+pub mod FieldsAhead
+pub mod RowsAhead

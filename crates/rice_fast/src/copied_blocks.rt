@@ -1,0 +1,177 @@
+//! Blocks without compression whose samples are not predicted, and use all bits of 1, 2 or 4 bytes: these bytes stand in the code.
+ghost use Rattle.std.specs.Prelude.{◌≡◌, ◌+◌, ◌-◌, ◌*◌, ◌^◌, ◌<◌, ◌≤◌, None, false, true, length, take, drop};
+ghost use Rattle.rice_bits.specs.Bits.{word};
+ghost use Rattle.rice_samples.specs.Parameters.{id_len, value_at, value_count};
+ghost use Rattle.rice_samples.specs.predict.Residuals.{pattern};
+ghost use Rattle.rice_bits.specs.Limits.{most_bits_read, step_limit};
+ghost use Rattle.rice_code.specs.decode.RowsOfFields.{AreCounted};
+ghost use Rattle.rice_fast.specs.BlocksAhead.{GivesBytes};
+ghost use Rattle.rice_fast.specs.CopiedBlocks.{IsCopied, WordsAhead, copied_bits};
+
+use crate::one_pass::take_ahead;
+use rice_bits::{BitReader, Intake, Meter};
+use rice_code::{Decoder, known_or};
+use rice_samples::{Setting, bytes_of_patterns, level_of_pattern};
+
+/// The bits behind a block that are looked at with it, at most.
+const BEHIND: u64 = 128;
+
+/// Returns the number of bits of an identifier, which the compiler knows.
+#[inline(always)]
+fn known_id_len<const WIDTH: usize>(setting: &Setting) -> usize
+    requires { IsCopied setting.now WIDTH }
+    ensures value { result ≡ id_len setting.now }
+    ensures range { (3 ≤ result) × (result ≤ 5) }
+{
+    if WIDTH == 4 { 5 } else { WIDTH + 2 }
+}
+
+/// Returns the identifier of a block without compression, which the compiler knows.
+#[inline(always)]
+fn known_id<const WIDTH: usize>(setting: &Setting) -> u32
+    requires { IsCopied setting.now WIDTH }
+    ensures { result ≡ 2 ^ id_len setting.now - 1 }
+{
+    if WIDTH == 1 {
+        7
+    } else if WIDTH == 2 {
+        15
+    } else {
+        31
+    }
+}
+
+/// Returns the number of bytes of the samples of a block of `size` samples.
+#[inline(always)]
+fn block_bytes<const WIDTH: usize>(setting: &Setting, size: usize) -> usize
+    requires copied { IsCopied setting.now WIDTH }
+    requires size { size ≡ setting.now.block }
+    ensures value { result ≡ WIDTH * setting.now.block }
+    ensures range { (WIDTH ≤ result) × (result ≤ 256) }
+{
+    let _block = setting.block();
+    WIDTH * size
+}
+
+/// Returns the number of bits of a block of `size` samples without compression.
+#[inline(always)]
+fn copied_len<const WIDTH: usize>(setting: &Setting, size: usize) -> usize
+    requires copied { IsCopied setting.now WIDTH }
+    requires size { size ≡ setting.now.block }
+    ensures value { result ≡ copied_bits setting.now WIDTH }
+    ensures range { result ≤ 2053 }
+{
+    known_id_len::<WIDTH>(setting) + 8 * block_bytes::<WIDTH>(setting, size)
+}
+
+/// Returns whether samples are not predicted, and use all bits of `WIDTH` bytes, 1, 2 or 4.
+#[inline(always)]
+fn is_copied<const WIDTH: usize>(setting: &Setting) -> bool
+    ensures { result ≡ true → IsCopied setting.now WIDTH }
+{
+    !setting.preprocess()
+        && (WIDTH == 1 || WIDTH == 2 || WIDTH == 4)
+        && setting.bits() as usize == 8 * WIDTH
+}
+
+/// Returns whether the next block, of `size` samples, is not compressed, and so many bits are buffered that all of it may be looked at.
+#[inline(always)]
+fn is_copied_ahead<I: Intake, const WIDTH: usize>(
+    setting: &Setting,
+    size: usize,
+    reader: &BitReader<I>,
+) -> bool
+    requires copied { IsCopied setting.now WIDTH }
+    requires size { size ≡ setting.now.block }
+    ensures there { result ≡ true → copied_bits setting.now WIDTH + 128 ≤ length reader.now.waiting }
+    ensures id { result ≡ true → word (id_len setting.now) (2 ^ id_len setting.now - 1)
+        ≡ take (id_len setting.now) reader.now.waiting }
+{
+    if reader.waiting() < copied_len::<WIDTH>(setting, size) as u64 + BEHIND {
+        return false;
+    }
+    reader.first_number_ahead(known_id_len::<WIDTH>(setting) as u32) == known_id::<WIDTH>(setting)
+}
+
+/// Writes the bytes of the samples of the next block, of `size` samples, which is not compressed. It takes nothing, and may write up to 15 bytes more after
+/// these.
+#[inline(always)]
+fn spell_copied_ahead<I: Intake, const WIDTH: usize>(
+    setting: &Setting,
+    size: usize,
+    reader: &BitReader<I>,
+    bytes: &mut [u8],
+)
+    requires copied { IsCopied setting.now WIDTH }
+    requires size { size ≡ setting.now.block }
+    requires there { copied_bits setting.now WIDTH + 128 ≤ length reader.now.waiting }
+    requires room { WIDTH * setting.now.block + 15 ≤ length bytes.old }
+    ensures { WordsAhead reader.now.waiting setting.now WIDTH (WIDTH * setting.now.block) bytes.new }
+{
+    let count = block_bytes::<WIDTH>(setting, size);
+    let head = known_id_len::<WIDTH>(setting);
+    for i in 0..(count + 15) / 16 {
+        let patterns = reader.words_ahead(head + 128 * i, 8);
+        let spelled = bytes_of_patterns::<WIDTH>(setting, patterns);
+        spelled.copy_to_slice(&mut bytes[16 * i..]);
+    }
+}
+
+/// Returns the level of the last sample of the next block, of `size` samples, which is not compressed.
+#[inline(always)]
+fn last_copied<I: Intake, const WIDTH: usize>(
+    setting: &Setting,
+    size: usize,
+    reader: &BitReader<I>,
+) -> u32
+    requires copied { IsCopied setting.now WIDTH }
+    requires size { size ≡ setting.now.block }
+    requires there { copied_bits setting.now WIDTH ≤ length reader.now.waiting }
+    ensures below { result < value_count setting.now }
+    ensures last { word (8 * WIDTH) (pattern setting.now (value_at setting.now result))
+        ≡ take (8 * WIDTH)
+        (drop (id_len setting.now + 8 * (WIDTH * setting.now.block - WIDTH))
+        reader.now.waiting) }
+{
+    let before = known_id_len::<WIDTH>(setting) + 8 * (block_bytes::<WIDTH>(setting, size) - WIDTH);
+    level_of_pattern(setting, reader.number_ahead(before, 8 * WIDTH as u32))
+}
+
+/// Does what [`pass`](crate::one_pass::pass) does outside a run, where samples are not predicted.
+#[inline(never)]
+pub fn copy_block<I: Intake, const SIZE: usize, const WIDTH: usize>(
+    decoder: &mut Decoder,
+    setting: &Setting,
+    reader: &mut BitReader<I>,
+    meter: &mut Meter,
+    bytes: &mut [u8; 320],
+) -> bool
+    requires setting { decoder.old.setting ≡ setting.now }
+    requires run { decoder.old.run ≡ 0 }
+    requires size { 0 < SIZE → SIZE ≡ setting.now.block }
+    requires stopped { decoder.old.stopped ≡ None }
+    requires going { reader.old.refusal ≡ None }
+    requires room { meter.old + 2 * (most_bits_read - reader.old.taken) + 64 < step_limit }
+    ensures some { result ≡ true →
+        GivesBytes reader.old reader.new meter.old meter.new decoder.old decoder.new bytes.new }
+    ensures none { result ≡ false → (decoder.new ≡ decoder.old) × (reader.new ≡ reader.old) ×
+        (meter.new ≡ meter.old) }
+    ensures going { reader.new.refusal ≡ None }
+    ensures stopped { decoder.new.stopped ≡ None }
+    ensures setting { decoder.new.setting ≡ decoder.old.setting }
+    ensures steps { AreCounted meter.old meter.new reader.old.taken reader.new.taken }
+{
+    let _taken = reader.taken();
+    if !is_copied::<WIDTH>(setting) {
+        return false;
+    }
+    let size = known_or::<SIZE>(setting.block() as usize);
+    if !is_copied_ahead::<I, WIDTH>(setting, size, reader) {
+        return false;
+    }
+    spell_copied_ahead::<I, WIDTH>(setting, size, reader, bytes);
+    let last = last_copied::<I, WIDTH>(setting, size, reader);
+    take_ahead(reader, copied_len::<WIDTH>(setting, size), meter);
+    let _answer = decoder.go_to_next_block(setting.value_at(last as u64), 0, reader, meter);
+    true
+}

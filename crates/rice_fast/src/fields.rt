@@ -1,0 +1,230 @@
+//! The fields of a block that waits, looked at before they are taken.
+ghost use Rattle.std.specs.Prelude.{◌≡◌, ℕ, ◌+◌, ◌-◌, ◌*◌, ◌^◌, ◌<◌, ◌≤◌, IfSome, length, take, true, false, ◌∷◌, ◌++◌, []};
+ghost use Rattle.rice_bits.specs.Bits.{word};
+ghost use Rattle.rice_samples.specs.Parameters.{id_len, value_count};
+ghost use Rattle.rice_samples.specs.Places.{is_reference};
+ghost use Rattle.rice_fast.specs.BlocksAhead.{HasBits};
+ghost use Rattle.rice_fast.specs.FieldsAhead.{AreFields, HeadAhead};
+
+use crate::high_parts::high_parts_ahead;
+use crate::lanes::SampleLanes;
+use crate::pairs::pairs_ahead;
+use rice_bits::{BitReader, Intake};
+use rice_samples::{Setting, level_of_pattern};
+
+/// The bits of identifier, reference sample and one bit between them, and those that are looked at behind these, at most.
+const LOOK: u64 = 38 + 64;
+
+/// The fields of a block: what its samples are restored from, but for the parts of its residuals.
+#[derive(Clone, Copy)]
+pub struct Fields {
+    /// The level after which the first sample is restored.
+    pub from: u32,
+    /// The number of first residuals that are not sent, one or none.
+    pub omitted: usize,
+    /// The number of bits of a low part.
+    pub k: u32,
+    /// The number of bits before the low parts.
+    pub words: usize,
+    /// The number of turns that a search for the pairs takes.
+    pub turns: u64,
+}
+
+/// What stands before the first sequence or word of a block.
+#[derive(Clone, Copy)]
+pub struct Head {
+    /// The level after which the first sample is restored.
+    pub from: u32,
+    /// The number of first residuals that are not sent, one or none.
+    pub omitted: usize,
+    /// The number of bits.
+    pub len: usize,
+}
+
+/// Returns whether the first sample of block `block` of its interval is a reference sample, where samples are predicted.
+#[inline(always)]
+pub fn begins_interval(setting: &Setting, block: u32) -> bool
+    requires preprocess { setting.now.preprocess ≡ true }
+    requires place { block < setting.now.interval }
+    ensures { result ≡ is_reference setting.now block }
+{
+    let _interval = setting.interval();
+    block == 0
+}
+
+/// Returns what stands behind the first `skip` bits of a block that waits, after a sample at level `before`: a reference sample, if it is a
+/// block with a `REFERENCE`, or nothing.
+#[inline(always)]
+fn head_ahead<I: Intake, const REFERENCE: bool>(
+    setting: &Setting,
+    block: u32,
+    before: u32,
+    skip: usize,
+    reader: &BitReader<I>,
+) -> Head
+    requires reference { REFERENCE ≡ is_reference setting.now block }
+    requires before { before < value_count setting.now }
+    requires skip { skip ≤ 6 }
+    requires there { 38 ≤ length reader.now.waiting }
+    ensures { HeadAhead reader.now.waiting setting.now block before skip result.from result.omitted result.len }
+{
+    if REFERENCE {
+        let bits = setting.bits();
+        let from = level_of_pattern(setting, reader.number_ahead(skip, bits));
+        return Head {
+            from,
+            omitted: 1,
+            len: skip + bits as usize,
+        };
+    }
+    Head {
+        from: before,
+        omitted: 0,
+        len: skip,
+    }
+}
+
+/// Returns the fields of the block of `size` samples that waits, after a sample at level `before`, if its fundamental sequences are short
+/// and it has a block. Writes the high parts of its residuals to the front of `highs`. It takes nothing.
+///
+/// It is laid out for blocks of `SIZE` samples with a `REFERENCE`, or without one.
+#[inline(always)]
+pub fn fields_ahead<L: SampleLanes, I: Intake, const SIZE: usize, const REFERENCE: bool>(
+    setting: &Setting,
+    size: usize,
+    block: u32,
+    before: u32,
+    reader: &BitReader<I>,
+    highs: &mut [u8; 80],
+) -> Option<Fields>
+    requires bits { HasBits L.below L.bits setting.now }
+    requires preprocess { setting.now.preprocess ≡ true }
+    requires size { size ≡ setting.now.block }
+    requires reference { REFERENCE ≡ is_reference setting.now block }
+    requires before { before < value_count setting.now }
+    ensures { IfSome result (λ f. AreFields reader.now.waiting setting.now block before size L.bits highs.new f) }
+{
+    if reader.waiting() < LOOK {
+        return None;
+    }
+    let id = reader.first_number_ahead(L::ID_LEN);
+    if id == 0 {
+        return pair_fields_ahead::<L, I, SIZE, REFERENCE>(
+            setting, size, block, before, reader, highs,
+        );
+    }
+    if id == (1 << L::ID_LEN) - 1 {
+        return Some(uncompressed_fields_ahead::<L, I, REFERENCE>(
+            setting, size, block, before, reader, highs,
+        ));
+    }
+    split_fields_ahead::<L, I, SIZE, REFERENCE>(setting, size, block, before, id - 1, reader, highs)
+}
+
+/// As `fields_ahead`, of a block by split `k`.
+#[inline(always)]
+fn split_fields_ahead<L: SampleLanes, I: Intake, const SIZE: usize, const REFERENCE: bool>(
+    setting: &Setting,
+    size: usize,
+    block: u32,
+    before: u32,
+    k: u32,
+    reader: &BitReader<I>,
+    highs: &mut [u8; 80],
+) -> Option<Fields>
+    requires bits { HasBits L.below L.bits setting.now }
+    requires preprocess { setting.now.preprocess ≡ true }
+    requires size { size ≡ setting.now.block }
+    requires reference { REFERENCE ≡ is_reference setting.now block }
+    requires before { before < value_count setting.now }
+    requires there { 102 ≤ length reader.now.waiting }
+    requires split { k + 2 < 2 ^ L.ID_LEN }
+    requires id { word (id_len setting.now) (k + 1) ≡ take (id_len setting.now) reader.now.waiting }
+    ensures { IfSome result (λ f. AreFields reader.now.waiting setting.now block before size L.bits highs.new f) }
+{
+    let _taken = reader.taken();
+    let _block = setting.block();
+    let id_len = setting.id_len();
+    let head = head_ahead::<I, REFERENCE>(setting, block, before, L::ID_LEN as usize, reader);
+    let len = high_parts_ahead::<I, SIZE, REFERENCE, false>(
+        reader,
+        size,
+        head.len,
+        head.omitted,
+        highs,
+    )?;
+    Some(Fields {
+        from: head.from,
+        omitted: head.omitted,
+        k,
+        words: head.len + len,
+        turns: 0,
+    })
+}
+
+/// As `fields_ahead`, of a block without compression.
+#[inline(always)]
+fn uncompressed_fields_ahead<L: SampleLanes, I: Intake, const REFERENCE: bool>(
+    setting: &Setting,
+    size: usize,
+    block: u32,
+    before: u32,
+    reader: &BitReader<I>,
+    highs: &mut [u8; 80],
+) -> Fields
+    requires bits { HasBits L.below L.bits setting.now }
+    requires preprocess { setting.now.preprocess ≡ true }
+    requires size { size ≡ setting.now.block }
+    requires reference { REFERENCE ≡ is_reference setting.now block }
+    requires before { before < value_count setting.now }
+    requires there { 102 ≤ length reader.now.waiting }
+    requires id { word (id_len setting.now) (2 ^ id_len setting.now - 1) ≡ take (id_len setting.now) reader.now.waiting }
+    ensures { AreFields reader.now.waiting setting.now block before size L.bits highs.new result }
+{
+    let _block = setting.block();
+    let head = head_ahead::<I, REFERENCE>(setting, block, before, L::ID_LEN as usize, reader);
+    *highs = [0; 80];
+    Fields {
+        from: head.from,
+        omitted: head.omitted,
+        k: setting.bits(),
+        words: head.len,
+        turns: 0,
+    }
+}
+
+/// As `fields_ahead`, of a block by second extension.
+#[inline(always)]
+fn pair_fields_ahead<L: SampleLanes, I: Intake, const SIZE: usize, const REFERENCE: bool>(
+    setting: &Setting,
+    size: usize,
+    block: u32,
+    before: u32,
+    reader: &BitReader<I>,
+    highs: &mut [u8; 80],
+) -> Option<Fields>
+    requires bits { HasBits L.below L.bits setting.now }
+    requires preprocess { setting.now.preprocess ≡ true }
+    requires size { size ≡ setting.now.block }
+    requires reference { REFERENCE ≡ is_reference setting.now block }
+    requires before { before < value_count setting.now }
+    requires there { 102 ≤ length reader.now.waiting }
+    requires id { word (id_len setting.now) 0 ≡ take (id_len setting.now) reader.now.waiting }
+    ensures { IfSome result (λ f. AreFields reader.now.waiting setting.now block before size L.bits highs.new f) }
+{
+    let _taken = reader.taken();
+    let _block = setting.block();
+    let bit = reader.number_ahead(L::ID_LEN as usize, 1);
+    if bit == 0 {
+        return None;
+    }
+    let head = head_ahead::<I, REFERENCE>(setting, block, before, L::ID_LEN as usize + 1, reader);
+    let pairs = pairs_ahead::<I, SIZE, REFERENCE>(reader, size, head.len, head.omitted, highs)?;
+    Some(Fields {
+        from: head.from,
+        omitted: head.omitted,
+        k: 0,
+        words: head.len + pairs.len,
+        turns: pairs.turns,
+    })
+}

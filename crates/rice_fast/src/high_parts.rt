@@ -1,0 +1,112 @@
+//! The high parts of the residuals of a block that waits, in rows of sixteen. The last row may have fewer.
+ghost use Rattle.std.specs.Prelude.{◌≡◌, ◌+◌, ◌-◌, ◌*◌, ◌<◌, ◌≤◌, ◌++◌, IfSome, length, replicate, take};
+ghost use Rattle.rice_fast.specs.FieldsAhead.{HighsAhead, rows_len};
+
+use crate::rows::placed;
+use rice_bits::{BitReader, Intake, Sequences};
+use rice_samples::Bytes;
+use std::simd::prelude::*;
+
+/// Returns the number of samples of row `row` of a block of `size` samples.
+#[inline(always)]
+fn row_len(size: usize, row: usize) -> usize
+    requires row { 16 * row < size }
+    ensures some { (1 ≤ result) × (result ≤ 16) }
+    ensures end { 16 * row + result ≡ rows_len size (row + 1) }
+{
+    // Where all rows are whole, the compiler sees that no lane has to be cleared.
+    if size % 16 == 0 {
+        16
+    } else {
+        (size - 16 * row).min(16)
+    }
+}
+
+/// Returns the number of bytes in which the fundamental sequences of a row have to end. High parts are 1 to 2 in the mean, and of four
+/// rows one is often longer than six bytes.
+#[inline(always)]
+fn row_bytes(size: usize) -> usize
+    ensures { (1 ≤ result) × (result ≤ 7) }
+{
+    if size > 16 {
+        7
+    } else if size > 8 {
+        6
+    } else {
+        5
+    }
+}
+
+/// Writes the numbers to row `row`, of sixteen numbers each.
+#[inline(always)]
+fn store_row(rows: &mut [u8], row: usize, numbers: u8x16)
+    requires row { 16 * (row + 1) ≤ length rows.old }
+    requires few { length rows.old ≤ 80 }
+    requires lanes { length numbers ≡ 16 }
+    ensures len { length rows.new ≡ length rows.old }
+    ensures value { take (16 * (row + 1)) rows.new ≡ take (16 * row) rows.old ++ numbers }
+{
+    numbers.copy_to_slice(&mut rows[16 * row..]);
+}
+
+/// Returns the high parts of a row of `count` residuals whose fundamental sequences wait behind the first `skip` bits, if they end within
+/// `bytes` bytes, and zeros behind them. Those that are omitted, one or none, are zeros.
+#[inline(always)]
+fn high_parts_of_row_ahead<I: Intake>(
+    reader: &BitReader<I>,
+    skip: usize,
+    omitted: usize,
+    count: usize,
+    bytes: usize,
+) -> Option<Sequences>
+    requires skip { skip ≤ length reader.now.waiting }
+    requires omitted { omitted ≤ 1 }
+    requires count { (omitted < count) × (count ≤ 16) }
+    requires bytes { (1 ≤ bytes) × (bytes ≤ 7) }
+    ensures some { IfSome result (λ s.
+        HighsAhead reader.now.waiting skip omitted (take count s.numbers) s.len) }
+    ensures lanes { IfSome result (λ s. length s.numbers ≡ 16) }
+{
+    let _taken = reader.taken();
+    if reader.waiting() < skip as u64 + 64 {
+        return None;
+    }
+    let sequences = reader.sequences_ahead(skip, bytes, count - omitted)?;
+    let row = placed(Bytes::of(sequences.numbers), omitted, count);
+    Some(Sequences {
+        numbers: row.lanes,
+        len: sequences.len,
+    })
+}
+
+/// Writes the high parts of the residuals of a block of `size` samples to the front of `highs`, and returns the number of their bits. Their
+/// fundamental sequences begin after `skip` bits. Returns `None` if a row of them is longer than one look. Parts that are omitted, none or
+/// one, are zeros.
+///
+/// There is one for each block of `SIZE` samples with a `REFERENCE`, or without, and for pairs: it is inlined only where it has one caller.
+#[inline(always)]
+pub fn high_parts_ahead<I: Intake, const SIZE: usize, const REFERENCE: bool, const OF_PAIRS: bool>(
+    reader: &BitReader<I>,
+    size: usize,
+    skip: usize,
+    omitted: usize,
+    highs: &mut [u8; 80],
+) -> Option<usize>
+    requires size { (omitted < size) × (size ≤ 64) }
+    requires skip { skip ≤ length reader.now.waiting }
+    requires omitted { omitted ≤ 1 }
+    ensures some { IfSome result (λ n. HighsAhead reader.now.waiting skip omitted
+        (take size highs.new) n) }
+{
+    let _taken = reader.taken();
+    let bytes = row_bytes(size);
+    let first = high_parts_of_row_ahead(reader, skip, omitted, row_len(size, 0), bytes)?;
+    store_row(highs, 0, first.numbers);
+    let mut len = first.len;
+    for row in 1..(size + 15) / 16 {
+        let next = high_parts_of_row_ahead(reader, skip + len, 0, row_len(size, row), bytes)?;
+        store_row(highs, row, next.numbers);
+        len += next.len;
+    }
+    Some(len)
+}

@@ -1,0 +1,73 @@
+//! Samples of at most 8 bits.
+ghost use Rattle.std.proofs.Common.{rules};
+ghost use Rattle.rice_samples.proofs.lemmas.setting.BitsOfLanes.{byte_id, byte_splits, byte_row};
+
+use crate::lanes::SampleLanes;
+use rice_bits::{BitReader, Intake};
+use rice_samples::{Bytes, Setting, bytes_in_turn, spelled_in_one_byte};
+use std::simd::prelude::*;
+
+/// Ones in all bits of sixteen lanes, and then zeros: a mask of the first `n` lanes begins `16 - n` places behind the front.
+static ONES: [u8; 32] = [
+    255, 255, 255, 255, 255, 255, 255, 255, 255, 255, 255, 255, 255, 255, 255, 255, 0, 0, 0, 0, 0,
+    0, 0, 0, 0, 0, 0, 0, 0, 0, 0, 0,
+];
+
+impl SampleLanes for Bytes {
+    const BITS: u32 = 8;
+
+    ghost BITS = { 8 };
+
+    const ID_LEN: u32 = 3;
+
+    ghost ID_LEN = { 3 };
+
+    const LOOK: u64 = 128;
+
+    ghost LOOK = { 128 };
+
+    ghost below = { 0 };
+
+    ghost bits_are = { Prim.search rules };
+
+    ghost look = { Prim.search rules };
+
+    ghost id_is = { λ s has. byte_id s has.most };
+
+    ghost splits = { byte_splits };
+
+    ghost row = { byte_row };
+
+    #[inline(always)]
+    fn words_ahead<I: Intake>(reader: &BitReader<I>, skip: usize, width: u32) -> Self {
+        Bytes::of(reader.words_ahead(skip, width))
+    }
+
+    #[inline(always)]
+    fn of_bytes(from: &[u8]) -> Self {
+        Bytes::of(u8x16::from_slice(from))
+    }
+
+    #[inline(always)]
+    fn first(self, count: usize) -> Self {
+        if count == 16 {
+            return self;
+        }
+        Bytes::of(self.lanes & u8x16::from_slice(&ONES[16 - count..]))
+    }
+
+    #[inline(always)]
+    fn number_at(self, place: usize) -> u32 {
+        self.lanes.to_array()[place] as u32
+    }
+
+    #[inline(always)]
+    fn in_turn(self, greatest: u32, before: u32) -> Self {
+        bytes_in_turn(greatest, before, self)
+    }
+
+    #[inline(always)]
+    fn write_bytes(self, setting: &Setting, bytes: &mut [u8]) {
+        spelled_in_one_byte(setting, self).copy_to_slice(bytes);
+    }
+}

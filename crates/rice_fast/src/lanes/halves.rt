@@ -1,0 +1,78 @@
+//! Samples of 9 to 16 bits.
+ghost use Rattle.std.proofs.Common.{rules};
+ghost use Rattle.rice_samples.proofs.lemmas.setting.BitsOfLanes.{half_id, half_splits, half_row};
+
+use crate::lanes::SampleLanes;
+use rice_bits::{BitReader, Intake};
+use rice_samples::{Halves, Setting, halves_in_turn, spelled_in_two_bytes};
+use std::simd::prelude::*;
+
+/// The greatest width of words that eight lanes of 16 bits take from one load.
+const MOST_OF_ONE_LOAD: u32 = 9;
+
+/// Ones in all bits of eight lanes, and then zeros: a mask of the first `n` lanes begins `8 - n` places behind the front.
+static ONES: [u16; 16] = [
+    65535, 65535, 65535, 65535, 65535, 65535, 65535, 65535, 0, 0, 0, 0, 0, 0, 0, 0,
+];
+
+impl SampleLanes for Halves {
+    const BITS: u32 = 16;
+
+    ghost BITS = { 16 };
+
+    const ID_LEN: u32 = 4;
+
+    ghost ID_LEN = { 4 };
+
+    const LOOK: u64 = 192;
+
+    ghost LOOK = { 192 };
+
+    ghost below = { 8 };
+
+    ghost bits_are = { Prim.search rules };
+
+    ghost look = { Prim.search rules };
+
+    ghost id_is = { λ s has. half_id s has.more has.most };
+
+    ghost splits = { half_splits };
+
+    ghost row = { half_row };
+
+    #[inline(always)]
+    fn words_ahead<I: Intake>(reader: &BitReader<I>, skip: usize, width: u32) -> Self {
+        if width <= MOST_OF_ONE_LOAD {
+            return Halves::of(reader.eight_words_ahead(skip, width));
+        }
+        Halves::of(reader.wide_words_ahead(skip, width).cast::<u16>())
+    }
+
+    #[inline(always)]
+    fn of_bytes(from: &[u8]) -> Self {
+        Halves::of(u8x8::from_slice(from).cast::<u16>())
+    }
+
+    #[inline(always)]
+    fn first(self, count: usize) -> Self {
+        if count == 8 {
+            return self;
+        }
+        Halves::of(self.lanes & u16x8::from_slice(&ONES[8 - count..]))
+    }
+
+    #[inline(always)]
+    fn number_at(self, place: usize) -> u32 {
+        self.lanes.to_array()[place] as u32
+    }
+
+    #[inline(always)]
+    fn in_turn(self, greatest: u32, before: u32) -> Self {
+        halves_in_turn(greatest, before, self)
+    }
+
+    #[inline(always)]
+    fn write_bytes(self, setting: &Setting, bytes: &mut [u8]) {
+        spelled_in_two_bytes(setting, self).copy_to_slice(bytes);
+    }
+}

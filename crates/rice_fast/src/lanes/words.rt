@@ -1,0 +1,101 @@
+//! Samples of 17 to 32 bits.
+ghost use Rattle.std.specs.Prelude.{◌≡◌, ◌+◌, ◌*◌, ◌^◌, ◌<◌, ◌≤◌, All, drop, flat_map, length, take};
+ghost use Rattle.std.proofs.Common.{rules};
+ghost use Rattle.rice_bits.specs.Bits.{word};
+ghost use Rattle.rice_samples.proofs.lemmas.setting.BitsOfLanes.{word_id, word_splits, word_row};
+
+use crate::lanes::SampleLanes;
+use rice_bits::{BitReader, Intake};
+use rice_samples::{Setting, Words, spelled_in_four_bytes, spelled_in_three_bytes, words_in_turn};
+use std::simd::prelude::*;
+
+/// The greatest width of words that are taken in lanes.
+const MOST_IN_LANES: u32 = 24;
+
+/// Ones in all bits of eight lanes, and then zeros: a mask of the first `n` lanes begins `8 - n` places behind the front.
+static ONES: [u32; 16] = [
+    4294967295, 4294967295, 4294967295, 4294967295, 4294967295, 4294967295, 4294967295, 4294967295,
+    0, 0, 0, 0, 0, 0, 0, 0,
+];
+
+/// Returns the eight words of `width` bits after the first `skip` buffered bits, read one by one.
+#[inline(always)]
+fn words_one_by_one<I: Intake>(reader: &BitReader<I>, skip: usize, width: u32) -> Words
+    requires width { width ≤ 32 }
+    requires there { skip + 256 ≤ length reader.now.waiting }
+    ensures fit { All (λ v. v < 2 ^ width) result.lanes }
+    ensures bits { flat_map (word width) result.lanes ≡ take (8 * width) (drop skip reader.now.waiting) }
+{
+    let _taken = reader.taken();
+    let mut words = [0; 8];
+    for i in 0..8 {
+        words[i] = reader.number_ahead(skip + i * width as usize, width);
+    }
+    Words::of(u32x8::from_array(words))
+}
+
+impl SampleLanes for Words {
+    const BITS: u32 = 32;
+
+    ghost BITS = { 32 };
+
+    const ID_LEN: u32 = 5;
+
+    ghost ID_LEN = { 5 };
+
+    const LOOK: u64 = 256;
+
+    ghost LOOK = { 256 };
+
+    ghost below = { 16 };
+
+    ghost bits_are = { Prim.search rules };
+
+    ghost look = { Prim.search rules };
+
+    ghost id_is = { λ s has. word_id s has.more };
+
+    ghost splits = { word_splits };
+
+    ghost row = { word_row };
+
+    #[inline(always)]
+    fn words_ahead<I: Intake>(reader: &BitReader<I>, skip: usize, width: u32) -> Self {
+        if width == 0 || width > MOST_IN_LANES {
+            return words_one_by_one(reader, skip, width);
+        }
+        Words::of(reader.wide_words_ahead(skip, width))
+    }
+
+    #[inline(always)]
+    fn of_bytes(from: &[u8]) -> Self {
+        Words::of(u8x8::from_slice(from).cast::<u32>())
+    }
+
+    #[inline(always)]
+    fn first(self, count: usize) -> Self {
+        if count == 8 {
+            return self;
+        }
+        Words::of(self.lanes & u32x8::from_slice(&ONES[8 - count..]))
+    }
+
+    #[inline(always)]
+    fn number_at(self, place: usize) -> u32 {
+        self.lanes.to_array()[place]
+    }
+
+    #[inline(always)]
+    fn in_turn(self, greatest: u32, before: u32) -> Self {
+        words_in_turn(greatest, before, self)
+    }
+
+    #[inline(always)]
+    fn write_bytes(self, setting: &Setting, bytes: &mut [u8]) {
+        if setting.width() == 3 {
+            spelled_in_three_bytes(setting, self).copy_to_slice(bytes);
+        } else {
+            spelled_in_four_bytes(setting, self).copy_to_slice(bytes);
+        }
+    }
+}

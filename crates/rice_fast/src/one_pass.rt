@@ -1,0 +1,200 @@
+//! The pass: a block that waits, from its bits to the bytes of its samples.
+ghost use Rattle.std.specs.Prelude.{◌≡◌, ◌+◌, ◌-◌, ◌*◌, ◌<◌, ◌≤◌, IfSome, None, false, length, take, true};
+ghost use Rattle.rice_bits.specs.Limits.{step_limit, most_bits_read};
+ghost use Rattle.rice_bits.specs.read.Reader.{Takes};
+ghost use Rattle.rice_samples.specs.Parameters.{value_at, value_count, width as width_of};
+ghost use Rattle.rice_samples.specs.Places.{is_reference};
+ghost use Rattle.rice_code.specs.decode.Decoder.{with_mark};
+ghost use Rattle.rice_code.specs.decode.RowsOfFields.{AreCounted};
+ghost use Rattle.rice_fast.specs.BlocksAhead.{GivesBytes, HasBits, SpelledAhead};
+
+use crate::copied_blocks::copy_block;
+use crate::fields::{begins_interval, fields_ahead};
+use crate::lanes::SampleLanes;
+use crate::rows::spell_rows;
+use rice_bits::{BitReader, Intake, Meter};
+use rice_code::{Decoder, known_or};
+use rice_samples::Setting;
+
+/// The level of the last sample of a block, the number of bits of its coded data set, and the number of turns that a search for its pairs
+/// takes.
+#[derive(Clone, Copy)]
+struct SpelledBlock {
+    last: u32,
+    len: usize,
+    turns: u64,
+}
+
+/// Writes the bytes of the block of `size` samples that waits, after a sample at level `before`, if it can. It takes no bits.
+/// It is laid out for blocks of `SIZE` samples with a `REFERENCE`, or without one.
+#[inline(always)]
+fn spell_fields_ahead<
+    L: SampleLanes,
+    I: Intake,
+    const SIZE: usize,
+    const WIDTH: usize,
+    const REFERENCE: bool,
+>(
+    setting: &Setting,
+    size: usize,
+    block: u32,
+    before: u32,
+    reader: &BitReader<I>,
+    bytes: &mut [u8; 320],
+) -> Option<SpelledBlock>
+    requires bits { HasBits L.below L.bits setting.now }
+    requires width { WIDTH ≡ width_of setting.now }
+    requires preprocess { setting.now.preprocess ≡ true }
+    requires size { size ≡ setting.now.block }
+    requires reference { REFERENCE ≡ is_reference setting.now block }
+    requires before { before < value_count setting.now }
+    ensures { IfSome result (λ r. SpelledAhead reader.now.waiting setting.now block
+        (value_at setting.now before) r.last r.len r.turns bytes.new) }
+{
+    let _taken = reader.taken();
+    let _block = setting.block();
+    let mut highs = [0; 80];
+    let fields = fields_ahead::<L, I, SIZE, REFERENCE>(
+        setting, size, block, before, reader, &mut highs,
+    )?;
+    if reader.waiting() < (fields.words + size * fields.k as usize) as u64 + L::LOOK {
+        return None;
+    }
+    let last = spell_rows::<L, I, SIZE, WIDTH, REFERENCE>(
+        setting, size, &fields, &highs, reader, bytes,
+    )?;
+    Some(SpelledBlock {
+        last,
+        len: fields.words + (size - fields.omitted) * fields.k as usize,
+        turns: fields.turns,
+    })
+}
+
+/// Writes the bytes of the block of `size` samples that waits, after a sample at level `before`, if it can. It takes no bits.
+#[inline(always)]
+fn spell_block_ahead<L: SampleLanes, I: Intake, const SIZE: usize, const WIDTH: usize>(
+    setting: &Setting,
+    size: usize,
+    block: u32,
+    before: u32,
+    reader: &BitReader<I>,
+    bytes: &mut [u8; 320],
+) -> Option<SpelledBlock>
+    requires bits { HasBits L.below L.bits setting.now }
+    requires width { WIDTH ≡ width_of setting.now }
+    requires preprocess { setting.now.preprocess ≡ true }
+    requires size { size ≡ setting.now.block }
+    requires place { block < setting.now.interval }
+    requires before { before < value_count setting.now }
+    ensures { IfSome result (λ r. SpelledAhead reader.now.waiting setting.now block
+        (value_at setting.now before) r.last r.len r.turns bytes.new) }
+{
+    if begins_interval(setting, block) {
+        return spell_fields_ahead::<L, I, SIZE, WIDTH, true>(
+            setting, size, block, before, reader, bytes,
+        );
+    }
+    spell_fields_ahead::<L, I, SIZE, WIDTH, false>(setting, size, block, before, reader, bytes)
+}
+
+/// Takes the next `len` bits, which are those of a block, as if after [`mark`](BitReader::mark).
+#[inline(always)]
+pub(crate) fn take_ahead<I: Intake>(reader: &mut BitReader<I>, len: usize, meter: &mut Meter)
+    requires going { reader.old.refusal ≡ None }
+    requires there { len ≤ length reader.old.waiting }
+    requires meter { meter.old + len < step_limit }
+    ensures takes { Takes (with_mark reader.old) reader.new (take len reader.old.waiting) }
+    ensures limit { reader.new.taken ≤ most_bits_read }
+    ensures steps { meter.new ≡ meter.old + len }
+{
+    reader.mark();
+    reader.pass(len, meter);
+}
+
+/// Reads the next block by a pass, if its coded data set is buffered and fits one. Writes the bytes of its samples, `WIDTH` each, to the
+/// front of `bytes`. `SIZE`, unless it is 0, is the number of samples of a block.
+///
+/// A pass takes a predicted block by any option whose fundamental sequences are short. It takes a block that is not predicted if it is not
+/// compressed and its samples fill 1, 2 or 4 bytes.
+///
+/// Returns whether it took the block. Otherwise nothing has happened, and [`next_block`](Decoder::next_block) gives it. It may write more
+/// after these bytes.
+#[inline(always)]
+pub fn pass<L: SampleLanes, I: Intake, const SIZE: usize, const WIDTH: usize>(
+    decoder: &mut Decoder,
+    setting: &Setting,
+    reader: &mut BitReader<I>,
+    meter: &mut Meter,
+    bytes: &mut [u8; 320],
+) -> bool
+    requires setting { decoder.old.setting ≡ setting.now }
+    requires bits { HasBits L.below L.bits setting.now }
+    requires size { 0 < SIZE → SIZE ≡ setting.now.block }
+    requires width { WIDTH ≡ width_of setting.now }
+    requires stopped { decoder.old.stopped ≡ None }
+    requires going { reader.old.refusal ≡ None }
+    requires room { meter.old + 2 * (most_bits_read - reader.old.taken) + 64 < step_limit }
+    ensures some { result ≡ true → (decoder.old.run ≡ 0) ×
+        GivesBytes reader.old reader.new meter.old meter.new decoder.old decoder.new bytes.new }
+    ensures none { result ≡ false → (decoder.new ≡ decoder.old) × (reader.new ≡ reader.old) ×
+        (meter.new ≡ meter.old) }
+    // It may be called again with this reader.
+    ensures going { reader.new.refusal ≡ None }
+    ensures stopped { decoder.new.stopped ≡ None }
+    ensures setting { decoder.new.setting ≡ decoder.old.setting }
+    // Steps are at least the bits taken, and at most twice as many.
+    ensures steps { AreCounted meter.old meter.new reader.old.taken reader.new.taken }
+{
+    let _taken = reader.taken();
+    if decoder.run() > 0 {
+        return false;
+    }
+    if setting.preprocess() {
+        return pass_predicted::<L, I, SIZE, WIDTH>(decoder, setting, reader, meter, bytes);
+    }
+    copy_block::<I, SIZE, WIDTH>(decoder, setting, reader, meter, bytes)
+}
+
+/// Does what [`pass`] does outside a run, where samples are predicted.
+#[inline(never)]
+fn pass_predicted<L: SampleLanes, I: Intake, const SIZE: usize, const WIDTH: usize>(
+    decoder: &mut Decoder,
+    setting: &Setting,
+    reader: &mut BitReader<I>,
+    meter: &mut Meter,
+    bytes: &mut [u8; 320],
+) -> bool
+    requires setting { decoder.old.setting ≡ setting.now }
+    requires preprocess { setting.now.preprocess ≡ true }
+    requires run { decoder.old.run ≡ 0 }
+    requires bits { HasBits L.below L.bits setting.now }
+    requires size { 0 < SIZE → SIZE ≡ setting.now.block }
+    requires width { WIDTH ≡ width_of setting.now }
+    requires stopped { decoder.old.stopped ≡ None }
+    requires going { reader.old.refusal ≡ None }
+    requires room { meter.old + 2 * (most_bits_read - reader.old.taken) + 64 < step_limit }
+    ensures some { result ≡ true →
+        GivesBytes reader.old reader.new meter.old meter.new decoder.old decoder.new bytes.new }
+    ensures none { result ≡ false → (decoder.new ≡ decoder.old) × (reader.new ≡ reader.old) ×
+        (meter.new ≡ meter.old) }
+    ensures going { reader.new.refusal ≡ None }
+    ensures stopped { decoder.new.stopped ≡ None }
+    ensures setting { decoder.new.setting ≡ decoder.old.setting }
+    ensures steps { AreCounted meter.old meter.new reader.old.taken reader.new.taken }
+{
+    let _taken = reader.taken();
+    let size = known_or::<SIZE>(setting.block() as usize);
+    let block = decoder.block();
+    let before = setting.level(decoder.before()) as u32;
+    let spelled = match spell_block_ahead::<L, I, SIZE, WIDTH>(
+        setting, size, block, before, reader, bytes,
+    ) {
+        Some(spelled) => spelled,
+        None => return false,
+    };
+    take_ahead(reader, spelled.len, meter);
+    meter.tick(spelled.turns);
+    let last = setting.value_at(spelled.last as u64);
+    let _answer = decoder.go_to_next_block(last, 0, reader, meter);
+    true
+}

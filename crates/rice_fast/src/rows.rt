@@ -1,0 +1,207 @@
+//! Restores the samples of a block that waits, and writes their bytes, a row of lanes at a time.
+ghost use Rattle.std.specs.Prelude.{◌≡◌, ◌+◌, ◌-◌, ◌*◌, ◌^◌, ◌<◌, ◌≤◌, ◌++◌, All, IfSome, drop, length, replicate, take};
+ghost use Rattle.rice_samples.specs.Parameters.{value_count, width as width_of};
+ghost use Rattle.rice_samples.specs.predict.LevelsOfParts.{AreLevelsOfParts};
+ghost use Rattle.rice_fast.specs.BlocksAhead.{HasBits};
+ghost use Rattle.rice_fast.specs.FieldsAhead.{AreFields, LowsAhead, len_of};
+ghost use Rattle.rice_fast.specs.RowsAhead.{RowsAhead, SpellsParts};
+
+use crate::fields::Fields;
+use crate::lanes::SampleLanes;
+use rice_bits::{BitReader, Intake};
+use rice_samples::{Setting, join_parts, near_levels_of_parts};
+
+/// The least level that so many others are near to that near ones are expected after it.
+const FEW_NEAR: u32 = 8;
+
+/// Returns zeros for the numbers that are omitted, one or none, and then these: `count` in all, with zeros behind them.
+#[inline(always)]
+pub fn placed<L: SampleLanes>(numbers: L, omitted: usize, count: usize) -> L
+    requires omitted { omitted ≤ 1 }
+    requires count { count ≤ L.COUNT }
+    ensures { L.numbers result
+        ≡ take count (replicate omitted 0 ++ L.numbers numbers) ++ replicate (L.COUNT - count) 0 }
+{
+    if omitted == 0 {
+        return numbers.first(count);
+    }
+    numbers.moved_by_one().first(count)
+}
+
+/// Returns the low parts of a row of `count` residuals, words of `k` bits that wait behind the first `skip` bits, with zeros behind them.
+/// Those that are omitted, one or none, are zeros.
+#[inline(always)]
+fn low_parts_of_row<L: SampleLanes, I: Intake>(
+    reader: &BitReader<I>,
+    skip: usize,
+    omitted: usize,
+    count: usize,
+    k: u32,
+) -> L
+    requires omitted { omitted ≤ 1 }
+    requires count { (1 ≤ count) × (count ≤ L.COUNT) }
+    requires split { k ≤ L.bits }
+    requires there { skip + L.LOOK ≤ length reader.now.waiting }
+    ensures row { LowsAhead reader.now.waiting skip omitted k (take count (L.numbers result)) }
+    ensures low { All (λ l. l < 2 ^ k) (L.numbers result) }
+{
+    placed(L::words_ahead(reader, skip, k), omitted, count)
+}
+
+/// Returns the levels of samples, whose residuals have these high parts and low parts of `k` bits, one after another: the first after a
+/// sample at level `before`. Returns `None` if a residual is too large.
+#[inline(never)]
+fn levels_in_turn<L: SampleLanes>(
+    setting: &Setting,
+    before: u32,
+    highs: L,
+    lows: L,
+    k: u32,
+) -> Option<L>
+    requires narrow { setting.now.bits ≤ L.bits }
+    requires before { before < value_count setting.now }
+    requires split { k < L.bits }
+    requires low { All (λ l. l < 2 ^ k) (L.numbers lows) }
+    ensures { IfSome result (λ l.
+        AreLevelsOfParts setting.now before k (L.numbers highs) (L.numbers lows) (L.numbers l)) }
+{
+    let greatest = (setting.number_of_values() - 1) as u32;
+    let ranks = join_parts(highs, lows, k);
+    let high = highs.above(L::splat(L::MOST >> k));
+    let large = ranks.above(L::splat(greatest));
+    if !high.or(large).is_zero() {
+        return None;
+    }
+    Some(ranks.in_turn(greatest, before))
+}
+
+/// Does what `levels_in_turn` does, all at once where samples are near to those before them. Near ones are not expected after a level that
+/// few others are near to.
+#[inline(always)]
+fn levels_of_parts<L: SampleLanes>(
+    setting: &Setting,
+    before: u32,
+    highs: L,
+    lows: L,
+    k: u32,
+) -> Option<L>
+    requires narrow { setting.now.bits ≤ L.bits }
+    requires before { before < value_count setting.now }
+    requires split { k < L.bits }
+    requires low { All (λ l. l < 2 ^ k) (L.numbers lows) }
+    ensures { IfSome result (λ l.
+        AreLevelsOfParts setting.now before k (L.numbers highs) (L.numbers lows) (L.numbers l)) }
+{
+    if before >= FEW_NEAR {
+        if let Some(levels) = near_levels_of_parts(setting, before, highs, lows, k) {
+            return Some(levels);
+        }
+    }
+    levels_in_turn(setting, before, highs, lows, k)
+}
+
+/// Returns the levels of a row of samples whose residuals have these parts. Without compression, a low part is a whole residual.
+#[inline(always)]
+fn levels_of_row<L: SampleLanes>(
+    setting: &Setting,
+    before: u32,
+    highs: L,
+    lows: L,
+    k: u32,
+) -> Option<L>
+    requires narrow { setting.now.bits ≤ L.bits }
+    requires before { before < value_count setting.now }
+    requires split { k ≤ L.bits }
+    requires low { All (λ l. l < 2 ^ k) (L.numbers lows) }
+    requires whole { k ≡ L.bits → L.numbers highs ≡ replicate L.COUNT 0 }
+    ensures { IfSome result (λ l.
+        AreLevelsOfParts setting.now before k (L.numbers highs) (L.numbers lows) (L.numbers l)) }
+{
+    if k == L::BITS {
+        return levels_of_parts(setting, before, lows, L::splat(0), 0);
+    }
+    levels_of_parts(setting, before, highs, lows, k)
+}
+
+/// Writes the bytes of a row of `count` samples whose residuals have these parts, behind the first `at` bytes. Returns the level of the
+/// last, or `None` if a residual is too large. It may write more after these bytes.
+#[inline(always)]
+fn spell_row<L: SampleLanes>(
+    setting: &Setting,
+    before: u32,
+    highs: L,
+    lows: L,
+    k: u32,
+    count: usize,
+    at: usize,
+    bytes: &mut [u8],
+) -> Option<u32>
+    requires bits { HasBits L.below L.bits setting.now }
+    requires before { before < value_count setting.now }
+    requires split { k ≤ L.bits }
+    requires low { All (λ l. l < 2 ^ k) (L.numbers lows) }
+    requires whole { k ≡ L.bits → L.numbers highs ≡ replicate L.COUNT 0 }
+    requires count { (1 ≤ count) × (count ≤ L.COUNT) }
+    requires room { at + 32 ≤ length bytes.old }
+    ensures some { IfSome result (λ l. SpellsParts setting.now before k count
+        (take count (L.numbers highs)) (take count (L.numbers lows)) l (drop at bytes.new)) }
+    ensures front { take at bytes.new ≡ take at bytes.old }
+    ensures len { length bytes.new ≡ length bytes.old }
+{
+    let levels = levels_of_row(setting, before, highs, lows, k)?;
+    levels.write_bytes(setting, &mut bytes[at..]);
+    Some(levels.number_at(count - 1))
+}
+
+/// Writes the bytes of the samples of the block with these fields and high parts, `WIDTH` each, to the front of `bytes`. Returns the level
+/// of the last, or `None` if a residual is too large. It may write more after these bytes.
+#[inline(always)]
+pub fn spell_rows<
+    L: SampleLanes,
+    I: Intake,
+    const SIZE: usize,
+    const WIDTH: usize,
+    const REFERENCE: bool,
+>(
+    setting: &Setting,
+    size: usize,
+    fields: &Fields,
+    highs: &[u8; 80],
+    reader: &BitReader<I>,
+    bytes: &mut [u8; 320],
+) -> Option<u32>
+    requires bits { HasBits L.below L.bits setting.now }
+    requires width { WIDTH ≡ width_of setting.now }
+    requires size { (2 ≤ size) × (size ≤ 64) }
+    requires begins { fields.now.from < value_count setting.now }
+    requires few { fields.now.omitted ≤ 1 }
+    requires narrow { fields.now.k ≤ L.bits }
+    requires whole { fields.now.k ≡ L.bits → highs.now ≡ replicate 80 0 }
+    requires there { fields.now.words + size * fields.now.k + L.LOOK ≤ length reader.now.waiting }
+    ensures { IfSome result (λ l. RowsAhead reader.now.waiting setting.now fields.now highs.now size l bytes.new) }
+{
+    let _taken = reader.taken();
+    let mut last = fields.from;
+    let mut omitted = fields.omitted;
+    let mut place = fields.words;
+    let mut at = 0;
+    while at < size {
+        let count = (size - at).min(L::COUNT);
+        let lows: L = low_parts_of_row(reader, place, omitted, count, fields.k);
+        let highs = L::of_bytes(&highs[at..]);
+        last = spell_row(
+            setting,
+            last,
+            highs,
+            lows,
+            fields.k,
+            count,
+            WIDTH * at,
+            bytes,
+        )?;
+        place += (count - omitted) * fields.k as usize;
+        omitted = 0;
+        at += count;
+    }
+    Some(last)
+}
