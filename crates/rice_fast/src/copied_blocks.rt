@@ -93,8 +93,8 @@ fn is_copied_ahead<I: Intake, const WIDTH: usize>(
     reader.first_number_ahead(known_id_len::<WIDTH>(setting) as u32) == known_id::<WIDTH>(setting)
 }
 
-/// Writes the bytes of the samples of the next block, of `size` samples, which is not compressed. It takes nothing, and may write up to 15 bytes more after
-/// these.
+/// Writes the bytes of the samples of the next block, of `size` samples, which is not compressed. It takes nothing, and may write up to
+/// 15 bytes more after these.
 #[inline(always)]
 fn spell_copied_ahead<I: Intake, const WIDTH: usize>(
     setting: &Setting,

@@ -1,5 +1,5 @@
 //! The high parts of the residuals of a block that waits, in rows of sixteen. The last row may have fewer.
-ghost use Rattle.std.specs.Prelude.{◌≡◌, ◌+◌, ◌-◌, ◌*◌, ◌<◌, ◌≤◌, ◌++◌, IfSome, length, replicate, take};
+ghost use Rattle.std.specs.Prelude.{◌≡◌, ◌+◌, ◌-◌, ◌*◌, ◌<◌, ◌≤◌, ◌++◌, IfSome, length, take};
 ghost use Rattle.rice_fast.specs.FieldsAhead.{HighsAhead, rows_len};
 
 use crate::rows::placed;

@@ -3,7 +3,7 @@ ghost use Rattle.std.specs.Prelude.{◌≡◌, ◌+◌, ◌-◌, ◌*◌, ◌^�
 ghost use Rattle.rice_samples.specs.Parameters.{value_count, width as width_of};
 ghost use Rattle.rice_samples.specs.predict.LevelsOfParts.{AreLevelsOfParts};
 ghost use Rattle.rice_fast.specs.BlocksAhead.{HasBits};
-ghost use Rattle.rice_fast.specs.FieldsAhead.{AreFields, LowsAhead, len_of};
+ghost use Rattle.rice_fast.specs.FieldsAhead.{LowsAhead};
 ghost use Rattle.rice_fast.specs.RowsAhead.{RowsAhead, SpellsParts};
 
 use crate::fields::Fields;
@@ -13,6 +13,9 @@ use rice_samples::{Setting, join_parts, near_levels_of_parts};
 
 /// The least level that so many others are near to that near ones are expected after it.
 const FEW_NEAR: u32 = 8;
+
+/// The number of bits of samples that have few levels that are not near.
+const FEW_BITS: u32 = 4;
 
 /// Returns zeros for the numbers that are omitted, one or none, and then these: `count` in all, with zeros behind them.
 #[inline(always)]
@@ -92,7 +95,7 @@ fn levels_of_parts<L: SampleLanes>(
     ensures { IfSome result (λ l.
         AreLevelsOfParts setting.now before k (L.numbers highs) (L.numbers lows) (L.numbers l)) }
 {
-    if before >= FEW_NEAR {
+    if before >= FEW_NEAR || setting.bits() <= FEW_BITS {
         if let Some(levels) = near_levels_of_parts(setting, before, highs, lows, k) {
             return Some(levels);
         }

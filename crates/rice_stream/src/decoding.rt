@@ -111,14 +111,13 @@ pub fn decode<I: Intake, O: Outlet>(
     decode_blocks::<FastPass, I, O, 0, 0>(setting, asked, intake, outlet)
 }
 
-/// Returns whether samples have `WIDTH` bytes, and the fast pass may take blocks of them. Where predicted samples have few bits, most
-/// blocks are in runs or coded in pairs. Samples that are not predicted have to fill their bytes.
+/// Returns whether samples have `WIDTH` bytes, and the fast pass may take blocks of them. Samples that are not predicted have to fill
+/// their bytes.
 pub(crate) fn has_pass<const WIDTH: usize>(setting: &Setting) -> bool
     ensures { result ≡ true → WIDTH ≡ width_of setting.now }
 {
     setting.width() as usize == WIDTH
-        && (setting.preprocess() && setting.bits() > 4
-            || !setting.preprocess() && setting.bits() as usize == 8 * WIDTH)
+        && (setting.preprocess() || setting.bits() as usize == 8 * WIDTH)
 }
 
 /// Decodes blocks of samples of `WIDTH` bytes, by the loop for their size.

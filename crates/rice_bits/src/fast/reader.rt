@@ -1,7 +1,7 @@
 //! Calls of a reader for the fast decoder, which look at buffered bits.
 ghost use Rattle.std.specs.Prelude.{◌≡◌, ◌+◌, ◌-◌, ◌*◌, ◌^◌, ◌<◌, ◌≤◌, length, All, drop, flat_map, take, IfSome, None};
 ghost use Rattle.rice_bits.specs.Limits.{step_limit, most_bits_read};
-ghost use Rattle.rice_bits.specs.Bits.{fundamental_sequence, word};
+ghost use Rattle.rice_bits.specs.Bits.{word};
 ghost use Rattle.rice_bits.specs.fast.lanes.Sequences.{BeginWithSequences};
 
 use crate::device::Intake;

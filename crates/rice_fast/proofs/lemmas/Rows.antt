@@ -1,5 +1,6 @@
 -- Rows of samples of a block, restored and spelled one after another.
-use Rattle.std.proofs.Common.{◌≡◌, ℕ, zero, suc, ◌+◌, ◌-◌, ◌*◌, ◌^◌, ◌<◌, ◌≤◌, Bool, List, [], ◌∷◌, ◌++◌, length, take, drop, take-take, take-append-drop, replicate, refl, sym, ◌∙◌, ap, subst, arith, append_assoc, length-append, Option, None, Some}
+use Rattle.std.proofs.Common.{◌≡◌, ℕ, zero, suc, ◌+◌, ◌-◌, ◌*◌, ◌^◌, ◌<◌, ◌≤◌, Bool, List, [], ◌∷◌, ◌++◌, length}
+use Rattle.std.proofs.Common.{take, drop, take-take, take-append-drop, replicate, refl, sym, ◌∙◌, ap, subst, arith, append_assoc, length-append, Option, None, Some}
 use Rattle.std.specs.Prelude.{All, IfSome, flat_map, slice_index_or}
 use Rattle.std.proofs.Math.Seq.{take-add, take-append_seam}
 use Rattle.std.proofs.Math.Nat.{add-mul, mul-add, mul-le-mul_right}
@@ -72,7 +73,8 @@ lows-row {waiting} {skip} {omitted} {k} {at} {lows} row few before place more =
       low = All-append (λ l. l < 2 ^ k) lows row before.low more.low;
       spelled =
           ap (flat_map (word k)) (drop-append-le omitted lows row few)
-          ∙ (flat_map-append (word k) (drop omitted lows) row ∙ ((λ j. before.spelled j ++ (more.spelled ∙ (ap (λ n. take (n * k) (drop at waiting)) plain ∙ ap (λ m. take (count * k) (drop m waiting)) place)) j)
+          ∙ (flat_map-append (word k) (drop omitted lows) row
+          ∙ ((λ j. before.spelled j ++ (more.spelled ∙ (ap (λ n. take (n * k) (drop at waiting)) plain ∙ ap (λ m. take (count * k) (drop m waiting)) place)) j)
           ∙ (behind-both waiting skip (part * k) (count * k) ∙ ap (λ n. take n (drop skip waiting)) all)));
     }
 
@@ -124,7 +126,10 @@ row_spelled {s} {p} {k} {many} count {highs} {lows} {levels} {bytes} some most l
     let all : length levels ≡ many = near.len ∙ len in
     let first = take count levels in
     let first_len : length first ≡ count = length-take-le count levels (omega (arith, all, most)) in
-    let fewer : width s * count ≤ width s * many = (let m = mul-le-mul_right (width s) most in let a : count * width s ≡ width s * count = omega arith in let b : many * width s ≡ width s * many = omega arith in omega (arith, m, a, b)) in
+    let fewer : width s * count ≤ width s * many = (
+      let m = mul-le-mul_right (width s) most in
+      let a : count * width s ≡ width s * count = omega arith in
+      let b : many * width s ≡ width s * many = omega arith in omega (arith, m, a, b)) in
     record {
       levels = first;
       near = record {
@@ -188,13 +193,16 @@ pub record RowPlace (f : Fields) (at omitted place : ℕ) : Type 0 where
   pub later : 0 < at → omitted ≡ 0
   pub begins : place ≡ f.words + (at - f.omitted) * f.k
 
+-- the first row is at its place
 pub first_place : (f : Fields) → f.omitted ≤ 1 → RowPlace f 0 f.omitted f.words
 first_place f few =
     let none : 0 - f.omitted ≡ 0 = omega arith in
     let words_of : (0 - f.omitted) * f.k ≡ 0 * f.k = ap (λ n. n * f.k) none in
     record { few = few; first = λ _. refl; later = λ some. absurd (omega (arith, some)); begins = omega (arith, words_of) }
 
-pub next_place : {f : Fields} {at omitted place : ℕ} (count : ℕ) → f.omitted ≤ 1 → 1 ≤ count → RowPlace f at omitted place → RowPlace f (at + count) 0 (place + (count - omitted) * f.k)
+-- behind a row that is at its place, the next is at its own
+pub next_place : {f : Fields} {at omitted place : ℕ} (count : ℕ) → f.omitted ≤ 1 → 1 ≤ count → RowPlace f at omitted place →
+  RowPlace f (at + count) 0 (place + (count - omitted) * f.k)
 next_place {f} {at} {omitted} {place} count few some here = record {
   few = omega arith;
   first = λ none. absurd (omega (arith, none, some));
@@ -221,7 +229,8 @@ next_place {f} {at} {omitted} {place} count few some here = record {
 -- the high parts of a row, where all are zeros
 pub zeros_of_row : (at many : ℕ) {highs row : List ℕ} → at + many ≤ 80 → highs ≡ replicate 80 0 → row ≡ take many (take (80 - at) (drop at highs)) → row ≡ replicate many 0
 zeros_of_row at many {highs} inside zeros is =
-    is ∙ (take-take many (80 - at) (drop at highs) (omega (arith, inside)) ∙ (ap (λ xs. take many (drop at xs)) zeros ∙ (ap (take many) (drop-replicate at 80 0) ∙ take-replicate many (80 - at) 0 (omega (arith, inside)))))
+    is ∙ (take-take many (80 - at) (drop at highs) (omega (arith, inside))
+    ∙ (ap (λ xs. take many (drop at xs)) zeros ∙ (ap (take many) (drop-replicate at 80 0) ∙ take-replicate many (80 - at) 0 (omega (arith, inside)))))
 
 -- one row more
 pub one_row_more : {waiting : List Bool} {s : Parameters} {f : Fields} {at omitted place count last l : ℕ} {highs row bytes : List ℕ} (now : List ℕ) → f.omitted ≤ 1 → 1 ≤ count
