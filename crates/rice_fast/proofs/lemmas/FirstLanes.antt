@@ -9,7 +9,7 @@ use Rattle.std.proofs.lemmas.List.{drop-append-le, drop-replicate, length-replic
 
 -- `many` equal numbers, of which `count` are left, and as many zeros: the first `many` of them
 mask_is : (many count v : ℕ) → count ≤ many →
-  take many (take (many + many - (many - count)) (drop (many - count) (replicate many v ++ replicate many 0))) ≡ replicate count v ++ replicate (many - count) 0
+    take many (take (many + many - (many - count)) (drop (many - count) (replicate many v ++ replicate many 0))) ≡ replicate count v ++ replicate (many - count) 0
 mask_is many count v most =
     let left : many - (many - count) ≡ count = omega (arith, most) in
     let ones : drop (many - count) (replicate many v) ≡ replicate count v = drop-replicate (many - count) many v ∙ ap (λ n. replicate n v) left in

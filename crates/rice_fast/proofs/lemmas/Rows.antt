@@ -127,9 +127,9 @@ row_spelled {s} {p} {k} {many} count {highs} {lows} {levels} {bytes} some most l
     let first = take count levels in
     let first_len : length first ≡ count = length-take-le count levels (omega (arith, all, most)) in
     let fewer : width s * count ≤ width s * many = (
-      let m = mul-le-mul_right (width s) most in
-      let a : count * width s ≡ width s * count = omega arith in
-      let b : many * width s ≡ width s * many = omega arith in omega (arith, m, a, b)) in
+    let m = mul-le-mul_right (width s) most in
+    let a : count * width s ≡ width s * count = omega arith in
+    let b : many * width s ≡ width s * many = omega arith in omega (arith, m, a, b)) in
     record {
       levels = first;
       near = record {
@@ -202,7 +202,7 @@ first_place f few =
 
 -- behind a row that is at its place, the next is at its own
 pub next_place : {f : Fields} {at omitted place : ℕ} (count : ℕ) → f.omitted ≤ 1 → 1 ≤ count → RowPlace f at omitted place →
-  RowPlace f (at + count) 0 (place + (count - omitted) * f.k)
+    RowPlace f (at + count) 0 (place + (count - omitted) * f.k)
 next_place {f} {at} {omitted} {place} count few some here = record {
   few = omega arith;
   first = λ none. absurd (omega (arith, none, some));

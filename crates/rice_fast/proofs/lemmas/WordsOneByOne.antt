@@ -25,7 +25,7 @@ one_more {bits} {width} {count} numbers v room before fits read =
     let all : count * width + width ≡ (count + 1) * width = (let p = add-mul count 1 width in omega (arith, p)) in
     record {
       fit = subst (All (λ v. v < 2 ^ width)) (sym more) (
-        All-append (λ v. v < 2 ^ width) (take count numbers) (v ∷ []) before.fit (All-cons (λ v. v < 2 ^ width) v [] fits (All-nil (λ v. v < 2 ^ width))));
+          All-append (λ v. v < 2 ^ width) (take count numbers) (v ∷ []) before.fit (All-cons (λ v. v < 2 ^ width) v [] fits (All-nil (λ v. v < 2 ^ width))));
       spelled =
           ap (flat_map (word width)) more
           ∙ (flat_map-append (word width) (take count numbers) (v ∷ [])

@@ -26,7 +26,7 @@ in_turn-requires-clause-ranks g c =
     let high = g.L.Lanes.numbers c.above-high.result in
     let large = g.L.Lanes.numbers c.above-large.result in
     let none = both_zeros n high large
-      (g.met.L.Lanes.len c.above-high.result) (g.met.L.Lanes.len c.above-large.result) c.or.ensures (c.if-not-is_zero.ensures refl) in
+    (g.met.L.Lanes.len c.above-high.result) (g.met.L.Lanes.len c.above-large.result) c.or.ensures (c.if-not-is_zero.ensures refl) in
     none_above n (c.number_of_values.result - 1) ranks large (c.above-large.ensures ∙ ap (zip2 (λ d b. d - b) ranks) c.splat-2.ensures) (g.met.L.Lanes.len c.join_parts-ranks.result) none.1
 
 pub returns : goal.returns
@@ -39,7 +39,7 @@ returns g c =
     let most = c.MOST.ensures ∙ g.met.L.Lanes.most_is in
     let high = g.L.Lanes.numbers c.above-high.result in
     let none = both_zeros n high (g.L.Lanes.numbers c.above-large.result)
-      (g.met.L.Lanes.len c.above-high.result) (g.met.L.Lanes.len c.above-large.result) c.or.ensures (c.if-not-is_zero.ensures refl) in
+    (g.met.L.Lanes.len c.above-high.result) (g.met.L.Lanes.len c.above-large.result) c.or.ensures (c.if-not-is_zero.ensures refl) in
     let small = none_above n ((2 ^ g.L.Lanes.bits - 1) / 2 ^ a.k) (g.L.Lanes.numbers a.highs) high
     (c.above-high.ensures ∙ ap (λ ms. zip2 (λ x y. x - y) (g.L.Lanes.numbers a.highs) ms) (c.splat.ensures ∙ ap (λ m. replicate n (m / 2 ^ a.k)) most)) (g.met.L.Lanes.len a.highs) none.0 in
     record {

@@ -32,7 +32,7 @@ loop-at-preserved g c =
     let inside : l.at + n ≤ c.args.size = omega (arith, count, c.loop-at-test.true) in
     let few : n ≤ g.L.Lanes.COUNT = omega (arith, count, many) in
     let first : take n highs ≡ take n (drop l.at all) = ap (take n)
-      (c.of_bytes-highs.ensures ∙ take-take g.L.Lanes.COUNT (80 - l.at) (drop l.at all) (omega (arith, g.met.L.Lanes.most, c.loop-at-test.true, c.requires.size)))
+    (c.of_bytes-highs.ensures ∙ take-take g.L.Lanes.COUNT (80 - l.at) (drop l.at all) (omega (arith, g.met.L.Lanes.most, c.loop-at-test.true, c.requires.size)))
     ∙ take-take n g.L.Lanes.COUNT (drop l.at all) few in
     let width_is = c.requires.width in
     record {
