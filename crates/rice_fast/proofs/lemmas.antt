@@ -6,5 +6,6 @@ pub mod FirstLanes
 pub mod HighParts
 pub mod LaneLaws
 pub mod Pairs
+pub mod Residuals
 pub mod Rows
 pub mod WordsOneByOne

@@ -4,12 +4,12 @@ use Rattle.std.specs.Prelude.{◌≡◌, ℕ, ◌+◌, ◌-◌, ◌*◌, ◌^◌
 use Rattle.rice_bits.specs.Bits.{fundamental_sequence, word}
 use Rattle.rice_samples.specs.Parameters.{Parameters, value_at, value_count}
 use Rattle.rice_samples.specs.blocks.Pairs.{pair_codes}
-use Rattle.rice_samples.specs.predict.LevelsOfParts.{AreLevelsOfParts}
 use Rattle.rice_samples.specs.predict.Residuals.{pattern}
 use Rattle.rice_code.specs.code.CodedDataSets.{reference_bits}
 use Rattle.rice_code.specs.code.Forms.{IsReference}
 use Rattle.rice_code.specs.decode.ReadSets.{reference_place}
 use Rattle.rice_fast.specs.BlocksAhead.{BlockAhead}
+use Rattle.rice_fast.specs.PartsOfResiduals.{HaveParts}
 use Rattle.rice_fast.specs.declared.fields.Fields.{Fields}
 
 -- Behind the first `skip` bits, up to bit `len`, stands the reference sample of block b, if it has one. Its first sample is restored after
@@ -65,5 +65,5 @@ pub record AreFields (waiting : List Bool) (s : Parameters) (b before size bits 
   pub whole : f.k ≡ bits → highs ≡ replicate 80 0
   pub places : length highs ≡ 80
   pub there : f.words ≤ length waiting
-  pub block : (lows levels : List ℕ) → length lows ≡ size → LowsAhead waiting f.words f.omitted f.k lows → AreLevelsOfParts s f.from f.k (take size highs) lows levels
+  pub block : (lows levels : List ℕ) → length lows ≡ size → LowsAhead waiting f.words f.omitted f.k lows → HaveParts s f.from f.k (take size highs) lows levels
       → len_of size f ≤ length waiting → BlockAhead waiting s b (value_at s before) levels (len_of size f) f.turns

@@ -2,4 +2,5 @@
 pub mod BlocksAhead
 pub mod CopiedBlocks
 pub mod FieldsAhead
+pub mod PartsOfResiduals
 pub mod RowsAhead

@@ -2,16 +2,16 @@
 use Rattle.std.specs.Prelude.{◌≡◌, ℕ, ◌-◌, ◌*◌, ◌<◌, Bool, List, length, slice_index_or, take}
 use Rattle.rice_samples.specs.Parameters.{Parameters, value_count, values_at, width}
 use Rattle.rice_samples.specs.bytes.Spelling.{spellings}
-use Rattle.rice_samples.specs.predict.LevelsOfParts.{AreLevelsOfParts}
 use Rattle.rice_samples.specs.predict.Residuals.{last_number}
 use Rattle.rice_fast.specs.FieldsAhead.{LowsAhead}
+use Rattle.rice_fast.specs.PartsOfResiduals.{HaveParts}
 use Rattle.rice_fast.specs.declared.fields.Fields.{Fields}
 
 -- The bytes begin with the spellings of `count` samples, the first after one at level p, whose residuals have these parts. The last of them
 -- has level `last`.
 pub record SpellsParts (s : Parameters) (p k count : ℕ) (highs lows : List ℕ) (last : ℕ) (bytes : List ℕ) : Type 0 where
   pub levels : List ℕ
-  pub near : AreLevelsOfParts s p k highs lows levels
+  pub near : HaveParts s p k highs lows levels
   pub last_is : last ≡ slice_index_or levels (count - 1) 0
   pub spelled : take (width s * count) bytes ≡ spellings s (values_at s (take count levels))
 
@@ -22,7 +22,7 @@ pub record RowsAhead (waiting : List Bool) (s : Parameters) (f : Fields) (highs 
   pub lows : List ℕ
   pub len : length lows ≡ count
   pub words : 0 < count → LowsAhead waiting f.words f.omitted f.k lows
-  pub near : AreLevelsOfParts s f.from f.k (take count highs) lows levels
+  pub near : HaveParts s f.from f.k (take count highs) lows levels
   pub last_is : last ≡ last_number f.from levels
   pub legal : last < value_count s
   pub spelled : take (width s * count) bytes ≡ spellings s (values_at s levels)

@@ -1,5 +1,5 @@
 //! The fields of a block that waits, looked at before they are taken.
-ghost use Rattle.std.specs.Prelude.{◌≡◌, ◌+◌, ◌-◌, ◌^◌, ◌<◌, ◌≤◌, IfSome, length, take, true};
+ghost use Rattle.std.specs.Prelude.{◌≡◌, ◌+◌, ◌-◌, ◌^◌, ◌<◌, ◌≤◌, IfSome, length, take};
 ghost use Rattle.rice_bits.specs.Bits.{word};
 ghost use Rattle.rice_samples.specs.Parameters.{id_len, value_count};
 ghost use Rattle.rice_samples.specs.Places.{is_reference};
@@ -41,15 +41,14 @@ pub struct Head {
     pub len: usize,
 }
 
-/// Returns whether the first sample of block `block` of its interval is a reference sample, where samples are predicted.
+/// Returns whether the first sample of block `block` of its interval is a reference sample.
 #[inline(always)]
-pub fn begins_interval(setting: &Setting, block: u32) -> bool
-    requires preprocess { setting.now.preprocess ≡ true }
+pub fn has_reference(setting: &Setting, block: u32) -> bool
     requires place { block < setting.now.interval }
     ensures { result ≡ is_reference setting.now block }
 {
     let _interval = setting.interval();
-    block == 0
+    setting.preprocess() && block == 0
 }
 
 /// Returns what stands behind the first `skip` bits of a block that waits, after a sample at level `before`: a reference sample, if it is a
@@ -98,7 +97,6 @@ pub fn fields_ahead<L: SampleLanes, I: Intake, const SIZE: usize, const REFERENC
     highs: &mut [u8; 80],
 ) -> Option<Fields>
     requires bits { HasBits L.below L.bits setting.now }
-    requires preprocess { setting.now.preprocess ≡ true }
     requires size { size ≡ setting.now.block }
     requires reference { REFERENCE ≡ is_reference setting.now block }
     requires before { before < value_count setting.now }
@@ -133,7 +131,6 @@ fn split_fields_ahead<L: SampleLanes, I: Intake, const SIZE: usize, const REFERE
     highs: &mut [u8; 80],
 ) -> Option<Fields>
     requires bits { HasBits L.below L.bits setting.now }
-    requires preprocess { setting.now.preprocess ≡ true }
     requires size { size ≡ setting.now.block }
     requires reference { REFERENCE ≡ is_reference setting.now block }
     requires before { before < value_count setting.now }
@@ -173,7 +170,6 @@ fn uncompressed_fields_ahead<L: SampleLanes, I: Intake, const REFERENCE: bool>(
     highs: &mut [u8; 80],
 ) -> Fields
     requires bits { HasBits L.below L.bits setting.now }
-    requires preprocess { setting.now.preprocess ≡ true }
     requires size { size ≡ setting.now.block }
     requires reference { REFERENCE ≡ is_reference setting.now block }
     requires before { before < value_count setting.now }
@@ -204,7 +200,6 @@ fn pair_fields_ahead<L: SampleLanes, I: Intake, const SIZE: usize, const REFEREN
     highs: &mut [u8; 80],
 ) -> Option<Fields>
     requires bits { HasBits L.below L.bits setting.now }
-    requires preprocess { setting.now.preprocess ≡ true }
     requires size { size ≡ setting.now.block }
     requires reference { REFERENCE ≡ is_reference setting.now block }
     requires before { before < value_count setting.now }

@@ -9,7 +9,7 @@ ghost use Rattle.rice_code.specs.decode.RowsOfFields.{AreCounted};
 ghost use Rattle.rice_fast.specs.BlocksAhead.{GivesBytes, HasBits, SpelledAhead};
 
 use crate::copied_blocks::copy_block;
-use crate::fields::{begins_interval, fields_ahead};
+use crate::fields::{fields_ahead, has_reference};
 use crate::lanes::SampleLanes;
 use crate::rows::spell_rows;
 use rice_bits::{BitReader, Intake, Meter};
@@ -44,7 +44,6 @@ fn spell_fields_ahead<
 ) -> Option<SpelledBlock>
     requires bits { HasBits L.below L.bits setting.now }
     requires width { WIDTH ≡ width_of setting.now }
-    requires preprocess { setting.now.preprocess ≡ true }
     requires size { size ≡ setting.now.block }
     requires reference { REFERENCE ≡ is_reference setting.now block }
     requires before { before < value_count setting.now }
@@ -82,14 +81,13 @@ fn spell_block_ahead<L: SampleLanes, I: Intake, const SIZE: usize, const WIDTH: 
 ) -> Option<SpelledBlock>
     requires bits { HasBits L.below L.bits setting.now }
     requires width { WIDTH ≡ width_of setting.now }
-    requires preprocess { setting.now.preprocess ≡ true }
     requires size { size ≡ setting.now.block }
     requires place { block < setting.now.interval }
     requires before { before < value_count setting.now }
     ensures { IfSome result (λ r. SpelledAhead reader.now.waiting setting.now block
         (value_at setting.now before) r.last r.len r.turns bytes.new) }
 {
-    if begins_interval(setting, block) {
+    if has_reference(setting, block) {
         return spell_fields_ahead::<L, I, SIZE, WIDTH, true>(
             setting, size, block, before, reader, bytes,
         );
@@ -114,8 +112,7 @@ pub(crate) fn take_ahead<I: Intake>(reader: &mut BitReader<I>, len: usize, meter
 /// Reads the next block by a pass, if its coded data set is buffered and fits one. Writes the bytes of its samples, `WIDTH` each, to the
 /// front of `bytes`. `SIZE`, unless it is 0, is the number of samples of a block.
 ///
-/// A pass takes a predicted block by any option whose fundamental sequences are short. It takes a block that is not predicted if it is not
-/// compressed and its samples fill 1, 2 or 4 bytes.
+/// A pass takes a block by any option whose fundamental sequences are short.
 ///
 /// Returns whether it took the block. Otherwise nothing has happened, and [`next_block`](Decoder::next_block) gives it. It may write more
 /// after these bytes.
@@ -149,15 +146,17 @@ pub fn pass<L: SampleLanes, I: Intake, const SIZE: usize, const WIDTH: usize>(
     if decoder.run() > 0 {
         return false;
     }
-    if setting.preprocess() {
-        return pass_predicted::<L, I, SIZE, WIDTH>(decoder, setting, reader, meter, bytes);
+    if !setting.preprocess()
+        && copy_block::<I, SIZE, WIDTH>(decoder, setting, reader, meter, bytes)
+    {
+        return true;
     }
-    copy_block::<I, SIZE, WIDTH>(decoder, setting, reader, meter, bytes)
+    pass_fields::<L, I, SIZE, WIDTH>(decoder, setting, reader, meter, bytes)
 }
 
-/// Does what [`pass`] does outside a run, where samples are predicted.
+/// Does what [`pass`] does outside a run, by the fields of the block.
 #[inline(never)]
-fn pass_predicted<L: SampleLanes, I: Intake, const SIZE: usize, const WIDTH: usize>(
+fn pass_fields<L: SampleLanes, I: Intake, const SIZE: usize, const WIDTH: usize>(
     decoder: &mut Decoder,
     setting: &Setting,
     reader: &mut BitReader<I>,
@@ -165,7 +164,6 @@ fn pass_predicted<L: SampleLanes, I: Intake, const SIZE: usize, const WIDTH: usi
     bytes: &mut [u8; 320],
 ) -> bool
     requires setting { decoder.old.setting ≡ setting.now }
-    requires preprocess { setting.now.preprocess ≡ true }
     requires run { decoder.old.run ≡ 0 }
     requires bits { HasBits L.below L.bits setting.now }
     requires size { 0 < SIZE → SIZE ≡ setting.now.block }

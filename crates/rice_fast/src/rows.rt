@@ -1,15 +1,17 @@
 //! Restores the samples of a block that waits, and writes their bytes, a row of lanes at a time.
-ghost use Rattle.std.specs.Prelude.{◌≡◌, ◌+◌, ◌-◌, ◌*◌, ◌^◌, ◌<◌, ◌≤◌, ◌++◌, All, IfSome, drop, length, replicate, take};
+ghost use Rattle.std.specs.Prelude.{◌≡◌, ℕ, ◌+◌, ◌-◌, ◌*◌, ◌^◌, ◌<◌, ◌≤◌, ◌++◌, All, IfSome, drop, false, length, replicate, take};
+ghost use Rattle.rice_bits.specs.read.JoinedParts.{joined_parts};
 ghost use Rattle.rice_samples.specs.Parameters.{value_count, width as width_of};
 ghost use Rattle.rice_samples.specs.predict.LevelsOfParts.{AreLevelsOfParts};
 ghost use Rattle.rice_fast.specs.BlocksAhead.{HasBits};
 ghost use Rattle.rice_fast.specs.FieldsAhead.{LowsAhead};
+ghost use Rattle.rice_fast.specs.PartsOfResiduals.{HaveParts};
 ghost use Rattle.rice_fast.specs.RowsAhead.{RowsAhead, SpellsParts};
 
 use crate::fields::Fields;
 use crate::lanes::SampleLanes;
 use rice_bits::{BitReader, Intake};
-use rice_samples::{Setting, join_parts, near_levels_of_parts};
+use rice_samples::{Setting, join_parts, level_of_pattern, near_levels_of_parts};
 
 /// The least level that so many others are near to that near ones are expected after it.
 const FEW_NEAR: u32 = 8;
@@ -51,8 +53,27 @@ fn low_parts_of_row<L: SampleLanes, I: Intake>(
     placed(L::words_ahead(reader, skip, k), omitted, count)
 }
 
-/// Returns the levels of samples, whose residuals have these high parts and low parts of `k` bits, one after another: the first after a
-/// sample at level `before`. Returns `None` if a residual is too large.
+/// Returns the residuals with these high parts and low parts of `k` bits, or `None` if one is too large.
+#[inline(always)]
+fn sound_residuals<L: SampleLanes>(setting: &Setting, highs: L, lows: L, k: u32) -> Option<L>
+    requires narrow { setting.now.bits ≤ L.bits }
+    requires split { k < L.bits }
+    requires low { All (λ l. l < 2 ^ k) (L.numbers lows) }
+    ensures { IfSome result (λ d. (L.numbers d ≡ joined_parts k (L.numbers highs) (L.numbers lows)) ×
+        All (λ n. n < value_count setting.now) (L.numbers d)) }
+{
+    let greatest = (setting.number_of_values() - 1) as u32;
+    let residuals = join_parts(highs, lows, k);
+    let high = highs.above(L::splat(L::MOST >> k));
+    let large = residuals.above(L::splat(greatest));
+    if !high.or(large).is_zero() {
+        return None;
+    }
+    Some(residuals)
+}
+
+/// Returns the levels of predicted samples, whose residuals have these high parts and low parts of `k` bits, one after another: the first
+/// after a sample at level `before`. Returns `None` if a residual is too large.
 #[inline(never)]
 fn levels_in_turn<L: SampleLanes>(
     setting: &Setting,
@@ -68,20 +89,14 @@ fn levels_in_turn<L: SampleLanes>(
     ensures { IfSome result (λ l.
         AreLevelsOfParts setting.now before k (L.numbers highs) (L.numbers lows) (L.numbers l)) }
 {
-    let greatest = (setting.number_of_values() - 1) as u32;
-    let ranks = join_parts(highs, lows, k);
-    let high = highs.above(L::splat(L::MOST >> k));
-    let large = ranks.above(L::splat(greatest));
-    if !high.or(large).is_zero() {
-        return None;
-    }
-    Some(ranks.in_turn(greatest, before))
+    let ranks = sound_residuals(setting, highs, lows, k)?;
+    Some(ranks.in_turn((setting.number_of_values() - 1) as u32, before))
 }
 
 /// Does what `levels_in_turn` does, all at once where samples are near to those before them. Near ones are not expected after a level that
 /// few others are near to.
 #[inline(always)]
-fn levels_of_parts<L: SampleLanes>(
+fn predicted_levels<L: SampleLanes>(
     setting: &Setting,
     before: u32,
     highs: L,
@@ -103,6 +118,47 @@ fn levels_of_parts<L: SampleLanes>(
     levels_in_turn(setting, before, highs, lows, k)
 }
 
+/// Returns the levels of samples that are not predicted, whose patterns have these high parts and low parts of `k` bits. Returns `None` if a
+/// pattern is too large.
+#[inline(never)]
+fn levels_of_patterns<L: SampleLanes>(setting: &Setting, highs: L, lows: L, k: u32) -> Option<L>
+    requires preprocess { setting.now.preprocess ≡ false }
+    requires narrow { setting.now.bits ≤ L.bits }
+    requires split { k < L.bits }
+    requires low { All (λ l. l < 2 ^ k) (L.numbers lows) }
+    ensures { IfSome result (λ l.
+        (p : ℕ) → HaveParts setting.now p k (L.numbers highs) (L.numbers lows) (L.numbers l)) }
+{
+    let _bits = setting.bits();
+    let patterns = sound_residuals(setting, highs, lows, k)?;
+    let zero = L::splat(level_of_pattern(setting, 0));
+    let greatest = L::splat((setting.number_of_values() - 1) as u32);
+    Some(patterns.plus(zero).and(greatest))
+}
+
+/// Returns the levels of samples whose residuals have these high parts and low parts of `k` bits: the first after a sample at level
+/// `before`. Returns `None` if a residual is too large.
+#[inline(always)]
+fn levels_of_parts<L: SampleLanes>(
+    setting: &Setting,
+    before: u32,
+    highs: L,
+    lows: L,
+    k: u32,
+) -> Option<L>
+    requires narrow { setting.now.bits ≤ L.bits }
+    requires before { before < value_count setting.now }
+    requires split { k < L.bits }
+    requires low { All (λ l. l < 2 ^ k) (L.numbers lows) }
+    ensures { IfSome result (λ l.
+        HaveParts setting.now before k (L.numbers highs) (L.numbers lows) (L.numbers l)) }
+{
+    if setting.preprocess() {
+        return predicted_levels(setting, before, highs, lows, k);
+    }
+    levels_of_patterns(setting, highs, lows, k)
+}
+
 /// Returns the levels of a row of samples whose residuals have these parts. Without compression, a low part is a whole residual.
 #[inline(always)]
 fn levels_of_row<L: SampleLanes>(
@@ -118,7 +174,7 @@ fn levels_of_row<L: SampleLanes>(
     requires low { All (λ l. l < 2 ^ k) (L.numbers lows) }
     requires whole { k ≡ L.bits → L.numbers highs ≡ replicate L.COUNT 0 }
     ensures { IfSome result (λ l.
-        AreLevelsOfParts setting.now before k (L.numbers highs) (L.numbers lows) (L.numbers l)) }
+        HaveParts setting.now before k (L.numbers highs) (L.numbers lows) (L.numbers l)) }
 {
     if k == L::BITS {
         return levels_of_parts(setting, before, lows, L::splat(0), 0);

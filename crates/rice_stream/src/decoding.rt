@@ -96,28 +96,12 @@ pub fn decode<I: Intake, O: Outlet>(
 {
     // Each of these loops is laid out for what is known of its blocks. They are calls, so that only one of them takes room on the
     // stack.
-    if has_pass::<1>(setting) {
-        return decode_sizes::<I, O, 1>(setting, asked, intake, outlet);
+    match setting.width() {
+        1 => decode_sizes::<I, O, 1>(setting, asked, intake, outlet),
+        2 => decode_sizes::<I, O, 2>(setting, asked, intake, outlet),
+        3 => decode_blocks::<FastPass, I, O, 0, 3>(setting, asked, intake, outlet),
+        _ => decode_blocks::<FastPass, I, O, 0, 4>(setting, asked, intake, outlet),
     }
-    if has_pass::<2>(setting) {
-        return decode_sizes::<I, O, 2>(setting, asked, intake, outlet);
-    }
-    if has_pass::<3>(setting) {
-        return decode_blocks::<FastPass, I, O, 0, 3>(setting, asked, intake, outlet);
-    }
-    if has_pass::<4>(setting) {
-        return decode_blocks::<FastPass, I, O, 0, 4>(setting, asked, intake, outlet);
-    }
-    decode_blocks::<FastPass, I, O, 0, 0>(setting, asked, intake, outlet)
-}
-
-/// Returns whether samples have `WIDTH` bytes, and the fast pass may take blocks of them. Samples that are not predicted have to fill
-/// their bytes.
-pub(crate) fn has_pass<const WIDTH: usize>(setting: &Setting) -> bool
-    ensures { result ≡ true → WIDTH ≡ width_of setting.now }
-{
-    setting.width() as usize == WIDTH
-        && (setting.preprocess() || setting.bits() as usize == 8 * WIDTH)
 }
 
 /// Decodes blocks of samples of `WIDTH` bytes, by the loop for their size.

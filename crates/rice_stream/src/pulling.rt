@@ -9,7 +9,7 @@ ghost use Rattle.rice_stream.specs.Pulling.{DecodesOn, GivesAtStand, HasComeTo, 
 
 use crate::block_bytes::next_bytes;
 use crate::block_pass::{BlockPass, FastPass};
-use crate::decoding::{has_pass, known_width};
+use crate::decoding::known_width;
 use crate::pulled_runs::{stand_behind, write_next_of_run};
 use crate::stand::{Pause, Stand};
 use rice_bits::{BitReader, Meter, SliceIn};
@@ -36,19 +36,12 @@ pub fn decode_more(
         return (*stand, Pause::TooLong);
     }
     // As `decode`, it has a loop for each shape of blocks.
-    if has_pass::<1>(setting) {
-        return decode_piece_of_sizes::<1>(setting, stand, piece, samples);
+    match setting.width() {
+        1 => decode_piece_of_sizes::<1>(setting, stand, piece, samples),
+        2 => decode_piece_of_sizes::<2>(setting, stand, piece, samples),
+        3 => decode_piece::<FastPass, 0, 3>(setting, stand, piece, samples),
+        _ => decode_piece::<FastPass, 0, 4>(setting, stand, piece, samples),
     }
-    if has_pass::<2>(setting) {
-        return decode_piece_of_sizes::<2>(setting, stand, piece, samples);
-    }
-    if has_pass::<3>(setting) {
-        return decode_piece::<FastPass, 0, 3>(setting, stand, piece, samples);
-    }
-    if has_pass::<4>(setting) {
-        return decode_piece::<FastPass, 0, 4>(setting, stand, piece, samples);
-    }
-    decode_piece::<FastPass, 0, 0>(setting, stand, piece, samples)
 }
 
 /// Does what `decode_more` does, by one loop for all shapes of blocks.

@@ -1,38 +1,31 @@
 -- A block that waits by each option, from its fields.
-use Rattle.std.proofs.Common.{◌≡◌, ℕ, zero, suc, ◌+◌, ◌-◌, ◌*◌, ◌/◌, ◌^◌, ◌<◌, ◌≤◌, Bool, true, List, [], ◌∷◌, ◌++◌}
-use Rattle.std.proofs.Common.{length, take, drop, refl, sym, ◌∙◌, ap, subst, arith, replicate, Option}
-use Rattle.std.specs.Prelude.{All, flat_map, slice_index_or, sum}
+use Rattle.std.proofs.Common.{◌≡◌, ℕ, zero, suc, ◌+◌, ◌-◌, ◌*◌, ◌/◌, ◌^◌, ◌<◌, ◌≤◌, ◌==◌, Bool, true, false, inl, inr, List, [], ◌∷◌, ◌++◌}
+use Rattle.std.proofs.Common.{length, take, drop, refl, sym, ◌∙◌, ap, subst, arith, replicate, Option, None, Some}
+use Rattle.std.specs.Prelude.{All, flat_map, slice_index_or, sum, ◌&&◌}
 use Rattle.std.proofs.Math.Seq.{take-add}
 use Rattle.std.proofs.lemmas.List.{drop-drop, length-drop, take-append-drop, take-replicate}
-use Rattle.std.proofs.lemmas.List.Elements.{All-cons, All-drop, All-nil}
+use Rattle.std.proofs.lemmas.List.Elements.{All-drop}
 use Rattle.rice_bits.specs.Bits.{word, fundamental_sequence}
 use Rattle.rice_bits.specs.read.JoinedParts.{joined_parts}
 use Rattle.rice_samples.specs.blocks.Pairs.{pair_codes}
-use Rattle.rice_samples.specs.predict.LevelsOfParts.{AreLevelsOfParts}
+use Rattle.rice_samples.specs.Places.{place}
 use Rattle.rice_samples.specs.Parameters.{Parameters, id_len, k_max, value_at, value_count, values_at}
-use Rattle.rice_samples.specs.predict.Residuals.{rank_below, ranks_below}
-use Rattle.rice_samples.proofs.lemmas.predict.LaneRanks.{length-ranks_below}
-use Rattle.rice_samples.proofs.lemmas.predict.Ranks.{rank_fits}
 use Rattle.rice_samples.proofs.lemmas.setting.ValuesAboveLeast.{sample_at}
 use Rattle.rice_samples.proofs.lemmas.setting.ValuesAtLevels.{legal_values, length-values, ranks_of_values}
-use Rattle.rice_code.specs.code.Blocks.{BlockData}
+use Rattle.rice_code.specs.code.Blocks.{BlockData, block_data}
 use Rattle.rice_code.specs.code.CodedDataSets.{NoCompression, SecondExtension, Split, reference_bits, sent_from}
-use Rattle.rice_code.specs.code.Forms.{IsBlock, IsZeroAtReference, AllFit}
+use Rattle.rice_code.specs.code.Forms.{IsBlock, IsReference, IsZeroAtReference, AllFit}
 use Rattle.rice_code.specs.decode.Decoder.{GivesBlock}
 use Rattle.rice_code.specs.decode.ReadSets.{reference_place}
 use Rattle.rice_code.proofs.lemmas.decode.JoinedResiduals.{high_pieces, low_pieces}
 use Rattle.rice_code.proofs.lemmas.decode.OptionsRead.{coded-placed, zero-placed}
-use Rattle.rice_code.proofs.lemmas.decode.RestoredBlocks.{contents_restored}
+use Rattle.rice_code.proofs.lemmas.decode.RestoredBlocks.{contents_of_patterns, contents_restored}
 use Rattle.rice_code.proofs.lemmas.decode.SetsRead.{one_bit}
+use Rattle.rice_code.proofs.lemmas.meaning.CoveredBlocks.{bool_cases}
 use Rattle.rice_fast.specs.BlocksAhead.{BlockAhead}
 use Rattle.rice_fast.specs.FieldsAhead.{HeadAhead, HighsAhead, LowsAhead, PairsAhead}
-
--- ranks of numbers below `count` are below it
-ranks_fit : (count p : ℕ) (xs : List ℕ) → p < count → All (λ x. x < count) xs → All (λ d. d < count) (ranks_below count p xs)
-ranks_fit count p [] h all = All-nil (λ d. d < count)
-ranks_fit count p (x ∷ xs) h all =
-    let lt : x < count = all 0 0 (omega arith) in
-    All-cons (λ d. d < count) (rank_below count p x) (ranks_below count x xs) (rank_fits count p x h lt) (ranks_fit count x xs lt (λ i d k. all (suc i) d (omega (arith, k))))
+use Rattle.rice_fast.specs.PartsOfResiduals.{HaveParts, residuals_at}
+use Rattle.rice_fast.proofs.lemmas.Residuals.{length-residuals, patterns_alone, ranks_alone, residuals_fit}
 
 -- three and four parts that follow one another
 three-parts : (bits : List Bool) {a b c : List Bool} (k l m : ℕ) → a ≡ take k bits → b ≡ take l (drop k bits) → c ≡ take m (drop (k + l) bits) → take (k + l + m) bits ≡ a ++ (b ++ c)
@@ -57,10 +50,10 @@ contents_of r ds = record { reference = r; residuals = ds }
 -- levels are restored from these residuals behind the head of a block
 record IsRestoredFrom (s : Parameters) (from : ℕ) (ds levels : List ℕ) : Type 0 where
   some : 1 ≤ s.block
-  preprocess : s.preprocess ≡ true
+  bits : 1 ≤ s.bits
   len : length levels ≡ s.block
   legal : All (λ l. l < value_count s) levels
-  ranks : ranks_below (value_count s) from levels ≡ ds
+  residuals : residuals_at s from levels ≡ ds
 
 -- they are the levels of the block that has these contents
 record ContentsAhead (s : Parameters) (b before : ℕ) (r : Option ℕ) (sent levels : List ℕ) : Type 0 where
@@ -75,22 +68,32 @@ contents_ahead {s} {b} {before} {from} sent {levels} head restored =
     let r = head.reference in
     let ds = reference_place r ++ sent in
     let samples = values_at s levels in
-    let len : length ds ≡ s.block = sym (ap length restored.ranks) ∙ (length-ranks_below (value_count s) from levels ∙ restored.len) in
+    let len : length ds ≡ s.block = sym (ap length restored.residuals) ∙ (length-residuals s from levels ∙ restored.len) in
     let many : length samples ≡ s.block = length-values s levels ∙ restored.len in
     let zero = zero-placed r sent in
-    let contents = contents_restored (value_at s before) (value_at s from) samples head.is restored.preprocess (record { len = len; zero = zero; some = restored.some })
-    (record { legal = sample_at s from head.begins; some = head.value; none = head.same })
-    (record {
-      legal = legal_values s levels restored.legal;
-      len = many;
-      ranks = ranks_of_values s from levels ∙ restored.ranks;
-    }) in
+    let legal = legal_values s levels restored.legal in
+    let contents : block_data s b (value_at s before) samples ≡ contents_of r ds = elim (bool_cases s.preprocess) [
+      | inl e ↦
+          contents_restored (value_at s before) (value_at s from) samples head.is e (record { len = len; zero = zero; some = restored.some })
+          (record { legal = sample_at s from head.begins; some = head.value; none = head.same })
+          (record { legal = legal; len = many; ranks = ranks_of_values s from levels ∙ (sym (ranks_alone s from levels e) ∙ restored.residuals) })
+      | inr e ↦
+          contents_of_patterns s b (value_at s before) ds samples (no_reference r head.is e) e (sym (patterns_alone s from levels e) ∙ restored.residuals)
+          ∙ ap (λ o. contents_of o ds) (sym (none_is r head.is e))
+    ] in
     record {
       block = record { reference = head.is; len = len };
       zero = zero;
-      fit = subst (All (λ d. d < value_count s)) restored.ranks (ranks_fit (value_count s) from levels head.begins restored.legal);
-      gives = record { len = many; legal = legal_values s levels restored.legal; blocks_are = ap (λ x. x ∷ []) contents };
+      fit = subst (All (λ d. d < value_count s)) restored.residuals (residuals_fit s from levels restored.bits head.begins restored.legal);
+      gives = record { len = many; legal = legal; blocks_are = ap (λ x. x ∷ []) contents };
     }
+  where
+    none_is : (r : Option ℕ) → IsReference s b r → s.preprocess ≡ false → r ≡ None
+    none_is None is e = refl
+    none_is (Some v) is e = absurd (let f : true ≡ false = is.there ∙ ap (λ p. p && (place s b == 0)) e in cc)
+
+    no_reference : (r : Option ℕ) → IsReference s b r → s.preprocess ≡ false → IsReference s b None
+    no_reference r is e = subst (IsReference s b) (none_is r is e) is
 
 -- the first are as they are said to be, and the others as they are
 split_at : (n : ℕ) (front xs : List ℕ) → take n xs ≡ front → xs ≡ front ++ drop n xs
@@ -129,25 +132,25 @@ zeros-joined (suc n) k (x ∷ xs) (y ∷ ys) same few e f =
     let rest = zeros-joined n k xs ys (omega (arith, same)) (omega (arith, few)) (ap (drop 1) e) (ap (drop 1) f) in
     λ j. first j ∷ rest j
 
--- the fields of a block whose samples are predicted, and levels that have residuals with its parts
+-- the fields of a block, and levels that have residuals with its parts
 pub record PartsOfBlock (waiting : List Bool) (s : Parameters) (size words omitted k from : ℕ) (highs lows levels : List ℕ) : Type 0 where
   pub some : 2 ≤ size
   pub size_is : size ≡ s.block
-  pub preprocess : s.preprocess ≡ true
+  pub bits : 1 ≤ s.bits
   pub highs_are : length highs ≡ size
   pub lows_are : length lows ≡ size
   pub ahead : LowsAhead waiting words omitted k lows
-  pub near : AreLevelsOfParts s from k highs lows levels
+  pub near : HaveParts s from k highs lows levels
   pub within : words + (size - omitted) * k ≤ length waiting
 
 restored_from : {waiting : List Bool} {s : Parameters} {size words omitted k from : ℕ} {highs lows levels ds : List ℕ} → PartsOfBlock waiting s size words omitted k from highs lows levels
     → joined_parts k highs lows ≡ ds → IsRestoredFrom s from ds levels
 restored_from parts joined = record {
   some = omega (arith, parts.some, parts.size_is);
-  preprocess = parts.preprocess;
+  bits = parts.bits;
   len = parts.near.len ∙ (parts.highs_are ∙ parts.size_is);
   legal = parts.near.legal;
-  ranks = parts.near.ranked ∙ joined;
+  residuals = parts.near.residuals ∙ joined;
 }
 
 -- a block by split k

@@ -1,9 +1,9 @@
 -- Rows of samples of a block, restored and spelled one after another.
-use Rattle.std.proofs.Common.{◌≡◌, ℕ, zero, suc, ◌+◌, ◌-◌, ◌*◌, ◌^◌, ◌<◌, ◌≤◌, Bool, List, [], ◌∷◌, ◌++◌, length}
+use Rattle.std.proofs.Common.{◌≡◌, ℕ, zero, suc, ◌+◌, ◌-◌, ◌*◌, ◌^◌, ◌<◌, ◌≤◌, Bool, true, false, cond, List, [], ◌∷◌, ◌++◌, length, map}
 use Rattle.std.proofs.Common.{take, drop, take-take, take-append-drop, replicate, refl, sym, ◌∙◌, ap, subst, arith, append_assoc, length-append, Option, None, Some}
 use Rattle.std.specs.Prelude.{All, IfSome, flat_map, slice_index_or}
 use Rattle.std.proofs.Math.Seq.{take-add, take-append_seam}
-use Rattle.std.proofs.Math.Nat.{add-mul, mul-add, mul-le-mul_right}
+use Rattle.std.proofs.Math.Nat.{add-mul, mul-add, mul-le-mul_right, pow-le-pow_right}
 use Rattle.std.proofs.lemmas.Grind.{flat_map-append}
 use Rattle.std.proofs.lemmas.Nat.{pow_pos}
 use Rattle.std.proofs.lemmas.List.{drop-append-le, drop-replicate, get_or-take, length-drop, length-take-le, take-append-le, take-replicate, take_all}
@@ -13,16 +13,16 @@ use Rattle.rice_bits.specs.read.JoinedParts.{joined_parts}
 use Rattle.rice_bits.proofs.lemmas.read.WindowLemmas.{words-front}
 use Rattle.rice_samples.specs.Parameters.{Parameters, value_at, value_count, values_at, width}
 use Rattle.rice_samples.specs.bytes.Spelling.{spelling, spellings}
-use Rattle.rice_samples.specs.predict.LevelsOfParts.{AreLevelsOfParts}
-use Rattle.rice_samples.specs.predict.Residuals.{last_number, rank_below, ranks_below}
+use Rattle.rice_samples.specs.predict.Residuals.{last_number, pattern, ranks_below}
 use Rattle.rice_samples.proofs.lemmas.bytes.SpellingLengths.{length-spellings}
 use Rattle.rice_samples.proofs.lemmas.predict.HalfLanes.{last_is as last_at}
-use Rattle.rice_samples.proofs.lemmas.predict.RestoredLevels.{ranks_below-append}
 use Rattle.rice_samples.proofs.lemmas.setting.ValuesAtLevels.{length-values}
 use Rattle.rice_fast.specs.FieldsAhead.{LowsAhead}
+use Rattle.rice_fast.specs.PartsOfResiduals.{HaveParts, residuals_at}
 use Rattle.rice_fast.specs.RowsAhead.{RowsAhead, SpellsParts}
 use Rattle.rice_fast.specs.declared.fields.Fields.{Fields}
 use Rattle.rice_fast.proofs.lemmas.HighParts.{behind-both, first_of}
+use Rattle.rice_fast.proofs.lemmas.Residuals.{residuals-append, take-residuals}
 
 -- a row of words: those of the first lanes, behind the numbers that are omitted
 pub lanes_lows : {waiting : List Bool} {skip k many : ℕ} (o count : ℕ) (words : List ℕ) {row : List ℕ} → o ≤ 1 → 1 ≤ count → count ≤ many → length words ≡ many
@@ -78,12 +78,7 @@ lows-row {waiting} {skip} {omitted} {k} {at} {lows} row few before place more =
           ∙ (behind-both waiting skip (part * k) (count * k) ∙ ap (λ n. take n (drop skip waiting)) all)));
     }
 
--- the ranks of the first numbers are the first of all ranks, and what the first parts join to is the first of all joined parts
-take-ranks : (n count p : ℕ) (xs : List ℕ) → ranks_below count p (take n xs) ≡ take n (ranks_below count p xs)
-take-ranks zero count p xs = refl
-take-ranks (suc n) count p [] = refl
-take-ranks (suc n) count p (x ∷ xs) = ap (λ ds. rank_below count p x ∷ ds) (take-ranks n count x xs)
-
+-- what the first parts join to is the first of all joined parts
 take-joined : (n k : ℕ) (ms ls : List ℕ) → take n (joined_parts k ms ls) ≡ joined_parts k (take n ms) (take n ls)
 take-joined zero k ms ls = refl
 take-joined (suc n) k [] ls = refl
@@ -120,7 +115,7 @@ front_spelled s count levels most =
 
 -- a row of lanes whose levels were restored and spelled, and the first samples of it
 pub row_spelled : {s : Parameters} {p k many : ℕ} (count : ℕ) {highs lows levels bytes : List ℕ} → 1 ≤ count → count ≤ many → length highs ≡ many
-    → AreLevelsOfParts s p k highs lows levels → take (width s * many) bytes ≡ spellings s (values_at s levels)
+    → HaveParts s p k highs lows levels → take (width s * many) bytes ≡ spellings s (values_at s levels)
     → SpellsParts s p k count (take count highs) (take count lows) (slice_index_or levels (count - 1) 0) bytes
 row_spelled {s} {p} {k} {many} count {highs} {lows} {levels} {bytes} some most len near spelled =
     let all : length levels ≡ many = near.len ∙ len in
@@ -135,7 +130,7 @@ row_spelled {s} {p} {k} {many} count {highs} {lows} {levels} {bytes} some most l
       near = record {
         len = first_len ∙ sym (length-take-le count highs (omega (arith, len, most)));
         legal = All-take (λ l. l < value_count s) count levels near.legal;
-        ranked = take-ranks count (value_count s) p levels ∙ (ap (take count) near.ranked ∙ take-joined count k highs lows);
+        residuals = take-residuals count s p levels ∙ (ap (take count) near.residuals ∙ take-joined count k highs lows);
       };
       last_is = sym (get_or-take count levels (count - 1) 0 (omega (arith, some)));
       spelled =
@@ -151,11 +146,11 @@ if_some P Q (Some a) f h = f a h
 
 -- without compression a low part is a whole residual
 pub whole_parts : {s : Parameters} {p k many : ℕ} {highs lows zeros levels : List ℕ} → length lows ≡ many → highs ≡ replicate many 0 → zeros ≡ replicate many 0
-    → AreLevelsOfParts s p 0 lows zeros levels → AreLevelsOfParts s p k highs lows levels
+    → HaveParts s p 0 lows zeros levels → HaveParts s p k highs lows levels
 whole_parts {s} {p} {k} {many} {highs} {lows} {zeros} {levels} len none blank near = record {
   len = near.len ∙ (len ∙ (sym (length-zeros many) ∙ ap length (sym none)));
   legal = near.legal;
-  ranked = near.ranked ∙ (ap (joined_parts 0 lows) blank ∙ (same many k lows len ∙ ap (λ hs. joined_parts k hs lows) (sym none)));
+  residuals = near.residuals ∙ (ap (joined_parts 0 lows) blank ∙ (same many k lows len ∙ ap (λ hs. joined_parts k hs lows) (sym none)));
 }
   where
     length-zeros : (n : ℕ) → length {A = ℕ} (replicate n 0) ≡ n
@@ -180,11 +175,15 @@ no_rows waiting s f highs bytes begins =
       lows = [];
       len = refl;
       words = λ some. absurd (omega (arith, some));
-      near = record { len = refl; legal = All-nil (λ l. l < value_count s); ranked = refl };
+      near = record { len = refl; legal = All-nil (λ l. l < value_count s); residuals = nothing s.preprocess };
       last_is = refl;
       legal = begins;
       spelled = ap (λ n. take n bytes) none;
     }
+  where
+    nothing : (b : Bool) → cond b (ranks_below (value_count s) f.from []) (map (pattern s) (values_at s [])) ≡ []
+    nothing true = refl
+    nothing false = refl
 
 -- where the words of a row begin: those before it are passed, and behind the first row none is omitted
 pub record RowPlace (f : Fields) (at omitted place : ℕ) : Type 0 where
@@ -255,9 +254,9 @@ one_row_more {waiting} {s} {f} {at} {omitted} {place} {count} {last} {l} {highs}
       near = record {
         len = length-append before.levels spelled.levels ∙ ((λ j. before.near.len j + spelled.near.len j) ∙ (sym (length-append (take at highs) part) ∙ ap length (sym (take-add at count highs))));
         legal = All-append (λ l. l < value_count s) before.levels spelled.levels before.near.legal spelled.near.legal;
-        ranked =
-            ranks_below-append (value_count s) f.from before.levels spelled.levels
-            ∙ ((λ j. before.near.ranked j ++ (ap (λ r. ranks_below (value_count s) r spelled.levels) (sym before.last_is) ∙ spelled.near.ranked) j)
+        residuals =
+            residuals-append s f.from before.levels spelled.levels
+            ∙ ((λ j. before.near.residuals j ++ (ap (λ r. residuals_at s r spelled.levels) (sym before.last_is) ∙ spelled.near.residuals) j)
             ∙ (sym (joined-append f.k (take at highs) before.lows part row same) ∙ ap (λ hs. joined_parts f.k hs (before.lows ++ row)) (sym (take-add at count highs))));
       };
       last_is = last_level ∙ (ap (λ p. last_number p spelled.levels) before.last_is ∙ sym (last-append f.from before.levels spelled.levels));
@@ -278,3 +277,9 @@ one_row_more {waiting} {s} {f} {at} {omitted} {place} {count} {last} {l} {highs}
     words (suc n) here lows e h =
         let later : omitted ≡ 0 = here.later (omega arith) in
         lows-row row (omega (arith, few, e)) (h (omega arith)) (here.begins ∙ ap (λ m. f.words + (m - f.omitted) * f.k) (sym e)) (subst (λ o. LowsAhead waiting place o f.k row) later more)
+
+-- the greatest level fits a lane
+pub greatest_fits : (s : Parameters) (k : ℕ) {values : ℕ} → s.bits ≤ k → 1 ≤ values → values ≡ value_count s → values - 1 < 2 ^ k
+greatest_fits s k h some is =
+    let most : 2 ^ s.bits ≤ 2 ^ k = pow-le-pow_right {n = 2} (omega arith) {i = s.bits} {j = k} h in
+    omega (arith, some, is, most)

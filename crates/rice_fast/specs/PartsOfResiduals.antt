@@ -1,0 +1,15 @@
+-- Levels of samples whose residuals have these high and low parts, where samples are predicted or not.
+use Rattle.std.specs.Prelude.{◌≡◌, ℕ, ◌<◌, List, All, cond, length, map}
+use Rattle.rice_bits.specs.read.JoinedParts.{joined_parts}
+use Rattle.rice_samples.specs.Parameters.{Parameters, value_count, values_at}
+use Rattle.rice_samples.specs.predict.Residuals.{pattern, ranks_below}
+
+-- the residuals of samples at these levels, the first after one at level p: their ranks, or, where samples are not predicted, their patterns
+abbrev pub residuals_at : Parameters → ℕ → List ℕ → List ℕ
+residuals_at s p levels = cond s.preprocess (ranks_below (value_count s) p levels) (map (pattern s) (values_at s levels))
+
+-- Levels of samples, the first after one at level p, have residuals with these high parts and these low parts of `width` bits.
+pub record HaveParts (s : Parameters) (p width : ℕ) (highs lows levels : List ℕ) : Type 0 where
+  pub len : length levels ≡ length highs
+  pub legal : All (λ l. l < value_count s) levels
+  pub residuals : residuals_at s p levels ≡ joined_parts width highs lows
