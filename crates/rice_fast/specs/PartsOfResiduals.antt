@@ -8,7 +8,12 @@ use Rattle.rice_samples.specs.predict.Residuals.{pattern, ranks_below}
 abbrev pub residuals_at : Parameters → ℕ → List ℕ → List ℕ
 residuals_at s p levels = cond s.preprocess (ranks_below (value_count s) p levels) (map (pattern s) (values_at s levels))
 
--- Levels of samples, the first after one at level p, have residuals with these high parts and these low parts of `width` bits.
+-- Levels of samples, the first after one at level p, have these residuals.
+pub record HaveResiduals (s : Parameters) (p : ℕ) (residuals levels : List ℕ) : Type 0 where
+  pub legal : All (λ l. l < value_count s) levels
+  pub are : residuals_at s p levels ≡ residuals
+
+-- They have residuals with these high parts and these low parts of `width` bits.
 pub record HaveParts (s : Parameters) (p width : ℕ) (highs lows levels : List ℕ) : Type 0 where
   pub len : length levels ≡ length highs
   pub legal : All (λ l. l < value_count s) levels

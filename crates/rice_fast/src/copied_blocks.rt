@@ -96,7 +96,7 @@ fn is_copied_ahead<I: Intake, const WIDTH: usize>(
 /// Writes the bytes of the samples of the next block, of `size` samples, which is not compressed. It takes nothing, and may write up to
 /// 15 bytes more after these.
 #[inline(always)]
-fn spell_copied_ahead<I: Intake, const WIDTH: usize>(
+fn write_copied_ahead<I: Intake, const WIDTH: usize>(
     setting: &Setting,
     size: usize,
     reader: &BitReader<I>,
@@ -169,7 +169,7 @@ pub fn copy_block<I: Intake, const SIZE: usize, const WIDTH: usize>(
     if !is_copied_ahead::<I, WIDTH>(setting, size, reader) {
         return false;
     }
-    spell_copied_ahead::<I, WIDTH>(setting, size, reader, bytes);
+    write_copied_ahead::<I, WIDTH>(setting, size, reader, bytes);
     let last = last_copied::<I, WIDTH>(setting, size, reader);
     take_ahead(reader, copied_len::<WIDTH>(setting, size), meter);
     let _answer = decoder.go_to_next_block(setting.value_at(last as u64), 0, reader, meter);

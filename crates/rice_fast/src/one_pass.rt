@@ -11,7 +11,7 @@ ghost use Rattle.rice_fast.specs.BlocksAhead.{GivesBytes, HasBits, SpelledAhead}
 use crate::copied_blocks::copy_block;
 use crate::fields::{fields_ahead, has_reference};
 use crate::lanes::SampleLanes;
-use crate::rows::spell_rows;
+use crate::rows::write_rows;
 use rice_bits::{BitReader, Intake, Meter};
 use rice_code::{Decoder, known_or};
 use rice_samples::Setting;
@@ -28,7 +28,7 @@ struct SpelledBlock {
 /// Writes the bytes of the block of `size` samples that waits, after a sample at level `before`, if it can. It takes no bits.
 /// It is laid out for blocks of `SIZE` samples with a `REFERENCE`, or without one.
 #[inline(always)]
-fn spell_fields_ahead<
+fn write_fields_ahead<
     L: SampleLanes,
     I: Intake,
     const SIZE: usize,
@@ -59,7 +59,7 @@ fn spell_fields_ahead<
     if reader.waiting() < (fields.words + size * fields.k as usize) as u64 + L::LOOK {
         return None;
     }
-    let last = spell_rows::<L, I, SIZE, WIDTH, REFERENCE>(
+    let last = write_rows::<L, I, SIZE, WIDTH, REFERENCE>(
         setting, size, &fields, &highs, reader, bytes,
     )?;
     Some(SpelledBlock {
@@ -71,7 +71,7 @@ fn spell_fields_ahead<
 
 /// Writes the bytes of the block of `size` samples that waits, after a sample at level `before`, if it can. It takes no bits.
 #[inline(always)]
-fn spell_block_ahead<L: SampleLanes, I: Intake, const SIZE: usize, const WIDTH: usize>(
+fn write_block_ahead<L: SampleLanes, I: Intake, const SIZE: usize, const WIDTH: usize>(
     setting: &Setting,
     size: usize,
     block: u32,
@@ -88,11 +88,11 @@ fn spell_block_ahead<L: SampleLanes, I: Intake, const SIZE: usize, const WIDTH: 
         (value_at setting.now before) r.last r.len r.turns bytes.new) }
 {
     if has_reference(setting, block) {
-        return spell_fields_ahead::<L, I, SIZE, WIDTH, true>(
+        return write_fields_ahead::<L, I, SIZE, WIDTH, true>(
             setting, size, block, before, reader, bytes,
         );
     }
-    spell_fields_ahead::<L, I, SIZE, WIDTH, false>(setting, size, block, before, reader, bytes)
+    write_fields_ahead::<L, I, SIZE, WIDTH, false>(setting, size, block, before, reader, bytes)
 }
 
 /// Takes the next `len` bits, which are those of a block, as if after [`mark`](BitReader::mark).
@@ -184,7 +184,7 @@ fn pass_fields<L: SampleLanes, I: Intake, const SIZE: usize, const WIDTH: usize>
     let size = known_or::<SIZE>(setting.block() as usize);
     let block = decoder.block();
     let before = setting.level(decoder.before()) as u32;
-    let spelled = match spell_block_ahead::<L, I, SIZE, WIDTH>(
+    let spelled = match write_block_ahead::<L, I, SIZE, WIDTH>(
         setting, size, block, before, reader, bytes,
     ) {
         Some(spelled) => spelled,

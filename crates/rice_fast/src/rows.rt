@@ -1,11 +1,11 @@
 //! Restores the samples of a block that waits, and writes their bytes, a row of lanes at a time.
-ghost use Rattle.std.specs.Prelude.{◌≡◌, ℕ, ◌+◌, ◌-◌, ◌*◌, ◌^◌, ◌<◌, ◌≤◌, ◌++◌, All, IfSome, drop, false, length, replicate, take};
+ghost use Rattle.std.specs.Prelude.{◌≡◌, ◌+◌, ◌-◌, ◌*◌, ◌^◌, ◌<◌, ◌≤◌, ◌++◌, All, IfSome, drop, get_or, length, replicate, take};
 ghost use Rattle.rice_bits.specs.read.JoinedParts.{joined_parts};
-ghost use Rattle.rice_samples.specs.Parameters.{value_count, width as width_of};
-ghost use Rattle.rice_samples.specs.predict.LevelsOfParts.{AreLevelsOfParts};
+ghost use Rattle.rice_samples.specs.Parameters.{value_count, values_at, width as width_of};
+ghost use Rattle.rice_samples.specs.bytes.Spelling.{spellings};
 ghost use Rattle.rice_fast.specs.BlocksAhead.{HasBits};
 ghost use Rattle.rice_fast.specs.FieldsAhead.{LowsAhead};
-ghost use Rattle.rice_fast.specs.PartsOfResiduals.{HaveParts};
+ghost use Rattle.rice_fast.specs.PartsOfResiduals.{HaveResiduals};
 ghost use Rattle.rice_fast.specs.RowsAhead.{RowsAhead, SpellsParts};
 
 use crate::fields::Fields;
@@ -72,120 +72,80 @@ fn sound_residuals<L: SampleLanes>(setting: &Setting, highs: L, lows: L, k: u32)
     Some(residuals)
 }
 
-/// Returns the levels of predicted samples, whose residuals have these high parts and low parts of `k` bits, one after another: the first
-/// after a sample at level `before`. Returns `None` if a residual is too large.
-#[inline(never)]
-fn levels_in_turn<L: SampleLanes>(
-    setting: &Setting,
-    before: u32,
-    highs: L,
-    lows: L,
-    k: u32,
-) -> Option<L>
-    requires narrow { setting.now.bits ≤ L.bits }
-    requires before { before < value_count setting.now }
-    requires split { k < L.bits }
-    requires low { All (λ l. l < 2 ^ k) (L.numbers lows) }
-    ensures { IfSome result (λ l.
-        AreLevelsOfParts setting.now before k (L.numbers highs) (L.numbers lows) (L.numbers l)) }
-{
-    let ranks = sound_residuals(setting, highs, lows, k)?;
-    Some(ranks.in_turn((setting.number_of_values() - 1) as u32, before))
-}
-
-/// Does what `levels_in_turn` does, all at once where samples are near to those before them. Near ones are not expected after a level that
-/// few others are near to.
+/// Returns the levels of samples that have these residuals: the first after a sample at level `before`.
 #[inline(always)]
-fn predicted_levels<L: SampleLanes>(
-    setting: &Setting,
-    before: u32,
-    highs: L,
-    lows: L,
-    k: u32,
-) -> Option<L>
+fn levels_of_residuals<L: SampleLanes>(setting: &Setting, before: u32, residuals: L) -> L
     requires narrow { setting.now.bits ≤ L.bits }
     requires before { before < value_count setting.now }
-    requires split { k < L.bits }
-    requires low { All (λ l. l < 2 ^ k) (L.numbers lows) }
-    ensures { IfSome result (λ l.
-        AreLevelsOfParts setting.now before k (L.numbers highs) (L.numbers lows) (L.numbers l)) }
-{
-    if before >= FEW_NEAR || setting.bits() <= FEW_BITS {
-        if let Some(levels) = near_levels_of_parts(setting, before, highs, lows, k) {
-            return Some(levels);
-        }
-    }
-    levels_in_turn(setting, before, highs, lows, k)
-}
-
-/// Returns the levels of samples that are not predicted, whose patterns have these high parts and low parts of `k` bits. Returns `None` if a
-/// pattern is too large.
-#[inline(never)]
-fn levels_of_patterns<L: SampleLanes>(setting: &Setting, highs: L, lows: L, k: u32) -> Option<L>
-    requires preprocess { setting.now.preprocess ≡ false }
-    requires narrow { setting.now.bits ≤ L.bits }
-    requires split { k < L.bits }
-    requires low { All (λ l. l < 2 ^ k) (L.numbers lows) }
-    ensures { IfSome result (λ l.
-        (p : ℕ) → HaveParts setting.now p k (L.numbers highs) (L.numbers lows) (L.numbers l)) }
+    requires sound { All (λ n. n < value_count setting.now) (L.numbers residuals) }
+    ensures { HaveResiduals setting.now before (L.numbers residuals) (L.numbers result) }
 {
     let _bits = setting.bits();
-    let patterns = sound_residuals(setting, highs, lows, k)?;
+    let greatest = (setting.number_of_values() - 1) as u32;
+    if setting.preprocess() {
+        return residuals.in_turn(greatest, before);
+    }
     let zero = L::splat(level_of_pattern(setting, 0));
-    let greatest = L::splat((setting.number_of_values() - 1) as u32);
-    Some(patterns.plus(zero).and(greatest))
+    residuals.plus(zero).and(L::splat(greatest))
 }
 
-/// Returns the levels of samples whose residuals have these high parts and low parts of `k` bits: the first after a sample at level
-/// `before`. Returns `None` if a residual is too large.
+/// Writes the bytes of samples with these levels, after the first `at` bytes. Returns the level of the last of the first `count`. It may
+/// write more after these bytes.
 #[inline(always)]
-fn levels_of_parts<L: SampleLanes>(
+fn write_levels<L: SampleLanes>(
+    setting: &Setting,
+    levels: L,
+    count: usize,
+    at: usize,
+    bytes: &mut [u8],
+) -> u32
+    requires bits { HasBits L.below L.bits setting.now }
+    requires legal { All (λ l. l < value_count setting.now) (L.numbers levels) }
+    requires count { (1 ≤ count) × (count ≤ L.COUNT) }
+    requires room { at + 32 ≤ length bytes.old }
+    ensures last { result ≡ get_or (L.numbers levels) (count - 1) 0 }
+    ensures spelled { take (width_of setting.now * L.COUNT) (drop at bytes.new)
+        ≡ spellings setting.now (values_at setting.now (L.numbers levels)) }
+    ensures front { take at bytes.new ≡ take at bytes.old }
+    ensures len { length bytes.new ≡ length bytes.old }
+{
+    levels.write_bytes(setting, &mut bytes[at..]);
+    levels.number_at(count - 1)
+}
+
+/// Writes the bytes of a row of `count` samples whose residuals have these parts, after the first `at` bytes, one sample after another.
+/// Returns the level of the last, or `None` if a residual is too large. It may write more after these bytes.
+#[inline(never)]
+fn write_parts_in_turn<L: SampleLanes>(
     setting: &Setting,
     before: u32,
     highs: L,
     lows: L,
     k: u32,
-) -> Option<L>
-    requires narrow { setting.now.bits ≤ L.bits }
+    count: usize,
+    at: usize,
+    bytes: &mut [u8],
+) -> Option<u32>
+    requires bits { HasBits L.below L.bits setting.now }
     requires before { before < value_count setting.now }
     requires split { k < L.bits }
     requires low { All (λ l. l < 2 ^ k) (L.numbers lows) }
-    ensures { IfSome result (λ l.
-        HaveParts setting.now before k (L.numbers highs) (L.numbers lows) (L.numbers l)) }
+    requires count { (1 ≤ count) × (count ≤ L.COUNT) }
+    requires room { at + 32 ≤ length bytes.old }
+    ensures some { IfSome result (λ l. SpellsParts setting.now before k count
+        (take count (L.numbers highs)) (take count (L.numbers lows)) l (drop at bytes.new)) }
+    ensures front { take at bytes.new ≡ take at bytes.old }
+    ensures len { length bytes.new ≡ length bytes.old }
 {
-    if setting.preprocess() {
-        return predicted_levels(setting, before, highs, lows, k);
-    }
-    levels_of_patterns(setting, highs, lows, k)
+    let residuals = sound_residuals(setting, highs, lows, k)?;
+    let levels = levels_of_residuals(setting, before, residuals);
+    Some(write_levels(setting, levels, count, at, bytes))
 }
 
-/// Returns the levels of a row of samples whose residuals have these parts. Without compression, a low part is a whole residual.
+/// Does what `write_parts_in_turn` does, all at once where samples are near to those before them. Near ones are not expected after a level
+/// that few others are near to, and without compression. There, a low part is a whole residual.
 #[inline(always)]
-fn levels_of_row<L: SampleLanes>(
-    setting: &Setting,
-    before: u32,
-    highs: L,
-    lows: L,
-    k: u32,
-) -> Option<L>
-    requires narrow { setting.now.bits ≤ L.bits }
-    requires before { before < value_count setting.now }
-    requires split { k ≤ L.bits }
-    requires low { All (λ l. l < 2 ^ k) (L.numbers lows) }
-    requires whole { k ≡ L.bits → L.numbers highs ≡ replicate L.COUNT 0 }
-    ensures { IfSome result (λ l.
-        HaveParts setting.now before k (L.numbers highs) (L.numbers lows) (L.numbers l)) }
-{
-    if k == L::BITS {
-        return levels_of_parts(setting, before, lows, L::splat(0), 0);
-    }
-    levels_of_parts(setting, before, highs, lows, k)
-}
-
-/// Writes the bytes of a row of `count` samples whose residuals have these parts, behind the first `at` bytes. Returns the level of the
-/// last, or `None` if a residual is too large. It may write more after these bytes.
-#[inline(always)]
-fn spell_row<L: SampleLanes>(
+fn write_row<L: SampleLanes>(
     setting: &Setting,
     before: u32,
     highs: L,
@@ -207,15 +167,21 @@ fn spell_row<L: SampleLanes>(
     ensures front { take at bytes.new ≡ take at bytes.old }
     ensures len { length bytes.new ≡ length bytes.old }
 {
-    let levels = levels_of_row(setting, before, highs, lows, k)?;
-    levels.write_bytes(setting, &mut bytes[at..]);
-    Some(levels.number_at(count - 1))
+    if k == L::BITS {
+        return write_parts_in_turn(setting, before, lows, L::splat(0), 0, count, at, bytes);
+    }
+    if setting.preprocess() && (before >= FEW_NEAR || setting.bits() <= FEW_BITS) {
+        if let Some(levels) = near_levels_of_parts(setting, before, highs, lows, k) {
+            return Some(write_levels(setting, levels, count, at, bytes));
+        }
+    }
+    write_parts_in_turn(setting, before, highs, lows, k, count, at, bytes)
 }
 
 /// Writes the bytes of the samples of the block with these fields and high parts, `WIDTH` each, to the front of `bytes`. Returns the level
 /// of the last, or `None` if a residual is too large. It may write more after these bytes.
 #[inline(always)]
-pub fn spell_rows<
+pub fn write_rows<
     L: SampleLanes,
     I: Intake,
     const SIZE: usize,
@@ -248,7 +214,7 @@ pub fn spell_rows<
         let count = (size - at).min(L::COUNT);
         let lows: L = low_parts_of_row(reader, place, omitted, count, fields.k);
         let highs = L::of_bytes(&highs[at..]);
-        last = spell_row(
+        last = write_row(
             setting,
             last,
             highs,

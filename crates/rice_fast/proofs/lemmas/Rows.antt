@@ -166,6 +166,17 @@ whole_parts {s} {p} {k} {many} {highs} {lows} {zeros} {levels} len none blank ne
         let rest = same n k ls (omega (arith, e)) in
         λ j. one j ∷ rest j
 
+-- the same of a row whose samples are written
+pub whole_row : {s : Parameters} {p k many count last : ℕ} {highs : List ℕ} (lows : List ℕ) {zeros bytes : List ℕ} → count ≤ many → length lows ≡ many
+    → highs ≡ replicate many 0 → zeros ≡ replicate many 0 → SpellsParts s p 0 count (take count lows) (take count zeros) last bytes
+    → SpellsParts s p k count (take count highs) (take count lows) last bytes
+whole_row {many} {count} lows few len none blank row = record {
+  levels = row.levels;
+  near = whole_parts (length-take-le count lows (omega (arith, len, few))) (ap (take count) none ∙ take-replicate count many 0 few) (ap (take count) blank ∙ take-replicate count many 0 few) row.near;
+  last_is = row.last_is;
+  spelled = row.spelled;
+}
+
 -- before the first row no sample is spelled
 pub no_rows : (waiting : List Bool) (s : Parameters) (f : Fields) (highs bytes : List ℕ) → f.from < value_count s → RowsAhead waiting s f highs 0 f.from bytes
 no_rows waiting s f highs bytes begins =

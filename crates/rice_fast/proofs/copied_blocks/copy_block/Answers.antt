@@ -16,10 +16,10 @@ returns-clause-some g c _ =
     let start = c.args.reader.now in
     let last = c.last_copied-last in
     let ahead = c.if-not-is_copied_ahead.ensures in
-    let block : CopiedBlock start.waiting s w c.spell_copied_ahead.new.bytes = record {
+    let block : CopiedBlock start.waiting s w c.write_copied_ahead.new.bytes = record {
       there = omega (arith, ahead.there refl);
       id = ahead.id refl;
-      words = c.spell_copied_ahead.ensures;
+      words = c.write_copied_ahead.ensures;
     } in
     let bits : c.copied_len.result ≡ copied_bits s w = c.copied_len.ensures.value in
     let f : SFits w64 c.value_at.result = search rules in

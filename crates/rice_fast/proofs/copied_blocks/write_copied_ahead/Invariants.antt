@@ -1,6 +1,6 @@
 use Rattle.std.proofs.Common.{◌*◌}
 use Rattle.rice_fast.specs.CopiedBlocks.{WordsAhead}
-use Rattle.rice_fast.proofs.copied_blocks.spell_copied_ahead.Given as goal
+use Rattle.rice_fast.proofs.copied_blocks.write_copied_ahead.Given as goal
 
 abbrev pub invariant-loop-i : goal.invariant-loop-i
 invariant-loop-i g l = record {

@@ -2,10 +2,10 @@ use Rattle.std.proofs.Common.{◌≡◌, ◌+◌, ◌-◌, ◌*◌, ◌≤◌, �
 use Rattle.std.proofs.lemmas.List.{length-take-le}
 use Rattle.rice_fast.specs.RowsAhead.{RowsAhead, SpellsParts}
 use Rattle.rice_fast.proofs.lemmas.Rows.{first_place, next_place, no_rows, one_row_more, zeros_of_row}
-use Rattle.rice_fast.proofs.rows.spell_rows.Goals as goal
+use Rattle.rice_fast.proofs.rows.write_rows.Goals as goal
 
-pub spell_row-requires-clause-whole : goal.spell_row-requires-clause-whole
-spell_row-requires-clause-whole g c = λ same.
+pub write_row-requires-clause-whole : goal.write_row-requires-clause-whole
+write_row-requires-clause-whole g c = λ same.
     zeros_of_row c.loop-at.at g.L.Lanes.COUNT (omega (arith, g.met.L.Lanes.most, c.loop-at-test.true, c.requires.size)) (c.requires.whole same) c.of_bytes-highs.ensures
 
 pub loop-at-init : goal.loop-at-init
@@ -26,7 +26,7 @@ loop-at-preserved g c =
     let many : c.COUNT.result ≡ g.L.Lanes.COUNT = c.COUNT.ensures in
     let lows = c.low_parts_of_row-lows in
     let highs = g.L.Lanes.numbers c.of_bytes-highs.result in
-    let new = c.spell_row.new.bytes in
+    let new = c.write_row.new.bytes in
     let spelled = c.in_ok-last.ensures.some in
     let some : 1 ≤ n = omega (arith, count, many, c.loop-at-test.true, g.met.L.Lanes.some) in
     let inside : l.at + n ≤ c.args.size = omega (arith, count, c.loop-at-test.true) in
@@ -37,13 +37,13 @@ loop-at-preserved g c =
     let width_is = c.requires.width in
     record {
       within = inside;
-      long = c.spell_row.ensures.len ∙ l.invariant.long;
+      long = c.write_row.ensures.len ∙ l.invariant.long;
       here = next_place n c.requires.few some l.invariant.here;
       rows = one_row_more new c.requires.few some (omega (arith, inside, c.requires.size, c.told-highs)) l.invariant.here l.invariant.rows
           (length-take-le n (g.L.Lanes.numbers lows.result) (omega (arith, few, g.met.L.Lanes.len lows.result))) lows.ensures.row
           (subst (λ w. SpellsParts c.args.setting.now l.last f.k n (take n (drop l.at all)) (take n (g.L.Lanes.numbers lows.result)) c.in_ok-last.last (drop (w * l.at) new)) width_is
           (subst (λ hs. SpellsParts c.args.setting.now l.last f.k n hs (take n (g.L.Lanes.numbers lows.result)) c.in_ok-last.last (drop (g.row.WIDTH * l.at) new)) first spelled))
-          (subst (λ w. take (w * l.at) new ≡ take (w * l.at) l.bytes) width_is c.spell_row.ensures.front);
+          (subst (λ w. take (w * l.at) new ≡ take (w * l.at) l.bytes) width_is c.write_row.ensures.front);
     }
 
 pub returns : goal.returns

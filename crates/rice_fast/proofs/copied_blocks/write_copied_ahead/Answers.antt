@@ -1,7 +1,7 @@
 use Rattle.std.proofs.Common.{◌≡◌, ◌+◌, ◌*◌, ◌≤◌, ◌∙◌, arith, ap, drop, length, take}
 use Rattle.rice_samples.specs.Parameters.{id_len}
 use Rattle.rice_fast.proofs.lemmas.CopiedBlocks.{block_words, no_words, words_more}
-use Rattle.rice_fast.proofs.copied_blocks.spell_copied_ahead.Goals as goal
+use Rattle.rice_fast.proofs.copied_blocks.write_copied_ahead.Goals as goal
 
 pub loop-i-init : goal.loop-i-init
 loop-i-init g c = record { words = no_words c.args.reader.now.waiting c.args.setting.now g.row.WIDTH c.args.bytes.now }

@@ -2,7 +2,7 @@ use Rattle.std.proofs.Common.{◌≡◌, ◌-◌, ◌*◌, ◌≤◌, ◌∙◌,
 use Rattle.std.proofs.Math.Nat.{mul-le-mul_right}
 use Rattle.std.proofs.lemmas.List.{length-take-le}
 use Rattle.rice_samples.specs.Parameters.{width}
-use Rattle.rice_fast.proofs.one_pass.spell_fields_ahead.Goals as goal
+use Rattle.rice_fast.proofs.one_pass.write_fields_ahead.Goals as goal
 
 pub overflow_add-fields : goal.overflow_add-fields
 overflow_add-fields g c =
@@ -41,5 +41,5 @@ returns g c =
       from = f.from;
       last_is = rows.last_is;
       legal = rows.legal;
-      spelled = ap (λ n. take (width s * n) c.spell_rows.new.bytes) len ∙ rows.spelled;
+      spelled = ap (λ n. take (width s * n) c.write_rows.new.bytes) len ∙ rows.spelled;
     }

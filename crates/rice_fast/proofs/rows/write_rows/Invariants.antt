@@ -1,7 +1,7 @@
 use Rattle.std.proofs.Common.{◌≡◌, ◌≤◌, ◌-◌, length}
 use Rattle.rice_fast.specs.RowsAhead.{RowsAhead}
 use Rattle.rice_fast.proofs.lemmas.Rows.{RowPlace}
-use Rattle.rice_fast.proofs.rows.spell_rows.Given as goal
+use Rattle.rice_fast.proofs.rows.write_rows.Given as goal
 
 abbrev pub invariant-loop-at : goal.invariant-loop-at
 invariant-loop-at g l = record {
