@@ -1,16 +1,13 @@
 //! Blocks without compression whose samples are not predicted, and use all bits of 1, 2 or 4 bytes: these bytes stand in the code.
-ghost use Rattle.std.specs.Prelude.{◌≡◌, ◌+◌, ◌-◌, ◌*◌, ◌^◌, ◌<◌, ◌≤◌, None, false, true, length, take, drop};
+ghost use Rattle.std.specs.Prelude.{◌≡◌, ℕ, ℤ, ◌+◌, ◌-◌, ◌*◌, ◌^◌, ◌<◌, ◌≤◌, IfSome, true, length, take, drop};
 ghost use Rattle.rice_bits.specs.Bits.{word};
 ghost use Rattle.rice_samples.specs.Parameters.{id_len, value_at, value_count};
 ghost use Rattle.rice_samples.specs.predict.Residuals.{pattern};
-ghost use Rattle.rice_bits.specs.Limits.{most_bits_read, step_limit};
-ghost use Rattle.rice_code.specs.decode.RowsOfFields.{AreCounted};
-ghost use Rattle.rice_fast.specs.BlocksAhead.{GivesBytes};
+ghost use Rattle.rice_fast.specs.BlocksAhead.{SpelledAhead};
 ghost use Rattle.rice_fast.specs.CopiedBlocks.{IsCopied, WordsAhead, copied_bits};
 
-use crate::one_pass::take_ahead;
-use rice_bits::{BitReader, Intake, Meter};
-use rice_code::{Decoder, known_or};
+use crate::one_pass::WrittenBlock;
+use rice_bits::{BitReader, Intake};
 use rice_samples::{Setting, bytes_of_patterns, level_of_pattern};
 
 /// The bits behind a block that are looked at with it, at most.
@@ -137,41 +134,30 @@ fn last_copied<I: Intake, const WIDTH: usize>(
     level_of_pattern(setting, reader.number_ahead(before, 8 * WIDTH as u32))
 }
 
-/// Does what [`pass`](crate::one_pass::pass) does outside a run, where samples are not predicted.
+/// Writes the bytes of the block of `size` samples that waits, if its samples are not predicted, use all bits of `WIDTH` bytes, and are not
+/// compressed. It takes no bits.
 #[inline(never)]
-pub fn copy_block<I: Intake, const SIZE: usize, const WIDTH: usize>(
-    decoder: &mut Decoder,
+pub fn write_copied_block<I: Intake, const WIDTH: usize>(
     setting: &Setting,
-    reader: &mut BitReader<I>,
-    meter: &mut Meter,
+    size: usize,
+    reader: &BitReader<I>,
     bytes: &mut [u8; 320],
-) -> bool
-    requires setting { decoder.old.setting ≡ setting.now }
-    requires run { decoder.old.run ≡ 0 }
-    requires size { 0 < SIZE → SIZE ≡ setting.now.block }
-    requires stopped { decoder.old.stopped ≡ None }
-    requires going { reader.old.refusal ≡ None }
-    requires room { meter.old + 2 * (most_bits_read - reader.old.taken) + 64 < step_limit }
-    ensures some { result ≡ true →
-        GivesBytes reader.old reader.new meter.old meter.new decoder.old decoder.new bytes.new }
-    ensures none { result ≡ false → (decoder.new ≡ decoder.old) × (reader.new ≡ reader.old) ×
-        (meter.new ≡ meter.old) }
-    ensures going { reader.new.refusal ≡ None }
-    ensures stopped { decoder.new.stopped ≡ None }
-    ensures setting { decoder.new.setting ≡ decoder.old.setting }
-    ensures steps { AreCounted meter.old meter.new reader.old.taken reader.new.taken }
+) -> Option<WrittenBlock>
+    requires size { size ≡ setting.now.block }
+    ensures { IfSome result (λ r. (b : ℕ) (p : ℤ) →
+        SpelledAhead reader.now.waiting setting.now b p r.last r.len r.turns bytes.new) }
 {
-    let _taken = reader.taken();
+    let _block = setting.block();
     if !is_copied::<WIDTH>(setting) {
-        return false;
+        return None;
     }
-    let size = known_or::<SIZE>(setting.block() as usize);
     if !is_copied_ahead::<I, WIDTH>(setting, size, reader) {
-        return false;
+        return None;
     }
     write_copied_ahead::<I, WIDTH>(setting, size, reader, bytes);
-    let last = last_copied::<I, WIDTH>(setting, size, reader);
-    take_ahead(reader, copied_len::<WIDTH>(setting, size), meter);
-    let _answer = decoder.go_to_next_block(setting.value_at(last as u64), 0, reader, meter);
-    true
+    Some(WrittenBlock {
+        last: last_copied::<I, WIDTH>(setting, size, reader),
+        len: copied_len::<WIDTH>(setting, size),
+        turns: 0,
+    })
 }

@@ -8,7 +8,7 @@ ghost use Rattle.rice_code.specs.decode.Decoder.{with_mark};
 ghost use Rattle.rice_code.specs.decode.RowsOfFields.{AreCounted};
 ghost use Rattle.rice_fast.specs.BlocksAhead.{GivesBytes, HasBits, SpelledAhead};
 
-use crate::copied_blocks::copy_block;
+use crate::copied_blocks::write_copied_block;
 use crate::fields::{fields_ahead, has_reference};
 use crate::lanes::SampleLanes;
 use crate::rows::write_rows;
@@ -19,10 +19,10 @@ use rice_samples::Setting;
 /// The level of the last sample of a block, the number of bits of its coded data set, and the number of turns that a search for its pairs
 /// takes.
 #[derive(Clone, Copy)]
-struct SpelledBlock {
-    last: u32,
-    len: usize,
-    turns: u64,
+pub struct WrittenBlock {
+    pub last: u32,
+    pub len: usize,
+    pub turns: u64,
 }
 
 /// Writes the bytes of the block of `size` samples that waits, after a sample at level `before`, if it can. It takes no bits.
@@ -41,7 +41,7 @@ fn write_fields_ahead<
     before: u32,
     reader: &BitReader<I>,
     bytes: &mut [u8; 320],
-) -> Option<SpelledBlock>
+) -> Option<WrittenBlock>
     requires bits { HasBits L.below L.bits setting.now }
     requires width { WIDTH ≡ width_of setting.now }
     requires size { size ≡ setting.now.block }
@@ -62,7 +62,7 @@ fn write_fields_ahead<
     let last = write_rows::<L, I, SIZE, WIDTH, REFERENCE>(
         setting, size, &fields, &highs, reader, bytes,
     )?;
-    Some(SpelledBlock {
+    Some(WrittenBlock {
         last,
         len: fields.words + (size - fields.omitted) * fields.k as usize,
         turns: fields.turns,
@@ -78,7 +78,7 @@ fn write_block_ahead<L: SampleLanes, I: Intake, const SIZE: usize, const WIDTH: 
     before: u32,
     reader: &BitReader<I>,
     bytes: &mut [u8; 320],
-) -> Option<SpelledBlock>
+) -> Option<WrittenBlock>
     requires bits { HasBits L.below L.bits setting.now }
     requires width { WIDTH ≡ width_of setting.now }
     requires size { size ≡ setting.now.block }
@@ -87,6 +87,11 @@ fn write_block_ahead<L: SampleLanes, I: Intake, const SIZE: usize, const WIDTH: 
     ensures { IfSome result (λ r. SpelledAhead reader.now.waiting setting.now block
         (value_at setting.now before) r.last r.len r.turns bytes.new) }
 {
+    if !setting.preprocess() {
+        if let Some(copied) = write_copied_block::<I, WIDTH>(setting, size, reader, bytes) {
+            return Some(copied);
+        }
+    }
     if has_reference(setting, block) {
         return write_fields_ahead::<L, I, SIZE, WIDTH, true>(
             setting, size, block, before, reader, bytes,
@@ -97,7 +102,7 @@ fn write_block_ahead<L: SampleLanes, I: Intake, const SIZE: usize, const WIDTH: 
 
 /// Takes the next `len` bits, which are those of a block, as if after [`mark`](BitReader::mark).
 #[inline(always)]
-pub(crate) fn take_ahead<I: Intake>(reader: &mut BitReader<I>, len: usize, meter: &mut Meter)
+fn take_ahead<I: Intake>(reader: &mut BitReader<I>, len: usize, meter: &mut Meter)
     requires going { reader.old.refusal ≡ None }
     requires there { len ≤ length reader.old.waiting }
     requires meter { meter.old + len < step_limit }
@@ -146,17 +151,12 @@ pub fn pass<L: SampleLanes, I: Intake, const SIZE: usize, const WIDTH: usize>(
     if decoder.run() > 0 {
         return false;
     }
-    if !setting.preprocess()
-        && copy_block::<I, SIZE, WIDTH>(decoder, setting, reader, meter, bytes)
-    {
-        return true;
-    }
-    pass_fields::<L, I, SIZE, WIDTH>(decoder, setting, reader, meter, bytes)
+    pass_block::<L, I, SIZE, WIDTH>(decoder, setting, reader, meter, bytes)
 }
 
-/// Does what [`pass`] does outside a run, by the fields of the block.
+/// Does what [`pass`] does outside a run.
 #[inline(never)]
-fn pass_fields<L: SampleLanes, I: Intake, const SIZE: usize, const WIDTH: usize>(
+fn pass_block<L: SampleLanes, I: Intake, const SIZE: usize, const WIDTH: usize>(
     decoder: &mut Decoder,
     setting: &Setting,
     reader: &mut BitReader<I>,

@@ -8,32 +8,28 @@ use Rattle.std.proofs.Math.Seq.{take-add}
 use Rattle.std.proofs.lemmas.Bool.{cases_lt}
 use Rattle.std.proofs.lemmas.Bool.Decides.{nat_tests}
 use Rattle.std.proofs.lemmas.Grind.{flat_map-append}
-use Rattle.std.proofs.lemmas.List.{drop-drop, drop-take, drop_at, get_or-map, length-take-le, take_at}
-use Rattle.std.proofs.lemmas.List.Elements.{All-append, All-nil, All-take}
+use Rattle.std.proofs.lemmas.List.{drop-drop, drop-take, drop_at, get_or-map, length-map, length-take-le, take_at}
+use Rattle.std.proofs.lemmas.List.Elements.{All-append, All-cons, All-nil, All-take}
 use Rattle.std.proofs.lemmas.Simd.{take_more_put_chunk}
 use Rattle.rice_bits.specs.Bits.{number_of, word}
-use Rattle.rice_bits.specs.read.Reader.{Reader, Takes}
 use Rattle.rice_bits.proofs.lemmas.bits.WordsAndNumbers.{length-word, number_of-word}
-use Rattle.rice_samples.specs.Parameters.{Parameters, IsLegal, IsSample, id_len, value_at, value_count, width}
+use Rattle.rice_samples.specs.Parameters.{Parameters, IsLegal, IsSample, id_len, level, value_at, value_count, values_at, width}
 use Rattle.rice_samples.specs.Places.{place}
-use Rattle.rice_samples.specs.predict.Residuals.{last_of, pattern}
+use Rattle.rice_samples.specs.predict.Residuals.{last_number, last_of, pattern}
 use Rattle.rice_samples.specs.bytes.PatternLanes.{OrdersWords}
-use Rattle.rice_samples.specs.bytes.Spelling.{ordered_bytes}
+use Rattle.rice_samples.specs.bytes.Spelling.{ordered_bytes, spellings}
 use Rattle.rice_samples.proofs.lemmas.bytes.LanesOfWholeBytes.{SamplesOfWords, samples_of_words}
 use Rattle.rice_samples.proofs.lemmas.predict.DistinctPatternsAndResiduals.{same_pattern}
 use Rattle.rice_samples.proofs.lemmas.setting.ValuesAboveLeast.{sample_at}
 use Rattle.rice_samples.proofs.lemmas.setting.LevelsOfSamples.{pattern_fits}
-use Rattle.rice_samples.proofs.lemmas.setting.ValuesAtLevels.{last_at}
+use Rattle.rice_samples.proofs.lemmas.setting.ValuesAtLevels.{last_at, level_of_value, value_of_level}
 use Rattle.rice_code.specs.code.Blocks.{BlockData}
-use Rattle.rice_code.specs.code.CodedDataSets.{NoCompression, bits_of_set}
+use Rattle.rice_code.specs.code.CodedDataSets.{NoCompression}
 use Rattle.rice_code.specs.code.Forms.{IsReference}
-use Rattle.rice_fast.specs.BlocksAhead.{GivesBytes}
-use Rattle.rice_code.specs.decode.Decoder.{TakesSet, with_mark}
-use Rattle.rice_code.specs.decode.DecoderState.{DecoderState, next_block_place}
+use Rattle.rice_code.specs.decode.Decoder.{GivesBlock}
+use Rattle.rice_fast.specs.BlocksAhead.{SpelledAhead}
 use Rattle.rice_fast.specs.CopiedBlocks.{IsCopied, CopiedBlock, WordsAhead, copied_bits}
-use Rattle.rice_code.proofs.lemmas.decode.DecoderLemmas.{answers_block, samples_by_bits}
 use Rattle.rice_code.proofs.lemmas.decode.RestoredBlocks.{contents_of_patterns}
-use Rattle.rice_fast.proofs.lemmas.BlocksTaken.{TakesBlock}
 
 -- the width of copied words is that in which their samples are spelled
 pub copied_width : (s : Parameters) (w : ℕ) → IsCopied s w → w ≡ width s
@@ -189,69 +185,65 @@ samples_in s w words legal copied fit = samples_of_words s w words legal.bits_fr
 counted_words : (s : Parameters) (w n : ℕ) → IsCopied s w → w * n ≡ w * s.block → n ≡ s.block
 counted_words s w n copied e = sym (mul-div_cancel_left n (some_bytes s w copied)) ∙ (ap (λ m. m / w) e ∙ mul-div_cancel_left s.block (some_bytes s w copied))
 
--- a buffered block that is taken, and the bytes of its samples, of which the last has level `l`
-pub copied_given : {I : Type 0} {start marked middle new : Reader I} {first steps last l w : ℕ} {p q : DecoderState} {bytes : List ℕ}
-    → IsLegal p.setting → IsCopied p.setting w → CopiedBlock start.waiting p.setting w bytes → l < value_count p.setting
-    → word (8 * w) (pattern p.setting (value_at p.setting l)) ≡ take (8 * w) (drop (id_len p.setting + 8 * (w * p.setting.block - w)) start.waiting)
-    → TakesBlock start marked middle new first steps last (copied_bits p.setting w) 0 p
-    → q ≡ record p { block = next_block_place p.setting p.block; before = value_at p.setting l; run = 0 }
-    → GivesBytes start new first last p q bytes
-copied_given {start} {marked} {middle} {new} {first} {steps} {last} {l} {w} {p} {q} {bytes} legal copied h small read taken moves =
-    let s = p.setting in
-    let len = copied_bits s w in
+-- samples are those at their levels
+at_levels : (s : Parameters) (xs : List ℤ) → All (IsSample s) xs → values_at s (map (level s) xs) ≡ xs
+at_levels s [] all = refl
+at_levels s (x ∷ xs) all =
+    let first = value_of_level s x (all 0 (pos 0) (omega arith)) in
+    let rest = at_levels s xs (λ i d k. all (suc i) d (omega (arith, k))) in
+    λ j. first j ∷ rest j
+
+levels_fit : (s : Parameters) (xs : List ℤ) → All (IsSample s) xs → All (λ l. l < value_count s) (map (level s) xs)
+levels_fit s [] all = All-nil (λ l. l < value_count s)
+levels_fit s (x ∷ xs) all =
+    let sample = all 0 (pos 0) (omega arith) in
+    All-cons (λ l. l < value_count s) (level s x) (map (level s) xs) sample.1 (levels_fit s xs (λ i d k. all (suc i) d (omega (arith, k))))
+
+last_level : (s : Parameters) (p : ℤ) (xs : List ℤ) → last_number (level s p) (map (level s) xs) ≡ level s (last_of p xs)
+last_level s p [] = refl
+last_level s p (x ∷ xs) = last_level s x xs
+
+-- a copied block that waits, and the bytes of its samples, of which the last has level `l`
+pub copied_ahead : {waiting : List Bool} {s : Parameters} {w l : ℕ} {bytes : List ℕ} → IsLegal s → IsCopied s w → CopiedBlock waiting s w bytes → l < value_count s
+    → word (8 * w) (pattern s (value_at s l)) ≡ take (8 * w) (drop (id_len s + 8 * (w * s.block - w)) waiting)
+    → (b : ℕ) (p : ℤ) → SpelledAhead waiting s b p l (copied_bits s w) 0 bytes
+copied_ahead {waiting} {s} {w} {l} {bytes} legal copied h small read b p =
     let words = h.words in
     let given = samples_in s w words.words legal copied words.fit in
     let samples = given.samples in
+    let levels = map (level s) samples in
     let count : length words.words ≡ s.block = counted_words s w (length words.words) copied words.counted in
     let many : length samples ≡ s.block = given.len ∙ count in
-    let some = legal.block.0 in
-    let one : suc (s.block - 1) ≡ s.block = omega (arith, some) in
-    let last_is = last_is_at start.waiting {s = s} w p.before samples (record { some = legal.bits_from; whole = copied.whole })
+    let one : suc (s.block - 1) ≡ s.block = (let some = legal.block.0 in omega (arith, some)) in
+    let last_is = last_is_at waiting {s = s} w p samples (record { some = legal.bits_from; whole = copied.whole })
     (record { words_are = count ∙ sym one; len = many ∙ sym one; fit = words.fit; legal = given.legal; same = given.patterns })
-    (words.bits ∙ ap (λ n. take (8 * (w * n)) (drop (id_len s) start.waiting)) (sym one)) small
-    (read ∙ ap (λ n. take (8 * w) (drop (id_len s + 8 * (w * n - w)) start.waiting)) (sym one)) in
-    let reference : IsReference s p.block None = record { there = sym (ap (λ v. v && (place s p.block == 0)) copied.preprocess); fits = tt } in
+    (words.bits ∙ ap (λ n. take (8 * (w * n)) (drop (id_len s) waiting)) (sym one)) small
+    (read ∙ ap (λ n. take (8 * w) (drop (id_len s + 8 * (w * n - w)) waiting)) (sym one)) in
+    let reference : IsReference s b None = record { there = sym (ap (λ v. v && (place s b == 0)) copied.preprocess); fits = tt } in
     let c : BlockData = record { reference = None; residuals = words.words } in
-    let contents = contents_of_patterns s p.block p.before words.words samples reference copied.preprocess given.patterns in
-    let same : marked.waiting ≡ start.waiting = ap (λ r. r.waiting) taken.mark in
-    let text : take len marked.waiting ≡ bits_of_set s (NoCompression c) =
-    ap (take len) same ∙ (take-add (id_len s) (8 * (w * s.block)) start.waiting
-    ∙ (λ j. sym h.id j ++ (sym words.bits ∙ ap (λ n. flat_map (word n) words.words) (sym copied.whole)) j)) in
-    let taken_len : length (take len marked.waiting) ≡ len = ap (λ b. length (take len b)) same ∙ length-take-le len start.waiting h.there in
-    let bits = taken.bits.taken in
-    let set : TakesSet marked middle first steps s p.block p.before samples 0 = record {
-      set = NoCompression c;
-      form = (record { reference = reference; len = count }, tt, subst (λ n. All (λ v. v < 2 ^ n) words.words) (sym copied.whole) words.fit);
-      run_sound = tt;
-      residuals_sound = tt;
-      takes = subst (Takes marked middle) text taken.bits;
-      gives = record {
-        len = many;
-        legal = given.legal;
-        blocks_are = ap (λ b. b ∷ []) contents;
-      };
-      steps = omega (arith, taken.steps_are, bits, taken_len);
+    let back : values_at s levels ≡ samples = at_levels s samples given.legal in
+    let gives : GivesBlock s b p samples 0 (c ∷ []) = record {
+      len = many;
+      legal = given.legal;
+      blocks_are = ap (λ d. d ∷ []) (contents_of_patterns s b p words.words samples reference copied.preprocess given.patterns);
     } in
-    let from_start : TakesSet (with_mark start) middle first steps s p.block p.before samples 0 = subst (λ r. TakesSet r middle first steps s p.block p.before samples 0) taken.mark set in
-    let bound = samples_by_bits legal from_start in
-    let zero_run : q.run ≡ 0 = ap (λ r. r.run) moves in
-    let bytes_are : width s * length samples ≡ w * s.block = λ j. sym (copied_width s w copied) j * many j in
+    let bytes_are : width s * length levels ≡ w * s.block = λ j. sym (copied_width s w copied) j * (length-map samples (level s) ∙ many) j in
     record {
-      samples = samples;
-      answers = answers_block start last p from_start taken.filled taken.counted last_is moves;
-      spelled = ap (λ n. take n bytes) bytes_are ∙ (words.spelled ∙ sym given.spelled);
-      by_bits = rw zero_run (omega (arith, bound, taken.further));
+      levels = levels;
+      ahead = record {
+        set = NoCompression c;
+        form = (record { reference = reference; len = count }, tt, subst (λ n. All (λ v. v < 2 ^ n) words.words) (sym copied.whole) words.fit);
+        run_sound = tt;
+        residuals_sound = tt;
+        within = h.there;
+        bits = take-add (id_len s) (8 * (w * s.block)) waiting ∙ (λ j. sym h.id j ++ (sym words.bits ∙ ap (λ n. flat_map (word n) words.words) (sym copied.whole)) j);
+        turns_are = refl;
+        few = omega arith;
+        legal = levels_fit s samples given.legal;
+        gives = subst (λ xs. GivesBlock s b p xs 0 (c ∷ [])) (sym back) gives;
+      };
+      from = level s p;
+      last_is = sym (level_of_value s l) ∙ (ap (level s) last_is ∙ sym (last_level s p samples));
+      legal = small;
+      spelled = ap (λ n. take n bytes) bytes_are ∙ (words.spelled ∙ (sym given.spelled ∙ ap (spellings s) (sym back)));
     }
-
--- the same by the setting of a decoder
-pub copied_at : {I : Type 0} {start marked middle new : Reader I} {first steps last l w : ℕ} {s : Parameters} (p : DecoderState) {q : DecoderState} {bytes : List ℕ}
-    → p.setting ≡ s → IsLegal s → IsCopied s w → CopiedBlock start.waiting s w bytes → l < value_count s
-    → word (8 * w) (pattern s (value_at s l)) ≡ take (8 * w) (drop (id_len s + 8 * (w * s.block - w)) start.waiting)
-    → TakesBlock start marked middle new first steps last (copied_bits s w) 0 p
-    → q ≡ record p { block = next_block_place p.setting p.block; before = value_at p.setting l; run = 0 }
-    → GivesBytes start new first last p q bytes
-copied_at {start} {marked} {middle} {new} {first} {steps} {last} {l} {w} {s} p {q} {bytes} same legal copied h small read taken moves =
-    copied_given (subst IsLegal (sym same) legal) (subst (λ s. IsCopied s w) (sym same) copied) (subst (λ s. CopiedBlock start.waiting s w bytes) (sym same) h)
-    (subst (λ s. l < value_count s) (sym same) small)
-    (subst (λ s. word (8 * w) (pattern s (value_at s l)) ≡ take (8 * w) (drop (id_len s + 8 * (w * s.block - w)) start.waiting)) (sym same) read)
-    (subst (λ s. TakesBlock start marked middle new first steps last (copied_bits s w) 0 p) (sym same) taken) moves

@@ -1,11 +1,13 @@
 -- Residuals of samples that are predicted, or not.
-use Rattle.std.proofs.Common.{◌≡◌, ℕ, zero, suc, ◌+◌, ◌-◌, ◌%◌, ◌^◌, ◌<◌, ◌≤◌, Bool, true, false, cond, List, [], ◌∷◌, ◌++◌, length, map, take, replicate}
+use Rattle.std.proofs.Common.{◌≡◌, ℕ, zero, suc, ◌+◌, ◌-◌, ◌%◌, ◌^◌, ◌<◌, ◌≤◌, Bool, true, false, cond, List, [], ◌∷◌, ◌++◌, length, map, take, drop, replicate}
 use Rattle.std.proofs.Common.{refl, sym, ◌∙◌, ap, subst, arith}
 use Rattle.std.specs.Prelude.{All, bit_and}
 use Rattle.std.specs.Simd.Lanes.{zip2}
 use Rattle.std.proofs.Math.Nat.{mod-add-mod}
+use Rattle.std.proofs.Math.Seq.{take-append_seam}
 use Rattle.std.proofs.Math.Pow.{mod-mod-pow}
 use Rattle.std.proofs.lemmas.Nat.{and_mask, mod_below, pow_pos}
+use Rattle.std.proofs.lemmas.List.{length-take-le, take-append-drop}
 use Rattle.std.proofs.lemmas.List.Elements.{All-cons, All-nil}
 use Rattle.rice_samples.specs.Parameters.{Parameters, least, value_at, value_count, values_at}
 use Rattle.rice_samples.specs.bytes.ValueRange.{offset}
@@ -57,24 +59,14 @@ residuals-append s p xs ys = by s.preprocess
     by true = ranks_below-append (value_count s) p xs ys
     by false = patterns xs
 
--- the residuals of the first samples are the first of all residuals
-pub take-residuals : (n : ℕ) (s : Parameters) (p : ℕ) (xs : List ℕ) → residuals_at s p (take n xs) ≡ take n (residuals_at s p xs)
-take-residuals n s p xs = by s.preprocess
-  where
-    ranks : (n p : ℕ) (xs : List ℕ) → ranks_below (value_count s) p (take n xs) ≡ take n (ranks_below (value_count s) p xs)
-    ranks zero p xs = refl
-    ranks (suc n) p [] = refl
-    ranks (suc n) p (x ∷ xs) = ap (λ ds. rank_below (value_count s) p x ∷ ds) (ranks n x xs)
-
-    patterns : (n : ℕ) (xs : List ℕ) → map (pattern s) (values_at s (take n xs)) ≡ take n (map (pattern s) (values_at s xs))
-    patterns zero xs = refl
-    patterns (suc n) [] = refl
-    patterns (suc n) (x ∷ xs) = ap (λ ds. pattern s (value_at s x) ∷ ds) (patterns n xs)
-
-    by : (b : Bool) → cond b (ranks_below (value_count s) p (take n xs)) (map (pattern s) (values_at s (take n xs)))
-        ≡ take n (cond b (ranks_below (value_count s) p xs) (map (pattern s) (values_at s xs)))
-    by true = ranks n p xs
-    by false = patterns n xs
+-- the first residuals are those of the first samples
+pub first_residuals : (n : ℕ) (s : Parameters) (p : ℕ) (xs : List ℕ) → n ≤ length xs → take n (residuals_at s p xs) ≡ residuals_at s p (take n xs)
+first_residuals n s p xs most =
+    let first = residuals_at s p (take n xs) in
+    let rest = residuals_at s (last_number p (take n xs)) (drop n xs) in
+    let len : length first ≡ n = length-residuals s p (take n xs) ∙ length-take-le n xs most in
+    ap (λ ls. take n (residuals_at s p ls)) (sym (take-append-drop n xs))
+    ∙ (ap (take n) (residuals-append s p (take n xs) (drop n xs)) ∙ (ap (λ m. take m (first ++ rest)) (sym len) ∙ take-append_seam first rest))
 
 -- residuals of legal levels are below the number of values
 pub residuals_fit : (s : Parameters) (p : ℕ) (xs : List ℕ) → 1 ≤ s.bits → p < value_count s → All (λ x. x < value_count s) xs → All (λ d. d < value_count s) (residuals_at s p xs)

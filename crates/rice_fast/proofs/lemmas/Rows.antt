@@ -3,7 +3,7 @@ use Rattle.std.proofs.Common.{◌≡◌, ℕ, zero, suc, ◌+◌, ◌-◌, ◌*�
 use Rattle.std.proofs.Common.{take, drop, take-take, take-append-drop, replicate, refl, sym, ◌∙◌, ap, subst, arith, append_assoc, length-append, Option, None, Some}
 use Rattle.std.specs.Prelude.{All, IfSome, flat_map, slice_index_or}
 use Rattle.std.proofs.Math.Seq.{take-add, take-append_seam}
-use Rattle.std.proofs.Math.Nat.{add-mul, mul-add, mul-le-mul_right, pow-le-pow_right}
+use Rattle.std.proofs.Math.Nat.{add-mul, mul-add, mul-le-mul_left, mul-le-mul_right, pow-le-pow_right}
 use Rattle.std.proofs.lemmas.Grind.{flat_map-append}
 use Rattle.std.proofs.lemmas.Nat.{pow_pos}
 use Rattle.std.proofs.lemmas.List.{drop-append-le, drop-replicate, get_or-take, length-drop, length-take-le, take-append-le, take-replicate, take_all}
@@ -22,7 +22,7 @@ use Rattle.rice_fast.specs.PartsOfResiduals.{HaveParts, residuals_at}
 use Rattle.rice_fast.specs.RowsAhead.{RowsAhead, SpellsParts}
 use Rattle.rice_fast.specs.declared.fields.Fields.{Fields}
 use Rattle.rice_fast.proofs.lemmas.HighParts.{behind-both, first_of}
-use Rattle.rice_fast.proofs.lemmas.Residuals.{residuals-append, take-residuals}
+use Rattle.rice_fast.proofs.lemmas.Residuals.{first_residuals, residuals-append}
 
 -- a row of words: those of the first lanes, behind the numbers that are omitted
 pub lanes_lows : {waiting : List Bool} {skip k many : ℕ} (o count : ℕ) (words : List ℕ) {row : List ℕ} → o ≤ 1 → 1 ≤ count → count ≤ many → length words ≡ many
@@ -121,16 +121,13 @@ row_spelled {s} {p} {k} {many} count {highs} {lows} {levels} {bytes} some most l
     let all : length levels ≡ many = near.len ∙ len in
     let first = take count levels in
     let first_len : length first ≡ count = length-take-le count levels (omega (arith, all, most)) in
-    let fewer : width s * count ≤ width s * many = (
-    let m = mul-le-mul_right (width s) most in
-    let a : count * width s ≡ width s * count = omega arith in
-    let b : many * width s ≡ width s * many = omega arith in omega (arith, m, a, b)) in
+    let fewer = mul-le-mul_left (width s) most in
     record {
       levels = first;
       near = record {
         len = first_len ∙ sym (length-take-le count highs (omega (arith, len, most)));
         legal = All-take (λ l. l < value_count s) count levels near.legal;
-        residuals = take-residuals count s p levels ∙ (ap (take count) near.residuals ∙ take-joined count k highs lows);
+        residuals = sym (first_residuals count s p levels (omega (arith, all, most))) ∙ (ap (take count) near.residuals ∙ take-joined count k highs lows);
       };
       last_is = sym (get_or-take count levels (count - 1) 0 (omega (arith, some)));
       spelled =

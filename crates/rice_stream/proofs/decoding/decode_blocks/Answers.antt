@@ -28,11 +28,8 @@ returns-then-count-eq0-clause-call g c =
 
 pub returns-in-Err-answer-clause-call : goal.returns-in-Err-answer-clause-call
 returns-in-Err-answer-clause-call g c =
-    let s = c.args.setting.now in
     let i = c.decode_all.invariant in
     let old = c.decode_all in
-    let mid = c.pass_whole.new in
-    let new = c.bytes_of_next-answer.new in
     let runs = progress_unchanged (c.pass_whole.ensures.none c.if-pass_whole.false) i.runs in
     let legal = c.block-block.ensures.legal in
     let says = c.in-Err-answer.ensures.gives in
@@ -43,7 +40,6 @@ returns-in-Err-answer-clause-call g c =
 
 pub returns-in-Done-clause-call : goal.returns-in-Done-clause-call
 returns-in-Done-clause-call g c =
-    let s = c.args.setting.now in
     let i = c.decode_all.invariant in
     let old = c.decode_all in
     let mid = c.pass_whole.new in

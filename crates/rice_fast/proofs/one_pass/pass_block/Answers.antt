@@ -4,7 +4,7 @@ use Rattle.rice_samples.specs.Parameters.{IsSample, level, value_at}
 use Rattle.rice_samples.proofs.lemmas.setting.ValuesAtLevels.{value_of_level}
 use Rattle.rice_code.specs.decode.DecoderState.{next_block_place}
 use Rattle.rice_fast.proofs.lemmas.BlocksTaken.{bytes_given, spelled_at}
-use Rattle.rice_fast.proofs.one_pass.pass_fields.Goals as goal
+use Rattle.rice_fast.proofs.one_pass.pass_block.Goals as goal
 
 pub value_at-last-requires : goal.value_at-last-requires
 value_at-last-requires g c = c.in-Some.ensures.legal

@@ -1,0 +1,17 @@
+use Rattle.std.proofs.Common.{arith, refl, subst, sym}
+use Rattle.rice_fast.specs.BlocksAhead.{SpelledAhead}
+use Rattle.rice_fast.specs.CopiedBlocks.{CopiedBlock}
+use Rattle.rice_fast.proofs.lemmas.CopiedBlocks.{copied_ahead}
+use Rattle.rice_fast.proofs.copied_blocks.write_copied_block.Goals as goal
+
+pub returns : goal.returns
+returns g c = λ b p.
+    let w = g.row.WIDTH in
+    let s = c.args.setting.now in
+    let waiting = c.args.reader.now.waiting in
+    let ahead = c.if-not-is_copied_ahead.ensures in
+    let bytes = c.write_copied_ahead.new.bytes in
+    let last = c.last_copied.ensures in
+    let block : CopiedBlock waiting s w bytes = record { there = omega (arith, ahead.there refl); id = ahead.id refl; words = c.write_copied_ahead.ensures } in
+    subst (λ n. SpelledAhead waiting s b p c.last_copied.result n 0 bytes) (sym c.copied_len.ensures.value)
+    (copied_ahead c.block-block.ensures.legal (c.if-not-is_copied.ensures refl) block last.below last.last b p)
