@@ -1,10 +1,8 @@
 //! The pass: a block that waits, from its bits to the bytes of its samples.
-ghost use Rattle.std.specs.Prelude.{◌≡◌, ◌+◌, ◌-◌, ◌*◌, ◌<◌, ◌≤◌, IfSome, None, false, length, take, true};
+ghost use Rattle.std.specs.Prelude.{◌≡◌, ◌+◌, ◌-◌, ◌*◌, ◌<◌, IfSome, None, false, true};
 ghost use Rattle.rice_bits.specs.Limits.{step_limit, most_bits_read};
-ghost use Rattle.rice_bits.specs.read.Reader.{Takes};
 ghost use Rattle.rice_samples.specs.Parameters.{value_at, value_count, width as width_of};
 ghost use Rattle.rice_samples.specs.Places.{is_reference};
-ghost use Rattle.rice_code.specs.decode.Decoder.{with_mark};
 ghost use Rattle.rice_code.specs.decode.RowsOfFields.{AreCounted};
 ghost use Rattle.rice_fast.specs.BlocksAhead.{GivesBytes, HasBits, SpelledAhead};
 
@@ -100,20 +98,6 @@ fn write_block_ahead<L: SampleLanes, I: Intake, const SIZE: usize, const WIDTH: 
     write_fields_ahead::<L, I, SIZE, WIDTH, false>(setting, size, block, before, reader, bytes)
 }
 
-/// Takes the next `len` bits, which are those of a block, as if after [`mark`](BitReader::mark).
-#[inline(always)]
-fn take_ahead<I: Intake>(reader: &mut BitReader<I>, len: usize, meter: &mut Meter)
-    requires going { reader.old.refusal ≡ None }
-    requires there { len ≤ length reader.old.waiting }
-    requires meter { meter.old + len < step_limit }
-    ensures takes { Takes (with_mark reader.old) reader.new (take len reader.old.waiting) }
-    ensures limit { reader.new.taken ≤ most_bits_read }
-    ensures steps { meter.new ≡ meter.old + len }
-{
-    reader.mark();
-    reader.pass(len, meter);
-}
-
 /// Reads the next block by a pass, if its coded data set is buffered and fits one. Writes the bytes of its samples, `WIDTH` each, to the
 /// front of `bytes`. `SIZE`, unless it is 0, is the number of samples of a block.
 ///
@@ -121,7 +105,7 @@ fn take_ahead<I: Intake>(reader: &mut BitReader<I>, len: usize, meter: &mut Mete
 ///
 /// Returns whether it took the block. Otherwise nothing has happened, and [`next_block`](Decoder::next_block) gives it. It may write more
 /// after these bytes.
-#[inline(always)]
+#[inline(never)]
 pub fn pass<L: SampleLanes, I: Intake, const SIZE: usize, const WIDTH: usize>(
     decoder: &mut Decoder,
     setting: &Setting,
@@ -151,36 +135,6 @@ pub fn pass<L: SampleLanes, I: Intake, const SIZE: usize, const WIDTH: usize>(
     if decoder.run() > 0 {
         return false;
     }
-    pass_block::<L, I, SIZE, WIDTH>(decoder, setting, reader, meter, bytes)
-}
-
-/// Does what [`pass`] does outside a run.
-#[inline(never)]
-fn pass_block<L: SampleLanes, I: Intake, const SIZE: usize, const WIDTH: usize>(
-    decoder: &mut Decoder,
-    setting: &Setting,
-    reader: &mut BitReader<I>,
-    meter: &mut Meter,
-    bytes: &mut [u8; 320],
-) -> bool
-    requires setting { decoder.old.setting ≡ setting.now }
-    requires run { decoder.old.run ≡ 0 }
-    requires bits { HasBits L.below L.bits setting.now }
-    requires size { 0 < SIZE → SIZE ≡ setting.now.block }
-    requires width { WIDTH ≡ width_of setting.now }
-    requires stopped { decoder.old.stopped ≡ None }
-    requires going { reader.old.refusal ≡ None }
-    requires room { meter.old + 2 * (most_bits_read - reader.old.taken) + 64 < step_limit }
-    ensures some { result ≡ true →
-        GivesBytes reader.old reader.new meter.old meter.new decoder.old decoder.new bytes.new }
-    ensures none { result ≡ false → (decoder.new ≡ decoder.old) × (reader.new ≡ reader.old) ×
-        (meter.new ≡ meter.old) }
-    ensures going { reader.new.refusal ≡ None }
-    ensures stopped { decoder.new.stopped ≡ None }
-    ensures setting { decoder.new.setting ≡ decoder.old.setting }
-    ensures steps { AreCounted meter.old meter.new reader.old.taken reader.new.taken }
-{
-    let _taken = reader.taken();
     let size = known_or::<SIZE>(setting.block() as usize);
     let block = decoder.block();
     let before = setting.level(decoder.before()) as u32;
@@ -190,7 +144,8 @@ fn pass_block<L: SampleLanes, I: Intake, const SIZE: usize, const WIDTH: usize>(
         Some(spelled) => spelled,
         None => return false,
     };
-    take_ahead(reader, spelled.len, meter);
+    reader.mark();
+    reader.pass(spelled.len, meter);
     meter.tick(spelled.turns);
     let last = setting.value_at(spelled.last as u64);
     let _answer = decoder.go_to_next_block(last, 0, reader, meter);

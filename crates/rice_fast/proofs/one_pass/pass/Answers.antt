@@ -1,10 +1,10 @@
-use Rattle.std.proofs.Common.{◌≡◌, ◌∙◌, ap, arith, refl, rules, subst, sym, SFits, w64}
+use Rattle.std.proofs.Common.{◌≡◌, ◌∙◌, ap, arith, rules, subst, sym, SFits, w64}
 use Rattle.std.proofs.lemmas.Int.{to_z-of_z}
 use Rattle.rice_samples.specs.Parameters.{IsSample, level, value_at}
 use Rattle.rice_samples.proofs.lemmas.setting.ValuesAtLevels.{value_of_level}
 use Rattle.rice_code.specs.decode.DecoderState.{next_block_place}
 use Rattle.rice_fast.proofs.lemmas.BlocksTaken.{bytes_given, spelled_at}
-use Rattle.rice_fast.proofs.one_pass.pass_block.Goals as goal
+use Rattle.rice_fast.proofs.one_pass.pass.Goals as goal
 
 pub value_at-last-requires : goal.value_at-last-requires
 value_at-last-requires g c = c.in-Some.ensures.legal
@@ -22,12 +22,14 @@ returns-clause-some g c _ =
     let same : value_at s c.level-before.result ≡ p.before = ap (value_at s) level_is ∙ (ap (λ x. value_at s (level s x)) c.before-2.ensures ∙ value_of_level s p.before sample) in
     let spelled = spelled_at p c.requires.setting block.place same c.in-Some.ensures in
     let last : c.value_at-last.result ≡ value_at p.setting found.last = c.value_at-last.ensures.value ∙ ap (λ t. value_at t found.last) (sym c.requires.setting) in
-    let moves = rw (to_z-of_z w64 c.value_at-last.result f) at c.go_to_next_block-answer.ensures.moves in
-    bytes_given block.state.legal spelled (record {
-      mark = refl;
-      bits = c.take_ahead.ensures.takes;
-      steps_are = omega (arith, c.take_ahead.ensures.steps, c.tick.ensures);
-      filled = c.go_to_next_block-answer.ensures.skips;
-      counted = c.go_to_next_block-answer.ensures.steps;
-      further = omega (arith, c.go_to_next_block-answer.ensures.few);
-    }) (moves ∙ (λ j. record { setting = p.setting; block = next_block_place p.setting p.block; before = last j; run = 0; stopped = p.stopped }))
+    let moves = rw (to_z-of_z w64 c.value_at-last.result f) at c.go_to_next_block-answer.ensures.moves in (
+      omega (arith, c.if-run-gt0.false, c.run.ensures),
+      bytes_given block.state.legal spelled (record {
+        mark = c.mark.ensures.going c.requires.going;
+        bits = c.pass.ensures.takes;
+        steps_are = omega (arith, c.pass.ensures.steps, c.tick.ensures);
+        filled = c.go_to_next_block-answer.ensures.skips;
+        counted = c.go_to_next_block-answer.ensures.steps;
+        further = omega (arith, c.go_to_next_block-answer.ensures.few);
+      }) (moves ∙ (λ j. record { setting = p.setting; block = next_block_place p.setting p.block; before = last j; run = 0; stopped = p.stopped })),
+    )
