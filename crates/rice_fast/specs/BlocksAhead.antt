@@ -1,4 +1,4 @@
--- Blocks that wait, and are decoded in one pass from their bits to the bytes of their samples.
+-- Buffered blocks that are decoded in one pass from their bits to the bytes of their samples.
 use Rattle.std.specs.Prelude.{◌≡◌, ℕ, ◌+◌, ◌-◌, ◌*◌, ◌<◌, ◌≤◌, Bool, List, All, length, take, Ok, ℤ}
 use Rattle.rice_bits.specs.read.Reader.{Reader}
 use Rattle.rice_samples.specs.Parameters.{Parameters, value_count, values_at, width}
@@ -44,5 +44,5 @@ pub record GivesBytes {I : Type 0} (old new : Reader I) (old_steps new_steps : �
   pub samples : List ℤ
   pub answers : Answers (with_mark old) new old_steps new_steps p q samples (Ok Block)
   pub spelled : take (width p.setting * length samples) bytes ≡ spellings p.setting samples
-  -- the samples that are given and those that then wait are bounded by the bits
+  -- the samples that are given and those still due are bounded by the bits
   pub by_bits : length samples + q.run * q.setting.block ≤ most_samples_of_bit * (new.taken - old.taken)

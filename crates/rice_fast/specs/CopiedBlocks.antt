@@ -10,7 +10,7 @@ pub record IsCopied (s : Parameters) (width : ℕ) : Type 0 where
   pub widths : (width ≡ 1) ⊎ ((width ≡ 2) ⊎ (width ≡ 4))
   pub whole : s.bits ≡ 8 * width
 
--- The first `count` bytes are those of words of `width` bytes that wait behind an identifier, in the order of the setting.
+-- The first `count` bytes are those of words of `width` bytes after an identifier, in the order of the setting.
 pub record WordsAhead (waiting : List Bool) (s : Parameters) (width count : ℕ) (bytes : List ℕ) : Type 0 where
   pub words : List ℕ
   pub counted : width * length words ≡ count
@@ -22,7 +22,7 @@ pub record WordsAhead (waiting : List Bool) (s : Parameters) (width count : ℕ)
 abbrev pub copied_bits : Parameters → ℕ → ℕ
 copied_bits s width = id_len s + 8 * (width * s.block)
 
--- A block without compression waits, and the bytes begin with those of its samples.
+-- A block without compression is buffered, and the bytes begin with those of its samples.
 pub record CopiedBlock (waiting : List Bool) (s : Parameters) (width : ℕ) (bytes : List ℕ) : Type 0 where
   pub there : copied_bits s width ≤ length waiting
   pub id : word (id_len s) (2 ^ id_len s - 1) ≡ take (id_len s) waiting

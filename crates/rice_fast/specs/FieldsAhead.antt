@@ -1,4 +1,4 @@
--- The fields of a block that wait, and are looked at before they are taken: its head, the sequences of its high parts, the words of its
+-- The fields of a buffered block, looked at before they are taken: its head, the sequences of its high parts, the words of its
 -- low parts.
 use Rattle.std.specs.Prelude.{◌≡◌, ℕ, ◌+◌, ◌-◌, ◌*◌, ◌^◌, ◌<◌, ◌≤◌, Bool, List, All, drop, flat_map, length, replicate, sum, take, Option, IfSome, IfNone}
 use Rattle.rice_bits.specs.Bits.{fundamental_sequence, word}
@@ -27,19 +27,19 @@ pub record HeadAhead (waiting : List Bool) (s : Parameters) (b before skip from 
   pub bits : reference_bits s reference ≡ take part (drop skip waiting)
   pub short : len ≤ skip + s.bits
 
--- The first `omitted` numbers are zeros, and the fundamental sequences of the others are the `len` bits behind the first `skip`.
+-- The first `omitted` numbers are zeros, and the fundamental sequences of the others are the `len` bits after the first `skip`.
 pub record HighsAhead (waiting : List Bool) (skip omitted : ℕ) (highs : List ℕ) (len : ℕ) : Type 0 where
   pub zeros : take omitted highs ≡ replicate omitted 0
   pub spelled : flat_map fundamental_sequence (drop omitted highs) ≡ take len (drop skip waiting)
   pub within : skip + len ≤ length waiting
 
--- The first `omitted` numbers are zeros, and the words of k bits of the others stand behind the first `skip` bits.
+-- The first `omitted` numbers are zeros, and the words of k bits of the others stand after the first `skip` bits.
 pub record LowsAhead (waiting : List Bool) (skip omitted k : ℕ) (lows : List ℕ) : Type 0 where
   pub zeros : take omitted lows ≡ replicate omitted 0
   pub low : All (λ l. l < 2 ^ k) lows
   pub spelled : flat_map (word k) (drop omitted lows) ≡ take ((length lows - omitted) * k) (drop skip waiting)
 
--- The codewords of the pairs of these numbers are the `len` bits behind the first `skip`, and a search for the pairs takes so many turns. The
+-- The codewords of the pairs of these numbers are the `len` bits after the first `skip`, and a search for the pairs takes so many turns. The
 -- first number is 0, if it stands at the place of a reference sample.
 pub record PairsAhead (waiting : List Bool) (skip references : ℕ) (numbers : List ℕ) (len searched : ℕ) : Type 0 where
   pub zeros : take references numbers ≡ replicate references 0
@@ -56,7 +56,7 @@ rows_len size rows = size - (size - 16 * rows)
 abbrev pub len_of : ℕ → Fields → ℕ
 len_of size f = f.words + (size - f.omitted) * f.k
 
--- A block that waits has these fields. Its residuals have these high parts, and low parts that wait and fit in lanes of `bits` bits: levels
+-- A buffered block has these fields. Its residuals have these high parts, and low parts that are buffered and fit in lanes of `bits` bits: levels
 -- with these are the block's.
 pub record AreFields (waiting : List Bool) (s : Parameters) (b before size bits : ℕ) (highs : List ℕ) (f : Fields) : Type 0 where
   pub begins : f.from < value_count s

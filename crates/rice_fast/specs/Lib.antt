@@ -1,4 +1,4 @@
--- What the parts of the pass say to each other: blocks that wait, their fields, and rows of their samples.
+-- What the parts of the pass say to each other: buffered blocks, their fields, and rows of their samples.
 pub mod BlocksAhead
 pub mod CopiedBlocks
 pub mod FieldsAhead

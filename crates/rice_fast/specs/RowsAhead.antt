@@ -1,4 +1,4 @@
--- Rows of the samples of a block that waits, restored and spelled one after another.
+-- Rows of the samples of a buffered block, restored and spelled one after another.
 use Rattle.std.specs.Prelude.{◌≡◌, ℕ, ◌-◌, ◌*◌, ◌<◌, Bool, List, length, slice_index_or, take}
 use Rattle.rice_samples.specs.Parameters.{Parameters, value_count, values_at, width}
 use Rattle.rice_samples.specs.bytes.Spelling.{spellings}

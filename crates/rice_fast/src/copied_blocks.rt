@@ -10,7 +10,7 @@ use crate::one_pass::WrittenBlock;
 use rice_bits::{BitReader, Intake};
 use rice_samples::{Setting, bytes_of_patterns, level_of_pattern};
 
-/// The bits behind a block that are looked at with it, at most.
+/// The bits after a block that are looked at with it, at most.
 const BEHIND: u64 = 128;
 
 /// Returns the number of bits of an identifier, which the compiler knows.
@@ -134,7 +134,7 @@ fn last_copied<I: Intake, const WIDTH: usize>(
     level_of_pattern(setting, reader.number_ahead(before, 8 * WIDTH as u32))
 }
 
-/// Writes the bytes of the block of `size` samples that waits, if its samples are not predicted, use all bits of `WIDTH` bytes, and are not
+/// Writes the bytes of the buffered block of `size` samples, if its samples are not predicted, use all bits of `WIDTH` bytes, and are not
 /// compressed. It takes no bits.
 #[inline(never)]
 pub fn write_copied_block<I: Intake, const WIDTH: usize>(

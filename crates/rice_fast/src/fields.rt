@@ -1,4 +1,4 @@
-//! The fields of a block that waits, looked at before they are taken.
+//! The fields of a buffered block, looked at before they are taken.
 ghost use Rattle.std.specs.Prelude.{◌≡◌, ◌+◌, ◌-◌, ◌^◌, ◌<◌, ◌≤◌, IfSome, length, take};
 ghost use Rattle.rice_bits.specs.Bits.{word};
 ghost use Rattle.rice_samples.specs.Parameters.{id_len, value_count};
@@ -12,7 +12,7 @@ use crate::pairs::pairs_ahead;
 use rice_bits::{BitReader, Intake};
 use rice_samples::{Setting, level_of_pattern};
 
-/// The bits of identifier, reference sample and one bit between them, and those that are looked at behind these, at most.
+/// The bits of identifier, reference sample and one bit between them, and those that are looked at after these, at most.
 const LOOK: u64 = 38 + 64;
 
 /// The fields of a block: what its samples are restored from, but for the parts of its residuals.
@@ -51,7 +51,7 @@ pub fn has_reference(setting: &Setting, block: u32) -> bool
     setting.preprocess() && block == 0
 }
 
-/// Returns what stands behind the first `skip` bits of a block that waits, after a sample at level `before`: a reference sample, if it is a
+/// Returns what stands after the first `skip` bits of a buffered block, after a sample at level `before`: a reference sample, if it is a
 /// block with a `REFERENCE`, or nothing.
 #[inline(always)]
 fn head_ahead<I: Intake, const REFERENCE: bool>(
@@ -83,7 +83,7 @@ fn head_ahead<I: Intake, const REFERENCE: bool>(
     }
 }
 
-/// Returns the fields of the block of `size` samples that waits, after a sample at level `before`, if its fundamental sequences are short
+/// Returns the fields of the buffered block of `size` samples, after a sample at level `before`, if its fundamental sequences are short
 /// and it has a block. Writes the high parts of its residuals to the front of `highs`. It takes nothing.
 ///
 /// It is laid out for blocks of `SIZE` samples with a `REFERENCE`, or without one.

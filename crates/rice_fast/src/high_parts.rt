@@ -1,4 +1,4 @@
-//! The high parts of the residuals of a block that waits, in rows of sixteen. The last row may have fewer.
+//! The high parts of the residuals of a buffered block, in rows of sixteen. The last row may have fewer.
 ghost use Rattle.std.specs.Prelude.{◌≡◌, ◌+◌, ◌-◌, ◌*◌, ◌<◌, ◌≤◌, ◌++◌, IfSome, length, take};
 ghost use Rattle.rice_fast.specs.FieldsAhead.{HighsAhead, rows_len};
 
@@ -49,8 +49,8 @@ fn store_row(rows: &mut [u8], row: usize, numbers: u8x16)
     numbers.copy_to_slice(&mut rows[16 * row..]);
 }
 
-/// Returns the high parts of a row of `count` residuals whose fundamental sequences wait behind the first `skip` bits, if they end within
-/// `bytes` bytes, and zeros behind them. Those that are omitted, one or none, are zeros.
+/// Returns the high parts of a row of `count` residuals whose fundamental sequences follow the first `skip` bits, if they end within
+/// `bytes` bytes, and zeros after them. Those that are omitted, one or none, are zeros.
 #[inline(always)]
 fn high_parts_of_row_ahead<I: Intake>(
     reader: &BitReader<I>,

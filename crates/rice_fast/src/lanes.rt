@@ -1,4 +1,4 @@
-//! Rows of samples in the lanes of vectors: from words that wait to bytes.
+//! Rows of samples in the lanes of vectors: from buffered words to bytes.
 ghost use Rattle.std.specs.Prelude.{◌≡◌, ℕ, ◌+◌, ◌-◌, ◌*◌, ◌^◌, ◌<◌, ◌≤◌, ◌++◌, All, drop, flat_map, get_or, length, replicate, take};
 ghost use Rattle.rice_bits.specs.Bits.{word};
 ghost use Rattle.rice_samples.specs.Parameters.{Parameters, id_len, k_max, value_count, values_at, width as width_of};
@@ -46,7 +46,7 @@ pub trait SampleLanes: Lanes {
         requires { Self.COUNT ≤ length from.now }
         ensures { Self.numbers result ≡ take Self.COUNT from.now };
 
-    /// Returns the first `count` numbers, with zeros behind them.
+    /// Returns the first `count` numbers, with zeros after them.
     fn first(self, count: usize) -> Self
         requires { count ≤ Self.COUNT }
         ensures { Self.numbers result ≡ take count (Self.numbers self) ++ replicate (Self.COUNT - count) 0 };

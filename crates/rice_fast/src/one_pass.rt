@@ -1,4 +1,4 @@
-//! The pass: a block that waits, from its bits to the bytes of its samples.
+//! The pass: a buffered block, from its bits to the bytes of its samples.
 ghost use Rattle.std.specs.Prelude.{◌≡◌, ◌+◌, ◌-◌, ◌*◌, ◌<◌, IfSome, None, false, true};
 ghost use Rattle.rice_bits.specs.Limits.{step_limit, most_bits_read};
 ghost use Rattle.rice_samples.specs.Parameters.{value_at, value_count, width as width_of};
@@ -23,7 +23,7 @@ pub struct WrittenBlock {
     pub turns: u64,
 }
 
-/// Writes the bytes of the block of `size` samples that waits, after a sample at level `before`, if it can. It takes no bits.
+/// Writes the bytes of the buffered block of `size` samples, after a sample at level `before`, if it can. It takes no bits.
 /// It is laid out for blocks of `SIZE` samples with a `REFERENCE`, or without one.
 #[inline(always)]
 fn write_fields_ahead<
@@ -67,7 +67,7 @@ fn write_fields_ahead<
     })
 }
 
-/// Writes the bytes of the block of `size` samples that waits, after a sample at level `before`, if it can. It takes no bits.
+/// Writes the bytes of the buffered block of `size` samples, after a sample at level `before`, if it can. It takes no bits.
 #[inline(always)]
 fn write_block_ahead<L: SampleLanes, I: Intake, const SIZE: usize, const WIDTH: usize>(
     setting: &Setting,

@@ -1,4 +1,4 @@
-//! Restores the samples of a block that waits, and writes their bytes, a row of lanes at a time.
+//! Restores the samples of a buffered block, and writes their bytes, a row of lanes at a time.
 ghost use Rattle.std.specs.Prelude.{◌≡◌, ◌+◌, ◌-◌, ◌*◌, ◌^◌, ◌<◌, ◌≤◌, ◌++◌, All, IfSome, drop, get_or, length, replicate, take};
 ghost use Rattle.rice_bits.specs.read.JoinedParts.{joined_parts};
 ghost use Rattle.rice_samples.specs.Parameters.{value_count, values_at, width as width_of};
@@ -19,7 +19,7 @@ const FEW_NEAR: u32 = 8;
 /// The number of bits of samples that have few levels that are not near.
 const FEW_BITS: u32 = 4;
 
-/// Returns zeros for the numbers that are omitted, one or none, and then these: `count` in all, with zeros behind them.
+/// Returns zeros for the numbers that are omitted, one or none, and then these: `count` in all, with zeros after them.
 #[inline(always)]
 pub fn placed<L: SampleLanes>(numbers: L, omitted: usize, count: usize) -> L
     requires omitted { omitted ≤ 1 }
@@ -33,7 +33,7 @@ pub fn placed<L: SampleLanes>(numbers: L, omitted: usize, count: usize) -> L
     numbers.moved_by_one().first(count)
 }
 
-/// Returns the low parts of a row of `count` residuals, words of `k` bits that wait behind the first `skip` bits, with zeros behind them.
+/// Returns the low parts of a row of `count` residuals, words of `k` bits after the first `skip` bits, with zeros after them.
 /// Those that are omitted, one or none, are zeros.
 #[inline(always)]
 fn low_parts_of_row<L: SampleLanes, I: Intake>(

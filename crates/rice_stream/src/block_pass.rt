@@ -19,7 +19,7 @@ pub trait BlockPass<const SIZE: usize, const WIDTH: usize> {
         ensures { result ≡ true → (0 < decoder.now.run) × (decoder.now.setting.preprocess ≡ true) };
 
     /// Reads the next block, and writes the bytes of its samples to the front of `bytes`, if it can. Returns whether it did;
-    /// otherwise nothing has happened. It may write more after these bytes, for which there is room behind 64 samples of four bytes.
+    /// otherwise nothing has happened. It may write more after these bytes, for which there is room after 64 samples of four bytes.
     fn pass<I: Intake>(
         decoder: &mut Decoder,
         setting: &Setting,

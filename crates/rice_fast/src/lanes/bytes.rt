@@ -7,7 +7,7 @@ use rice_bits::{BitReader, Intake};
 use rice_samples::{Bytes, Setting, bytes_in_turn, spelled_in_one_byte};
 use std::simd::prelude::*;
 
-/// Ones in all bits of sixteen lanes, and then zeros: a mask of the first `n` lanes begins `16 - n` places behind the front.
+/// Ones in all bits of sixteen lanes, and then zeros: a mask of the first `n` lanes begins `16 - n` places after the front.
 static ONES: [u8; 32] = [
     255, 255, 255, 255, 255, 255, 255, 255, 255, 255, 255, 255, 255, 255, 255, 255, 0, 0, 0, 0, 0,
     0, 0, 0, 0, 0, 0, 0, 0, 0, 0, 0,

@@ -10,7 +10,7 @@ use std::simd::prelude::*;
 /// The greatest width of words that eight lanes of 16 bits take from one load.
 const MOST_OF_ONE_LOAD: u32 = 9;
 
-/// Ones in all bits of eight lanes, and then zeros: a mask of the first `n` lanes begins `8 - n` places behind the front.
+/// Ones in all bits of eight lanes, and then zeros: a mask of the first `n` lanes begins `8 - n` places after the front.
 static ONES: [u16; 16] = [
     65535, 65535, 65535, 65535, 65535, 65535, 65535, 65535, 0, 0, 0, 0, 0, 0, 0, 0,
 ];

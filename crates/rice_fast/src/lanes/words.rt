@@ -12,7 +12,7 @@ use std::simd::prelude::*;
 /// The greatest width of words that are taken in lanes.
 const MOST_IN_LANES: u32 = 24;
 
-/// Ones in all bits of eight lanes, and then zeros: a mask of the first `n` lanes begins `8 - n` places behind the front.
+/// Ones in all bits of eight lanes, and then zeros: a mask of the first `n` lanes begins `8 - n` places after the front.
 static ONES: [u32; 16] = [
     4294967295, 4294967295, 4294967295, 4294967295, 4294967295, 4294967295, 4294967295, 4294967295,
     0, 0, 0, 0, 0, 0, 0, 0,
