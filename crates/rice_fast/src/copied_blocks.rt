@@ -136,7 +136,7 @@ fn last_copied<I: Intake, const WIDTH: usize>(
 
 /// Writes the bytes of the buffered block of `size` samples, if its samples are not predicted, use all bits of `WIDTH` bytes, and are not
 /// compressed. It takes no bits.
-#[inline(never)]
+#[inline(always)]
 pub fn write_copied_block<I: Intake, const WIDTH: usize>(
     setting: &Setting,
     size: usize,
