@@ -3,10 +3,5 @@ pub mod BitBuffer
 pub mod SetOfChoice
 pub mod Coder
 pub mod HeldBlocks
-pub mod GatheredSequences
 pub mod OpenSegment
 pub mod SentParts
-pub mod PreparedSettings
-pub mod ShortLowParts
-pub mod SequencesByProducts
-pub mod SequencesByPlaces

@@ -9,7 +9,7 @@ pub mod coder;
 mod cost;
 mod fields;
 pub mod held_block;
-mod open_segment;
+pub mod open_segment;
 pub mod options;
 
 /// A sink with room for the code of a segment, at most 64 blocks of 2,053 bits, and eight bytes more for the bits already in it.

@@ -6,7 +6,6 @@ pub mod decode;
 pub mod decoding_examples;
 pub mod encode;
 pub mod examples;
-pub mod fast;
 mod known_len;
 pub mod laws;
 
@@ -15,7 +14,6 @@ pub use decode::call_results::{CodeFault, Step};
 pub use decode::decoder::Decoder;
 pub use encode::SegmentSink;
 pub use encode::coder::Coder;
-pub use fast::encode::coder::{Pushed, SizedCoder};
 pub use known_len::known_or;
 
 // What these hold, in bytes, on a machine with pointers of eight.

@@ -4,6 +4,7 @@ pub mod BlocksTaken
 pub mod CopiedBlocks
 pub mod FirstLanes
 pub mod HighParts
+pub mod encode
 pub mod LaneLaws
 pub mod Pairs
 pub mod Residuals

@@ -1,6 +1,7 @@
--- What the parts of the pass say to each other: buffered blocks, their fields, and rows of their samples.
+-- What the parts of the coder and of the pass say to each other: buffered blocks, their fields, and rows of their samples.
 pub mod BlocksAhead
 pub mod CopiedBlocks
 pub mod FieldsAhead
+pub mod encode
 pub mod PartsOfResiduals
 pub mod RowsAhead

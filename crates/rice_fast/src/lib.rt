@@ -3,6 +3,7 @@
 #![tactic(auto)]
 
 mod copied_blocks;
+pub mod encode;
 pub mod fields;
 mod high_parts;
 pub mod lanes;
@@ -10,4 +11,5 @@ pub mod one_pass;
 mod pairs;
 mod rows;
 
+pub use encode::coder::{Pushed, SizedCoder};
 pub use one_pass::pass;

@@ -1,3 +1,2 @@
 -- Blocks of residuals.
 pub mod Pairs
-pub mod Stops

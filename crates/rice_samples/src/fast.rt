@@ -9,5 +9,3 @@ pub mod residuals;
 pub(crate) mod residuals_of_levels;
 pub mod restoring;
 pub mod spelling_lanes;
-mod stops;
-mod tests_and_sums;

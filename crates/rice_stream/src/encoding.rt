@@ -19,7 +19,8 @@ use crate::seam::{Seam, take_waiting_number};
 use crate::takes::TakesLevels;
 use crate::write::{write_counted, write_whole};
 use rice_bits::{BitSink, Intake, Meter, Outlet, WriteFault};
-use rice_code::{SegmentSink, SizedCoder};
+use rice_code::SegmentSink;
+use rice_fast::SizedCoder;
 use rice_samples::{LevelRow, Levels, SampleFault, SampleReader, Setting};
 
 /// The residuals of any segment.

@@ -13,7 +13,7 @@ use crate::rows::ReadsLevels;
 use crate::seam::Seam;
 use crate::takes::TakesLevels;
 use rice_bits::Outlet;
-use rice_code::SizedCoder;
+use rice_fast::SizedCoder;
 use rice_samples::{LevelRow, MOST_INPUT, Setting};
 
 /// Encodes the next samples, whose bytes are `bytes`, and returns the end of their code.

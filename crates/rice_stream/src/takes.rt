@@ -8,7 +8,8 @@ ghost use Rattle.rice_code.specs.CoderSteps.{segment_steps};
 ghost use Rattle.rice_code.specs.encode.OpenSegment.{HoldsAnySegment, HasRoomForSegment, most_before, state_between};
 
 use rice_bits::Meter;
-use rice_code::{Coder, Pushed, SegmentSink, SizedCoder};
+use rice_code::{Coder, SegmentSink};
+use rice_fast::{Pushed, SizedCoder};
 use rice_samples::{Levels, Setting};
 
 /// A coder that takes one or more samples per call.

@@ -1,8 +1,6 @@
 -- The coder. `PushedCode` joins what a push does with the code; begin there.
 pub mod ChosenSets
-pub mod GatheredSequences
 pub mod HeldSamples
-pub mod JoinedWords
 pub mod OpenSegments
 pub mod OptionTexts
 pub mod PartsInTurn
@@ -11,8 +9,4 @@ pub mod PushedCode
 pub mod ChoiceLemmas
 pub mod SegmentBlocksInTurn
 pub mod SeveralSamplesHeld
-pub mod ShortLowParts
-pub mod SequencesByProducts
-pub mod SequencesByPlaces
-pub mod HighParts
 pub mod PushedSamples

@@ -18,7 +18,7 @@ use rice_bits::Meter;
 use rice_samples::{Segment, Setting};
 
 /// Appends the shortest code of a block that is not zero.
-fn code_block(setting: &Setting, block: &HeldBlock<'_>, sink: &mut SegmentSink, meter: &mut Meter)
+pub fn code_block(setting: &Setting, block: &HeldBlock<'_>, sink: &mut SegmentSink, meter: &mut Meter)
     requires sound { IsSoundData setting.now block.now }
     requires room { HasRoomForShortest setting.now block.now sink.old meter.old }
     ensures { PutsShortest setting.now block.now sink.old sink.new meter.old meter.new }
@@ -32,7 +32,7 @@ fn code_block(setting: &Setting, block: &HeldBlock<'_>, sink: &mut SegmentSink, 
 }
 
 /// Appends the code of the run of `run` zero blocks that are pending, if there are any.
-fn put_pending_run(
+pub fn put_pending_run(
     setting: &Setting,
     reference: Option<u32>,
     run: u32,
@@ -56,7 +56,7 @@ fn put_pending_run(
 
 /// Appends the code of the run of `run` zero blocks that are pending before another block, if there are any. The first of
 /// them is block `first` of the segment, whose block 0 has the reference, if there is one.
-fn put_run_before_block(
+pub fn put_run_before_block(
     setting: &Setting,
     reference: Option<u32>,
     first: usize,
@@ -120,7 +120,7 @@ fn code_next(
 }
 
 /// Returns the reference of block `i`, of which only the first may have one.
-pub(crate) fn reference_of(reference: Option<u32>, i: usize) -> Option<u32>
+pub fn reference_of(reference: Option<u32>, i: usize) -> Option<u32>
     ensures { result ≡ reference_at reference i }
 {
     match i {

@@ -190,7 +190,7 @@ impl OpenSegment {
 }
 
 /// Returns the number of residuals of a segment from its block at place `start` of the interval on.
-fn residuals_from(setting: &Setting, start: u32) -> usize
+pub fn residuals_from(setting: &Setting, start: u32) -> usize
     ensures value { result ≡ setting.now.block * blocks_left setting.now start }
     ensures limit { result ≤ longest_interval }
     ensures legal { IsLegal setting.now }
@@ -199,7 +199,7 @@ fn residuals_from(setting: &Setting, start: u32) -> usize
 }
 
 /// Returns the place of the first block after the segment that has a block at place `start`.
-fn next_start(setting: &Setting, start: u32) -> u32
+pub fn next_start(setting: &Setting, start: u32) -> u32
     requires { start ≤ longest_interval }
     ensures { result ≡ (if start +
         blocks_left setting.now start == setting.now.interval then 0 else start +
@@ -210,7 +210,7 @@ fn next_start(setting: &Setting, start: u32) -> u32
 }
 
 /// Returns the residual of `x` after `previous`: 0 for the first sample of an interval.
-fn next_residual(setting: &Setting, first: bool, previous: i64, x: i64) -> u32
+pub fn next_residual(setting: &Setting, first: bool, previous: i64, x: i64) -> u32
     requires before { IsSample setting.now previous }
     requires sample { IsSample setting.now x }
     ensures { result ≡ (if setting.now.preprocess
@@ -228,7 +228,7 @@ fn next_residual(setting: &Setting, first: bool, previous: i64, x: i64) -> u32
 }
 
 /// Notes the sample `x` as the segment's reference, if it is the first of an interval.
-fn note_reference(setting: &Setting, first: bool, reference: &mut Option<u32>, x: i64)
+pub fn note_reference(setting: &Setting, first: bool, reference: &mut Option<u32>, x: i64)
     requires { IsSample setting.now x }
     ensures { reference.new ≡ (if setting.now.preprocess && first
         then Some (pattern setting.now x)
@@ -240,7 +240,7 @@ fn note_reference(setting: &Setting, first: bool, reference: &mut Option<u32>, x
 }
 
 /// Fills the last byte with zeros if an interval ends after `blocks` blocks, and intervals are padded.
-fn pad_interval(setting: &Setting, blocks: usize, sink: &mut SegmentSink)
+pub fn pad_interval(setting: &Setting, blocks: usize, sink: &mut SegmentSink)
     ensures { sink.new ≡ sink.old ++ replicate
         (if setting.now.pad && blocks == setting.now.interval
         then bits_to_byte (length sink.old) else 0)

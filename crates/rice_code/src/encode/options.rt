@@ -42,7 +42,7 @@ fn put_head(
 }
 
 /// Returns the number of residuals that are not sent: that at the reference place, where there is one.
-pub(crate) fn first_coded(block: &HeldBlock<'_>) -> usize
+pub fn first_coded(block: &HeldBlock<'_>) -> usize
     ensures coded { sent_residuals block.now ≡ drop result block.now.residuals }
     ensures limit { result ≤ 1 }
     ensures none { result ≡ 0 → block.now.reference ≡ None }
@@ -140,7 +140,7 @@ pub fn put_run(
 }
 
 /// Returns the number of zeros of the codeword of a run.
-pub(crate) fn sent_zeros(z: u32, to_end: bool) -> u64
+fn sent_zeros(z: u32, to_end: bool) -> u64
     requires { 1 ≤ z }
     ensures value { result ≡ zeros_of_run to_end z }
     ensures limit { result ≤ z + 4 }

@@ -1,3 +1,0 @@
-//! The fast coder. The plain one is enough to learn the code.
-
-pub mod encode;

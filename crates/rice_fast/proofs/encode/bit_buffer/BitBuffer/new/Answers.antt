@@ -1,0 +1,9 @@
+use Rattle.std.proofs.Common.{ap, length}
+use Rattle.rice_bits.proofs.lemmas.bits.WordsAndNumbers.{word-nil}
+use Rattle.rice_fast.proofs.encode.bit_buffer.BitBuffer.new.Goals as goal
+
+pub returns-clause-bits : goal.returns-clause-bits
+returns-clause-bits c = word-nil 0
+
+pub returns-clause-len : goal.returns-clause-len
+returns-clause-len c = ap length (word-nil 0)

@@ -1,0 +1,181 @@
+use Rattle.std.proofs.Common.{◌≡◌, ◌+◌, ◌-◌, ◌*◌, ◌≤◌, ◌++◌, ◌∙◌, min, true, false, length, drop, take, arith, ap, sym, subst, inl, inr}
+use Rattle.std.specs.Prelude.{sum_by, slice_range}
+use Rattle.std.proofs.lemmas.List.{take_all}
+use Rattle.rice_samples.specs.Parameters.{k_max}
+use Rattle.rice_code.specs.code.Blocks.{BlockData, is_zero_block}
+use Rattle.rice_code.specs.code.CodedDataSets.{cost, bits_of_set, bits_of_sets}
+use Rattle.rice_code.specs.code.Code.{data_sets}
+use Rattle.rice_code.specs.code.Choice.{shortest, best_split}
+use Rattle.rice_code.specs.encode.HeldBlocks.{held_blocks, reference_at, pending_run, pending_bits}
+use Rattle.rice_code.specs.encode.BitBuffer.{HasRoomFor}
+use Rattle.rice_code.specs.code.SoundBlocks.{block_with, IsSoundData}
+use Rattle.rice_code.specs.CoderSteps.{least_looks, most_looks}
+use Rattle.rice_code.proofs.lemmas.meaning.CoveredBlocks.{bool_cases}
+use Rattle.rice_code.proofs.lemmas.encode.PendingRuns.{held_at, held_len}
+use Rattle.rice_code.proofs.lemmas.encode.SegmentBlocksInTurn.{to_come, held, held_range, held_sound, sound_of, next_zero, next_other, at_end, sum_next, most_of_all, looks_zero}
+use Rattle.rice_code.proofs.lemmas.encode.SegmentBlocksInTurn.{looks_other, room_other, room_within, meter_fits, meter_ends, length_both, looks_more, other_same, least_more, most_more}
+use Rattle.rice_fast.proofs.encode.blocks.code_blocks_of_size.Goals as goal
+
+pub code_next_or_add_to_run-run-requires-clause-sound : goal.code_next_or_add_to_run-run-requires-clause-sound
+code_next_or_add_to_run-run-requires-clause-sound g c =
+    let s = c.args.setting.now in
+    let ds = c.args.segment.now in
+    let i = c.loop-i.i in
+    let size = ap (λ m. slice_range ds (i * m) (i * m + m)) (c.known_or-known.ensures ∙ c.block-size.ensures.value) in
+    let block = c.block.ensures.value ∙ (size ∙ held_range s ds i) in
+    let e : c.new-block.result ≡ held s c.args.reference ds i = c.new-block.ensures ∙ (λ j. block_with (c.reference_of.ensures j) (block j)) in
+    subst (IsSoundData s) (sym e) (sound_of s (c.args.start + i) _ (held_sound s c.args.start c.args.reference c.args.count ds i c.loop-i-test.true c.requires.sound))
+
+pub code_next_or_add_to_run-run-requires-clause-look : goal.code_next_or_add_to_run-run-requires-clause-look
+code_next_or_add_to_run-run-requires-clause-look g c =
+    let s = c.args.setting.now in
+    let cs = held_blocks s c.args.reference c.args.count c.args.segment.now in
+    let all = bits_of_sets s (data_sets s c.args.start false cs) in
+    let i = c.loop-i.i in
+    let room = room_within c.loop-i.sink (to_come s c.args.start c.args.reference c.args.count c.args.segment.now i c.loop-i.run) c.args.sink.now all c.loop-i.invariant.same in
+    let fits = meter_fits {t = length all} {put = 0} (s.block * (k_max s + 5))
+    (record {
+      grown = c.loop-i.invariant.steps_to;
+      by_blocks = most_of_all s i cs;
+      put_is = omega (arith, room);
+      fits = omega (arith, c.requires.room.steps);
+    }) c.loop-i-test.true in
+    let more = looks_more s.block (k_max s) in
+    omega (arith, fits, more)
+
+pub code_next_or_add_to_run-run-requires-clause-room : goal.code_next_or_add_to_run-run-requires-clause-room
+code_next_or_add_to_run-run-requires-clause-room g c =
+    let s = c.args.setting.now in
+    let ds = c.args.segment.now in
+    let i = c.loop-i.i in
+    let cs = held_blocks s c.args.reference c.args.count ds in
+    let all = bits_of_sets s (data_sets s c.args.start false cs) in
+    let size = ap (λ m. slice_range ds (i * m) (i * m + m)) (c.known_or-known.ensures ∙ c.block-size.ensures.value) in
+    let block = c.block.ensures.value ∙ (size ∙ held_range s ds i) in
+    let e : c.new-block.result ≡ held s c.args.reference ds i = c.new-block.ensures ∙ (λ j. block_with (c.reference_of.ensures j) (block j)) in
+    let legal = c.block-size.ensures.legal in
+    let one : 1 ≤ s.block = grind (arith, legal.block) in
+    let P : BlockData → Type 0 = λ b. is_zero_block b ≡ false
+    → HasRoomFor (length (pending_bits s false (reference_at c.args.reference (c.loop-i.i - c.loop-i.run)) c.loop-i.run) + cost s (shortest s b))
+    (length (pending_bits s false (reference_at c.args.reference (c.loop-i.i - c.loop-i.run)) c.loop-i.run) + cost s (shortest s b) + s.block
+    * (k_max s + 5)) (length c.loop-i.sink) c.loop-i.meter in
+    subst P (sym e) (λ z.
+    let put = length (bits_of_sets s (pending_run false (reference_at c.args.reference (i - c.loop-i.run)) c.loop-i.run)) + cost s (shortest s (held s c.args.reference ds i)) in
+    let g = room_other c.args.reference ds c.loop-i.sink c.args.sink.now all (record { interval = legal.interval_from; block = one })
+    (record { inside = c.requires.few; run_before = c.loop-i.invariant.inside; below = c.loop-i-test.true }) (record { sound = c.requires.sound; no_zeros = z }) c.loop-i.invariant.same in
+    let fits = meter_fits {t = length all} {put = put} (s.block * (k_max s + 5))
+    (record {
+      grown = c.loop-i.invariant.steps_to;
+      by_blocks = most_of_all s i cs;
+      put_is = omega (arith, g);
+      fits = omega (arith, c.requires.room.steps);
+    }) c.loop-i-test.true in
+    record { room = omega (arith, g, c.requires.room.room); steps = omega (arith, fits) })
+
+pub loop-i-preserved : goal.loop-i-preserved
+loop-i-preserved g c =
+    let s = c.args.setting.now in
+    let start = c.args.start in
+    let r = c.args.reference in
+    let n = c.args.count in
+    let ds = c.args.segment.now in
+    let i = c.loop-i.i in
+    let run = c.loop-i.run in
+    let cs = held_blocks s r n ds in
+    let all = bits_of_sets s (data_sets s start false cs) in
+    let size = ap (λ m. slice_range ds (i * m) (i * m + m)) (c.known_or-known.ensures ∙ c.block-size.ensures.value) in
+    let block = c.block.ensures.value ∙ (size ∙ held_range s ds i) in
+    let raw = c.new-block.result in
+    let e : raw ≡ held s r ds i = c.new-block.ensures ∙ (λ j. block_with (c.reference_of.ensures j) (block j)) in
+    let legal = c.block-size.ensures.legal in
+    let one : 1 ≤ s.block = grind (arith, legal.block) in
+    let inv = c.loop-i.invariant in
+    let next = held_at s r n i ds c.loop-i-test.true in
+    let low = sum_next (least_looks s) i cs (held s r ds i) (drop (i + 1) cs) next in
+    let high = sum_next (most_looks s) i cs (held s r ds i) (drop (i + 1) cs) next in
+    let after = c.code_next_or_add_to_run-run.ensures in
+    elim (bool_cases (is_zero_block raw)) [
+      | inl z ↦
+          let zh = sym (ap is_zero_block e) ∙ z in
+          let looks = looks_zero s (held s r ds i) zh in
+          let joins = after.joins z in
+          let len = ap length joins.bits in
+          record {
+            inside = omega (arith, joins.run_is);
+            same = (λ j. joins.bits j ++ to_come s start r n ds (i + 1) (joins.run_is j))
+                ∙ (ap (λ v. c.loop-i.sink ++ v) (sym (next_zero s start r ds inv.inside c.loop-i-test.true c.requires.sound zh)) ∙ inv.same);
+            steps_from = omega (arith, low, looks.0, len, joins.steps, inv.steps_from);
+            steps_to = omega (arith, high, looks.1, len, joins.steps, inv.steps_to);
+          }
+      | inr z ↦
+          let zh = sym (ap is_zero_block e) ∙ z in
+          let looks = looks_other s (held s r ds i) zh in
+          let ends = after.ends z in
+          let len = ends.len in
+          let k = ap (best_split s) e in
+          let put = length (bits_of_sets s (pending_run false (reference_at c.args.reference (c.loop-i.i - c.loop-i.run)) run)) + cost s (shortest s raw) in
+          let more = next_other s start r ds legal.interval_from c.requires.few inv.inside c.loop-i-test.true zh in
+          let more' : to_come s start r n ds i run ≡ bits_of_sets s (pending_run false (reference_at c.args.reference (c.loop-i.i - c.loop-i.run)) run)
+          ++ (bits_of_set s (shortest s raw) ++ to_come s start r n ds (i + 1) 0) =
+          more ∙ (λ j. bits_of_sets s (pending_run false (reference_at r (i - run)) run) ++ (bits_of_set s (shortest s (sym e j)) ++ to_come s start r n ds (i + 1) 0)) in
+          record {
+            inside = omega (arith, ends.run_is);
+            same = ap (λ v. c.code_next_or_add_to_run-run.new.sink ++ to_come s start r n ds (i + 1) v) ends.run_is
+                ∙ other_same c.loop-i.sink c.code_next_or_add_to_run-run.new.sink
+                (bits_of_sets s (pending_run false (reference_at c.args.reference (c.loop-i.i - c.loop-i.run)) run)) (bits_of_set s (shortest s raw))
+                (to_come s start r n ds (i + 1) 0) (c.args.sink.now ++ all) ends.bits
+                (sym (ap (λ v. c.loop-i.sink ++ v) more') ∙ inv.same);
+            steps_from = rw low (least_more (length c.args.sink.now) put (sum_by (least_looks s) (take i cs))
+                one (record { before = inv.steps_from; more = omega (arith, ends.steps_from); put_is = omega (arith, len) }) (looks.0 ∙ ap (λ k. s.block * (k + 3) - 1) (sym k)));
+            steps_to = rw high (most_more c.args.meter.now c.loop-i.meter c.code_next_or_add_to_run-run.new.meter (length c.loop-i.sink) (length c.args.sink.now) put (sum_by (most_looks s)
+                (take i cs))
+                (record { before = inv.steps_to; more = omega (arith, ends.steps_to); put_is = omega (arith, len) }) (looks.1 ∙ ap (λ k. s.block * (min (k + 1) (k_max s) + 5)) (sym k)));
+          }
+    ]
+
+-- the invariant at the end
+pub put_pending_run-requires-clause-room : goal.put_pending_run-requires-clause-room
+put_pending_run-requires-clause-room g c =
+    let s = c.args.setting.now in
+    let n = c.args.count in
+    let ds = c.args.segment.now in
+    let cs = held_blocks s c.args.reference n ds in
+    let all = bits_of_sets s (data_sets s c.args.start false cs) in
+    let i : c.loop-i.i ≡ n = omega arith in
+    let run = c.loop-i.run in
+    let same = sym (ap (λ i. c.loop-i.sink ++ to_come s c.args.start c.args.reference n ds i run) i) ∙ c.loop-i.invariant.same in
+    let ends = ap (λ v. c.loop-i.sink ++ v) (at_end s c.args.start c.args.reference n ds run c.block-size.ensures.legal.interval_from c.requires.few (omega arith)) in
+    let put = length (bits_of_sets s (pending_run true (reference_at c.args.reference (n - run)) run)) in
+    let room = room_within c.loop-i.sink (bits_of_sets s (pending_run true (reference_at c.args.reference (n - run)) run)) c.args.sink.now all (sym ends ∙ same) in
+    let w = ap (λ f. length (bits_of_sets s (pending_run true f run))) c.reference_of-first.ensures in
+    let fits = meter_ends {t = length all} {put = put} {n = n} (s.block * (k_max s + 5))
+    (record {
+      grown = c.loop-i.invariant.steps_to;
+      by_blocks = most_of_all s c.loop-i.i cs;
+      put_is = omega (arith, room);
+      fits = omega (arith, c.requires.room.steps);
+    }) (omega arith) in
+    record { room = omega (arith, room, w, c.requires.room.room); steps = omega (arith, fits, w) }
+
+pub returns : goal.returns
+returns g c =
+    let s = c.args.setting.now in
+    let n = c.args.count in
+    let ds = c.args.segment.now in
+    let cs = held_blocks s c.args.reference n ds in
+    let all = bits_of_sets s (data_sets s c.args.start false cs) in
+    let i : c.loop-i.i ≡ n = omega arith in
+    let run = c.loop-i.run in
+    let same = sym (ap (λ i. c.loop-i.sink ++ to_come s c.args.start c.args.reference n ds i run) i) ∙ c.loop-i.invariant.same in
+    let ends = ap (λ v. c.loop-i.sink ++ v) (at_end s c.args.start c.args.reference n ds run c.block-size.ensures.legal.interval_from c.requires.few (omega arith)) in
+    let put : c.put_pending_run.new.sink ≡ c.args.sink.now ++ all = c.put_pending_run.ensures.bits
+    ∙ (ap (λ f. c.loop-i.sink ++ bits_of_sets s (pending_run true f run)) c.reference_of-first.ensures ∙ (sym ends ∙ same)) in
+    let len = held_len s c.args.reference n ds in
+    let least = ap (sum_by (least_looks s)) (take_all c.loop-i.i cs (omega (arith, len))) in
+    let most = ap (sum_by (most_looks s)) (take_all c.loop-i.i cs (omega (arith, len))) in
+    let a = length_both c.put_pending_run.new.sink c.args.sink.now all put in
+    record {
+      bits = put;
+      steps_from = omega (arith, least, a, c.put_pending_run.ensures.len, c.put_pending_run.ensures.steps, c.loop-i.invariant.steps_from);
+      steps_to = omega (arith, most, a, c.put_pending_run.ensures.len, c.put_pending_run.ensures.steps, c.loop-i.invariant.steps_to);
+    }

@@ -1,0 +1,43 @@
+use Rattle.std.proofs.Common.{◌≡◌, ℕ, ◌+◌, ◌-◌, ◌*◌, ◌≤◌, ◌++◌, ◌∙◌, List, Bool, min, arith, ap, refl, sym}
+use Rattle.rice_samples.specs.Parameters.{Parameters, k_max}
+use Rattle.rice_code.specs.code.Blocks.{BlockData}
+use Rattle.rice_code.specs.code.CodedDataSets.{CodedDataSet, bits_of_set, cost}
+use Rattle.rice_code.specs.code.Choice.{shortest, best_split}
+use Rattle.rice_code.specs.declared.encode.choice.Choice.{Choice}
+use Rattle.rice_code.specs.encode.BitBuffer.{PutsSet}
+use Rattle.rice_code.specs.encode.HeldBlocks.{PutsShortest}
+use Rattle.rice_code.specs.encode.SetOfChoice.{chosen_set}
+use Rattle.rice_code.proofs.lemmas.encode.ChosenSets.{puts_chosen}
+use Rattle.rice_code.proofs.lemmas.encode.SegmentBlocksInTurn.{steps_least}
+use Rattle.rice_fast.proofs.encode.blocks.code_eights.Goals as goal
+
+-- the shortest option is put, after the looks of the search
+shortest_put : {s : Parameters} (b : BlockData) {set : CodedDataSet} {old new : List Bool} {m0 m1 m2 : ℕ} → set ≡ shortest s b → m0 + s.block * (best_split s b + 2) ≤ m1
+    → m1 ≤ m0 + s.block * (best_split s b + 3) → m1 ≤ m0 + s.block * (k_max s + 2) → PutsSet s set (s.block - 1) (2 * s.block) old new m1 m2 → PutsShortest s b old new m0 m2
+shortest_put {s} b {set} {old} {new} {m0} {m1} {m2} value from to limit put =
+    let price = ap (cost s) value in
+    record {
+      bits = put.bits ∙ ap (λ d. old ++ bits_of_set s d) value;
+      len = omega (arith, price, put.len);
+      steps_from = omega (arith, price, put.steps_from, from);
+      steps_to = steps_least s.block (best_split s b) (k_max s) m0 m1 m2 (cost s (shortest s b)) (record { by_split = to; by_limit = limit; more = omega (arith, price, put.steps_to) });
+    }
+
+pub returns-in-NoCompression : goal.returns-in-NoCompression
+returns-in-NoCompression c =
+    let chosen = c.choose-choice.ensures in
+    let option = λ (o : Choice). chosen_set o c.args.block.now in
+    shortest_put c.args.block.now (ap option (sym c.in-NoCompression.is) ∙ chosen.value) chosen.steps_from chosen.steps_to chosen.steps_limit c.put_no_compression.ensures
+
+pub returns-in-SecondExtension : goal.returns-in-SecondExtension
+returns-in-SecondExtension c =
+    let chosen = c.choose-choice.ensures in
+    let option = λ (o : Choice). chosen_set o c.args.block.now in
+    shortest_put c.args.block.now (ap option (sym c.in-SecondExtension.is) ∙ chosen.value) chosen.steps_from chosen.steps_to chosen.steps_limit
+    (puts_chosen refl refl refl (omega arith) (omega arith) c.put_second_extension.ensures)
+
+pub returns-in-Split : goal.returns-in-Split
+returns-in-Split c =
+    let chosen = c.choose-choice.ensures in
+    let option = λ (o : Choice). chosen_set o c.args.block.now in
+    shortest_put c.args.block.now (ap option (sym c.in-Split.is) ∙ chosen.value) chosen.steps_from chosen.steps_to chosen.steps_limit c.put_split.ensures

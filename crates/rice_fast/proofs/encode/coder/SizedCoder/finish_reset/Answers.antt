@@ -1,0 +1,28 @@
+use Rattle.std.proofs.Common.{◌∙◌, [], ap, inl, rules, subst, sym}
+use Rattle.rice_code.specs.encode.Coder.{IsCoder, HasTaken}
+use Rattle.rice_code.specs.encode.OpenSegment.{CoderState, empty_state}
+use Rattle.rice_code.proofs.lemmas.encode.PushedCode.{finish_sound, finish_adds, none_taken}
+use Rattle.rice_code.proofs.lemmas.encode.PushedSamples.{filled_has_steps}
+use Rattle.rice_fast.proofs.encode.coder.SizedCoder.finish_reset.Goals as goal
+
+pub code_in_a_call-bits-requires : goal.code_in_a_call-bits-requires
+code_in_a_call-bits-requires g c = (
+  search rules,
+  (
+    finish_sound c.self.inside.segment c.fill.new.self c.fill.ensures.value c.self.invariant,
+    (inl c.requires.room, filled_has_steps _ c.self.view_is c.self.invariant c.fill.ensures.value c.requires.meter c.fill.ensures.steps),
+  ),
+)
+
+pub invariant_of-self : goal.invariant_of-self
+invariant_of-self g c =
+    let legal = c.self.invariant.taken.holds.legal in
+    subst IsCoder (sym (c.begin_first.ensures ∙ ap (λ (v : CoderState). empty_state v.setting) c.fill.ensures.value)) (record { samples = []; taken = none_taken c.self.inside.segment.setting legal })
+
+pub returns-clause-adds : goal.returns-clause-adds
+returns-clause-adds g c xs h = finish_adds c.self.view_is c.fill.ensures.value c.code_in_a_call-bits.ensures c.fill.ensures.steps h
+
+pub returns-clause-taken : goal.returns-clause-taken
+returns-clause-taken g c =
+    let legal = c.self.invariant.taken.holds.legal in
+    subst (λ (v : CoderState). HasTaken v []) (sym (c.begin_first.ensures ∙ ap (λ (v : CoderState). empty_state v.setting) c.fill.ensures.value)) (none_taken c.self.inside.segment.setting legal)

@@ -1,0 +1,15 @@
+use Rattle.std.proofs.Common.{◌≡◌, ◌<◌, arith, length, ◌+◌, ◌*◌, subst, ℤ, List}
+use Rattle.rice_samples.specs.Places.{cut}
+use Rattle.rice_code.specs.encode.Coder.{HasTaken}
+use Rattle.rice_code.specs.encode.OpenSegment.{CoderState}
+use Rattle.rice_code.proofs.lemmas.encode.PushedCode.{pending_are, few_pending}
+use Rattle.rice_fast.proofs.encode.coder.SizedCoder.pending.Goals as goal
+
+pub returns-clause-value : goal.returns-clause-value
+returns-clause-value g c =
+    subst (λ (v : CoderState). (xs : List ℤ) → HasTaken v xs → c.len.result + cut v.setting (length xs) ≡ length xs) c.self.view_is
+    (λ xs h. let e = pending_are c.self.inside.segment xs h in omega (arith, e, c.len.ensures.value))
+
+pub returns-clause-limit : goal.returns-clause-limit
+returns-clause-limit g c = subst (λ (v : CoderState). c.len.result < 64 * v.setting.block) c.self.view_is
+    (let e = few_pending c.self.inside.segment c.self.invariant in omega (arith, e, c.len.ensures.value))

@@ -1,0 +1,30 @@
+use Rattle.std.proofs.Common.{ℕ, ◌≡◌, ◌+◌, ◌-◌, ◌*◌, ◌/◌, ◌^◌, ◌++◌, ◌∙◌, arith, ap, length, map, replicate, take, sym, drop, append-nil}
+use Rattle.rice_fast.proofs.lemmas.encode.HighParts.{high_all, high_more}
+use Rattle.rice_fast.proofs.encode.high_parts.high_parts.Goals as goal
+
+pub loop-i-preserved : goal.loop-i-preserved
+loop-i-preserved c =
+    let l = c.loop-i in
+    let f = λ (d : ℕ). d / 2 ^ c.args.k in
+    let next : 16 * l.i + 16 ≡ 16 * (l.i + 1) = omega arith in
+    let row = c.sixteen_cut.ensures.value ∙ sym (append-nil (map f (take 16 (drop (16 * l.i) c.args.items.now)))) in
+    record {
+      same = high_more f l.i 16 c.args.items.now l.high (omega arith) (omega arith) (omega (arith, c.requires.few)) l.invariant.same row c.store_row.ensures.value
+          ∙ ap (λ n. map f (take n c.args.items.now) ++ replicate (64 - n) 0) next;
+    }
+
+pub returns-then-items-ne0 : goal.returns-then-items-ne0
+returns-then-items-ne0 c =
+    let l = c.loop-i in
+    let f = λ (d : ℕ). d / 2 ^ c.args.k in
+    let xs = c.args.items.now in
+    let n = length xs / 16 in
+    let at : l.i ≡ n = omega (arith, l.auto.i-end, c.loop-i-test.false) in
+    let before = l.invariant.same ∙ ap (λ i. map f (take (16 * i) xs) ++ replicate (64 - 16 * i) 0) at in
+    high_all f (16 * n + 8) xs _ (omega (arith, c.requires.eights))
+    (high_more f n 8 xs l.high (omega arith) (omega arith) (omega (arith, c.requires.few)) before c.eight_cut.ensures.value c.store_row-then-items-ne0.ensures.value)
+
+pub returns-else-items-ne0 : goal.returns-else-items-ne0
+returns-else-items-ne0 c =
+    let l = c.loop-i in
+    high_all (λ d. d / 2 ^ c.args.k) (16 * l.i) c.args.items.now l.high (omega (arith, l.auto.i-end, c.loop-i-test.false)) l.invariant.same

@@ -1,0 +1,15 @@
+use Rattle.std.proofs.lemmas.Grind.{common_steps}
+use Rattle.std.proofs.Common.{arith, ◌+◌, ap}
+use Rattle.std.specs.Prelude.{sum_by}
+use Rattle.rice_code.proofs.lemmas.encode.OptionTexts.{pairs_left}
+use Rattle.rice_fast.proofs.encode.pairs.put_pairs.Goals as goal
+
+pub loop-i-preserved : goal.loop-i-preserved
+loop-i-preserved c =
+    let e = pairs_left c.loop-i.i c.args.items.now (omega arith) in
+    let f = ap (sum_by (λ g. g + 1)) e in
+    record {
+      same = grind (arith, common_steps, e);
+      len = grind (arith, common_steps, f);
+      steps = grind (arith, common_steps, f);
+    }

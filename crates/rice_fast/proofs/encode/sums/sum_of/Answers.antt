@@ -1,0 +1,7 @@
+use Rattle.std.proofs.Common.{arith}
+use Rattle.rice_samples.proofs.lemmas.blocks.FallingSums.{small_sums}
+use Rattle.rice_code.proofs.lemmas.encode.ChoiceLemmas.{few_bits}
+use Rattle.rice_fast.proofs.encode.sums.sum_of.Goals as goal
+
+pub small_sum-requires-clause-small : goal.small_sum-requires-clause-small
+small_sum-requires-clause-small c = small_sums c.args.items.now 0 c.requires.size.1 (few_bits c.args.setting.now c.args.items.now (omega arith) c.requires.fit)

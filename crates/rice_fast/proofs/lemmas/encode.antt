@@ -1,0 +1,7 @@
+-- The coder.
+pub mod AddedBits
+pub mod HighParts
+pub mod JoinedSequences
+pub mod JoinedWords
+pub mod LowParts
+pub mod Stops

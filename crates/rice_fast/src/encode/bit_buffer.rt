@@ -1,0 +1,114 @@
+//! A buffer of bits that puts several fields into a sink at once.
+ghost use Rattle.std.specs.Prelude.{◌≡◌, ◌+◌, ◌^◌, ◌<◌, ◌≤◌, ◌++◌, [], length};
+ghost use Rattle.rice_bits.specs.Bits.{word, fundamental_sequence, put_width};
+ghost use Rattle.rice_code.specs.encode.BitBuffer.{HasRoomFor, AddsFields};
+
+use rice_bits::{Meter, join};
+use rice_code::SegmentSink;
+use std::marker::Model;
+
+/// Holds at most 56 bits before it puts them into a sink.
+///
+/// In contracts its value is the list of these bits. Its calls are always inlined, so that the bits stay in registers while a coded data
+/// set is written.
+#[derive(Drop)]
+pub struct BitBuffer {
+    value: u64,
+    width: u32,
+}
+
+impl Model for BitBuffer {
+    ghost use Rattle.std.specs.Prelude.{Bool, List};
+    ghost use Rattle.rice_bits.specs.Bits.{word};
+    ghost use Rattle.rice_code.specs.encode.BitBuffer.{IsShort};
+
+    ghost Value = { List Bool };
+
+    ghost view = { λ g. word g.width g.value };
+
+    ghost invariant = { λ g. IsShort g.width g.value };
+}
+
+impl BitBuffer {
+    /// Returns a buffer with no bits.
+    #[inline(always)]
+    pub fn new() -> Self
+        ensures bits { result ≡ [] }
+        ensures len { length result ≡ 0 }
+    {
+        BitBuffer { value: 0, width: 0 }
+    }
+
+    /// Returns a buffer of the `width` binary digits of `value`.
+    #[inline(always)]
+    pub fn of_digits(value: u64, width: u32) -> Self
+        requires width { width ≤ put_width }
+        requires value { value < 2 ^ width }
+        ensures bits { result ≡ word width value }
+        ensures len { length result ≡ width }
+    {
+        BitBuffer { value, width }
+    }
+
+    /// Adds the `width` binary digits of `value`. It first puts the bits before them if both do not fit.
+    #[inline(always)]
+    pub fn add(&mut self, value: u64, width: u32, sink: &mut SegmentSink, meter: &mut Meter)
+        requires width { width ≤ put_width }
+        requires value { value < 2 ^ width }
+        requires room { HasRoomFor 0 0 (length sink.old + length self.old) (meter.old +
+            length self.old) }
+        ensures { AddsFields (word width value) width width
+            sink.old self.old sink.new self.new meter.old meter.new }
+    {
+        self.make_room(width, sink, meter);
+        self.value = join(self.value, width, value);
+        self.width += width;
+    }
+
+    /// Puts the bits where `width` more do not fit beside them.
+    #[inline(always)]
+    fn make_room(&mut self, width: u32, sink: &mut SegmentSink, meter: &mut Meter)
+        requires width { width ≤ put_width }
+        requires room { HasRoomFor 0 0 (length sink.old + length self.old) (meter.old +
+            length self.old) }
+        ensures fits { length self.new + width ≤ put_width }
+        ensures bits { sink.new ++ self.new ≡ sink.old ++ self.old }
+        ensures len { length sink.new + length self.new ≡ length sink.old + length self.old }
+        ensures steps { meter.new + length self.new ≡ meter.old + length self.old }
+    {
+        if self.width + width > 56 {
+            self.put(sink, meter);
+        }
+    }
+
+    /// Adds the fundamental sequence of `m`.
+    #[inline(always)]
+    pub fn add_fs(&mut self, m: u32, sink: &mut SegmentSink, meter: &mut Meter)
+        requires { HasRoomFor (m + 1) (m + 1) (length sink.old + length self.old) (meter.old +
+            length self.old) }
+        ensures { AddsFields (fundamental_sequence m) (m + 1) (m + 1)
+            sink.old self.old sink.new self.new meter.old meter.new }
+    {
+        if m < 56 {
+            self.add(1, m + 1, sink, meter);
+            return;
+        }
+        self.put(sink, meter);
+        sink.put_fs(m as u64, meter);
+    }
+
+    /// Puts the bits into the sink, and empties the buffer.
+    #[inline(always)]
+    pub fn put(&mut self, sink: &mut SegmentSink, meter: &mut Meter)
+        requires { HasRoomFor 0 0 (length sink.old + length self.old) (meter.old +
+            length self.old) }
+        ensures empty { self.new ≡ [] }
+        ensures bits { sink.new ≡ sink.old ++ self.old }
+        ensures len { length sink.new ≡ length sink.old + length self.old }
+        ensures steps { meter.new ≡ meter.old + length self.old }
+    {
+        sink.put_up_to_56_digits(self.value, self.width, meter);
+        self.value = 0;
+        self.width = 0;
+    }
+}

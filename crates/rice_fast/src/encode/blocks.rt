@@ -1,0 +1,225 @@
+//! Codes the blocks of a segment, one by one.
+ghost use Rattle.std.specs.Prelude.{◌≡◌, ◌+◌, ◌-◌, ◌*◌, ◌/◌, ◌%◌, ◌^◌, ◌<◌, ◌≤◌, true, false, length, Some, None, IfSome, if◌then◌else◌, sum_by};
+ghost use Rattle.rice_bits.specs.Limits.{step_limit};
+ghost use Rattle.rice_samples.specs.Parameters.{k_max, value_count};
+ghost use Rattle.rice_samples.specs.Places.{begins_segment, blocks_left, place};
+ghost use Rattle.rice_code.specs.code.Blocks.{is_zero_block};
+ghost use Rattle.rice_code.specs.code.CodedDataSets.{cost};
+ghost use Rattle.rice_code.specs.code.Choice.{shortest};
+ghost use Rattle.rice_code.specs.encode.BitBuffer.{HasRoomFor};
+ghost use Rattle.rice_code.specs.encode.HeldBlocks.{held_blocks, reference_at, pending_bits, JoinsRun, EndsRun, HasRoomForBlocks, PutsBlocks, HasRoomForShortest, PutsShortest};
+ghost use Rattle.rice_code.specs.code.SoundBlocks.{block_with, IsSoundData, AreSoundBlocks};
+
+use crate::encode::choice::choose;
+use crate::encode::options::{put_no_compression, put_second_extension, put_split};
+use crate::encode::sums::sum_of;
+use rice_bits::Meter;
+use rice_code::encode::blocks::{code_block, put_pending_run, put_run_before_block, reference_of};
+use rice_code::encode::choice::Choice;
+use rice_code::encode::held_block::HeldBlock;
+use rice_code::{SegmentSink, known_or};
+use rice_samples::{Block, Residuals, Setting};
+
+/// Appends the shortest code of a block that is not zero, of `SIZE` residuals, or of several times eight if `SIZE` is 0. It has the reference `word`
+/// if `REFERENCE` is true, and else none. `whole` is the sum of its residuals.
+///
+/// It is never inlined, so that the loop over the blocks stays short, and takes the parts of the block, which are passed in registers.
+#[inline(never)]
+fn code_block_not_zero<const SIZE: usize, const REFERENCE: bool>(
+    setting: &Setting,
+    word: u32,
+    residuals: Block<'_>,
+    whole: u64,
+    sink: &mut SegmentSink,
+    meter: &mut Meter,
+)
+    requires size { 0 < SIZE → SIZE ≡ length residuals }
+    requires eights { length residuals % 8 ≡ 0 }
+    requires sound { IsSoundData setting.now
+        (block_with (if REFERENCE then Some word else None) residuals) }
+    requires whole { whole ≡ sum_by (λ d. d / 2 ^ 0) residuals }
+    requires whole_fits { whole ≤ 2 ^ 38 }
+    requires room { HasRoomForShortest setting.now
+        (block_with (if REFERENCE then Some word else None) residuals)
+        sink.old meter.old }
+    ensures { PutsShortest setting.now
+        (block_with (if REFERENCE then Some word else None) residuals.entry)
+        sink.old sink.new meter.old meter.new }
+{
+    // What a copy and a count of its own say stays in registers from step to step.
+    let own = *setting;
+    let reference = if REFERENCE { Some(word) } else { None };
+    let block = HeldBlock::new(
+        reference,
+        residuals.sized(known_or::<SIZE>(residuals.len())),
+    );
+    let mut steps = Meter::new();
+    code_eights(&own, &block, whole, sink, &mut steps);
+    meter.tick(steps.steps());
+}
+
+/// Appends the shortest code of a block of several times eight residuals, not all zero.
+#[inline(always)]
+fn code_eights(
+    setting: &Setting,
+    block: &HeldBlock<'_>,
+    whole: u64,
+    sink: &mut SegmentSink,
+    meter: &mut Meter,
+)
+    requires eights { length block.now.residuals % 8 ≡ 0 }
+    requires sound { IsSoundData setting.now block.now }
+    requires whole { whole ≡ sum_by (λ d. d / 2 ^ 0) block.now.residuals }
+    requires whole_fits { whole ≤ 2 ^ 38 }
+    requires room { HasRoomForShortest setting.now block.now sink.old meter.old }
+    ensures { PutsShortest setting.now block.now sink.old sink.new meter.old meter.new }
+{
+    let (choice, high) = choose(setting, block, whole, meter);
+    match choice {
+        Choice::NoCompression => put_no_compression(setting, block, sink, meter),
+        Choice::SecondExtension => put_second_extension(setting, block, sink, meter),
+        Choice::Split(k) => put_split(setting, k, &high, block, sink, meter),
+    }
+}
+
+/// Returns the sum of the residuals of the block, at a look at each. It is 0 only for a zero block.
+#[inline(always)]
+fn sum_of_block(setting: &Setting, block: &HeldBlock<'_>, meter: &mut Meter) -> u64
+    requires sound { IsSoundData setting.now block.now }
+    requires meter { meter.old + setting.now.block < step_limit }
+    ensures value { result ≡ sum_by (λ d. d / 2 ^ 0) block.now.residuals }
+    ensures limit { result ≤ 2 ^ 38 }
+    ensures zero { result ≡ 0 → is_zero_block block.now ≡ true }
+    ensures other { 0 < result → is_zero_block block.now ≡ false }
+    ensures steps { meter.new ≡ meter.old + setting.now.block }
+{
+    let items = block.residuals().items();
+    meter.tick(items.len() as u64);
+    sum_of(setting, items)
+}
+
+/// Takes the block after `run` zero blocks that are pending, from block `first` on: a zero block joins them, another ends
+/// the run. Returns the number of blocks that are pending then.
+#[inline(always)]
+fn code_next_or_add_to_run<const SIZE: usize>(
+    setting: &Setting,
+    reference: Option<u32>,
+    first: usize,
+    run: u32,
+    block: HeldBlock<'_>,
+    sink: &mut SegmentSink,
+    meter: &mut Meter,
+) -> u32
+    requires few { run < 64 }
+    requires fits { IfSome reference (λ v. v < value_count setting.now) }
+    requires size { 0 < SIZE → SIZE ≡ length block.residuals }
+    requires sound { IsSoundData setting.now block }
+    requires look { meter.old + setting.now.block < step_limit }
+    requires room { is_zero_block block ≡ false →
+        HasRoomFor (length (pending_bits setting.now false (reference_at reference first) run) +
+        cost setting.now (shortest setting.now block))
+        (length (pending_bits setting.now false (reference_at reference first) run) +
+        cost setting.now (shortest setting.now block)
+        + setting.now.block * (k_max setting.now + 5)) (length sink.old) meter.old }
+    ensures joins { is_zero_block block.entry ≡ true →
+        JoinsRun setting.now run result sink.old sink.new meter.old meter.new }
+    ensures ends { is_zero_block block.entry ≡ false →
+        EndsRun setting.now (pending_bits setting.now false (reference_at reference first) run)
+        block.entry result sink.old sink.new meter.old meter.new }
+{
+    let whole = sum_of_block(setting, &block, meter);
+    if whole == 0 {
+        return run + 1;
+    }
+    put_run_before_block(setting, reference, first, run, sink, meter);
+    if block.residuals().len() % 8 != 0 {
+        code_block(setting, &block, sink, meter);
+        return 0;
+    }
+    let (own, residuals) = block.into_parts();
+    match own {
+        Some(word) => code_block_not_zero::<SIZE, true>(setting, word, residuals, whole, sink, meter),
+        None => code_block_not_zero::<SIZE, false>(setting, 0, residuals, whole, sink, meter),
+    }
+    0
+}
+
+/// Appends the code of the first `count` blocks of a segment that begins at place `start`.
+#[inline(always)]
+pub fn code_blocks<const N: usize>(
+    setting: &Setting,
+    start: u32,
+    reference: Option<u32>,
+    count: usize,
+    segment: &Residuals<N>,
+    sink: &mut SegmentSink,
+    meter: &mut Meter,
+)
+    requires place { place setting.now start ≡ start }
+    requires begins { begins_segment setting.now start ≡ true }
+    requires few { count ≤ blocks_left setting.now start }
+    requires len { length segment.now ≡ setting.now.block * count }
+    requires fits { IfSome reference (λ v. v < value_count setting.now) }
+    requires sound { AreSoundBlocks setting.now start
+        (held_blocks setting.now reference count segment.now) }
+    requires room { HasRoomForBlocks setting.now start
+        (held_blocks setting.now reference count segment.now)
+        (count * (setting.now.block * (k_max setting.now + 5))) sink.old meter.old }
+    ensures { PutsBlocks setting.now start (held_blocks setting.now reference count segment.now)
+        sink.old sink.new meter.old meter.new }
+{
+    // The loop is laid out for each size of blocks.
+    match setting.block() {
+        8 => code_blocks_of_size::<8, N>(setting, start, reference, count, segment, sink, meter),
+        16 => code_blocks_of_size::<16, N>(setting, start, reference, count, segment, sink, meter),
+        32 => code_blocks_of_size::<32, N>(setting, start, reference, count, segment, sink, meter),
+        size if size < 64 => code_blocks_of_size::<0, N>(
+            setting, start, reference, count, segment, sink, meter,
+        ),
+        _ => code_blocks_of_size::<64, N>(setting, start, reference, count, segment, sink, meter),
+    }
+}
+
+/// Appends the code of the first `count` blocks, of `SIZE` samples each, of a segment that begins at place `start`.
+#[inline(always)]
+fn code_blocks_of_size<const SIZE: usize, const N: usize>(
+    setting: &Setting,
+    start: u32,
+    reference: Option<u32>,
+    count: usize,
+    segment: &Residuals<N>,
+    sink: &mut SegmentSink,
+    meter: &mut Meter,
+)
+    requires size { 0 < SIZE → SIZE ≡ setting.now.block }
+    requires place { place setting.now start ≡ start }
+    requires begins { begins_segment setting.now start ≡ true }
+    requires few { count ≤ blocks_left setting.now start }
+    requires len { length segment.now ≡ setting.now.block * count }
+    requires fits { IfSome reference (λ v. v < value_count setting.now) }
+    requires sound { AreSoundBlocks setting.now start
+        (held_blocks setting.now reference count segment.now) }
+    requires room { HasRoomForBlocks setting.now start
+        (held_blocks setting.now reference count segment.now)
+        (count * (setting.now.block * (k_max setting.now + 5))) sink.old meter.old }
+    ensures { PutsBlocks setting.now start (held_blocks setting.now reference count segment.now)
+        sink.old sink.new meter.old meter.new }
+{
+    let size = setting.block();
+    let known = known_or::<SIZE>(size as usize);
+    let mut run: u32 = 0;
+    for i in 0..count {
+        let block = HeldBlock::new(reference_of(reference, i), segment.block(i, known));
+        run = code_next_or_add_to_run::<SIZE>(
+            setting,
+            reference,
+            i - run as usize,
+            run,
+            block,
+            sink,
+            meter,
+        );
+    }
+    let first = reference_of(reference, count - run as usize);
+    put_pending_run(setting, first, run, true, sink, meter);
+}

@@ -1,0 +1,139 @@
+//! Writes the lowest digits of residuals, eight residuals at a time.
+ghost use Rattle.std.specs.Prelude.{◌≡◌, ◌+◌, ◌*◌, ◌%◌, ◌^◌, ◌<◌, ◌≤◌, All, drop, flat_map, length};
+ghost use Rattle.rice_bits.specs.Bits.{word};
+ghost use Rattle.rice_code.specs.encode.BitBuffer.{HasRoomForBits, AddsBits};
+ghost use Rattle.rice_fast.specs.encode.LowParts.{low_digits_of_each, joined_in_pairs};
+
+use crate::encode::bit_buffer::BitBuffer;
+use rice_bits::{Meter, join};
+use rice_code::SegmentSink;
+use std::simd::prelude::*;
+
+/// Adds the `width` lowest digits of each residual from number `from`, 0 or 1, on.
+#[inline(always)]
+pub fn put_low(
+    items: &[u32],
+    from: usize,
+    width: u32,
+    fields: &mut BitBuffer,
+    sink: &mut SegmentSink,
+    meter: &mut Meter,
+)
+    requires width { width ≤ 32 }
+    requires from { from ≤ 1 }
+    requires eights { (8 ≤ length items.now) × (length items.now % 8 ≡ 0) }
+    requires room { HasRoomForBits (flat_map (word width) (drop from items.now))
+        (length sink.old + length fields.old) (meter.old + length fields.old) }
+    ensures { AddsBits (flat_map (word width) (drop from items.now))
+        sink.old fields.old sink.new fields.new meter.old meter.new }
+{
+    if width == 0 {
+        return;
+    }
+    put_eight(&items[..8], from, width, fields, sink, meter);
+    for i in 1..items.len() / 8 {
+        put_eight(&items[8 * i..8 * i + 8], 0, width, fields, sink, meter);
+    }
+}
+
+/// Adds those of eight residuals, joined to numbers of 56 digits or less.
+#[inline(always)]
+fn put_eight(
+    eight: &[u32],
+    from: usize,
+    width: u32,
+    fields: &mut BitBuffer,
+    sink: &mut SegmentSink,
+    meter: &mut Meter,
+)
+    requires width { width ≤ 32 }
+    requires from { from ≤ 1 }
+    requires eight { length eight.now ≡ 8 }
+    requires room { HasRoomForBits (flat_map (word width) (drop from eight.now))
+        (length sink.old + length fields.old) (meter.old + length fields.old) }
+    ensures { AddsBits (flat_map (word width) (drop from eight.now))
+        sink.old fields.old sink.new fields.new meter.old meter.new }
+{
+    let low = lowest_digits(u32x8::from_slice(eight), width);
+    let skipped = from as u32 * width;
+    if width > 28 {
+        let words = low.cast::<u64>().to_array();
+        add_numbers(&words, width, skipped, fields, sink, meter);
+        return;
+    }
+    let pairs = joined_pairs(low, width);
+    if width > 14 {
+        add_numbers(&pairs.to_array(), 2 * width, skipped, fields, sink, meter);
+        return;
+    }
+    let fours = joined_fours(pairs, 2 * width).to_array();
+    if width > 7 {
+        add_numbers(&fours, 4 * width, skipped, fields, sink, meter);
+        return;
+    }
+    let all = join(fours[0], 4 * width, fours[1]);
+    add_numbers(&[all], 8 * width, skipped, fields, sink, meter);
+}
+
+/// Adds the `width` digits of each number, without the first `skipped` of the first number.
+#[inline(always)]
+fn add_numbers(
+    numbers: &[u64],
+    width: u32,
+    skipped: u32,
+    fields: &mut BitBuffer,
+    sink: &mut SegmentSink,
+    meter: &mut Meter,
+)
+    requires some { 1 ≤ length numbers.now }
+    requires width { width ≤ 56 }
+    requires skipped { skipped ≤ width }
+    requires fit { All (λ v. v < 2 ^ width) numbers.now }
+    requires room { HasRoomForBits (drop skipped (flat_map (word width) numbers.now))
+        (length sink.old + length fields.old) (meter.old + length fields.old) }
+    ensures { AddsBits (drop skipped (flat_map (word width) numbers.now))
+        sink.old fields.old sink.new fields.new meter.old meter.new }
+{
+    let digits = width - skipped;
+    fields.add(numbers[0] % (1 << digits), digits, sink, meter);
+    for i in 1..numbers.len() {
+        fields.add(numbers[i], width, sink, meter);
+    }
+}
+
+/// Returns the `width` lowest digits of each number.
+#[inline(always)]
+fn lowest_digits(eight: u32x8, width: u32) -> u32x8
+    requires lanes { length eight ≡ 8 }
+    requires width { width ≤ 32 }
+    ensures value { result ≡ low_digits_of_each width eight }
+    ensures len { length result ≡ 8 }
+{
+    eight & u32x8::splat(((1u64 << width) - 1) as u32)
+}
+
+/// Joins each two of eight numbers of `width` digits.
+#[inline(always)]
+fn joined_pairs(low: u32x8, width: u32) -> u64x4
+    requires lanes { length low ≡ 8 }
+    requires width { width ≤ 28 }
+    requires fit { All (λ v. v < 2 ^ width) low }
+    ensures value { result ≡ joined_in_pairs width low }
+    ensures len { length result ≡ 4 }
+{
+    let first = low.swizzle([0, 2, 4, 6]).cast::<u64>() << u64x4::splat(width as u64);
+    first | low.swizzle([1, 3, 5, 7]).cast::<u64>()
+}
+
+/// Joins each two of four numbers of `width` digits.
+#[inline(always)]
+fn joined_fours(pairs: u64x4, width: u32) -> u64x2
+    requires lanes { length pairs ≡ 4 }
+    requires width { width ≤ 28 }
+    requires fit { All (λ v. v < 2 ^ width) pairs }
+    ensures value { result ≡ joined_in_pairs width pairs }
+    ensures len { length result ≡ 2 }
+{
+    let first = pairs.swizzle([0, 2]) << u64x2::splat(width as u64);
+    first | pairs.swizzle([1, 3])
+}

@@ -1,9 +1,0 @@
-use Rattle.std.proofs.Common.{◌≡◌, ◌*◌, ◌/◌, ◌^◌, take, length, sum_by}
-use Rattle.std.specs.Simd.Lanes.{sum_l}
-use Rattle.rice_samples.proofs.fast.tests_and_sums.small_sum_shifted_of_eights.Given as goal
-
-abbrev pub invariant-loop-i : goal.invariant-loop-i
-invariant-loop-i l = record {
-  lanes : length l.sums ≡ 8;
-  value : sum_l l.sums ≡ sum_by (λ d. d / 2 ^ l.k) (take (8 * l.i) l.items);
-}
