@@ -1,33 +1,16 @@
 -- The two parts of residuals that are sent: fundamental sequences, and lowest digits.
-use Rattle.std.specs.Prelude.{ℕ, ◌+◌, ◌-◌, ◌*◌, ◌/◌, ◌^◌, Bool, List, length, drop, flat_map, sum_by}
+use Rattle.std.specs.Prelude.{ℕ, ◌+◌, ◌*◌, ◌/◌, ◌^◌, Bool, List, length, flat_map, sum_by}
 use Rattle.rice_bits.specs.Bits.{word, fundamental_sequence}
 use Rattle.rice_samples.specs.blocks.Pairs.{pair_codes}
-use Rattle.rice_code.specs.encode.BitBuffer.{HasRoomFor, HasRoomForBits, AddsBits, AddsFields, PutsFields}
+use Rattle.rice_code.specs.encode.BitBuffer.{HasRoomFor, HasRoomForBits, AddsBits, PutsFields}
 
 -- `width` lowest digits of each of n residuals, and a look at each
 abbrev pub HasRoomForLow : ℕ → ℕ → ℕ → ℕ → Type 0
 HasRoomForLow width n bits meter = HasRoomFor (n * width) (n * (width + 1)) bits meter
 
-abbrev pub AddsLow : ℕ → ℕ → List ℕ → List Bool → List Bool → List Bool → List Bool → ℕ → ℕ → Type 0
-AddsLow width n ds sink_old fields_old sink_new fields_new meter_old meter_new =
-    AddsFields (flat_map (word width) ds) (n * width) (n * (width + 1)) sink_old fields_old sink_new fields_new meter_old meter_new
-
--- `width` lowest digits of each of n residuals but the first `from`, and a look at each of the n
-abbrev pub HasRoomForEights : ℕ → ℕ → ℕ → ℕ → ℕ → Type 0
-HasRoomForEights width count from bits meter = HasRoomFor ((count - from) * width) (count + (count - from) * width) bits meter
-
-abbrev pub AddsEights : ℕ → ℕ → List ℕ → List Bool → List Bool → List Bool → List Bool → ℕ → ℕ → Type 0
-AddsEights width from ds sink_old fields_old sink_new fields_new meter_old meter_new =
-    AddsFields (flat_map (word width) (drop from ds)) ((length ds - from) * width) (length ds + (length ds - from) * width) sink_old fields_old sink_new fields_new meter_old meter_new
-
 -- the fundamental sequences of n residuals without their k lowest digits, and so many looks
 abbrev pub HasRoomForOnes : ℕ → ℕ → ℕ → List ℕ → ℕ → ℕ → Type 0
 HasRoomForOnes k looks n ds bits meter = HasRoomFor (n + sum_by (λ d. d / 2 ^ k) ds) (looks + (n + sum_by (λ d. d / 2 ^ k) ds)) bits meter
-
-abbrev pub AddsOnes : ℕ → ℕ → ℕ → List ℕ → List Bool → List Bool → List Bool → List Bool → ℕ → ℕ → Type 0
-AddsOnes k looks n ds sink_old fields_old sink_new fields_new meter_old meter_new =
-    AddsFields (flat_map (λ d. fundamental_sequence (d / 2 ^ k)) ds) (n + sum_by (λ d. d / 2 ^ k) ds) (looks + (n + sum_by (λ d. d / 2 ^ k) ds)) sink_old fields_old sink_new fields_new
-    meter_old meter_new
 
 -- the fundamental sequences of numbers, which are looked at already
 abbrev pub HasRoomForSequences : List ℕ → ℕ → ℕ → Type 0

@@ -18,7 +18,12 @@ use rice_bits::Meter;
 use rice_samples::{Segment, Setting};
 
 /// Appends the shortest code of a block that is not zero.
-pub fn code_block(setting: &Setting, block: &HeldBlock<'_>, sink: &mut SegmentSink, meter: &mut Meter)
+pub fn code_block(
+    setting: &Setting,
+    block: &HeldBlock<'_>,
+    sink: &mut SegmentSink,
+    meter: &mut Meter,
+)
     requires sound { IsSoundData setting.now block.now }
     requires room { HasRoomForShortest setting.now block.now sink.old meter.old }
     ensures { PutsShortest setting.now block.now sink.old sink.new meter.old meter.new }

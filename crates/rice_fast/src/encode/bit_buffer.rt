@@ -1,7 +1,8 @@
 //! A buffer of bits that puts several fields into a sink at once.
-ghost use Rattle.std.specs.Prelude.{◌≡◌, ◌+◌, ◌^◌, ◌<◌, ◌≤◌, ◌++◌, [], length};
+ghost use Rattle.std.specs.Prelude.{◌≡◌, ◌+◌, ◌%◌, ◌^◌, ◌<◌, ◌≤◌, ◌++◌, [], flat_map, length};
 ghost use Rattle.rice_bits.specs.Bits.{word, fundamental_sequence, put_width};
-ghost use Rattle.rice_code.specs.encode.BitBuffer.{HasRoomFor, AddsFields};
+ghost use Rattle.rice_bits.specs.fast.bits.WholeWords.{IsWholeWidth};
+ghost use Rattle.rice_code.specs.encode.BitBuffer.{HasRoomFor, HasRoomForBits, AddsBits, AddsFields};
 
 use rice_bits::{Meter, join};
 use rice_code::SegmentSink;
@@ -95,6 +96,26 @@ impl BitBuffer {
         }
         self.put(sink, meter);
         sink.put_fs(m as u64, meter);
+    }
+
+    /// Puts the bits, and then the `width` lowest digits of each of the words, which come in eights.
+    #[inline(always)]
+    pub fn put_then_whole_words(
+        &self,
+        words: &[u32],
+        width: u32,
+        sink: &mut SegmentSink,
+        meter: &mut Meter,
+    )
+        requires bits { (1 ≤ length self.now) × (length self.now ≤ 48) }
+        requires width { IsWholeWidth width }
+        requires eights { (8 ≤ length words.now) × (length words.now % 8 ≡ 0) }
+        requires room { HasRoomForBits (flat_map (word width) words.now)
+            (length sink.old + length self.now) (meter.old + length self.now) }
+        ensures { AddsBits (flat_map (word width) words.now)
+            sink.old self.now sink.new [] meter.old meter.new }
+    {
+        sink.put_number_and_whole_words(self.value, self.width, words, width, meter);
     }
 
     /// Puts the bits into the sink, and empties the buffer.

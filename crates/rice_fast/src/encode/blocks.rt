@@ -54,13 +54,13 @@ fn code_block_not_zero<const SIZE: usize, const REFERENCE: bool>(
         residuals.sized(known_or::<SIZE>(residuals.len())),
     );
     let mut steps = Meter::new();
-    code_eights(&own, &block, whole, sink, &mut steps);
+    code_eights::<SIZE, REFERENCE>(&own, &block, whole, sink, &mut steps);
     meter.tick(steps.steps());
 }
 
 /// Appends the shortest code of a block of several times eight residuals, not all zero.
 #[inline(always)]
-fn code_eights(
+fn code_eights<const SIZE: usize, const REFERENCE: bool>(
     setting: &Setting,
     block: &HeldBlock<'_>,
     whole: u64,
@@ -74,11 +74,11 @@ fn code_eights(
     requires room { HasRoomForShortest setting.now block.now sink.old meter.old }
     ensures { PutsShortest setting.now block.now sink.old sink.new meter.old meter.new }
 {
-    let (choice, high) = choose(setting, block, whole, meter);
+    let (choice, high) = choose::<SIZE, REFERENCE>(setting, block, whole, meter);
     match choice {
         Choice::NoCompression => put_no_compression(setting, block, sink, meter),
         Choice::SecondExtension => put_second_extension(setting, block, sink, meter),
-        Choice::Split(k) => put_split(setting, k, &high, block, sink, meter),
+        Choice::Split(k) => { put_split::<SIZE, REFERENCE>(setting, k, &high, block, sink, meter) }
     }
 }
 
@@ -138,7 +138,7 @@ fn code_next_or_add_to_run<const SIZE: usize>(
     }
     let (own, residuals) = block.into_parts();
     match own {
-        Some(word) => code_block_not_zero::<SIZE, true>(setting, word, residuals, whole, sink, meter),
+        Some(word) => code_block_not_zero::<0, true>(setting, word, residuals, whole, sink, meter),
         None => code_block_not_zero::<SIZE, false>(setting, 0, residuals, whole, sink, meter),
     }
     0

@@ -17,7 +17,11 @@ use rice_samples::Setting;
 
 /// Returns the smallest `k` of minimal cost, that cost without the head, and the residuals without their `k` lowest digits.
 #[inline(always)]
-fn best_split(setting: &Setting, block: &HeldBlock<'_>, whole: u64) -> (u32, u64, [u8; 64])
+fn best_split<const SIZE: usize, const REFERENCE: bool>(
+    setting: &Setting,
+    block: &HeldBlock<'_>,
+    whole: u64,
+) -> (u32, u64, [u8; 64])
     requires sound { IsSoundData setting.now block.now }
     requires eights { length block.now.residuals % 8 ≡ 0 }
     requires whole { whole ≡ sum_by (λ d. d / 2 ^ 0) block.now.residuals }
@@ -33,7 +37,7 @@ fn best_split(setting: &Setting, block: &HeldBlock<'_>, whole: u64) -> (u32, u64
     let _size = setting.block();
     let limit = setting.k_max();
     let coded = coded_len(setting, block);
-    let stop = first_stop(block.residuals().items(), whole, limit, coded);
+    let stop = first_stop::<SIZE, REFERENCE>(block.residuals().items(), whole, limit, coded);
     let cost = split_cost(setting, block, stop.k, stop.sum as u64);
     let high = stop.high;
     (stop.k, cost, high)
@@ -44,7 +48,7 @@ fn best_split(setting: &Setting, block: &HeldBlock<'_>, whole: u64) -> (u32, u64
 ///
 /// It ticks the looks of the plain search.
 #[inline(always)]
-pub fn choose(
+pub fn choose<const SIZE: usize, const REFERENCE: bool>(
     setting: &Setting,
     block: &HeldBlock<'_>,
     whole: u64,
@@ -65,7 +69,7 @@ pub fn choose(
     ensures split { IsSplitWithin (k_max setting.now) result.0 }
 {
     let size = setting.block() as u64;
-    let (k, split, high) = best_split(setting, block, whole);
+    let (k, split, high) = best_split::<SIZE, REFERENCE>(setting, block, whole);
     // Residuals that are worth a split are so large that second extension is longer.
     let (second_extension, looks) = if k == 0 {
         (second_extension_cost(setting, block), 3)

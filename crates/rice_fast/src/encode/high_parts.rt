@@ -60,7 +60,7 @@ pub fn sum_shifted(numbers: &[u8; 64], k: u32) -> u32
 /// Adds the fundamental sequences of the first `len` numbers, from number `from`, 0 or 1, on, and returns the buffer. After them there are
 /// zeros.
 #[inline(always)]
-pub fn put_high(
+pub fn put_high<const SIZE: usize, const REFERENCE: bool>(
     numbers: &[u8; 64],
     len: usize,
     from: usize,

@@ -1,17 +1,47 @@
 //! Writes the lowest digits of residuals, eight residuals at a time.
-ghost use Rattle.std.specs.Prelude.{◌≡◌, ◌+◌, ◌*◌, ◌%◌, ◌^◌, ◌<◌, ◌≤◌, All, drop, flat_map, length};
+ghost use Rattle.std.specs.Prelude.{◌≡◌, ◌+◌, ◌-◌, ◌*◌, ◌%◌, ◌^◌, ◌<◌, ◌≤◌, All, drop, flat_map, length};
 ghost use Rattle.rice_bits.specs.Bits.{word};
 ghost use Rattle.rice_code.specs.encode.BitBuffer.{HasRoomForBits, AddsBits};
 ghost use Rattle.rice_fast.specs.encode.LowParts.{low_digits_of_each, joined_in_pairs};
 
 use crate::encode::bit_buffer::BitBuffer;
-use rice_bits::{Meter, join};
+use rice_bits::{Meter, join, low_digits};
 use rice_code::SegmentSink;
 use std::simd::prelude::*;
 
+/// Adds the `width` lowest digits of each residual from number `from`, 0 or 1, on, and returns the buffer. Where the digits are whole bytes,
+/// 64 are put at once.
+#[inline(never)]
+pub fn put_words(
+    items: &[u32],
+    from: usize,
+    width: u32,
+    mut fields: BitBuffer,
+    sink: &mut SegmentSink,
+    meter: &mut Meter,
+) -> BitBuffer
+    requires width { width ≤ 32 }
+    requires from { from ≤ 1 }
+    requires eights { (8 ≤ length items.now) × (length items.now % 8 ≡ 0) }
+    requires some { from ≡ 0 → (1 ≤ length fields) × (length fields ≤ 48) }
+    requires room { HasRoomForBits (flat_map (word width) (drop from items.now))
+        (length sink.old + length fields) (meter.old + length fields) }
+    ensures { AddsBits (flat_map (word width) (drop from items.now))
+        sink.old fields sink.new result meter.old meter.new }
+{
+    if from == 0 && (width == 8 || width == 16 || width == 32) {
+        fields.put_then_whole_words(items, width, sink, meter);
+        return BitBuffer::new();
+    }
+    put_low::<0, false, false>(items, from, width, &mut fields, sink, meter);
+    fields
+}
+
 /// Adds the `width` lowest digits of each residual from number `from`, 0 or 1, on.
+///
+/// There is one for each size of blocks: it is inlined only where it has one caller.
 #[inline(always)]
-pub fn put_low(
+pub fn put_low<const SIZE: usize, const REFERENCE: bool, const OF_SPLIT: bool>(
     items: &[u32],
     from: usize,
     width: u32,
@@ -54,13 +84,13 @@ fn put_eight(
     ensures { AddsBits (flat_map (word width) (drop from eight.now))
         sink.old fields.old sink.new fields.new meter.old meter.new }
 {
-    let low = lowest_digits(u32x8::from_slice(eight), width);
-    let skipped = from as u32 * width;
     if width > 28 {
-        let words = low.cast::<u64>().to_array();
-        add_numbers(&words, width, skipped, fields, sink, meter);
+        let held = std::mem::replace(fields, BitBuffer::new());
+        *fields = put_in_turn(eight, from, width, held, sink, meter);
         return;
     }
+    let low = lowest_digits(u32x8::from_slice(eight), width);
+    let skipped = from as u32 * width;
     let pairs = joined_pairs(low, width);
     if width > 14 {
         add_numbers(&pairs.to_array(), 2 * width, skipped, fields, sink, meter);
@@ -94,22 +124,61 @@ fn add_numbers(
     ensures { AddsBits (drop skipped (flat_map (word width) numbers.now))
         sink.old fields.old sink.new fields.new meter.old meter.new }
 {
-    let digits = width - skipped;
-    fields.add(numbers[0] % (1 << digits), digits, sink, meter);
+    let first = last_digits(numbers[0], width, skipped);
+    fields.add(first, width - skipped, sink, meter);
     for i in 1..numbers.len() {
         fields.add(numbers[i], width, sink, meter);
     }
+}
+
+/// Adds the `width` lowest digits of each of eight residuals from number `from` on, one after another, and returns the buffer.
+#[inline(never)]
+fn put_in_turn(
+    eight: &[u32],
+    from: usize,
+    width: u32,
+    mut fields: BitBuffer,
+    sink: &mut SegmentSink,
+    meter: &mut Meter,
+) -> BitBuffer
+    requires width { width ≤ 32 }
+    requires from { from ≤ 1 }
+    requires eight { length eight.now ≡ 8 }
+    requires room { HasRoomForBits (flat_map (word width) (drop from eight.now))
+        (length sink.old + length fields) (meter.old + length fields) }
+    ensures { AddsBits (flat_map (word width) (drop from eight.now))
+        sink.old fields sink.new result meter.old meter.new }
+{
+    for i in from..8 {
+        fields.add(low_digits(eight[i], width), width, sink, meter);
+    }
+    fields
+}
+
+/// Returns the number of the `width` digits of a number without the first `skipped`.
+#[inline(always)]
+fn last_digits(value: u64, width: u32, skipped: u32) -> u64
+    requires width { width ≤ 56 }
+    requires skipped { skipped ≤ width }
+    requires value { value < 2 ^ width }
+    ensures bits { word (width - skipped) result ≡ drop skipped (word width value) }
+    ensures fits { result < 2 ^ (width - skipped) }
+{
+    if skipped == 0 {
+        return value;
+    }
+    value % (1 << (width - skipped))
 }
 
 /// Returns the `width` lowest digits of each number.
 #[inline(always)]
 fn lowest_digits(eight: u32x8, width: u32) -> u32x8
     requires lanes { length eight ≡ 8 }
-    requires width { width ≤ 32 }
+    requires width { width ≤ 28 }
     ensures value { result ≡ low_digits_of_each width eight }
     ensures len { length result ≡ 8 }
 {
-    eight & u32x8::splat(((1u64 << width) - 1) as u32)
+    eight & u32x8::splat((1 << width) - 1)
 }
 
 /// Joins each two of eight numbers of `width` digits.
@@ -121,7 +190,9 @@ fn joined_pairs(low: u32x8, width: u32) -> u64x4
     ensures value { result ≡ joined_in_pairs width low }
     ensures len { length result ≡ 4 }
 {
-    let first = low.swizzle([0, 2, 4, 6]).cast::<u64>() << u64x4::splat(width as u64);
+    // A product of numbers of 32 bits is one instruction for two lanes, and a shift is more.
+    let factor = u32x4::splat(1 << width).cast::<u64>();
+    let first = low.swizzle([0, 2, 4, 6]).cast::<u64>() * factor;
     first | low.swizzle([1, 3, 5, 7]).cast::<u64>()
 }
 

@@ -1,23 +1,19 @@
 //! The segment that a coder fills.
-ghost use Rattle.std.specs.Prelude.{◌≡◌, ◌+◌, ◌-◌, ◌*◌, ◌/◌, ◌<◌, ◌≤◌, ◌↔◌, ◌++◌, length, replicate, if◌then◌else◌, ◌==◌, ◌&&◌, Some, false, IsTrue, All};
+ghost use Rattle.std.specs.Prelude.{◌≡◌, ◌+◌, ◌-◌, ◌*◌, ◌/◌, ◌<◌, ◌≤◌, ◌↔◌, ◌++◌, length, replicate, ◌&&◌, IsTrue, All};
 ghost use Rattle.rice_bits.specs.Limits.{step_limit};
-ghost use Rattle.rice_bits.specs.Bits.{bits_to_byte};
 ghost use Rattle.rice_samples.specs.Limits.{longest_interval, longest_segment};
-ghost use Rattle.rice_samples.specs.Parameters.{IsLegal, IsSample, value_at, value_count, values_at};
+ghost use Rattle.rice_samples.specs.Parameters.{IsSample, value_at, value_count, values_at};
 ghost use Rattle.rice_samples.specs.Places.{blocks_left};
-ghost use Rattle.rice_samples.specs.predict.Residuals.{pattern, rank};
 ghost use Rattle.rice_code.specs.Bounds.{block_bound};
 ghost use Rattle.rice_code.specs.CoderSteps.{coding_steps};
 ghost use Rattle.rice_code.specs.code.Blocks.{fill_count};
 ghost use Rattle.rice_code.specs.encode.BitBuffer.{sink_bits};
-ghost use Rattle.rice_code.specs.encode.OpenSegment.{IsOpen, IsWhole, HoldsAnySegment, HasRoomForSegment, empty_state, state_between, state_after, state_after_all, state_with_later, later_residuals, state_with_fill, state_after_segment, HoldsSoundBlocks, CodesHeld, is_first, most_before};
+ghost use Rattle.rice_code.specs.encode.OpenSegment.{IsOpen, IsWhole, HoldsAnySegment, HasRoomForSegment, empty_state, state_between, state_after_all, state_with_later, later_residuals, state_with_fill, state_after_segment, HoldsSoundBlocks, CodesHeld, is_first, most_before};
 
 use crate::encode::blocks::code_blocks;
 use rice_bits::Meter;
 use rice_code::SegmentSink;
-use rice_code::encode::open_segment::{
-    next_residual, next_start, pad_interval, residuals_from,
-};
+use rice_code::encode::open_segment::{next_residual, next_start, pad_interval, residuals_from};
 use rice_samples::{Levels, Residuals, Setting, pattern_of_level};
 use std::marker::Model;
 

@@ -9,7 +9,7 @@ ghost use Rattle.rice_fast.specs.encode.HighParts.{with_zeros};
 
 use crate::encode::bit_buffer::BitBuffer;
 use crate::encode::high_parts::put_high;
-use crate::encode::low_parts::put_low;
+use crate::encode::low_parts::{put_low, put_words};
 use crate::encode::pairs::put_pairs;
 use rice_bits::Meter;
 use rice_code::SegmentSink;
@@ -68,9 +68,9 @@ pub fn put_no_compression(
     let from = first_coded(block);
     let bits = setting.bits();
     let _block = setting.block();
-    let mut fields = begin_set(setting, (1 << id) - 1, id, block.reference(), sink, meter);
+    let fields = begin_set(setting, (1 << id) - 1, id, block.reference(), sink, meter);
     meter.tick(residuals.len() as u64);
-    put_low(residuals, from, bits, &mut fields, sink, meter);
+    let mut fields = put_words(residuals, from, bits, fields, sink, meter);
     fields.put(sink, meter);
 }
 
@@ -99,7 +99,7 @@ pub fn put_second_extension(
 /// Appends the block, coded by split `k`. `high` has the residuals without the digits that are split off. Each residual is looked at
 /// once for each of its parts.
 #[inline(always)]
-pub fn put_split(
+pub fn put_split<const SIZE: usize, const REFERENCE: bool>(
     setting: &Setting,
     k: u32,
     high: &[u8; 64],
@@ -122,7 +122,7 @@ pub fn put_split(
     let _block = setting.block();
     let fields = begin_set(setting, k + 1, id, block.reference(), sink, meter);
     meter.tick(2 * residuals.len() as u64);
-    let mut fields = put_high(high, residuals.len(), from, fields, sink, meter);
-    put_low(residuals, from, k, &mut fields, sink, meter);
+    let mut fields = put_high::<SIZE, REFERENCE>(high, residuals.len(), from, fields, sink, meter);
+    put_low::<SIZE, REFERENCE, true>(residuals, from, k, &mut fields, sink, meter);
     fields.put(sink, meter);
 }

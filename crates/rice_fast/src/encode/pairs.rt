@@ -1,5 +1,5 @@
 //! The pairs of second extension.
-ghost use Rattle.std.specs.Prelude.{◌≡◌, ◌+◌, ◌-◌, ◌*◌, ◌%◌, ◌^◌, ◌<◌, ◌≤◌, All, length, flat_map, sum_by};
+ghost use Rattle.std.specs.Prelude.{◌≡◌, ◌+◌, ◌-◌, ◌%◌, ◌^◌, ◌<◌, ◌≤◌, All, length, flat_map};
 ghost use Rattle.rice_bits.specs.Bits.{fundamental_sequence};
 ghost use Rattle.rice_samples.specs.Parameters.{IsBlockSize};
 ghost use Rattle.rice_samples.specs.blocks.Pairs.{pair_code, pair_codes};

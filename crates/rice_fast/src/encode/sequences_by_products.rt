@@ -49,6 +49,9 @@ pub fn joined_sequences(numbers: u8x16, from: usize, count: usize, total: u32) -
 {
     // A zero after them is one digit.
     let all = all_sequences_joined(numbers) >> (16 - count);
+    if from == 0 {
+        return all;
+    }
     all % (1 << total)
 }
 

@@ -1,5 +1,5 @@
 //! Where one more digit no longer lowers the sum of residuals by enough.
-ghost use Rattle.std.specs.Prelude.{◌≡◌, All, ℕ, ◌+◌, ◌*◌, ◌/◌, ◌%◌, ◌^◌, ◌<◌, ◌≤◌, length, map, sum_by};
+ghost use Rattle.std.specs.Prelude.{◌≡◌, All, ℕ, ◌*◌, ◌/◌, ◌%◌, ◌^◌, ◌<◌, ◌≤◌, length, map, sum_by};
 ghost use Rattle.rice_fast.specs.encode.Stops.{IsFirstStop};
 ghost use Rattle.rice_fast.specs.encode.HighParts.{with_zeros};
 
@@ -19,7 +19,12 @@ pub struct Stop {
 /// Returns the first `k`, up to `limit`, at which one digit more takes no more than `price` off the sum of the numbers without their `k`
 /// lowest digits. `whole` is their sum.
 #[inline(always)]
-pub fn first_stop(items: &[u32], whole: u64, limit: u32, price: u32) -> Stop
+pub fn first_stop<const SIZE: usize, const REFERENCE: bool>(
+    items: &[u32],
+    whole: u64,
+    limit: u32,
+    price: u32,
+) -> Stop
     requires eights { (8 ≤ length items.now) × (length items.now % 8 ≡ 0) }
     requires few { length items.now ≤ 64 }
     requires whole { whole ≡ sum_by (λ d. d / 2 ^ 0) items.now }
@@ -39,12 +44,24 @@ pub fn first_stop(items: &[u32], whole: u64, limit: u32, price: u32) -> Stop
     let last = sum_shifted(&high, 2);
     // Two digits more take at most three quarters of a sum below `least` off, and leave less than the price.
     if first == limit || sum <= next + price {
-        return Stop { k: first, sum, high };
+        return Stop {
+            k: first,
+            sum,
+            high,
+        };
     }
     if first + 1 == limit || next <= last + price {
-        return Stop { k: first + 1, sum: next, high: shifted(&high, 1) };
+        return Stop {
+            k: first + 1,
+            sum: next,
+            high: shifted(&high, 1),
+        };
     }
-    Stop { k: first + 2, sum: last, high: shifted(&high, 2) }
+    Stop {
+        k: first + 2,
+        sum: last,
+        high: shifted(&high, 2),
+    }
 }
 
 /// Returns the number of lowest digits without which `sum` is below `least`: with one fewer it is not.
@@ -58,5 +75,9 @@ fn digits_above(sum: u64, least: u32) -> u32
     // Together they are as long as the longer one, and never 0, which the machine would count apart.
     let least = least as u64;
     let digits = least.leading_zeros() - (sum | least).leading_zeros();
-    if sum < least << digits { digits } else { digits + 1 }
+    if sum < least << digits {
+        digits
+    } else {
+        digits + 1
+    }
 }

@@ -1,9 +1,8 @@
 -- The texts of blocks, piece by piece. `split_is_joined` says what joins the parts of a split block.
-use Rattle.std.proofs.Common.{◌≡◌, ℕ, zero, suc, ◌+◌, ◌-◌, ◌*◌, ◌/◌, ◌%◌, ◌^◌, ◌<◌, ◌≤◌, Bool, true, false, cond}
+use Rattle.std.proofs.Common.{◌≡◌, ℕ, zero, suc, ◌+◌, ◌-◌, ◌*◌, ◌/◌, ◌^◌, ◌<◌, Bool, true, false, cond}
 use Rattle.std.proofs.Common.{◌&&◌, nat_le, List, [], ◌∷◌, ◌++◌, length, drop, get_or, refl, ap, arith, sym, ◌∙◌, append_assoc, Option}
 use Rattle.std.specs.Prelude.{flat_map, sum_by}
-use Rattle.std.proofs.lemmas.List.{length-drop, drop_all, drop_more}
-use Rattle.std.proofs.lemmas.List.Sums.{sum_by-cons}
+use Rattle.std.proofs.lemmas.List.{length-drop, drop_more}
 use Rattle.rice_samples.specs.Parameters.{Parameters, id_len}
 use Rattle.rice_samples.specs.blocks.Pairs.{pair_code, pair_codes}
 use Rattle.rice_code.specs.code.Blocks.{BlockData}
@@ -11,8 +10,8 @@ use Rattle.rice_code.specs.code.CodedDataSets.{bits_of_set, cost, reference_bits
 use Rattle.rice_code.specs.code.Runs.{run_of_blocks}
 use Rattle.rice_code.specs.encode.HeldBlocks.{zeros_of_run}
 use Rattle.rice_bits.specs.Bits.{word, fundamental_sequence}
-use Rattle.rice_code.proofs.lemmas.cost.CostIsLength.{length_pieces, numbered_run_len, remainder_len}
-use Rattle.rice_bits.proofs.lemmas.bits.WordsAndNumbers.{length-fundamental_sequence, word-fs, word-zero, word-cat, word-nil}
+use Rattle.rice_code.proofs.lemmas.cost.CostIsLength.{numbered_run_len, remainder_len}
+use Rattle.rice_bits.proofs.lemmas.bits.WordsAndNumbers.{word-fs, word-zero, word-cat, word-nil}
 
 -- What joins a split block: identifier and reference sample, the fundamental sequences of the high parts, and then the words of the low
 -- parts, put into a sink one after the other, are the text of its coded data set.
@@ -101,19 +100,6 @@ pairs_left (suc i) (a ∷ b ∷ xs) h =
     ap (λ n. pair_codes (drop n (a ∷ b ∷ xs))) k ∙ (ih
     ∙ (λ j. pair_code (get_or (a ∷ b ∷ xs) (sym k j) 0) (get_or (a ∷ b ∷ xs) (sym l j) 0) ∷ pair_codes (drop (sym e j) (a ∷ b ∷ xs))))
 
--- and their bits: those of the codeword of pair i, and of all behind it
-pub pairs_left_sum : (i : ℕ) (xs : List ℕ) → 2 * i + 1 < length xs →
-    sum_by (λ g. g + 1) (pair_codes (drop (2 * i) xs)) ≡ pair_code (get_or xs (2 * i) 0) (get_or xs (2 * i + 1) 0) + 1 + sum_by (λ g. g + 1) (pair_codes (drop (2 * (i + 1)) xs))
-pairs_left_sum i xs h = ap (sum_by (λ g. g + 1)) (pairs_left i xs h) ∙ sum_by-cons (λ g. g + 1) (pair_code (get_or xs (2 * i) 0) (get_or xs (2 * i + 1) 0)) (pair_codes (drop (2 * (i + 1)) xs))
-
--- nothing is left behind the last pair of an even number of residuals
-pub no_pairs_left : (i : ℕ) (xs : List ℕ) → length xs % 2 ≡ 0 → length xs / 2 ≤ i → drop (2 * i) xs ≡ []
-no_pairs_left i xs even all = drop_all (2 * i) xs (omega (arith, even, all))
-
--- the codewords of pairs are as long as their codes add up to, with a one for each
-pub length-pairs : (xs : List ℕ) → length (flat_map fundamental_sequence (pair_codes xs)) ≡ sum_by (λ g. g + 1) (pair_codes xs)
-length-pairs xs = length_pieces fundamental_sequence (λ g. g + 1) length-fundamental_sequence (pair_codes xs)
-
 -- four residuals more
 pub four_more : (xs : List ℕ) (i n : ℕ) → i + 3 < length xs → n ≡ i + 4 → drop i xs ≡ get_or xs i 0 ∷ get_or xs (i + 1) 0 ∷ get_or xs (i + 2) 0 ∷ get_or xs (i + 3) 0 ∷ drop n xs
 four_more xs i n h e =
@@ -128,18 +114,3 @@ four_more xs i n h e =
     let c' = c ∙ ap (λ m. get_or xs (i + 2) 0 ∷ drop m xs) q in
     let d' = d ∙ ap (λ m. get_or xs (i + 3) 0 ∷ drop m xs) r in
     a ∙ ap (λ v. get_or xs i 0 ∷ v) (b' ∙ ap (λ v. get_or xs (i + 1) 0 ∷ v) (c' ∙ ap (λ v. get_or xs (i + 2) 0 ∷ v) d'))
-
--- where the pieces of four residuals more are put, they and those of the rest still make up the whole
-pub four_added : (f : ℕ → List Bool) (xs : List ℕ) (i n : ℕ) (a : List Bool) {b all : List Bool} → i + 3 < length xs → n ≡ i + 4 →
-    b ≡ a ++ (f (get_or xs i 0) ++ f (get_or xs (i + 1) 0) ++ f (get_or xs (i + 2) 0) ++ f (get_or xs (i + 3) 0)) → a ++ flat_map f (drop i xs) ≡ all → b ++ flat_map f (drop n xs) ≡ all
-four_added f xs i n a {b} h e added same =
-    let rest = flat_map f (drop n xs) in
-    ap (λ v. v ++ rest) added ∙ (nest a (f (get_or xs i 0)) (f (get_or xs (i + 1) 0)) (f (get_or xs (i + 2) 0)) (f (get_or xs (i + 3) 0)) rest
-    ∙ (sym (ap (λ v. a ++ flat_map f v) (four_more xs i n h e)) ∙ same))
-  where
-    nest : (a b c d e rest : List Bool) → (a ++ (b ++ c ++ d ++ e)) ++ rest ≡ a ++ (b ++ (c ++ (d ++ (e ++ rest))))
-    nest a b c d e rest = simp append_assoc
-
--- the digits of the residuals that are left are those of the next four and of the rest
-pub four_fewer : (n i m w : ℕ) → i + 3 < n → m ≡ i + 4 → (n - i) * w ≡ (n - m) * w + 4 * w
-four_fewer n i m w h e = let f : n - i ≡ n - m + 4 = omega arith in ap (λ k. k * w) f ∙ (omega arith)

@@ -1,12 +1,13 @@
 -- The high parts of residuals, in rows of sixteen numbers.
-use Rattle.std.proofs.Common.{◌≡◌, ℕ, zero, suc, ◌+◌, ◌-◌, ◌*◌, ◌/◌, ◌^◌, ◌<◌, ◌≤◌, List, [], ◌∷◌, ◌++◌, length, drop, take, map, min, replicate, refl, ap, arith, sym, ◌∙◌, length-append, append_assoc, append-nil, sum_by, subst, All, Fits, w8, w32}
+use Rattle.std.proofs.Common.{◌≡◌, ℕ, zero, suc, ◌+◌, ◌-◌, ◌*◌, ◌/◌, ◌^◌, ◌<◌, ◌≤◌, List, [], ◌∷◌, ◌++◌, length, drop}
+use Rattle.std.proofs.Common.{take, map, min, replicate, refl, ap, arith, sym, ◌∙◌, length-append, append_assoc, sum_by, subst, All, Fits, w8, w32}
 use Rattle.std.specs.Prelude.{flat_map, slice_range}
 use Rattle.std.specs.Simd.Lanes.{put_chunk, zip2, Each1, Steps, fold_l, sum_l}
 use Rattle.std.proofs.lemmas.Simd.{zip2_splat, fold-sum, sum_fits, take_more_put_chunk}
 use Rattle.std.proofs.lemmas.List.Elements.{All-nil, All-cons, All-head, All-tail}
 use Rattle.std.proofs.Math.Seq.{take-append_seam, take-add}
 use Rattle.std.proofs.lemmas.List.{drop-append-le, drop-drop, drop-map, drop-take, length-map, length-drop, length-replicate, length-take-le, map-append, take-replicate, take-take, take_all}
-use Rattle.std.proofs.lemmas.List.Folds.{flat_map-map, sum_by-replicate}
+use Rattle.std.proofs.lemmas.List.Folds.{flat_map-map}
 use Rattle.std.proofs.lemmas.List.Sums.{sum_by-append, sum_by-cons}
 use Rattle.rice_samples.proofs.lemmas.blocks.EightsInLanes.{sum_map}
 use Rattle.rice_bits.specs.Bits.{fundamental_sequence}
@@ -78,6 +79,7 @@ same_numbers : (xs : List ℕ) → map (λ d. d) xs ≡ xs
 same_numbers [] = refl
 same_numbers (x ∷ xs) = ap (λ ys. x ∷ ys) (same_numbers xs)
 
+-- their sum, as the loop adds them
 pub bytes_summed : (xs : List ℕ) → fold_l (λ s x. s + x) 0 (map (λ d. d) xs) ≡ sum_l xs
 bytes_summed xs = ap (fold_l (λ s x. s + x) 0) (same_numbers xs) ∙ (fold-sum 0 xs ∙ omega arith)
 
@@ -156,10 +158,6 @@ high_all f n items high last is =
     let left : 64 - n ≡ 64 - length (map f items) = omega (arith, last, length-map items f) in
     is ∙ (λ j. map f (whole j) ++ replicate (left j) 0)
 
--- none are written yet
-pub high_none : (f : ℕ → ℕ) (items : List ℕ) → replicate 64 0 ≡ map f (take (16 * 0) items) ++ replicate (64 - 16 * 0) 0
-high_none f items = refl
-
 -- a row of numbers that zeros follow, with a range of them
 pub row_zeros : (i len : ℕ) (numbers : List ℕ) {row : List ℕ} {count : ℕ} → length numbers ≡ 64 → 16 * i ≤ len → 16 * i + 16 ≤ 64 → len ≤ 64 → numbers ≡ with_zeros (take len numbers)
     → row ≡ take 16 (drop (16 * i) numbers) → count ≡ min (len - 16 * i) 16 → row ≡ take count row ++ replicate (16 - count) 0
@@ -173,9 +171,10 @@ row_zeros i len numbers {row} {count} many place inside few zeros at is =
     let whole : row ≡ take count xs ++ replicate (16 - count) 0 = at ∙ (ap (take 16) rest ∙ row_ends 16 count z xs (omega (arith, left, n, inside, place, few)) (omega (arith, is, left))) in
     let size : length (take count xs) ≡ count = length-take-le count xs (omega (arith, is, left)) in
     let front : take count row ≡ take count xs =
-        ap (take count) whole ∙ (ap (λ m. take m (take count xs ++ replicate (16 - count) 0)) (sym size) ∙ take-append_seam (take count xs) (replicate (16 - count) 0)) in
+    ap (take count) whole ∙ (ap (λ m. take m (take count xs ++ replicate (16 - count) 0)) (sym size) ∙ take-append_seam (take count xs) (replicate (16 - count) 0)) in
     whole ∙ ap (λ v. v ++ replicate (16 - count) 0) (sym front)
 
+-- a range of a row is one of all numbers
 pub row_slice : (i from count : ℕ) (numbers : List ℕ) {row : List ℕ} → from ≤ count → count ≤ 16 → row ≡ take 16 (drop (16 * i) numbers)
     → slice_range row from count ≡ slice_range numbers (16 * i + from) (16 * i + count)
 row_slice i from count numbers {row} le few at =
@@ -196,9 +195,10 @@ pub high_text : (k from n : ℕ) (ds sent : List ℕ) {high : List ℕ} → n �
 high_text k from n ds sent {high} count le e coded =
     let f = λ (d : ℕ). d / 2 ^ k in
     let ms = map f ds in
-    let z = replicate (64 - length ms) 0 in
+    let z : List ℕ = replicate (64 - length ms) 0 in
     let len : length ms ≡ n = length-map ds f ∙ sym count in
-    let rest : drop from high ≡ drop from ms ++ z = ap (drop from) e ∙ drop-append-le from ms z (omega (arith, len, le)) in
+    let within : from ≤ length ms = omega (arith, len, le) in
+    let rest : drop from high ≡ drop from ms ++ z = ap (drop from) e ∙ drop-append-le from ms z within in
     let size : n - from ≡ length (drop from ms) = ap (λ m. m - from) (sym len) ∙ sym (length-drop from ms) in
     ap (λ xs. flat_map fundamental_sequence (take (n - from) xs)) rest
     ∙ (ap (λ m. flat_map fundamental_sequence (take m (drop from ms ++ z))) size

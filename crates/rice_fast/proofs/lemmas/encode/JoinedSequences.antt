@@ -1,21 +1,19 @@
 -- Fundamental sequences that are joined by products, in lanes. What joins 16 rests on `sixteen_joined`: by `value_kept` each of three steps keeps the number of the whole.
 use Rattle.std.proofs.Common.{◌≡◌, ℕ, zero, suc, ◌+◌, ◌-◌, ◌*◌, ◌/◌, ◌%◌, ◌^◌, ◌<◌, ◌≤◌, ◌==◌, Bool, true, ◌&&◌, cond, List, [], ◌∷◌, ◌++◌}
-use Rattle.std.proofs.Common.{length, take, get_or, map, replicate, refl, ap, arith, sym, subst, ◌∙◌, length-append, mod-eq_of_lt, eq-eqb, nat_lt, Fits, w8, w32}
+use Rattle.std.proofs.Common.{length, take, get_or, map, replicate, refl, ap, arith, sym, subst, ◌∙◌, length-append, mod-eq_of_lt, eq-eqb, w8}
 use Rattle.std.specs.Prelude.{All, flat_map, bit_or, slice_range}
 use Rattle.std.specs.List.{list_all}
-use Rattle.std.specs.Simd.Lanes.{zip2, Each1, fold_l, pick_l, sel_l, top}
+use Rattle.std.specs.Simd.Lanes.{zip2, Each1, fold_l, pick_l}
 use Rattle.std.proofs.Math.Nat.{mul-le-mul_left, mul-le-mul_right, pow-le-pow_right}
 use Rattle.std.proofs.lemmas.Nat.{div-mul-add, mod-mul-add, one_shl, pow-add}
 use Rattle.std.proofs.lemmas.Grind.{flat_map-append}
 use Rattle.std.proofs.lemmas.List.{length-map}
-use Rattle.std.proofs.lemmas.Simd.{Each1-get_or, Each1-from_get_or, SwzOk, SwzOk-from_below, swz_l, tops_compared, zip2_splat}
+use Rattle.std.proofs.lemmas.Simd.{Each1-get_or, Each1-from_get_or, SwzOk, SwzOk-from_below, swz_l}
 use Rattle.std.proofs.lemmas.Bool.Decides.{nat_tests}
 use lib.Dec.{leb}
-use mir.Val.{hbits}
 use Rattle.rice_samples.proofs.lemmas.blocks.EightsInLanes.{lanes_below_digits, no_digits}
 use Rattle.rice_bits.specs.Bits.{word, number_of, fundamental_sequence}
 use Rattle.rice_bits.proofs.lemmas.bits.WordsAndNumbers.{word-cat, word-fs, word-number_of, number_of-word, number_of-lt, join_below, length-fundamental_sequence}
-use Rattle.rice_samples.proofs.lemmas.predict.NearEights.{select_min}
 use Rattle.rice_fast.specs.declared.encode.sequences_by_products.TheConstants.{WEIGHTS}
 use Rattle.rice_fast.specs.encode.Sequences.{HasDigits}
 use Rattle.rice_fast.specs.encode.Sequences.{joined_values, joined_weights}
@@ -418,3 +416,16 @@ digits_of_row ms from count v le zeros total few e =
     let f = fundamental_sequence in
     middle_digits (flat_map f (slice_range ms 0 from)) (flat_map f (slice_range ms from count)) (flat_map f (replicate (16 - count) 0)) v (16 - count)
     (e ∙ ap number_of (row_parts ms from count le zeros)) (sym (sequences_of_zeros (16 - count))) total few
+
+-- where no sequence is before them, nothing has to be taken off
+pub digits_of_front : (ms : List ℕ) (from count v : ℕ) {total : ℕ} → from ≡ 0 → ms ≡ take count ms ++ replicate (16 - count) 0
+    → total ≡ length (flat_map fundamental_sequence (slice_range ms from count)) → v ≡ number_of (flat_map fundamental_sequence ms)
+    → HasDigits (flat_map fundamental_sequence (slice_range ms from count)) (v / 2 ^ (16 - count)) total
+digits_of_front ms from count v {total} none zeros total_is e =
+    let f = fundamental_sequence in
+    let wanted = flat_map f (slice_range ms from count) in
+    let rest = flat_map f (replicate (16 - count) 0) in
+    let parts = row_parts ms 0 count (omega arith) zeros ∙ ap (λ n. flat_map f (slice_range ms n count) ++ rest) (sym none) in
+    digits_spelled wanted (sym total_is)
+    ((λ i. (e ∙ (ap number_of parts ∙ number_of-append wanted rest)) i / 2 ^ sym (sequences_of_zeros (16 - count)) i) ∙ div-mul-add (number_of wanted) (2 ^ length rest)
+    (number_of rest) (number_of-lt rest))

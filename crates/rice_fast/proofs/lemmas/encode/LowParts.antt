@@ -1,5 +1,6 @@
 -- The lowest digits of several residuals in one word.
-use Rattle.std.proofs.Common.{◌≡◌, ℕ, zero, suc, take, ◌+◌, ◌-◌, ◌*◌, ◌/◌, ◌%◌, ◌^◌, ◌<◌, ◌≤◌, Bool, List, [], ◌∷◌, ◌++◌, length, drop, get_or, map, refl, ap, arith, sym, subst, ◌∙◌, append_assoc, mod-eq_of_lt}
+use Rattle.std.proofs.Common.{◌≡◌, ℕ, zero, suc, take, ◌+◌, ◌-◌, ◌*◌, ◌/◌, ◌%◌, ◌^◌, ◌<◌, ◌≤◌, List}
+use Rattle.std.proofs.Common.{[], ◌∷◌, ◌++◌, length, drop, get_or, map, refl, ap, arith, sym, subst, ◌∙◌, append_assoc, mod-eq_of_lt}
 use Rattle.std.specs.Prelude.{flat_map, slice_range, bit_and, bit_or}
 use Rattle.std.specs.Simd.Lanes.{Each1}
 use Rattle.std.proofs.Math.Seq.{drop-append_seam}
@@ -32,12 +33,6 @@ length-low w xs = length-map xs (λ d. d % 2 ^ w)
 pub masked : (w : ℕ) (xs : List ℕ) → map (λ d. bit_and d (2 ^ w - 1)) xs ≡ low_digits_of_each w xs
 masked w [] = refl
 masked w (x ∷ xs) = λ i. and_mask x w i ∷ masked w xs i
-
--- a mask of at most 32 digits fits
-pub mask_fits : (w : ℕ) → w ≤ 32 → 1 * 2 ^ w % 2 ^ 64 - 1 < 2 ^ 32
-mask_fits w few =
-    let le : 2 ^ w ≤ 2 ^ 32 = pow-le-pow_right {n = 2} (omega arith) {i = w} {j = 32} few in
-    omega (arith, le, one_shl w 64 (omega (arith, few)))
 
 -- each of them fits
 pub low_fit : (w : ℕ) (xs : List ℕ) → Each1 (λ x. x < 2 ^ w) (low_digits_of_each w xs)
@@ -87,19 +82,19 @@ pairs_spell n width numbers {twice} {w} {xs} {pairs} len two h e =
     subst (λ m. Spells m pairs w xs) same (subst (λ ps. Spells (width + width) ps w xs) (sym e)
     (record { fit = pairs_fit width numbers h.fit; words = words_of_pairs n width numbers len h.fit ∙ h.words }))
 
--- in wider lanes too
-pub wide_spell : {width w : ℕ} {numbers xs : List ℕ} → Spells width numbers w xs → Spells width (map (λ d. d) numbers) w xs
-wide_spell {width} {w} {numbers} {xs} h = subst (λ ns. Spells width ns w xs) (sym (same numbers)) h
-  where
-    same : (ns : List ℕ) → map (λ d. d) ns ≡ ns
-    same [] = refl
-    same (n ∷ ns) = ap (λ l. n ∷ l) (same ns)
-
 -- and two of them in one number
 pub all_spelled : (numbers : List ℕ) {width w : ℕ} (twice : ℕ) {xs : List ℕ} {all : ℕ} → length numbers ≡ 2 → twice ≡ 2 * width → Spells width numbers w xs
     → all ≡ get_or numbers 0 0 * 2 ^ width + get_or numbers 1 0 → Spells twice (all ∷ []) w xs
 all_spelled (a ∷ b ∷ []) {width} twice len two h e = pairs_spell 1 width (a ∷ b ∷ []) refl two h (ap (λ n. n ∷ []) e)
 all_spelled _ twice len two h e = absurd (omega arith)
+
+-- the pairs of eight residuals
+pub pairs_of_eight : (w : ℕ) (xs low : List ℕ) {pairs : List ℕ} → length xs ≡ 8 → low ≡ low_digits_of_each w (take 8 xs) → length low ≡ 8 → pairs ≡ joined_in_pairs w low → Spells (2 * w) pairs w xs
+pairs_of_eight w xs low len is lanes joined = pairs_spell 4 w low lanes refl (low_spell w xs len is) joined
+
+-- the fours
+pub fours_of_eight : (w : ℕ) (xs : List ℕ) {pairs fours : List ℕ} → Spells (2 * w) pairs w xs → length pairs ≡ 4 → fours ≡ joined_in_pairs (2 * w) pairs → Spells (4 * w) fours w xs
+fours_of_eight w xs {pairs} h lanes joined = pairs_spell 2 (2 * w) pairs lanes (omega arith) h joined
 
 -- the digits that are spelled, without those of the first residual
 pub spelled_from : {width w : ℕ} {numbers xs : List ℕ} (from : ℕ) {skipped : ℕ} → Spells width numbers w xs → skipped ≡ from * w → from ≤ 1 → 1 ≤ length xs

@@ -1,11 +1,12 @@
 -- The search for the best split, from the first place on at which the sum of the residuals is small.
-use Rattle.std.proofs.Common.{◌≡◌, ℕ, zero, suc, ◌+◌, ◌-◌, ◌*◌, ◌/◌, ◌^◌, ◌<◌, ◌≤◌, ◌≢◌, List, [], ◌∷◌, ◌++◌, length, map, replicate, refl, ap, arith, sym, ◌∙◌, sum_by, All, true, false, ◌==◌, inl, inr, min, subst, get_or}
+use Rattle.std.proofs.Common.{◌≡◌, ℕ, zero, suc, ◌+◌, ◌-◌, ◌*◌, ◌/◌, ◌^◌, ◌<◌, ◌≤◌, ◌≢◌, List, [], ◌∷◌, ◌++◌, length}
+use Rattle.std.proofs.Common.{map, replicate, refl, ap, arith, sym, ◌∙◌, sum_by, All, true, false, ◌==◌, inl, inr, min, subst, get_or}
 use Rattle.std.specs.Prelude.{bit_or}
 use Rattle.std.specs.List.{list_all}
 use Rattle.std.proofs.lemmas.Bool.{cases_lt}
 use Rattle.std.proofs.lemmas.Bool.Decides.{nat_tests}
 use Rattle.std.proofs.lemmas.List.{length-map, map-append}
-use Rattle.std.proofs.lemmas.List.Elements.{All-nil, All-cons, All-head, All-tail}
+use Rattle.std.proofs.lemmas.List.Elements.{All-nil, All-cons}
 use Rattle.std.proofs.lemmas.List.Folds.{sum_by-replicate}
 use Rattle.std.proofs.lemmas.List.Sums.{sum_by-append, sum_by-cons}
 use Rattle.std.proofs.lemmas.Nat.{le_or_l, leading_length, or_lt, pow-add, pow_pos}
@@ -96,6 +97,7 @@ pub record BeginsAt (ds : List ℕ) (limit price first : ℕ) : Type 0 where
   pub falls : (j : ℕ) → j < first → cut_sum ds (j + 1) + price < cut_sum ds j
   pub small : first < limit → cut_sum ds first < length ds + 2 * price
 
+-- the first place, from which the search goes on
 pub begins : (ds : List ℕ) (limit price digits : ℕ) {first least : ℕ} → 0 < length ds → first ≡ min digits limit → least ≡ length ds + 2 * price
     → cut_sum ds 0 < least * 2 ^ digits → ((j : ℕ) → j < digits → least * 2 ^ j ≤ cut_sum ds 0) → BeginsAt ds limit price first
 begins ds limit price digits {first} {least} some e f below above = record {
@@ -115,15 +117,17 @@ begins_in_bytes ds {limit} {price} {first} few cheap narrow h = elim (cases_lt f
       λ i d lt. let one = narrow i d lt in let same = ap (λ k. get_or ds i d / 2 ^ k) at in omega (arith, one, same)
 ]
 
--- it stops there, or after one digit more, or after two
+-- it stops there,
 pub stops_at_once : (ds : List ℕ) {limit price first sum : ℕ} → BeginsAt ds limit price first → sum ≡ cut_sum ds first → (first < limit → cut_sum ds first ≤ cut_sum ds (first + 1) + price)
     → IsFirstStop ds limit price first sum
 stops_at_once ds h value stops = record { limit = h.within; value = value; falls = h.falls; stops = stops }
 
+-- where it goes on there, each digit so far takes enough off
 goes_on : (ds : List ℕ) {limit price first : ℕ} → BeginsAt ds limit price first → first < limit → cut_sum ds (first + 1) + price < cut_sum ds first
     → (j : ℕ) → j < first + 1 → cut_sum ds (j + 1) + price < cut_sum ds j
 goes_on ds {limit} {price} {first} h lt more = falls_more ds price first h.falls more
 
+-- after one digit more
 pub stops_after_one : (ds : List ℕ) {limit price first sum : ℕ} → BeginsAt ds limit price first → first < limit → cut_sum ds (first + 1) + price < cut_sum ds first → sum ≡ cut_sum ds (first + 1)
     → (first + 1 < limit → cut_sum ds (first + 1) ≤ cut_sum ds (first + 2) + price) → IsFirstStop ds limit price (first + 1) sum
 stops_after_one ds {limit} {price} {first} h lt more value stops = record {
@@ -133,6 +137,7 @@ stops_after_one ds {limit} {price} {first} h lt more value stops = record {
   stops = λ within. let e : first + 1 + 1 ≡ first + 2 = omega arith in subst (λ k. cut_sum ds (first + 1) ≤ cut_sum ds k + price) (sym e) (stops within);
 }
 
+-- or after two
 pub stops_after_two : (ds : List ℕ) {limit price first sum : ℕ} → length ds ≤ 2 * price → BeginsAt ds limit price first → first + 1 < limit → cut_sum ds (first + 1) + price < cut_sum ds first
     → cut_sum ds (first + 2) + price < cut_sum ds (first + 1) → sum ≡ cut_sum ds (first + 2) → IsFirstStop ds limit price (first + 2) sum
 stops_after_two ds {limit} {price} {first} few h lt more again value =
@@ -159,6 +164,7 @@ pub record Summed (ds : List ℕ) (k a b c : ℕ) : Type 0 where
   pub next : b ≡ cut_sum ds (k + 1)
   pub last : c ≡ cut_sum ds (k + 2)
 
+-- what sums of bytes tell of them
 pub summed : (ds : List ℕ) (k : ℕ) {high : List ℕ} {sum next last : ℕ} → high ≡ with_zeros (map (λ d. d / 2 ^ k) ds) → sum ≡ sum_by (λ m. m / 2 ^ 0) high → next ≡ sum_by (λ m. m / 2 ^ 1) high
     → last ≡ sum_by (λ m. m / 2 ^ 2) high → Summed ds k sum next last
 summed ds k {high} e a b c =

@@ -1,16 +1,15 @@
 -- Chunks of eight numbers in the lanes of a vector.
-use Rattle.std.proofs.Common.{◌≡◌, ◌≢◌, ℕ, zero, suc, ◌+◌, ◌-◌, ◌*◌, ◌/◌, ◌%◌, ◌^◌, ◌<◌, ◌≤◌, ◌==◌, Bool, true, false, ◌&&◌, List}
-use Rattle.std.proofs.Common.{[], ◌∷◌, ◌++◌, map, length, take, drop, get_or, sum_by, refl, sym, ◌∙◌, ap, subst, arith, inl, inr, Fits, w32}
+use Rattle.std.proofs.Common.{◌≡◌, ◌≢◌, ℕ, zero, suc, ◌+◌, ◌*◌, ◌/◌, ◌%◌, ◌^◌, ◌<◌, ◌≤◌, ◌==◌, Bool, true, false, ◌&&◌, List}
+use Rattle.std.proofs.Common.{[], ◌∷◌, ◌++◌, map, length, take, drop, get_or, sum_by, refl, sym, ◌∙◌, ap, subst, arith}
 use Rattle.std.specs.Prelude.{bit_or, replicate}
 use Rattle.std.specs.List.{list_all}
-use Rattle.std.specs.Simd.Lanes.{zip2, Each1, Each2, chunk, sum_l, fold_l}
+use Rattle.std.specs.Simd.Lanes.{zip2, Each1, chunk, sum_l, fold_l}
 use Rattle.std.proofs.lemmas.Bool.Decides.{nat_tests}
-use Rattle.std.proofs.lemmas.Bool.{cases_lt}
 use Rattle.std.proofs.lemmas.Nat.{le_or_l, le_or_r, pow_pos}
 use Rattle.std.proofs.lemmas.List.Sums.{sum_by-append, sum_by-cons, sum_by-take-le}
-use Rattle.std.proofs.lemmas.Simd.{zip2_splat, sum-zip2, fold-sum, length-zip2, length-chunk, Each1-chunk, Each1-from_get_or, Each1-weaker, Each1-zip2, Each2-of}
+use Rattle.std.proofs.lemmas.Simd.{zip2_splat, sum-zip2, fold-sum, length-zip2, length-chunk}
 use Rattle.std.proofs.Math.Seq.{take-add}
-use Rattle.std.proofs.Math.Nat.{div-mul-le_self, mul-le-mul_right}
+use Rattle.std.proofs.Math.Nat.{div-mul-le_self}
 
 -- the numbers up to the next chunk
 pub take_chunk : (i : ℕ) (xs : List ℕ) → take (8 * (i + 1)) xs ≡ take (8 * i) xs ++ chunk (8 * i) 8 xs
@@ -187,50 +186,6 @@ pub total_fits : (k n : ℕ) (xs total : List ℕ) → length xs ≤ 64 → ((j 
 total_fits k n xs total few small value = total_below k n (2 ^ 64) xs total (let b = sum_limit k (2 ^ 32) xs small in omega arith) value
 
 -- lanes of 32 bits
-
--- what holds of what a function makes of each number holds of each number that it made
-pub Each1-map : (P : ℕ → Type 0) (f : ℕ → ℕ) (xs : List ℕ) → Each1 (λ x. P (f x)) xs → Each1 P (map f xs)
-Each1-map P f [] h = tt
-Each1-map P f (x ∷ xs) h = (h.0, Each1-map P f xs h.1)
-
--- a lane of a chunk of numbers below 2^32, without its k lowest digits, stays below 2^32 when it is multiplied by 2^k
-pub lanes_small : (k i : ℕ) (xs : List ℕ) → 8 * i + 8 ≤ length xs → ((j : ℕ) → get_or xs j 0 < 2 ^ 32)
-    → Each1 (λ y. y * 2 ^ k ≤ 2 ^ 32 - 1) (zip2 (λ d s. d / 2 ^ s) (chunk (8 * i) 8 xs) (replicate 8 k))
-lanes_small k i xs room small =
-    rw (lanes_without_digits k (chunk (8 * i) 8 xs) (length-chunk (8 * i) 8 xs room))
-    (Each1-map (λ y. y * 2 ^ k ≤ 2 ^ 32 - 1) (λ d. d / 2 ^ k) (chunk (8 * i) 8 xs)
-    (Each1-weaker (λ d. d < 2 ^ 32) (λ d. d / 2 ^ k * 2 ^ k ≤ 2 ^ 32 - 1) (λ d h. let a = div-mul-le_self d (2 ^ k) in omega arith) (chunk (8 * i) 8 xs)
-    (Each1-chunk (λ d. d < 2 ^ 32) (8 * i) 8 xs (Each1-from_get_or (λ d. d < 2 ^ 32) xs 0 (λ j _. small j)))))
-
--- where there are no more than 2^k chunks, the lanes of the sum fit 32 bits with the next chunk added
-pub narrow_fits : (k i : ℕ) (xs total : List ℕ) → 8 * i + 8 ≤ length xs → length xs ≤ 8 * 2 ^ k → ((j : ℕ) → get_or xs j 0 < 2 ^ 32) → Each1 (λ t. t * 2 ^ k ≤ i * (2 ^ 32 - 1)) total →
-    Each2 (λ a b. Fits w32 (a + b)) total (zip2 (λ d s. d / 2 ^ s) (chunk (8 * i) 8 xs) (replicate 8 k))
-narrow_fits k i xs total room narrow small below =
-    Each2-of (λ t. t * 2 ^ k ≤ i * (2 ^ 32 - 1)) (λ y. y * 2 ^ k ≤ 2 ^ 32 - 1) (λ a b. Fits w32 (a + b))
-    (λ a b h l. lane a b (2 ^ k) i (length xs) (pow_pos k) room narrow h l) total _ below (lanes_small k i xs room small)
-  where
-    lane : (a b p i n : ℕ) → 0 < p → 8 * i + 8 ≤ n → n ≤ 8 * p → a * p ≤ i * (2 ^ 32 - 1) → b * p ≤ 2 ^ 32 - 1 → Fits w32 (a + b)
-    lane a b p i n some room narrow h l =
-        elim (cases_lt (a + b) (2 ^ 32)) [
-          | inl lt ↦ record { fits = lt }
-          | inr ge ↦ let e : 2 ^ 32 * p ≤ (a + b) * p = mul-le-mul_right p ge in absurd (omega arith)
-        ]
-
--- so the lanes after this addition fit 32 bits
-pub narrow_lanes : (k i : ℕ) (xs total : List ℕ) → 8 * i + 8 ≤ length xs → length xs ≤ 8 * 2 ^ k → ((j : ℕ) → get_or xs j 0 < 2 ^ 32) → Each1 (λ t. t * 2 ^ k ≤ i * (2 ^ 32 - 1)) total →
-    Each1 (Fits w32) (zip2 (λ a b. a + b) total (zip2 (λ d s. d / 2 ^ s) (chunk (8 * i) 8 xs) (replicate 8 k)))
-narrow_lanes k i xs total room narrow small below = Each1-zip2 (λ a b. a + b) (Fits w32) total _ (narrow_fits k i xs total room narrow small below)
-
--- and each of them, times 2^k, is at most the greatest sum of i + 1 numbers below 2^32
-pub narrow_below : (k i : ℕ) (xs total : List ℕ) → 8 * i + 8 ≤ length xs → ((j : ℕ) → get_or xs j 0 < 2 ^ 32) → Each1 (λ t. t * 2 ^ k ≤ i * (2 ^ 32 - 1)) total →
-    Each1 (λ t. t * 2 ^ k ≤ (i + 1) * (2 ^ 32 - 1)) (zip2 (λ a b. a + b) total (zip2 (λ d s. d / 2 ^ s) (chunk (8 * i) 8 xs) (replicate 8 k)))
-narrow_below k i xs total room small below =
-    Each1-zip2 (λ a b. a + b) (λ t. t * 2 ^ k ≤ (i + 1) * (2 ^ 32 - 1)) total _
-    (Each2-of (λ t. t * 2 ^ k ≤ i * (2 ^ 32 - 1)) (λ y. y * 2 ^ k ≤ 2 ^ 32 - 1) (λ a b. (a + b) * 2 ^ k ≤ (i + 1) * (2 ^ 32 - 1))
-    (λ a b h l. lane a b (2 ^ k) i h l) total _ below (lanes_small k i xs room small))
-  where
-    lane : (a b p i : ℕ) → a * p ≤ i * (2 ^ 32 - 1) → b * p ≤ 2 ^ 32 - 1 → (a + b) * p ≤ (i + 1) * (2 ^ 32 - 1)
-    lane a b p i h l = omega arith
 
 -- at most 64 numbers below 2^32, each without its k lowest digits, sum up to at most 2^38
 pub sum_limited : (k n : ℕ) (xs total : List ℕ) → length xs ≤ 64 → length xs % 8 ≡ 0 → length xs / 8 ≤ n → ((j : ℕ) → get_or xs j 0 < 2 ^ 32)

@@ -1,6 +1,6 @@
 -- Levels that are restored one after the other.
 use Rattle.std.proofs.Common.{◌≡◌, ℕ, ◌+◌, ◌<◌, List, [], ◌∷◌, ◌++◌}
-use Rattle.std.proofs.Common.{length, take, refl, ap, sym, ◌∙◌, get_or, slice_set, All, ◌-◌}
+use Rattle.std.proofs.Common.{length, take, refl, ap, sym, ◌∙◌, get_or, slice_set, All}
 use Rattle.std.proofs.lemmas.List.{take_more, take_more_set}
 use Rattle.rice_samples.specs.predict.Residuals.{rank_below, ranks_below, last_number}
 use Rattle.rice_samples.proofs.lemmas.bytes.SamplesInTurn.{one_legal}

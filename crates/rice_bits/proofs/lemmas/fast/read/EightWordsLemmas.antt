@@ -1,5 +1,5 @@
 -- Words of a few digits, found in two bytes each.
-use Rattle.std.proofs.Common.{◌≡◌, ℕ, suc, ◌+◌, ◌-◌, ◌*◌, ◌/◌, ◌<◌, ◌≤◌, List, []}
+use Rattle.std.proofs.Common.{◌≡◌, ℕ, suc, ◌+◌, ◌*◌, ◌/◌, ◌<◌, ◌≤◌, List, []}
 use Rattle.std.proofs.Common.{◌∷◌, length, get_or, map, refl, ◌∙◌, ap, arith, w8}
 use Rattle.std.specs.Prelude.{All, slice_index}
 use Rattle.std.specs.Simd.Lanes.{Each1}

@@ -1,4 +1,4 @@
-use Rattle.std.proofs.Common.{arith, true}
+use Rattle.std.proofs.Common.{arith}
 use Rattle.rice_code.proofs.lemmas.decode.SetsRead.{low_bit_cut, second_low_cut, run_low_cut, second_low, run_low}
 use Rattle.std.proofs.lemmas.Result.{err_from_is_err_and}
 use Rattle.rice_code.proofs.decode.coded_data_set.read_low_entropy.Goals as goal

@@ -1,4 +1,4 @@
-use Rattle.std.proofs.Common.{arith, ◌-◌, ◌∙◌, true, false}
+use Rattle.std.proofs.Common.{arith, ◌-◌, ◌∙◌}
 use Rattle.rice_code.proofs.lemmas.decode.SetsRead.{cut_identifier, low_set, low_set_cut, no_compression_set, no_compression_set_cut, split_set, split_set_cut, ones_id}
 use Rattle.std.proofs.lemmas.Result.{err_from_is_err_and}
 use Rattle.rice_code.proofs.decode.coded_data_set.read_set.Goals as goal

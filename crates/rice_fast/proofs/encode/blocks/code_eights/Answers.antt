@@ -1,4 +1,4 @@
-use Rattle.std.proofs.Common.{◌≡◌, ℕ, ◌+◌, ◌-◌, ◌*◌, ◌≤◌, ◌++◌, ◌∙◌, List, Bool, min, arith, ap, refl, sym}
+use Rattle.std.proofs.Common.{◌≡◌, ℕ, ◌+◌, ◌-◌, ◌*◌, ◌≤◌, ◌++◌, ◌∙◌, List, Bool, arith, ap, refl, sym}
 use Rattle.rice_samples.specs.Parameters.{Parameters, k_max}
 use Rattle.rice_code.specs.code.Blocks.{BlockData}
 use Rattle.rice_code.specs.code.CodedDataSets.{CodedDataSet, bits_of_set, cost}
@@ -24,20 +24,20 @@ shortest_put {s} b {set} {old} {new} {m0} {m1} {m2} value from to limit put =
     }
 
 pub returns-in-NoCompression : goal.returns-in-NoCompression
-returns-in-NoCompression c =
+returns-in-NoCompression g c =
     let chosen = c.choose-choice.ensures in
     let option = λ (o : Choice). chosen_set o c.args.block.now in
     shortest_put c.args.block.now (ap option (sym c.in-NoCompression.is) ∙ chosen.value) chosen.steps_from chosen.steps_to chosen.steps_limit c.put_no_compression.ensures
 
 pub returns-in-SecondExtension : goal.returns-in-SecondExtension
-returns-in-SecondExtension c =
+returns-in-SecondExtension g c =
     let chosen = c.choose-choice.ensures in
     let option = λ (o : Choice). chosen_set o c.args.block.now in
     shortest_put c.args.block.now (ap option (sym c.in-SecondExtension.is) ∙ chosen.value) chosen.steps_from chosen.steps_to chosen.steps_limit
     (puts_chosen refl refl refl (omega arith) (omega arith) c.put_second_extension.ensures)
 
 pub returns-in-Split : goal.returns-in-Split
-returns-in-Split c =
+returns-in-Split g c =
     let chosen = c.choose-choice.ensures in
     let option = λ (o : Choice). chosen_set o c.args.block.now in
     shortest_put c.args.block.now (ap option (sym c.in-Split.is) ∙ chosen.value) chosen.steps_from chosen.steps_to chosen.steps_limit c.put_split.ensures

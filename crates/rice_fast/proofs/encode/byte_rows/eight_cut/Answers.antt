@@ -1,4 +1,3 @@
-use Rattle.std.proofs.Common.{ℕ, ◌/◌, ◌^◌, ◌∙◌, map, take, drop, arith}
 use Rattle.rice_fast.proofs.lemmas.encode.HighParts.{cut_lanes_fit}
 use Rattle.rice_fast.proofs.encode.byte_rows.eight_cut.Goals as goal
 

@@ -1,4 +1,4 @@
-use Rattle.std.proofs.Common.{◌*◌, ◌∙◌, arith, length, w32}
+use Rattle.std.proofs.Common.{arith}
 use Rattle.rice_fast.proofs.lemmas.encode.HighParts.{bytes_summed, few_summed, summed_fit}
 use Rattle.rice_fast.proofs.encode.byte_rows.row_sum.Goals as goal
 

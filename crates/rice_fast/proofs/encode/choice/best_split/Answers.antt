@@ -1,4 +1,4 @@
-use Rattle.std.proofs.Common.{ℕ, ◌+◌, ◌∙◌, ap, arith, length, sym}
+use Rattle.std.proofs.Common.{ℕ, ◌+◌, ◌∙◌, ap, arith}
 use Rattle.rice_samples.proofs.lemmas.blocks.FallingSums.{cut_sum, sum_halves}
 use Rattle.rice_code.proofs.lemmas.cost.SplitSavings.{sum_stop_is_best}
 use Rattle.rice_code.proofs.lemmas.encode.ChoiceLemmas.{best_split_is, small_sum}
@@ -6,12 +6,12 @@ use Rattle.rice_fast.proofs.lemmas.encode.Stops.{last_split_is_small}
 use Rattle.rice_fast.proofs.encode.choice.best_split.Goals as goal
 
 pub first_stop-stop-requires-clause-small : goal.first_stop-stop-requires-clause-small
-first_stop-stop-requires-clause-small c =
+first_stop-stop-requires-clause-small g c =
     let same = c.items.ensures.value ∙ c.residuals.ensures in
     rw same (last_split_is_small c.args.setting.now c.args.block.now.residuals c.block-size.ensures.legal.bits_to c.k_max-limit.ensures.value c.requires.sound.fit)
 
 pub returns-clause-best : goal.returns-clause-best
-returns-clause-best c =
+returns-clause-best g c =
     let same = c.items.ensures.value ∙ c.residuals.ensures in
     let stop = c.first_stop-stop.ensures.stop in
     let len = c.coded_len-coded.ensures.value in
@@ -22,10 +22,10 @@ returns-clause-best c =
     (λ lt. omega (arith, stop.stops (omega (arith, lt, c.k_max-limit.ensures.value)), len, sums k, sums (k + 1)))
 
 pub returns-clause-named : goal.returns-clause-named
-returns-clause-named c = best_split_is c.args.setting.now c.args.block.now c.first_stop-stop.result.k (returns-clause-best c)
+returns-clause-named g c = best_split_is c.args.setting.now c.args.block.now c.first_stop-stop.result.k (returns-clause-best g c)
 
 pub returns-clause-small : goal.returns-clause-small
-returns-clause-small c = λ none.
+returns-clause-small g c = λ none.
     let same = c.items.ensures.value ∙ c.residuals.ensures in
     let ds = c.args.block.now.residuals in
     let k = c.first_stop-stop.result.k in

@@ -1,6 +1,5 @@
-use Rattle.std.proofs.Common.{◌≡◌, ℕ, ◌+◌, ◌*◌, ◌/◌, ◌<◌, ◌≤◌, ◌⊎◌, ◌∙◌, ap, arith, inl, inr}
+use Rattle.std.proofs.Common.{◌≡◌, ℕ, ◌+◌, ◌*◌, ◌/◌, ◌≤◌, ◌⊎◌, ◌∙◌, ap, arith, inl, inr}
 use Rattle.std.proofs.Math.Nat.{mul-le-mul_left}
-use Rattle.rice_samples.specs.Parameters.{k_max}
 use Rattle.rice_code.proofs.lemmas.cost.PairsAreLonger.{pairs_are_longer}
 use Rattle.rice_fast.proofs.lemmas.encode.Stops.{last_split}
 use Rattle.rice_fast.proofs.encode.choice.choose.Goals as goal
@@ -17,7 +16,7 @@ looks_of some le (inl h) = record { least = omega (arith, h); most = omega (arit
 looks_of some le (inr h) = record { least = omega (arith, h); most = omega (arith, h); within = omega (arith, h, le) }
 
 pub tick-requires : goal.tick-requires
-tick-requires c =
+tick-requires g c =
     let s = c.args.setting.now in
     let k = c.best_split-k.result.0 in
     let best = c.best_split-k.ensures.best in
@@ -31,7 +30,7 @@ tick-requires c =
     omega (arith, most, same, c.requires.meter)
 
 pub shortest_of-choice-requires-clause-second_extension_from : goal.shortest_of-choice-requires-clause-second_extension_from
-shortest_of-choice-requires-clause-second_extension_from c =
+shortest_of-choice-requires-clause-second_extension_from g c =
     let s = c.args.setting.now in
     let b = c.args.block.now in
     elim c.if-k-eq0.branch [
@@ -43,7 +42,7 @@ shortest_of-choice-requires-clause-second_extension_from c =
     ]
 
 pub returns-clause-steps_from : goal.returns-clause-steps_from
-returns-clause-steps_from c =
+returns-clause-steps_from g c =
     let s = c.args.setting.now in
     let k = c.best_split-k.result.0 in
     let best = c.best_split-k.ensures.best in
@@ -58,7 +57,7 @@ returns-clause-steps_from c =
     omega (arith, least, same, named, c.tick.ensures)
 
 pub returns-clause-steps_to : goal.returns-clause-steps_to
-returns-clause-steps_to c =
+returns-clause-steps_to g c =
     let s = c.args.setting.now in
     let k = c.best_split-k.result.0 in
     let best = c.best_split-k.ensures.best in
@@ -73,7 +72,7 @@ returns-clause-steps_to c =
     omega (arith, most, same, named, c.tick.ensures)
 
 pub returns-clause-steps_limit : goal.returns-clause-steps_limit
-returns-clause-steps_limit c =
+returns-clause-steps_limit g c =
     let s = c.args.setting.now in
     let k = c.best_split-k.result.0 in
     let best = c.best_split-k.ensures.best in

@@ -2,18 +2,19 @@ use Rattle.std.proofs.Common.{◌≡◌, ◌+◌, ◌++◌, ◌∙◌, ap, arith
 use Rattle.std.specs.Prelude.{flat_map, slice_range}
 use Rattle.rice_bits.specs.Bits.{word}
 use Rattle.rice_fast.proofs.lemmas.encode.AddedBits.{bits_of_none, bits_of_one, bits_of_parts, both_added, room_for_none, room_for_second, same_added, same_room, word_added}
-use Rattle.rice_fast.proofs.lemmas.encode.LowParts.{first_digits, first_of_words}
+use Rattle.rice_fast.proofs.lemmas.encode.LowParts.{first_of_words}
 use Rattle.rice_fast.proofs.encode.low_parts.add_numbers.Goals as goal
 
 pub loop-i-init : goal.loop-i-init
 loop-i-init c =
     let a = c.args in
     let vs = a.numbers.now in
-    let first = first_digits a.width a.skipped (get_or vs 0 0) c.requires.skipped c.requires.width in
+    let first = c.last_digits-first.ensures.bits in
     let none = bits_of_none (word a.width) vs 1 in
     record {
       after = omega arith;
-      adds = same_added (first ∙ (sym (append-nil (drop a.skipped (word a.width (get_or vs 0 0)))) ∙ ap (λ v. drop a.skipped (word a.width (get_or vs 0 0)) ++ v) (sym none))) (word_added _ _ c.add.ensures);
+      adds = same_added (first ∙ (sym (append-nil (drop a.skipped (word a.width (get_or vs 0 0)))) ∙ ap (λ v. drop a.skipped (word a.width (get_or vs 0 0)) ++ v) (sym none)))
+          (word_added _ _ c.add.ensures);
     }
 
 pub add-requires-in-loop-i-clause-room : goal.add-requires-in-loop-i-clause-room
@@ -26,7 +27,7 @@ add-requires-in-loop-i-clause-room c =
     let done = flat_map f (slice_range vs 1 l.i) in
     let left = flat_map f (slice_range vs l.i (length vs)) in
     let all = first_of_words a.width a.skipped vs c.requires.skipped c.requires.some
-        ∙ (ap (λ v. first ++ v) (bits_of_parts f vs 1 l.i (length vs) l.invariant.after (omega arith)) ∙ sym (append_assoc first done left)) in
+    ∙ (ap (λ v. first ++ v) (bits_of_parts f vs 1 l.i (length vs) l.invariant.after (omega arith)) ∙ sym (append_assoc first done left)) in
     room_for_none (room_for_second (first ++ done) left (same_room all c.requires.room) l.invariant.adds)
 
 pub loop-i-preserved : goal.loop-i-preserved

@@ -2,13 +2,13 @@ use Rattle.std.proofs.Common.{◌≡◌, ◌-◌, ◌*◌, ◌%◌, ◌^◌, ap,
 use Rattle.std.specs.Prelude.{bit_and}
 use Rattle.std.proofs.lemmas.Nat.{one_shl}
 use Rattle.std.proofs.lemmas.Simd.{zip2_splat}
-use Rattle.rice_fast.proofs.lemmas.encode.LowParts.{length-low, mask_fits, masked}
+use Rattle.rice_fast.proofs.lemmas.encode.LowParts.{length-low, masked}
 use Rattle.rice_fast.proofs.encode.low_parts.lowest_digits.Goals as goal
 
 pub returns-clause-value : goal.returns-clause-value
 returns-clause-value c =
     let w = c.args.width in
-    let mask : 1 * 2 ^ w % 18446744073709551616 - 1 ≡ 2 ^ w - 1 = ap (λ p. p - 1) (one_shl w 64 (omega (arith, c.requires.width))) in
+    let mask : 1 * 2 ^ w % 4294967296 - 1 ≡ 2 ^ w - 1 = ap (λ p. p - 1) (one_shl w 32 (omega (arith, c.requires.width))) in
     rw mask (zip2_splat bit_and c.args.eight 8 (2 ^ w - 1) c.requires.lanes ∙ masked w c.args.eight)
 
 pub returns-clause-len : goal.returns-clause-len

@@ -1,4 +1,4 @@
-use Rattle.std.proofs.Common.{◌≡◌, ◌+◌, ◌*◌, ◌∙◌, ap, arith, drop, length, refl, sym, take}
+use Rattle.std.proofs.Common.{◌≡◌, ◌+◌, ◌*◌, ◌∙◌, ap, arith, drop, length, refl, sym}
 use Rattle.std.specs.Prelude.{flat_map, slice_range}
 use Rattle.rice_bits.specs.Bits.{word}
 use Rattle.rice_code.proofs.lemmas.encode.OptionTexts.{no_digits}
@@ -6,23 +6,24 @@ use Rattle.rice_fast.proofs.lemmas.encode.AddedBits.{none_added, added_to_end, a
 use Rattle.rice_fast.proofs.encode.low_parts.put_low.Goals as goal
 
 pub put_eight-requires-clause-room : goal.put_eight-requires-clause-room
-put_eight-requires-clause-room c =
+put_eight-requires-clause-room g c =
     let f = word c.args.width in
     let xs = c.args.items.now in
     let from = c.args.from in
     let n = length xs in
     let first = flat_map f (slice_range xs from 8) in
     same_room (ap (flat_map f) (sym (head_slice xs from 8 (omega (arith, c.requires.from)))))
-    (room_for_first first (flat_map f (slice_range xs 8 n)) (same_room (bits_of_parts f xs from 8 n (omega (arith, c.requires.from)) c.requires.eights.0) (room_to_end f xs from n refl c.requires.room)))
+    (room_for_first first (flat_map f (slice_range xs 8 n)) (same_room (bits_of_parts f xs from 8 n (omega (arith, c.requires.from)) c.requires.eights.0)
+    (room_to_end f xs from n refl c.requires.room)))
 
 pub loop-i-init : goal.loop-i-init
-loop-i-init c = record {
+loop-i-init g c = record {
   after = omega arith;
   adds = same_added (ap (flat_map (word c.args.width)) (head_slice c.args.items.now c.args.from 8 (omega (arith, c.requires.from)))) c.put_eight.ensures;
 }
 
 pub put_eight-requires-in-loop-i-clause-room : goal.put_eight-requires-in-loop-i-clause-room
-put_eight-requires-in-loop-i-clause-room c =
+put_eight-requires-in-loop-i-clause-room g c =
     let f = word c.args.width in
     let l = c.loop-i in
     let xs = c.args.items.now in
@@ -31,7 +32,7 @@ put_eight-requires-in-loop-i-clause-room c =
     (room_to_end f xs c.args.from n refl c.requires.room) l.invariant.adds
 
 pub loop-i-preserved : goal.loop-i-preserved
-loop-i-preserved c =
+loop-i-preserved g c =
     let f = word c.args.width in
     let l = c.loop-i in
     let xs = c.args.items.now in
@@ -43,11 +44,11 @@ loop-i-preserved c =
     }
 
 pub returns : goal.returns
-returns c =
+returns g c =
     let l = c.loop-i in
     added_to_end (word c.args.width) c.args.items.now c.args.from (8 * l.i) (omega (arith, l.auto.i-end, c.loop-i-test.false, c.requires.eights)) l.invariant.adds
 
 pub returns-then-width-eq0 : goal.returns-then-width-eq0
-returns-then-width-eq0 c =
+returns-then-width-eq0 g c =
     let ds = drop c.args.from c.args.items.now in
     same_added (sym (ap (λ w. flat_map (word w) ds) c.if-width-eq0.true ∙ no_digits ds)) none_added

@@ -1,0 +1,2 @@
+-- Words that are joined several at a time.
+pub mod WholeWords

@@ -1,0 +1,2 @@
+-- Digits of words, joined several words at a time.
+pub mod WholeWords
