@@ -1,5 +1,6 @@
-//! The fast decoder of CCSDS 121.0-B-3: it decodes a block in one pass, from its buffered bits to the bytes of its samples, in the lanes of
-//! vectors. What the pass does not take is left to the plain [`Decoder`](rice_code::Decoder).
+//! The fast decoder and the fast coder of CCSDS 121.0-B-3, in the lanes of vectors. The decoder turns a block in one pass from its buffered
+//! bits into the bytes of its samples. The coder takes rows of samples, and codes a block in one shape for all sizes. What they do not take
+//! is left to the plain core: blocks that the pass leaves, and the code of blocks whose size is no multiple of eight.
 #![tactic(auto)]
 
 mod copied_blocks;

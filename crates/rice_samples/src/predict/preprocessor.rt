@@ -1,5 +1,5 @@
 //! Residuals of samples, each predicted by the sample before, and samples from residuals.
-ghost use Rattle.std.specs.Prelude.{◌≡◌, ℕ, ◌+◌, ◌^◌, ◌<◌, ◌≤◌, ℤ};
+ghost use Rattle.std.specs.Prelude.{◌≡◌, ◌+◌, ◌^◌, ◌<◌, ◌≤◌, ℤ};
 ghost use Rattle.rice_samples.specs.Parameters.{IsSample, value_count};
 ghost use Rattle.rice_samples.specs.predict.Residuals.{pattern as pattern_of, rank, rank_below};
 ghost use Rattle.rice_samples.specs.predict.NearNumbers.{way as way_of};
@@ -99,17 +99,4 @@ fn way(d: u32) -> u32
     ensures { result ≡ way_of (2 ^ 32) d }
 {
     (d >> 1) ^ 0u32.wrapping_sub(d & 1)
-}
-
-/// Returns the number with rank `d` from `p`, where the range goes on to `d` above `p` and further. It is `way` away from `p`
-/// if it is near.
-#[inline(always)]
-pub(crate) fn number_above_along(p: u32, d: u32, way: u32) -> u32
-    requires low { p + d < 2 ^ 32 }
-    requires way { way ≡ way_of (2 ^ 32) d }
-    ensures reach { result ≤ p + d }
-    ensures rank { (count : ℕ) → p + d < count → rank_below count p result ≡ d }
-{
-    let near = p.wrapping_add(way);
-    if 2 * (p as u64) < d as u64 { d } else { near }
 }
