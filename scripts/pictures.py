@@ -151,8 +151,8 @@ def house():
     axes = canvas(900, 470)
     fills = {"rice_bits": PALE, "rice_samples": LIGHT, "rice_code": MIDDLE}
     ways = [
-        ("encode", 395, "-|>", ("bytes", "levels", "residuals of a\nsegment", "an option for\neach block", "fields", "bits", "bytes"),
-         ("SampleReader", "push_some", "search", "options", "BitBuffer", "write_whole")),
+        ("encode", 395, "-|>", ("bytes", "levels of a\nblock", "residuals of a\nblock", "a coded\ndata set", "fields", "bits", "bytes"),
+         ("Input", "ranks", "search", "options", "BitBuffer", "write_whole")),
         ("decode", 265, "<|-", ("bytes", "levels of a\nblock", "residuals of a\nblock", "a coded\ndata set", "words and\nsequences", "bits", "bytes"),
          ("write_all", "restoring", "options", "fields", "BitReader", "Intake")),
     ]

@@ -6,7 +6,7 @@ use crate::case_table::{Columns, answer_to, bytes_of, setting_of};
 use crate::cases::Cases;
 use rice_bits::Meter;
 use rice_samples::{
-    SampleFault, Segment, Setting, SettingFault, bytes_of as bytes_of_sample, from_pattern,
+    Segment, Setting, SettingFault, bytes_of as bytes_of_sample, from_pattern,
     level_of_pattern, pattern, pattern_of_level, residual, restore, sample_of,
 };
 use std::alloc::Global;
@@ -482,22 +482,5 @@ fn blocks_of_a_segment() -> Result<(), Fail> {
     }
     segment.clear();
     cases.check(segment.len() == 0);
-    cases.end()
-}
-
-const FAULTS: [(SampleFault, &str); 4] = [
-    (SampleFault::Read, "read failed"),
-    (SampleFault::Cut, "input ends inside a sample"),
-    (SampleFault::TooLong, "input is too long"),
-    (SampleFault::OutOfRange, "sample is out of range"),
-];
-
-#[test]
-fn texts_of_faults(rt: HostRuntime) -> Result<(), Fail> {
-    let mut cases = Cases::new();
-    for i in 0..FAULTS.len() {
-        let (fault, text) = FAULTS[i];
-        cases.check_text(rt.alloc(), fault, text)?;
-    }
     cases.end()
 }

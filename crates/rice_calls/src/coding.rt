@@ -12,8 +12,8 @@ use crate::feeding::finish_into;
 use crate::report::RiceReport;
 use crate::setting::RiceSetting;
 use rice_bits::{SliceIn, SliceOut};
-use rice_samples::{MOST_INPUT, Setting};
-use rice_stream::{Engines, Outcome, Seam};
+use rice_samples::Setting;
+use rice_stream::{Engines, MOST_INPUT, Outcome, Seam};
 
 /// Encodes the samples whose bytes are `samples`, and writes their code to the start of `code`. Returns the status number.
 pub fn encode<E: Engines>(

@@ -3,3 +3,4 @@ pub mod HighParts
 pub mod LowParts
 pub mod Sequences
 pub mod Stops
+pub mod Standing

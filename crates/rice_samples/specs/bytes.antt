@@ -2,7 +2,6 @@
 pub mod Levels
 pub mod LevelRow
 pub mod PatternLanes
-pub mod SampleReader
 pub mod UnusedBits
 pub mod Spelling
 pub mod ValueRange

@@ -1,8 +1,6 @@
 //! Samples in bytes: the unique bytes of each, and reading and writing several at once.
 
 pub mod reading;
-pub mod sample_fault;
-pub mod sample_reader;
 pub mod spelling;
 pub mod unused_bits;
 pub mod writing;

@@ -13,8 +13,6 @@ pub mod setting;
 pub use blocks::block::Block;
 pub use blocks::segment::Segment;
 pub use bytes::reading::read_legal_levels;
-pub use bytes::sample_fault::SampleFault;
-pub use bytes::sample_reader::{MOST_INPUT, SampleReader};
 pub use bytes::spelling::{bytes_of, sample_of};
 pub use bytes::unused_bits::set_unused_bits;
 pub use bytes::writing::write_spellings;

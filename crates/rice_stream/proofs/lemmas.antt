@@ -1,4 +1,5 @@
 -- The lemmas of the proofs, by what they speak of.
+pub mod BufferOfInput
 pub mod EncodingBounds
 pub mod DecodedSamples
 pub mod DecodingEnds
@@ -12,7 +13,6 @@ pub mod PulledPieceSoFar
 pub mod PulledPieces
 pub mod PullingLemmas
 pub mod ReturnedBytes
-pub mod RowsOfSegments
 pub mod RunsWritten
 pub mod Seams
 pub mod SetsRead

@@ -11,8 +11,6 @@ use Rattle.rice_code.specs.code.Code.{code_bits, output, early_output, complete_
 use Rattle.rice_code.specs.CoderSteps.{least_steps, most_steps}
 use Rattle.rice_code.specs.code.Blocks.{fill_count_of}
 use Rattle.rice_stream.specs.DevicesInCalls.{Call, Happens, StopsBetween, PassesLimit, IsWithinLimit}
-use Rattle.rice_samples.specs.declared.bytes.sample_fault.SampleFault.{SampleFault}
-use Rattle.rice_samples.specs.declared.bytes.sample_fault.SampleFault.TheVariants as faults
 use Rattle.rice_stream.specs.declared.outcome.Report.{Report}
 use Rattle.rice_stream.specs.declared.outcome.Fault.{Fault}
 use Rattle.rice_stream.specs.declared.outcome.Fault.TheVariants.{Read, Write, TooLong, SampleOutOfRange, SampleCut}
@@ -22,13 +20,6 @@ pub record BeginsWith (s : Parameters) (bytes : List ℕ) (samples : List ℤ) :
   pub rest : List ℕ
   pub split : bytes ≡ spellings s samples ++ rest
   pub legal : All (IsSample s) samples
-
--- why encoding stops where the sample with this number can not be read
-abbrev pub fault_at : SampleFault → ℕ → Fault
-fault_at faults.Read index = Read
-fault_at faults.Cut index = SampleCut index
-fault_at faults.TooLong index = TooLong
-fault_at faults.OutOfRange index = SampleOutOfRange index
 
 -- the report of samples of which those of the complete segments are coded
 pub record ReportsTaken (s : Parameters) (r : Report) (xs : List ℤ) : Type 0 where

@@ -1,5 +1,5 @@
 -- Encoding piece by piece: where the code stands between two calls, and what each call writes.
-use Rattle.std.specs.Prelude.{◌≡◌, ℕ, ◌+◌, ◌*◌, ◌/◌, ◌^◌, ◌<◌, ◌≤◌, ◌⊎◌, List, [], ◌∷◌, ◌++◌, length, drop, All, Option, Some, None, Result, Ok, Err, ℤ}
+use Rattle.std.specs.Prelude.{◌≡◌, ℕ, ◌+◌, ◌*◌, ◌/◌, ◌^◌, ◌<◌, ◌≤◌, ◌⊎◌, Bool, List, [], ◌∷◌, ◌++◌, length, drop, All, Option, Some, None, Result, Ok, Err, ℤ}
 use Rattle.rice_bits.specs.device.OutletRoom.{Room}
 use Rattle.rice_bits.specs.Bits.{bits_in_bytes, word}
 use Rattle.rice_samples.specs.Limits.{most_input}
@@ -10,6 +10,9 @@ use Rattle.rice_code.specs.code.Code.{code_bits, output, early_output, complete_
 use Rattle.rice_code.specs.encode.Coder.{HasTaken, complete_code}
 use Rattle.rice_code.specs.encode.OpenSegment.{state_between}
 use Rattle.rice_code.specs.CoderSteps.{least_steps, most_steps}
+use Rattle.rice_fast.specs.encode.Standing.{Standing}
+use Rattle.rice_stream.specs.declared.encoding.Encoding.{Encoding}
+use Rattle.rice_stream.specs.TakenBytes.{standing_between}
 use Rattle.rice_stream.specs.Encodes.{ReportsTaken, ReportsAll}
 use Rattle.rice_stream.specs.EncodingState.{Beginning, Follows, FollowsBetween}
 use Rattle.rice_stream.specs.declared.outcome.Fault.{Fault}
@@ -35,12 +38,16 @@ abbrev pub IsSomeSeam : Parameters → Seam → Type 0
 IsSomeSeam s seam = (xs : List ℤ) × IsSeam s seam xs
 
 -- an encoding stands there, but for these bits
-pub record StandsAt (s : Parameters) (seam : Seam) (e : EncodingValue) : Type 0 where
-  pub coder : e.coder ≡ state_between s seam.start seam.previous
+pub record StandsAt {C : Type 0} (stands : C → List Bool → ℕ → Standing → Type 0) (s : Parameters) (seam : Seam) (e : Encoding C) : Type 0 where
+  pub coder : (bits : List Bool) (steps : ℕ) → stands e.coder bits steps (standing_between s seam.start seam.previous bits steps)
   pub sink : e.sink ≡ []
   pub steps : e.meter ≡ seam.steps
   pub samples : e.samples ≡ seam.samples
   pub bits : e.bits ≡ seam.bits
+
+-- and with them
+abbrev pub encoding_at : Parameters → Seam → EncodingValue
+encoding_at s seam = record { coder = state_between s seam.start seam.previous; sink = word seam.waiting_bits seam.waiting; meter = seam.steps; samples = seam.samples; bits = seam.bits }
 
 -- an outlet takes what follows the whole bytes of the code of these samples
 abbrev pub behind : Parameters → List ℤ → Option Room → Beginning

@@ -10,3 +10,5 @@ pub mod Laws
 pub mod Pulling
 pub mod RunsOfBlocks
 pub mod FailedWrites
+pub mod TakenBytes
+pub mod WaitingBytes

@@ -13,7 +13,6 @@ use crate::encoding::{encode, encode_by};
 use crate::feeding::{encode_more, encode_more_by, encode_rest, encode_rest_by};
 use crate::outcome::{Fault, Outcome};
 use crate::pulling::{decode_more, decode_more_by_one_loop};
-use crate::rows::FewLevels;
 use crate::seam::Seam;
 use crate::stand::{Pause, Stand};
 use crate::takes::OneByOne;
@@ -152,7 +151,7 @@ impl Engines for Plain {
         bytes: &[u8],
         outlet: &mut O,
     ) -> Result<Seam, Fault> {
-        encode_more_by::<OneByOne, FewLevels, O>(setting, seam, bytes, outlet)
+        encode_more_by::<OneByOne, O>(setting, seam, bytes, outlet)
     }
 
     fn encode_rest<O: Outlet>(
@@ -161,7 +160,7 @@ impl Engines for Plain {
         bytes: &[u8],
         outlet: &mut O,
     ) -> Outcome {
-        encode_rest_by::<OneByOne, FewLevels, O>(setting, seam, bytes, outlet)
+        encode_rest_by::<OneByOne, O>(setting, seam, bytes, outlet)
     }
 
     fn decode<I: Intake, O: Outlet>(

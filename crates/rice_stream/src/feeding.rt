@@ -7,14 +7,13 @@ ghost use Rattle.rice_stream.specs.Encodes.{EncodesWithin};
 ghost use Rattle.rice_stream.specs.EncodingState.{PushFails};
 ghost use Rattle.rice_stream.specs.Feeding.{IsSomeSeam, EncodesOn, EncodesToEnd};
 
-use crate::encoding::{Encoding, LONGEST, SHORT, has_short_intervals};
+use crate::encoding::Encoding;
+use crate::input::MOST_INPUT;
 use crate::outcome::{Fault, Outcome};
-use crate::rows::ReadsLevels;
 use crate::seam::Seam;
-use crate::takes::TakesLevels;
+use crate::takes::{OneByOne, TakesBytes};
 use rice_bits::Outlet;
-use rice_fast::SizedCoder;
-use rice_samples::{LevelRow, MOST_INPUT, Setting};
+use rice_samples::Setting;
 
 /// Encodes the next samples, whose bytes are `bytes`, and returns the end of their code.
 ///
@@ -32,21 +31,16 @@ pub fn encode_more<O: Outlet>(
         (O.taken outlet.old) (O.taken outlet.new) result }
     ensures failures { PushFails (O.failed outlet.old) (O.failed outlet.new) result }
 {
-    if has_short_intervals(setting) {
-        return encode_more_by::<SizedCoder<SHORT>, LevelRow, O>(setting, seam, bytes, outlet);
-    }
-    encode_more_by::<SizedCoder<LONGEST>, LevelRow, O>(setting, seam, bytes, outlet)
+    encode_more_by::<OneByOne, O>(setting, seam, bytes, outlet)
 }
 
-/// Encodes as `encode_more` does, where a row of `N` holds the residuals of each segment.
-#[inline(never)]
-pub(crate) fn encode_more_by<C: TakesLevels, R: ReadsLevels, O: Outlet>(
+/// Encodes by this coder, as `encode_more` does.
+pub(crate) fn encode_more_by<C: TakesBytes, O: Outlet>(
     setting: &Setting,
     seam: &Seam,
     bytes: &[u8],
     outlet: &mut O,
 ) -> Result<Seam, Fault>
-    requires room { C.has_room setting.now }
     requires seam { IsSomeSeam setting.now seam.now }
     requires writes { O.failed outlet.old + 1 < 2 ^ 64 }
     ensures did { EncodesOn setting.now seam.now bytes.now
@@ -62,8 +56,7 @@ pub(crate) fn encode_more_by<C: TakesLevels, R: ReadsLevels, O: Outlet>(
     let part = &bytes[..width * count as usize];
     let mut encoding = Encoding::<C>::resume(*setting, seam);
     encoding.put_bits_of_seam(seam);
-    let mut levels = R::room();
-    encoding.push_samples_of_bytes(setting, part, &mut levels, outlet)?;
+    encoding.push_bytes(setting, part, outlet)?;
     Ok(encoding.seam())
 }
 
@@ -81,21 +74,16 @@ pub fn encode_rest<O: Outlet>(
     ensures failures { Fails result.fault 0 0 (O.failed outlet.old) (O.failed outlet.new) }
     ensures bounds { EncodesWithin setting.now result.report }
 {
-    if has_short_intervals(setting) {
-        return encode_rest_by::<SizedCoder<SHORT>, LevelRow, O>(setting, seam, bytes, outlet);
-    }
-    encode_rest_by::<SizedCoder<LONGEST>, LevelRow, O>(setting, seam, bytes, outlet)
+    encode_rest_by::<OneByOne, O>(setting, seam, bytes, outlet)
 }
 
-/// Encodes as `encode_rest` does, where a row of `N` holds the residuals of each segment.
-#[inline(never)]
-pub(crate) fn encode_rest_by<C: TakesLevels, R: ReadsLevels, O: Outlet>(
+/// Encodes by this coder, as `encode_rest` does.
+pub(crate) fn encode_rest_by<C: TakesBytes, O: Outlet>(
     setting: &Setting,
     seam: &Seam,
     bytes: &[u8],
     outlet: &mut O,
 ) -> Outcome
-    requires room { C.has_room setting.now }
     requires seam { IsSomeSeam setting.now seam.now }
     requires writes { O.failed outlet.old + 1 < 2 ^ 64 }
     ensures did { EncodesToEnd setting.now seam.now bytes.now
@@ -106,11 +94,10 @@ pub(crate) fn encode_rest_by<C: TakesLevels, R: ReadsLevels, O: Outlet>(
     let width = setting.width() as usize;
     let mut encoding = Encoding::<C>::resume(*setting, seam);
     encoding.put_bits_of_seam(seam);
-    if bytes.len() as u64 > bytes_left(width, encoding.taken()) {
+    if bytes.len() as u64 > bytes_left(width, seam.samples) {
         return encoding.stopped(Fault::TooLong);
     }
-    let mut levels = R::room();
-    match encoding.push_samples_of_bytes(setting, bytes, &mut levels, outlet) {
+    match encoding.push_bytes(setting, bytes, outlet) {
         Ok(()) => {}
         Err(fault) => return encoding.stopped(fault),
     }

@@ -1,166 +1,82 @@
 //! The coder that an encoding engine needs.
-ghost use Rattle.std.specs.Prelude.{◌≡◌, ℕ, ◌+◌, ◌*◌, ◌<◌, ◌≤◌, [], length, take, All, List, Bool, ℤ, ⊤};
-ghost use Rattle.rice_bits.specs.Limits.{step_limit};
-ghost use Rattle.rice_samples.specs.Limits.{longest_segment};
-ghost use Rattle.rice_samples.specs.Parameters.{value_count, values_at};
-ghost use Rattle.rice_samples.specs.Places.{cut};
-ghost use Rattle.rice_code.specs.CoderSteps.{segment_steps};
-ghost use Rattle.rice_code.specs.encode.OpenSegment.{HoldsAnySegment, HasRoomForSegment, most_before, state_between};
+ghost use Rattle.std.specs.Prelude.{◌≡◌, ℕ, ◌*◌, ◌≤◌, List, Bool, [], length, ℤ};
+ghost use Rattle.rice_samples.specs.Parameters.{width};
+ghost use Rattle.rice_code.specs.encode.OpenSegment.{state_between};
+ghost use Rattle.rice_fast.specs.encode.Standing.{Standing, HasRoomAt};
+ghost use Rattle.rice_stream.specs.TakenBytes.{standing_between, TakesSpelled};
 
 use rice_bits::Meter;
 use rice_code::{Coder, SegmentSink};
-use rice_fast::{Pushed, SizedCoder};
-use rice_samples::{Levels, Setting};
+use rice_samples::{Setting, sample_of};
+
+/// What a coder took and appended.
+#[derive(Clone, Copy, Debug, PartialEq, Eq)]
+pub struct Taken {
+    /// The number of samples taken.
+    pub samples: usize,
+    /// The number of bits of code of the segment that the last sample completes, without padding, or 0.
+    pub bits: u64,
+    /// Whether the sink may hold code of a segment that is not whole.
+    pub ahead: bool,
+}
 
 /// A coder that takes one or more samples per call.
-pub trait TakesLevels: Drop {
-    ghost use Rattle.rice_code.specs.Bounds.{block_bound};
-    ghost use Rattle.rice_code.specs.encode.BitBuffer.{sink_bits};
-    ghost use Rattle.rice_code.specs.encode.OpenSegment.{CoderState};
+///
+/// It may put code into its sink before the segment is whole. A contract says by `stands` what a coder is that puts none.
+pub trait TakesBytes: Drop {
     ghost use Rattle.rice_code.specs.code.Code.{complete_samples};
     ghost use Rattle.rice_code.specs.code.Blocks.{fill_count_of};
-    ghost use Rattle.rice_code.specs.encode.Coder.{HasTaken, AddsCode, PushesSamples, CompletesNone};
-    ghost use Rattle.rice_samples.specs.Parameters.{Parameters};
+    ghost use Rattle.rice_code.specs.encode.Coder.{HasTaken, AddsCode};
 
-    ghost state: { Self → CoderState };
-
-    // The settings whose segments it has room for.
-    ghost has_room: { Parameters → Type 0 };
-
-    // The sinks that it may append the code of a segment to.
-    ghost is_sink: { Parameters → List Bool → Type 0 };
-
-    /// Returns a coder that has taken no sample.
-    fn begin(setting: Setting) -> Self
-        requires { has_room setting }
-        ensures taken { HasTaken (state result) [] }
-        ensures setting { (state result).setting ≡ setting };
-
-    /// Takes at least one of the samples, and appends the code of the segments that they complete.
-    fn push_some(
-        &mut self,
-        levels: &Levels<'_>,
-        sink: &mut SegmentSink,
-        meter: &mut Meter,
-    ) -> Pushed
-        requires some { 0 < length levels.now }
-        requires legal { All (λ l. l < value_count (state self.old).setting) levels.now }
-        requires room { is_sink (state self.old).setting sink.old }
-        requires meter { meter.old + segment_steps (state self.old).setting < step_limit }
-        ensures taken { result.samples ≤ length levels.now }
-        ensures some { 0 < result.samples }
-        ensures pushes { PushesSamples (state self.old) (state self.new)
-            (take result.samples (values_at (state self.old).setting levels.now))
-            sink.old sink.new result.bits meter.old meter.new }
-        ensures before_last { (m : ℕ) → m < result.samples →
-            CompletesNone (state self.old) (take m (values_at (state self.old).setting levels.now)) };
+    // What a coder, its sink and its meter stand for.
+    ghost stands: { Self → List Bool → ℕ → Standing → Type 0 };
 
     /// Returns a coder that continues at block `start` of its interval, after the sample `previous`.
     fn resume(setting: Setting, start: u32, previous: i64) -> Self
-        requires room { has_room setting }
-        requires taken { (xs : List ℤ) × HasTaken (state_between setting start previous) xs }
-        ensures { state result ≡ state_between setting start previous };
+        requires { (xs : List ℤ) × HasTaken (state_between setting start previous) xs }
+        ensures { (bits : List Bool) (steps : ℕ) →
+            stands result bits steps (standing_between setting start previous bits steps) };
 
-    /// Forgets the samples of the open segment, which begins at block `start` of its interval, after the sample `previous`.
-    fn go_back(&mut self, start: u32, previous: i64)
-        requires { (xs : List ℤ) × HasTaken (state_between (state self.old).setting start previous) xs }
-        ensures { state self.new ≡ state_between (state self.old).setting start previous };
-
-    /// Returns whether several segments may be coded before their bytes are written.
-    fn takes_rows(&self) -> bool;
-
-    /// Returns how many bits a sink may hold before the code of a segment is appended.
-    fn most_before(&self) -> u64
-        ensures least { 7 ≤ result }
-        ensures room { (bits : List Bool) → length bits ≤ result → is_sink (state self.now).setting bits };
+    /// Takes samples from the front of the bytes, at least one if the first bytes spell one, and none after one that completes a segment.
+    fn push(&mut self, bytes: &[u8], sink: &mut SegmentSink, meter: &mut Meter) -> Taken
+        requires { (m : Standing) × stands self.old sink.old meter.old m × HasRoomAt m ×
+            (width m.coder.setting ≤ length bytes.now) }
+        ensures { (m : Standing) → stands self.old sink.old meter.old m → HasRoomAt m →
+            (m_new : Standing) × stands self.new sink.new meter.new m_new ×
+            TakesSpelled m m_new bytes.now sink.new result };
 
     /// Returns the place in its interval of the first block of the open segment.
     fn start(&self) -> u32
-        ensures { result ≡ (state self.now).start };
+        ensures { (bits : List Bool) (steps : ℕ) (m : Standing) → stands self.now bits steps m →
+            result ≡ m.coder.start };
 
-    /// Returns the sample before the open segment.
+    /// Returns the sample before the next one.
     fn previous(&self) -> i64
-        ensures { result ≡ (state self.now).previous };
+        ensures { (bits : List Bool) (steps : ℕ) (m : Standing) → stands self.now bits steps m →
+            result ≡ m.coder.previous };
 
-    /// Returns the number of buffered samples: those of the open segment.
-    fn pending(&self) -> u32
-        ensures value { (xs : List ℤ) → HasTaken (state self.now) xs →
-            result + cut (state self.now).setting (length xs) ≡ length xs }
-        ensures limit { result < 64 * (state self.now).setting.block };
+    /// Returns the number of steps, without those for code of the open segment.
+    fn steps(&self, meter: &Meter) -> u64
+        ensures { (bits : List Bool) (m : Standing) → stands self.now bits meter.now m →
+            result ≡ m.meter };
 
-    /// Appends the code of the buffered samples, their last block filled, and resets the coder. Returns the number of appended bits,
+    /// Appends the code of the open segment, its last block filled, and resets the coder. Returns the number of bits of this code,
     /// without padding.
-    fn finish_reset(&mut self, sink: &mut SegmentSink, meter: &mut Meter) -> u64
-        requires room { length sink.old ≤ 7 }
-        requires meter { meter.old + segment_steps (state self.old).setting < step_limit }
-        ensures adds { (xs : List ℤ) → HasTaken (state self.old) xs →
-            AddsCode (state self.old).setting (complete_samples (state self.old).setting xs) xs
-            sink.old sink.new result (fill_count_of (state self.old).setting xs) meter.old meter.new }
-        ensures taken { HasTaken (state self.new) [] }
-        ensures setting { (state self.new).setting ≡ (state self.old).setting };
+    fn finish(&mut self, sink: &mut SegmentSink, meter: &mut Meter) -> u64
+        requires { (m : Standing) × stands self.old sink.old meter.old m × HasRoomAt m }
+        ensures { (m : Standing) (xs : List ℤ) → stands self.old sink.old meter.old m →
+            HasRoomAt m → HasTaken m.coder xs →
+            AddsCode m.coder.setting (complete_samples m.coder.setting xs) xs m.sink sink.new result
+            (fill_count_of m.coder.setting xs) m.meter meter.new };
 
-    ghost takes_less_than_a_byte: { (s : Parameters) (bits : List Bool) → length bits ≤ 7 → is_sink s bits };
-}
+    // Between two segments no code is put ahead.
+    ghost between: { (c : Self) (bits : List Bool) (steps : ℕ) (m : Standing) → stands c bits steps m →
+        m.coder.residuals ≡ [] → (m.sink ≡ bits) × (m.meter ≡ steps) };
 
-impl<const N: usize> TakesLevels for SizedCoder<N> {
-    ghost use Rattle.std.proofs.Common.{inl};
-
-    ghost state = { λ c. c };
-
-    ghost has_room = { λ s. (N ≤ longest_segment) × HoldsAnySegment N s };
-
-    ghost is_sink = { λ s bits. HasRoomForSegment s bits };
-
-    fn begin(setting: Setting) -> Self {
-        SizedCoder::begin(setting)
-    }
-
-    #[inline(always)]
-    fn push_some(
-        &mut self,
-        levels: &Levels<'_>,
-        sink: &mut SegmentSink,
-        meter: &mut Meter,
-    ) -> Pushed {
-        self.push_some(levels, sink, meter)
-    }
-
-    fn resume(setting: Setting, start: u32, previous: i64) -> Self {
-        SizedCoder::resume(setting, start, previous)
-    }
-
-    fn go_back(&mut self, start: u32, previous: i64) {
-        self.go_back(start, previous);
-    }
-
-    #[inline(always)]
-    fn takes_rows(&self) -> bool {
-        N <= 128
-    }
-
-    #[inline(always)]
-    fn most_before(&self) -> u64 {
-        self.most_before().max(7)
-    }
-
-    fn start(&self) -> u32 {
-        self.start()
-    }
-
-    fn previous(&self) -> i64 {
-        self.previous()
-    }
-
-    #[inline(always)]
-    fn pending(&self) -> u32 {
-        self.pending()
-    }
-
-    fn finish_reset(&mut self, sink: &mut SegmentSink, meter: &mut Meter) -> u64 {
-        self.finish_reset(sink, meter)
-    }
-
-    ghost takes_less_than_a_byte = { λ s bits few. inl few };
+    // Where no code is put ahead, it may be taken out of the sink.
+    ghost with_sink: { (c : Self) (bits : List Bool) (steps : ℕ) (m : Standing) → stands c bits steps m →
+        m.sink ≡ bits → (others : List Bool) →
+        stands c others steps (record { coder = m.coder; sink = others; meter = m.meter }) };
 }
 
 /// A coder that takes one sample per call.
@@ -171,30 +87,12 @@ pub struct OneByOne {
     ghost same: { coder.setting ≡ setting },
 }
 
-impl TakesLevels for OneByOne {
-    ghost state = { λ c. c.coder };
+impl TakesBytes for OneByOne {
+    ghost stands = { λ c bits steps m. m ≡ record { coder = c.coder; sink = bits; meter = steps } };
 
-    ghost has_room = { λ s. ⊤ };
+    ghost between = { λ c bits steps m same none. ((λ i. (same i).sink), (λ i. (same i).meter)) };
 
-    ghost is_sink = { λ s bits. length bits ≤ 7 };
-
-    fn begin(setting: Setting) -> Self {
-        OneByOne {
-            setting,
-            coder: Coder::new(setting),
-        }
-    }
-
-    fn push_some(
-        &mut self,
-        levels: &Levels<'_>,
-        sink: &mut SegmentSink,
-        meter: &mut Meter,
-    ) -> Pushed {
-        let x = self.setting.value_at(levels.first_or(0) as u64);
-        let bits = self.coder.push_counted(x, sink, meter);
-        Pushed { samples: 1, bits }
-    }
+    ghost with_sink = { λ c bits steps m same short others. (λ i. record { coder = (same i).coder; sink = others; meter = (same i).meter }) };
 
     fn resume(setting: Setting, start: u32, previous: i64) -> Self {
         OneByOne {
@@ -203,18 +101,23 @@ impl TakesLevels for OneByOne {
         }
     }
 
-    fn go_back(&mut self, start: u32, previous: i64) {
-        self.coder = Coder::resume(self.setting, start, previous);
-    }
-
-    #[inline(always)]
-    fn takes_rows(&self) -> bool {
-        false
-    }
-
-    #[inline(always)]
-    fn most_before(&self) -> u64 {
-        7
+    fn push(&mut self, bytes: &[u8], sink: &mut SegmentSink, meter: &mut Meter) -> Taken {
+        let width = self.setting.width() as usize;
+        match sample_of(&self.setting, &bytes[..width]) {
+            Some(x) => {
+                let bits = self.coder.push_counted(x, sink, meter);
+                Taken {
+                    samples: 1,
+                    bits,
+                    ahead: false,
+                }
+            }
+            None => Taken {
+                samples: 0,
+                bits: 0,
+                ahead: false,
+            },
+        }
     }
 
     fn start(&self) -> u32 {
@@ -225,13 +128,11 @@ impl TakesLevels for OneByOne {
         self.coder.previous()
     }
 
-    fn pending(&self) -> u32 {
-        self.coder.pending()
+    fn steps(&self, meter: &Meter) -> u64 {
+        meter.steps()
     }
 
-    fn finish_reset(&mut self, sink: &mut SegmentSink, meter: &mut Meter) -> u64 {
+    fn finish(&mut self, sink: &mut SegmentSink, meter: &mut Meter) -> u64 {
         self.coder.finish_counted(sink, meter)
     }
-
-    ghost takes_less_than_a_byte = { λ s bits few. few };
 }

@@ -1,7 +1,6 @@
 -- Spelling, and reading samples from bytes.
-pub mod BufferOfReader
 pub mod LevelsSpelledInByteLanes
-pub mod SampleReaderLemmas
+pub mod ReadSamples
 pub mod LevelPatterns
 pub mod ReadLevels
 pub mod SamplesInTurn

@@ -1,28 +1,29 @@
 -- How encoding ends.
-use Rattle.std.proofs.Common.{◌≡◌, ℕ, ◌+◌, ◌-◌, ◌*◌, ◌<◌, ◌≤◌, List, [], ◌∷◌, ◌++◌, length, take, refl}
+use Rattle.std.proofs.Common.{◌≡◌, ℕ, ◌+◌, ◌-◌, ◌*◌, ◌%◌, ◌<◌, ◌≤◌, List, [], ◌∷◌, ◌++◌, length, take, drop, refl}
 use Rattle.std.proofs.Common.{ap, arith, sym, ◌∙◌, subst, append_assoc, append-nil, length-append, Option, Some, None, ℤ, inl, inr}
 use Rattle.std.specs.Prelude.{All, Err}
 use Rattle.std.specs.Io.KnownBytes.{IsAtEnd}
-use Rattle.std.proofs.Math.Nat.{mul-le-mul_right}
+use Rattle.std.proofs.Math.Nat.{mul-le-mul_left, mul-le-mul_right}
+use Rattle.std.proofs.Math.Nat.{mul_comm}
+use Rattle.std.proofs.lemmas.List.{drop_at}
+use Rattle.std.proofs.lemmas.Nat.{mod-mul-add}
 use Rattle.std.proofs.Math.Seq.{take-append_seam}
 use Rattle.std.proofs.KnownBytes.{Consumes-trans}
 use Rattle.rice_bits.specs.device.OutletRoom.{Room}
 use Rattle.rice_samples.specs.Parameters.{Parameters, IsSample, width}
-use Rattle.rice_samples.specs.bytes.SampleReader.{SamplesAhead, GivesSamples, StopsSamples, CountsReads}
+use Rattle.rice_stream.specs.WaitingBytes.{WaitingBytes, with_last, Draws, PassesInput, StopsDrawing, CountsReads}
 use Rattle.rice_samples.specs.bytes.Spelling.{Spells, Reads, spellings, EndsSpelling, AtEnd, NoSpelling, TooFew}
-use Rattle.rice_samples.specs.declared.bytes.sample_fault.SampleFault.{SampleFault}
-use Rattle.rice_samples.specs.declared.bytes.sample_fault.SampleFault.TheVariants as faults
 use Rattle.rice_stream.specs.DevicesInCalls.{Fails, IsWithinLimit, PassesLimit, StopsBetween}
-use Rattle.rice_stream.specs.EncodingState.{Beginning, afresh, IsEncodingOf, CountsSamples, FailsIn, WritesRest, EncodingProgress, Pushes, PushFails}
-use Rattle.rice_stream.specs.Encodes.{fault_at, EncodesBetween, EndsEncoding, EncodesWithin, ReportsTaken, ReportsAll, LeavesEarly, SpellsSoFar}
+use Rattle.rice_stream.specs.EncodingState.{Beginning, afresh, IsEncodingOf, CountsSamples, TakesAll, WritesRest, EncodingProgress, Pushes, PushFails}
+use Rattle.rice_stream.specs.Encodes.{EncodesBetween, EndsEncoding, EncodesWithin, ReportsTaken, ReportsAll, LeavesEarly, SpellsSoFar}
 use Rattle.rice_code.specs.code.Code.{code_bits, output, early_output, complete_samples}
 use Rattle.rice_stream.specs.EncodingState.{EncodingValue}
 use Rattle.rice_stream.specs.declared.outcome.Report.{Report}
 use Rattle.rice_stream.specs.declared.outcome.Fault.{Fault}
 use Rattle.rice_stream.specs.declared.outcome.Fault.TheVariants.{Read, Write, TooLong, SampleOutOfRange, SampleCut, CodeEnds, RunPastSegment, ResidualTooLarge}
 use Rattle.rice_stream.proofs.lemmas.EncodingBounds.{Settles, early_bounded, all_bounded}
-use Rattle.rice_stream.proofs.lemmas.EncodingLemmas.{Follows-all, fails_among, settled_by}
-use Rattle.rice_samples.proofs.lemmas.bytes.SampleReaderLemmas.{reads_then, reads_before}
+use Rattle.rice_stream.proofs.lemmas.EncodingLemmas.{Follows-all, settled_by}
+use Rattle.rice_samples.proofs.lemmas.bytes.ReadSamples.{reads_then, reads_before}
 use Rattle.rice_samples.proofs.lemmas.bytes.SpellingLengths.{length-spellings, some_width, narrow_width}
 use Rattle.rice_stream.proofs.lemmas.SamplesOfFirstBytes.{few_more}
 
@@ -64,116 +65,131 @@ given_ahead s bytes rest xs samples split few e =
     at : (w n k b m : ℕ) → m ≡ w * n + b → k ≡ n → b ≤ 4096 → m ≤ k * w + 4096
     at w n k b m e h few = let p = ap (λ v. v * w) h in omega arith
 
--- bytes came, and samples were taken of them
-reads_more : {s : Parameters} {left_old left left_new : Option (List ℕ)} {taken_old taken : Option Room} {e : EncodingValue} {r r_new : SamplesAhead} {ys : List ℤ}
-    → (p : EncodingProgress s left_old left taken_old taken e r) → (g : GivesSamples r r_new left left_new ys) → Reads s (p.bytes ++ g.bytes) (p.samples ++ ys) r_new.waiting
-reads_more {s} {r} {r_new} {ys} p g =
-    reads_then s (p.bytes ++ g.bytes) (r.waiting ++ g.bytes) r_new.waiting p.samples ys (reads_before s p.samples p.bytes r.waiting g.bytes p.reads)
-    (subst (λ (s : Parameters). Reads s (r.waiting ++ g.bytes) ys r_new.waiting) p.setting g.reads)
-
--- they are at most as many as the bytes
-pub few_given : {s : Parameters} {left_old left left_new : Option (List ℕ)} {taken_old taken : Option Room} {e : EncodingValue} {r r_new : SamplesAhead} {ys : List ℤ}
-    → (p : EncodingProgress s left_old left taken_old taken e r) → GivesSamples r r_new left left_new ys → length p.samples + length ys ≤ r_new.given
-few_given {s} {left_old} {left} {left_new} {taken_old} {taken} {e} {r} {r_new} {ys} p g =
-    let few = few_more s (p.samples ++ ys) (p.bytes ++ g.bytes) r_new.waiting (reads_more p g) (some_width s) in
-    omega (arith, few, length-append p.samples ys, length-append p.bytes g.bytes, p.count, g.given)
-
--- and the encoding has taken them
-pub reads_further : {s : Parameters} {left_old left left_new : Option (List ℕ)} {taken_old taken taken_new : Option Room} {e e_new : EncodingValue}
-    {r r_new : SamplesAhead} {ys : List ℤ} → (p : EncodingProgress s left_old left taken_old taken e r) → GivesSamples r r_new left left_new ys →
-    IsEncodingOf s (afresh taken_old) taken_new e_new (p.samples ++ ys) → EncodingProgress s left_old left_new taken_old taken_new e_new r_new
-reads_further {s} {left_old} {left} {left_new} {taken_old} {taken} {e} {r} {r_new} {ys} p g holds = record {
-  bytes = p.bytes ++ g.bytes;
-  samples = p.samples ++ ys;
-  setting = g.setting ∙ p.setting;
-  reads = reads_more p g;
-  count = omega (arith, p.count, g.given, length-append p.bytes g.bytes);
-  gave = Consumes-trans left_old left left_new p.bytes g.bytes p.gave g.gave;
-  holds = holds;
+-- bytes came, which wait
+pub draws_on : {s : Parameters} {left_old left left_new : Option (List ℕ)} {taken_old taken : Option Room} {v : EncodingValue} {r r_new : WaitingBytes} {n : ℕ}
+    → EncodingProgress s left_old left taken_old taken v r → Draws r r_new left left_new n → EncodingProgress s left_old left_new taken_old taken v r_new
+draws_on {s} {left_old} {left} {left_new} {r = r} p d = record {
+  bytes = p.bytes ++ d.bytes;
+  samples = p.samples;
+  reads = subst (Reads s (p.bytes ++ d.bytes) p.samples) (sym d.waiting) (reads_before s p.samples p.bytes r.waiting d.bytes p.reads);
+  count = omega (arith, p.count, d.given, d.number, length-append p.bytes d.bytes);
+  gave = Consumes-trans left_old left left_new p.bytes d.bytes p.gave d.gave;
+  holds = p.holds;
 }
 
--- or bytes that spell no more samples yet
-pub reads_none : {s : Parameters} {left_old left left_new : Option (List ℕ)} {taken_old taken : Option Room} {e : EncodingValue} {r r_new : SamplesAhead}
-    → EncodingProgress s left_old left taken_old taken e r → GivesSamples r r_new left left_new [] → EncodingProgress s left_old left_new taken_old taken e r_new
-reads_none {s} {left_old} {left} {left_new} {taken_old} {taken} {e} {r} {r_new} p g =
-    reads_further p g (subst (λ (xs : List ℤ). IsEncodingOf s (afresh taken_old) taken e xs) (sym (append-nil p.samples)) p.holds)
+-- what is left of bytes of which all samples are taken are the last ones
+pub rest_is : (s : Parameters) (bytes rest : List ℕ) (xs : List ℤ) → Reads s bytes xs rest → length rest < width s
+    → (length bytes % width s ≤ length bytes) × (drop (length bytes - length bytes % width s) bytes ≡ rest)
+rest_is s bytes rest xs r few =
+    let w = width s in
+    let size : length bytes ≡ w * length xs + length rest = ap length r.split ∙ length-append (spellings s xs) rest ∙ ap (λ n. n + length rest) (length-spellings s xs) in
+    let left : length bytes % w ≡ length rest = ap (λ n. n % w) size ∙ (ap (λ n. (n + length rest) % w) (mul_comm w (length xs)) ∙ mod-mul-add (length xs) w (length rest) few) in
+    let front : length bytes - length bytes % w ≡ length (spellings s xs) = omega (arith, size, left, length-spellings s xs) in
+    (omega (arith, size, left), ap (λ n. drop n bytes) front ∙ ap (drop (length (spellings s xs))) r.split ∙ drop_at (spellings s xs) rest (length (spellings s xs)) refl)
+-- the samples of those that wait are taken
+pub takes_on : {s : Parameters} {left_old left : Option (List ℕ)} {taken_old taken taken_new : Option Room} {v v_new : EncodingValue} {r r_new : WaitingBytes}
+    → (p : EncodingProgress s left_old left taken_old taken v r) → (t : TakesAll s (afresh taken_old) taken_new v_new p.samples r.waiting)
+    → r_new ≡ with_last (length r.waiting % width s) r → EncodingProgress s left_old left taken_old taken_new v_new r_new
+takes_on {s} {r = r} {r_new = r_new} p t kept =
+    let rest = (rest_is s r.waiting t.rest t.more t.reads t.few).1 in
+    record {
+      bytes = p.bytes;
+      samples = p.samples ++ t.more;
+      reads = subst (Reads s p.bytes (p.samples ++ t.more)) (sym (ap (λ r. r.waiting) kept ∙ rest)) (reads_then s p.bytes r.waiting t.rest p.samples t.more p.reads t.reads);
+      count = ap (λ r. r.given) kept ∙ p.count;
+      gave = p.gave;
+      holds = t.holds;
+    }
+
+-- the samples so far, and those that wait, are at most as many as the bytes that were given
+pub few_given : {s : Parameters} {left_old left : Option (List ℕ)} {taken_old taken : Option Room} {v : EncodingValue} {r : WaitingBytes}
+    → (p : EncodingProgress s left_old left taken_old taken v r) → length p.samples + length r.waiting ≤ r.given
+few_given {s} {r = r} p =
+    let few : length p.samples * 1 ≤ length p.samples * width s = mul-le-mul_left (length p.samples) (some_width s) in
+    omega (arith, few, p.count, ap length p.reads.split, length-append (spellings s p.samples) r.waiting, length-spellings s p.samples)
 
 -- no more samples come
-pub reading_ends : {s : Parameters} {left_old left left_new : Option (List ℕ)} {taken_old taken : Option Room} {e : EncodingValue} {r : SamplesAhead} (r_new : SamplesAhead)
-    (fault : SampleFault) {report : Report} {f : Option Fault} → EncodingProgress s left_old left taken_old taken e r → StopsSamples fault r r_new left left_new
-    → length r_new.waiting ≤ 4096 → r_new.given ≤ 281474976710656 → ((xs : List ℤ) → CountsSamples s e xs → ReportsTaken s report xs)
-    → f ≡ Some (fault_at fault e.samples) → EncodesBetween s left_old left_new taken_old taken report f
-reading_ends {s} {left_old} {left} {left_new} {taken_old} {taken} {e} {r} r_new fault {report} {f} before stops few limit told is =
-    subst (λ (f : Option Fault). EncodesBetween s left_old left_new taken_old taken report f) (sym is) (by_fault fault stops)
+module _ {s : Parameters} {left_old left : Option (List ℕ)} {taken_old taken : Option Room} {v : EncodingValue} {r : WaitingBytes} {report : Report}
+    (p : EncodingProgress s left_old left taken_old taken v r) (few : length r.waiting < width s) (limit : r.given ≤ 281474976710656)
+    (told : (xs : List ℤ) → CountsSamples s v xs → ReportsTaken s report xs) where
+  early : (left_new : Option (List ℕ)) (given : List ℕ) → LeavesEarly s (record { given = given; left = left_new; written = early_output s p.samples }) report p.samples
+  early left_new given = record { written = refl; reports = told p.samples p.holds.counts }
+
+  at : (f : Option Fault) → EndsEncoding s f (record { given = p.bytes; left = left; written = early_output s p.samples }) report p.samples →
+      IsWithinLimit 281474976710656 f p.bytes → EncodesBetween s left_old left taken_old taken report f
+  at f ends within = (
+    record { given = p.bytes; left = left; written = early_output s p.samples },
+    record { gave = p.gave; left = refl; took = Follows-all taken_old taken _ p.holds.took },
+    record {
+      samples = p.samples;
+      ends = ends;
+      limit = within;
+      ahead = given_ahead s p.bytes r.waiting p.samples report.samples p.reads.split (omega (arith, few, narrow_width s)) (told p.samples p.holds.counts).samples;
+    },
+  )
+
+  -- since the intake failed,
+  pub read_ends : EncodesBetween s left_old left taken_old taken report (Some Read)
+  read_ends = at (Some Read) (spelled_so_far s p.bytes p.samples r.waiting p.reads few, early left p.bytes) (omega (arith, p.count, limit))
+
+  -- since too few bytes are left for a sample,
+  pub cut_ends : 0 < length r.waiting → IsAtEnd left → EncodesBetween s left_old left taken_old taken report (Some (SampleCut v.samples))
+  cut_ends some end = at (Some (SampleCut v.samples))
+      (record { rest = r.waiting; whole = p.reads.split; legal = p.reads.legal; stops = ((λ none. absurd (omega (arith, some, ap length none))), few) }, end, p.holds.counts.samples, early left p.bytes)
+      (omega (arith, p.count, limit))
+
+  -- or since a byte came that is one too many
+  pub long_ends : {left_new : Option (List ℕ)} {r_new : WaitingBytes} → PassesInput r r_new left left_new → EncodesBetween s left_old left_new taken_old taken report (Some TooLong)
+  long_ends {left_new} h =
+      let more = h.last ∷ [] in
+      let passes : PassesLimit 281474976710656 (p.bytes ++ more) p.bytes = record { last = h.last; split = refl; full = sym p.count ∙ h.full } in (
+        record { given = p.bytes ++ more; left = left_new; written = early_output s p.samples },
+        record { gave = Consumes-trans left_old left left_new p.bytes more p.gave h.gave; left = refl; took = Follows-all taken_old taken _ p.holds.took },
+        record {
+          samples = p.samples;
+          ends = ((p.bytes, passes, spelled_so_far s p.bytes p.samples r.waiting p.reads few), early left_new (p.bytes ++ more));
+          limit = tt;
+          ahead = given_ahead s (p.bytes ++ more) (r.waiting ++ more) p.samples report.samples (reads_before s p.samples p.bytes r.waiting more p.reads).split
+              (omega (arith, length-append r.waiting more, few, narrow_width s)) (told p.samples p.holds.counts).samples;
+        },
+      )
+
+-- why the intake gives no more
+pub drawing_ends : {s : Parameters} {left_old left left_new : Option (List ℕ)} {taken_old taken : Option Room} {v : EncodingValue} {r : WaitingBytes} (r_new : WaitingBytes)
+    {report : Report} (fault : Fault) {f : Option Fault} → EncodingProgress s left_old left taken_old taken v r → length r.waiting < width s → StopsDrawing fault r r_new left left_new
+    → r_new.given ≤ 281474976710656 → ((xs : List ℤ) → CountsSamples s v xs → ReportsTaken s report xs) → f ≡ Some fault → EncodesBetween s left_old left_new taken_old taken report f
+drawing_ends {s} {left_old} {left} {left_new} {taken_old} {taken} {v} {r} r_new {report} fault p few stops limit told is =
+    subst (EncodesBetween s left_old left_new taken_old taken report) (sym is) (by_fault fault stops)
   where
-    Progress : Option (List ℕ) → Type 0
-    Progress l = EncodingProgress s left_old l taken_old taken e r_new
-
-    on : (l : Option (List ℕ)) → GivesSamples r r_new left l [] → Progress l
-    on l g = reads_none before g
-
-    at : (f : Option Fault) (p : Progress left_new) → EndsEncoding s f (record { given = p.bytes; left = left_new; written = early_output s p.samples }) report p.samples →
-        IsWithinLimit 281474976710656 f p.bytes → EncodesBetween s left_old left_new taken_old taken report f
-    at f p ends within = (
-      record { given = p.bytes; left = left_new; written = early_output s p.samples },
-      record { gave = p.gave; left = refl; took = Follows-all taken_old taken _ p.holds.took },
-      record {
-        samples = p.samples;
-        ends = ends;
-        limit = within;
-        ahead = given_ahead s p.bytes r_new.waiting p.samples report.samples p.reads.split few (told p.samples p.holds.counts).samples;
-      },
-    )
-
-    early : (p : Progress left_new) → LeavesEarly s (record { given = p.bytes; left = left_new; written = early_output s p.samples }) report p.samples
-    early p = record { written = refl; reports = told p.samples p.holds.counts }
-
-    by_fault : (fault : SampleFault) → StopsSamples fault r r_new left left_new → EncodesBetween s left_old left_new taken_old taken report (Some (fault_at fault e.samples))
-    by_fault faults.Read (g, lacks) =
-        let p = on left_new g in
-        let short = subst (λ (s : Parameters). length r_new.waiting < width s) p.setting lacks in
-        at (Some Read) p (spelled_so_far s p.bytes p.samples r_new.waiting p.reads short, early p) (omega (arith, p.count, limit))
-    by_fault faults.Cut (g, ends, end) =
-        let p = on left_new g in
-        let cut = subst (λ (s : Parameters). EndsSpelling s r_new.waiting TooFew) p.setting ends in
-        at (Some (SampleCut e.samples)) p (record { rest = r_new.waiting; whole = p.reads.split; legal = p.reads.legal; stops = cut }, end, p.holds.counts.samples, early p)
-        (omega (arith, p.count, limit))
-    by_fault faults.OutOfRange (g, ends) =
-        let p = on left_new g in
-        let none = subst (λ (s : Parameters). EndsSpelling s r_new.waiting NoSpelling) p.setting ends in
-        at (Some (SampleOutOfRange e.samples)) p (record { rest = r_new.waiting; whole = p.reads.split; legal = p.reads.legal; stops = none }, p.holds.counts.samples, early p)
-        (omega (arith, p.count, limit))
-    by_fault faults.TooLong (h, lacks) =
-        let p = on h.left_then h.gives in
-        let short = subst (λ (s : Parameters). length r_new.waiting < width s) p.setting lacks in
-        let more = h.last ∷ [] in
-        let t = told p.samples p.holds.counts in
-        let passes : PassesLimit 281474976710656 (p.bytes ++ more) p.bytes = record { last = h.last; split = refl; full = sym p.count ∙ h.full } in (
-          record { given = p.bytes ++ more; left = left_new; written = early_output s p.samples },
-          record { gave = Consumes-trans left_old h.left_then left_new p.bytes more p.gave h.gave; left = refl; took = Follows-all taken_old taken _ p.holds.took },
-          record {
-            samples = p.samples;
-            ends = ((p.bytes, passes, spelled_so_far s p.bytes p.samples r_new.waiting p.reads short), record { written = refl; reports = t });
-            limit = tt;
-            ahead = given_ahead s (p.bytes ++ more) (r_new.waiting ++ more) p.samples report.samples (reads_before s p.samples p.bytes r_new.waiting more p.reads).split
-                (omega (arith, length-append r_new.waiting more, short, narrow_width s)) t.samples;
-          },
-        )
+    by_fault : (fault : Fault) → StopsDrawing fault r r_new left left_new → EncodesBetween s left_old left_new taken_old taken report (Some fault)
+    by_fault Read d = read_ends (draws_on p d) (omega (arith, few, ap length d.waiting, length-append r.waiting d.bytes, d.number)) limit told
+    by_fault TooLong h = long_ends p few (omega (arith, h.full)) told h
+    by_fault Write bad = absurd bad
+    by_fault (SampleOutOfRange index) bad = absurd bad
+    by_fault (SampleCut index) bad = absurd bad
+    by_fault (CodeEnds samples) bad = absurd bad
+    by_fault (RunPastSegment block) bad = absurd bad
+    by_fault (ResidualTooLarge block) bad = absurd bad
 
 -- and the failures then
-pub reading_fails : (fault : SampleFault) (index : ℕ) {f : Option Fault} {reads mid : ℕ} (reads_new : ℕ) {writes writes_new : ℕ} → f ≡ Some (fault_at fault index)
-    → CountsReads {T = ℕ} mid reads_new (Err fault) → mid ≡ reads → writes_new ≡ writes → Fails f reads reads_new writes writes_new
-reading_fails fault index {f} {reads} {mid} reads_new {writes} {writes_new} is counts same calm = subst (λ (f : Option Fault). Fails f reads reads_new writes writes_new) (sym is)
-    (by_fault fault counts)
+pub drawing_fails : (fault : Fault) {f : Option Fault} {reads mid : ℕ} (reads_new : ℕ) {writes writes_new : ℕ} (old new : WaitingBytes) (left left_new : Option (List ℕ))
+    → StopsDrawing fault old new left left_new → f ≡ Some fault → CountsReads {T = ℕ} mid reads_new (Err fault) → mid ≡ reads → writes_new ≡ writes
+    → Fails f reads reads_new writes writes_new
+drawing_fails fault {f} {reads} {mid} reads_new {writes} {writes_new} old new left left_new stops is counts same calm = subst (λ (f : Option Fault). Fails f reads reads_new writes writes_new) (sym is)
+    (by_fault fault stops counts)
   where
-    by_fault : (fault : SampleFault) → CountsReads {T = ℕ} mid reads_new (Err fault) → Fails (Some (fault_at fault index)) reads reads_new writes writes_new
-    by_fault faults.Read e = (e ∙ ap (λ n. n + 1) same, calm)
-    by_fault faults.Cut e = (e ∙ same, calm)
-    by_fault faults.TooLong e = (e ∙ same, calm)
-    by_fault faults.OutOfRange e = (e ∙ same, calm)
+    by_fault : (fault : Fault) → StopsDrawing fault old new left left_new → CountsReads {T = ℕ} mid reads_new (Err fault) → Fails (Some fault) reads reads_new writes writes_new
+    by_fault Read d e = (e ∙ ap (λ n. n + 1) same, calm)
+    by_fault TooLong h e = (e ∙ same, calm)
+    by_fault Write bad e = absurd bad
+    by_fault (SampleOutOfRange index) bad e = absurd bad
+    by_fault (SampleCut index) bad e = absurd bad
+    by_fault (CodeEnds samples) bad e = absurd bad
+    by_fault (RunPastSegment block) bad e = absurd bad
+    by_fault (ResidualTooLarge block) bad e = absurd bad
 
 -- all samples were given, and their code is written or not
-pub finish_ends : {s : Parameters} {left_old left : Option (List ℕ)} {taken_old taken new : Option Room} {e : EncodingValue} {q : SamplesAhead}
+pub finish_ends : {s : Parameters} {left_old left : Option (List ℕ)} {taken_old taken new : Option Room} {e : EncodingValue} {q : WaitingBytes}
     {r : Report} {f : Option Fault} → (runs : EncodingProgress s left_old left taken_old taken e q) → IsAtEnd left → q.waiting ≡ [] → q.given ≤ 281474976710656
     → ReportsAll s r runs.samples → WritesRest s (afresh taken_old) new runs.samples f → EncodesBetween s left_old left taken_old new r f
 finish_ends {s} {left_old} {left} {taken_old} {new} {e} {q} {r} {f} runs end none limit closes finishes = by_fault f finishes
@@ -222,53 +238,76 @@ finish_ends {s} {left_old} {left} {taken_old} {new} {e} {q} {r} {f} runs end non
     by_fault (Some (RunPastSegment block)) bad = absurd bad
     by_fault (Some (ResidualTooLarge block)) bad = absurd bad
 
--- the outlet failed after one of the samples that were given
-pub writing_ends : {s : Parameters} {left_old left left_new : Option (List ℕ)} {taken_old taken taken_new : Option Room} {e e_new : EncodingValue} {q q_new : SamplesAhead}
-    (r : Report) {ys : List ℤ} → (p : EncodingProgress s left_old left taken_old taken e q) → GivesSamples q q_new left left_new ys →
-    FailsIn s (afresh taken_old) taken_new e_new p.samples ys → width s * length ys + length q_new.waiting ≤ 4096 → q_new.given ≤ 281474976710656
-    → ((xs : List ℤ) → CountsSamples s e_new xs → ReportsTaken s r xs) → EncodesBetween s left_old left_new taken_old taken_new r (Some Write)
-writing_ends {s} {left_old} {left} {left_new} {taken_old} {taken_new} {e} {e_new} {q} {q_new} r {ys} p g fail few limit told =
-    let xs = p.samples in
-    let given = p.bytes ++ g.bytes in
-    let bytes = q.waiting ++ g.bytes in
-    let so_far : Reads s given xs bytes = reads_before s xs p.bytes q.waiting g.bytes p.reads in
-    let now : Reads s bytes ys q_new.waiting = subst (λ (s : Parameters). Reads s bytes ys q_new.waiting) p.setting g.reads in
-    let m = fails_among now fail in
-    let joined = reads_then s given bytes m.rest xs (m.more ++ m.last ∷ []) so_far m.reads in
-    let before = xs ++ m.more in
-    let all = before ++ m.last ∷ [] in
-    let t = told all m.fails.counts in
-    let n : length all ≡ length before + 1 = length-append before (m.last ∷ []) in
-    let k : length before ≡ length xs + length m.more = length-append xs m.more in
-    let front : take (length all - 1) all ≡ before = (let i : length all - 1 ≡ length before = omega arith in ap (λ i. take i all) i ∙ take-append_seam before (m.last ∷ [])) in
-    let same : xs ++ (m.more ++ m.last ∷ []) ≡ all = sym (append_assoc xs m.more (m.last ∷ [])) in
-    let size : length given ≡ width s * length xs + length bytes = ap length so_far.split ∙ length-append (spellings s xs) bytes ∙ ap (λ n. n + length bytes) (length-spellings s xs) in
-    let hand : length bytes ≤ 4096 = omega (arith, ap length now.split, length-append (spellings s ys) q_new.waiting, length-spellings s ys, few) in
-    let fewer = ahead (width s) (length xs) (length bytes) (length given) r.samples size hand (some_width s) (omega (arith, t.samples, n, k)) in (
-      record { given = given; left = left_new; written = m.fails.takes.written },
-      record { gave = Consumes-trans left_old left left_new p.bytes g.bytes p.gave g.gave; left = refl; took = Follows-all taken_old taken_new _ m.fails.takes.took },
-      record {
-        samples = all;
-        ends = (
-          fewer,
-          inl (record {
-            given = record {
-              rest = m.rest;
-              split = joined.split ∙ ap (λ l. spellings s l ++ m.rest) same;
-              legal = subst (All (IsSample s)) same joined.legal;
-            };
-            some = omega arith;
-            reports = t;
-            stops = subst (λ (l : List ℤ). StopsBetween (early_output s l) (early_output s all) m.fails.takes.written) (sym front) m.fails.takes.stops;
-          }),
-        );
-        limit = omega (arith, length-append p.bytes g.bytes, p.count, g.given, limit);
-        ahead = omega (arith, fewer);
-      },
-    )
+-- the samples of the bytes that wait are not all taken
+pub pushing_ends : {s : Parameters} {left_old left : Option (List ℕ)} {taken_old taken taken_new : Option Room} {v v_new : EncodingValue} {r : WaitingBytes} {report : Report}
+    (fault : Fault) {f : Option Fault} → (p : EncodingProgress s left_old left taken_old taken v r) → Pushes {T = Unit {0}} s (afresh taken_old) taken_new v_new p.samples r.waiting (Err fault)
+    → length r.waiting ≤ 4096 → r.given ≤ 281474976710656 → ((xs : List ℤ) → CountsSamples s v_new xs → ReportsTaken s report xs) → f ≡ Some fault
+    → EncodesBetween s left_old left taken_old taken_new report f
+pushing_ends {s} {left_old} {left} {taken_old} {taken} {taken_new} {v} {v_new} {r} {report} fault p stops few limit told is =
+    subst (EncodesBetween s left_old left taken_old taken_new report) (sym is) (by_fault fault stops)
   where
+    xs : List ℤ
+    xs = p.samples
+
     ahead : (w n b g k : ℕ) → g ≡ w * n + b → b ≤ 4096 → 1 ≤ w → n < k → g < k * w + 4096
-    ahead w n b g k e few some lt = let p = mul-le-mul_right w lt in omega arith
+    ahead w n b g k e few some lt = let q = mul-le-mul_right w lt in omega arith
+
+    by_fault : (fault : Fault) → Pushes {T = Unit {0}} s (afresh taken_old) taken_new v_new xs r.waiting (Err fault) → EncodesBetween s left_old left taken_old taken_new report (Some fault)
+    by_fault (SampleOutOfRange index) (m, named) =
+        let joined = reads_then s p.bytes r.waiting m.rest xs m.more p.reads m.reads in
+        let t = told (xs ++ m.more) m.holds.counts in
+        let size = ap length m.reads.split ∙ length-append (spellings s m.more) m.rest in (
+          record { given = p.bytes; left = left; written = early_output s (xs ++ m.more) },
+          record { gave = p.gave; left = refl; took = Follows-all taken_old taken_new _ m.holds.took },
+          record {
+            samples = xs ++ m.more;
+            ends = (
+              record { rest = m.rest; whole = joined.split; legal = joined.legal; stops = m.none },
+              named ∙ m.holds.counts.samples,
+              record { written = refl; reports = t },
+            );
+            limit = omega (arith, p.count, limit);
+            ahead = given_ahead s p.bytes m.rest (xs ++ m.more) report.samples joined.split (omega (arith, size, few)) t.samples;
+          },
+        )
+    by_fault Write m =
+        let joined = reads_then s p.bytes r.waiting m.rest xs (m.more ++ m.last ∷ []) p.reads m.reads in
+        let before = xs ++ m.more in
+        let all = before ++ m.last ∷ [] in
+        let t = told all m.fails.counts in
+        let n : length all ≡ length before + 1 = length-append before (m.last ∷ []) in
+        let k : length before ≡ length xs + length m.more = length-append xs m.more in
+        let front : take (length all - 1) all ≡ before = (let i : length all - 1 ≡ length before = omega arith in ap (λ i. take i all) i ∙ take-append_seam before (m.last ∷ [])) in
+        let same : xs ++ (m.more ++ m.last ∷ []) ≡ all = sym (append_assoc xs m.more (m.last ∷ [])) in
+        let size : length p.bytes ≡ width s * length xs + length r.waiting = ap length p.reads.split ∙ length-append (spellings s xs) r.waiting ∙ ap (λ n. n + length r.waiting) (length-spellings s xs) in
+        let fewer = ahead (width s) (length xs) (length r.waiting) (length p.bytes) report.samples size few (some_width s) (omega (arith, t.samples, n, k)) in (
+          record { given = p.bytes; left = left; written = m.fails.takes.written },
+          record { gave = p.gave; left = refl; took = Follows-all taken_old taken_new _ m.fails.takes.took },
+          record {
+            samples = all;
+            ends = (
+              fewer,
+              inl (record {
+                given = record {
+                  rest = m.rest;
+                  split = joined.split ∙ ap (λ l. spellings s l ++ m.rest) same;
+                  legal = subst (All (IsSample s)) same joined.legal;
+                };
+                some = omega arith;
+                reports = t;
+                stops = subst (λ (l : List ℤ). StopsBetween (early_output s l) (early_output s all) m.fails.takes.written) (sym front) m.fails.takes.stops;
+              }),
+            );
+            limit = omega (arith, p.count, limit);
+            ahead = omega (arith, fewer);
+          },
+        )
+    by_fault Read bad = absurd bad
+    by_fault TooLong bad = absurd bad
+    by_fault (SampleCut index) bad = absurd bad
+    by_fault (CodeEnds samples) bad = absurd bad
+    by_fault (RunPastSegment block) bad = absurd bad
+    by_fault (ResidualTooLarge block) bad = absurd bad
 
 -- a push failed
 pub record FailedPush (s : Parameters) (old : Beginning) (taken : Option Room) (e : EncodingValue) (xs : List ℤ) (bytes : List ℕ) (f : Fault) (mid writes_new : ℕ) : Type 0 where

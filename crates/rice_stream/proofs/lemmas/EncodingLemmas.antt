@@ -1,5 +1,5 @@
 -- A coder at work takes a sample, writes, and ends.
-use Rattle.std.proofs.Common.{◌≡◌, ℕ, ◌+◌, ◌*◌, ◌<◌, ◌≤◌, Bool, List, [], ◌∷◌, ◌++◌, length, take, drop, replicate, false}
+use Rattle.std.proofs.Common.{◌≡◌, ℕ, ◌+◌, ◌*◌, ◌<◌, ◌≤◌, Bool, List, [], ◌∷◌, ◌++◌, length, take, drop, replicate, false, true}
 use Rattle.std.proofs.Common.{refl, ap, arith, sym, ◌∙◌, subst, append_assoc, append-nil, length-append, length-drop, take-append-drop, Option, ℤ, pos, zero, suc}
 use Rattle.std.specs.Prelude.{All, sum_by}
 use Rattle.std.specs.Int.{div_ceil}
@@ -11,7 +11,7 @@ use Rattle.rice_bits.specs.device.OutletRoom.{Room, Appends}
 use Rattle.rice_bits.proofs.lemmas.device.OutletLemmas.{Appends-nil, Appends-trans}
 use Rattle.rice_bits.proofs.lemmas.bits.BytesAndBits.{whole_short}
 use Rattle.rice_bits.specs.Bits.{bits_in_bytes, bits_to_byte, padded_bits, whole_bytes}
-use Rattle.rice_samples.specs.Parameters.{Parameters, IsSample, value_at, values_at}
+use Rattle.rice_samples.specs.Parameters.{Parameters, IsSample, width}
 use Rattle.rice_samples.specs.Places.{block_count, cut}
 use Rattle.rice_samples.specs.predict.Residuals.{filled_samples}
 use Rattle.rice_samples.specs.bytes.Spelling.{Reads, spellings}
@@ -19,20 +19,23 @@ use Rattle.rice_code.specs.encode.Coder.{HasTaken, IsAlignedWith, AddsCode, Push
 use Rattle.rice_code.specs.encode.OpenSegment.{CoderState}
 use Rattle.rice_code.specs.code.Code.{code, code_bits, early_output}
 use Rattle.rice_code.specs.CoderSteps.{least_looks, most_looks, least_looks_at, most_looks_at, least_steps, most_steps, segment_steps}
-use Rattle.rice_code.proofs.lemmas.encode.PushedCode.{segment_steps_few}
-use Rattle.rice_stream.specs.EncodingState.{Beginning, afresh, CanTake, CanTakeMore, Follows, CountsSamples, IsEncodingOf, HoldsCode, TakesSamples, TakesBetween}
-use Rattle.rice_stream.specs.EncodingState.{FollowsBetween, FailsAt, FailsIn, MeetsFailure, whole_part}
+use Rattle.rice_code.proofs.lemmas.encode.PushedCode.{holds_nothing, segment_steps_few}
+use Rattle.rice_fast.specs.encode.Standing.{Standing, HasRoomAt}
+use Rattle.rice_stream.specs.TakenBytes.{ShowsCode, TakesSpelled}
+use Rattle.rice_stream.specs.declared.takes.Taken.{Taken}
+use Rattle.rice_stream.specs.EncodingState.{Beginning, afresh, Follows, CountsSamples, IsEncodingOf, HoldsCode, TakesSamples, TakesBetween}
+use Rattle.rice_stream.specs.EncodingState.{FollowsBetween, FailsAt, MeetsFailure, whole_part}
 use Rattle.rice_stream.specs.DevicesInCalls.{StopsBetween}
 use Rattle.rice_stream.specs.Encodes.{ReportsAll}
 use Rattle.rice_stream.specs.FailedWrites.{TakesPart}
 use Rattle.rice_stream.specs.EncodingState.{EncodingValue}
 use Rattle.rice_stream.specs.declared.outcome.Report.{Report}
-use Rattle.rice_samples.proofs.lemmas.bytes.SampleReaderLemmas.{reads_then}
-use Rattle.rice_samples.proofs.lemmas.bytes.SpellingLengths.{spellings-append}
-use Rattle.rice_samples.proofs.lemmas.setting.ValuesAtLevels.{length-values}
-use Rattle.std.proofs.Math.Seq.{take-add, take-append_seam}
-use Rattle.std.proofs.lemmas.List.{drop-map, length-take-le}
-use Rattle.std.proofs.lemmas.List.Elements.{All-drop, All-take}
+use Rattle.rice_samples.proofs.lemmas.bytes.ReadSamples.{reads_then}
+use Rattle.rice_samples.proofs.lemmas.bytes.SpellingLengths.{length-spellings, some_width, spellings-append}
+use Rattle.std.proofs.Math.Nat.{mul-le-mul_left}
+use Rattle.std.proofs.Math.Seq.{take-append_seam}
+use Rattle.std.proofs.lemmas.List.{length-take-le}
+use Rattle.std.proofs.lemmas.List.Elements.{All-take}
 use Rattle.rice_stream.proofs.lemmas.EncodingBounds.{Settles, taken_settles, early_bounded, all_bounded, few_steps, few_bits}
 use Rattle.rice_stream.proofs.lemmas.BytesOfGrowingCode.{length-part, more_bytes, more_rest}
 
@@ -51,26 +54,6 @@ Follows-trans old now new bytes more f a = record {
 -- where nothing was written before, the outlet took all that is written
 pub Follows-all : (old new : Option Room) (bytes : List ℕ) → Follows (afresh old) new bytes → Appends old new bytes
 Follows-all old new bytes f = subst (λ (l : List ℕ). Appends old new l) (sym f.split) f.took
-
--- the samples at the levels from a place on are the samples from this place on
-pub samples_from : (s : Parameters) (at : ℕ) (levels : List ℕ) {rest : List ℕ} → rest ≡ drop at levels → values_at s rest ≡ drop at (values_at s levels)
-samples_from s at levels e = ap (values_at s) e ∙ sym (drop-map (value_at s) at levels)
-
--- the first samples up to a place, and then the next n, are the first at + n
-pub samples_on : (xs samples : List ℤ) (at n : ℕ) → (xs ++ take at samples) ++ take n (drop at samples) ≡ xs ++ take (at + n) samples
-samples_on xs samples at n = append_assoc xs (take at samples) (take n (drop at samples)) ∙ ap (λ l. xs ++ l) (sym (take-add at n samples))
-
--- the levels from a place on are legal too
-pub legal_from : (count at : ℕ) (levels : List ℕ) {rest : List ℕ} → rest ≡ drop at levels → All (λ l. l < count) levels → All (λ l. l < count) rest
-legal_from count at levels e legal = subst (All (λ l. l < count)) (sym e) (All-drop (λ l. l < count) at levels legal)
-
--- where some of the samples have been taken, these, those before and those that are left keep to the limit that all of them keep to
-pub few_from : (s : Parameters) (before : List ℤ) (at : ℕ) (levels : List ℕ) {rest : List ℕ} (most : ℕ) → rest ≡ drop at levels → length before + length levels ≤ most → at ≤ length levels
-    → length (before ++ take at (values_at s levels)) + length rest ≤ most
-few_from s before at levels most e few within =
-    let samples = values_at s levels in
-    let inside = length-take-le at samples (omega (arith, within, length-values s levels)) in
-    omega (arith, few, within, inside, length-append before (take at samples), ap length e, length-drop at levels)
 
 -- what was counted settles the bounds of the samples
 pub settled_by : (s : Parameters) (e : EncodingValue) (xs : List ℤ) → CountsSamples s e xs → Settles s xs
@@ -114,14 +97,6 @@ sink_place s old now e xs h pads =
 pub holds_code : {s : Parameters} {old : Beginning} {now : Option Room} {e : EncodingValue} {xs : List ℤ} → IsEncodingOf s old now e xs → HoldsCode s e xs xs
 holds_code {s} {old} {now} {e} {xs} h = record { counts = h.counts; code_is = sym (sink_goes_on s old now e xs h) }
 
--- and can take what it could
-pub can_take_more : {taken : Option Room} {e : EncodingValue} {levels : List ℕ} → CanTake taken e levels → CanTakeMore e levels
-can_take_more c = record { setting = c.setting; written = c.before; before = c.before; holds = holds_code c.holds; legal = c.legal; few = c.few }
-
--- less than a byte waits in the sink of one that can take samples
-pub can_take_short : {taken : Option Room} {e : EncodingValue} {levels : List ℕ} → CanTake taken e levels → length e.sink ≤ 7
-can_take_short {taken = taken} {e = e} c = sink_short c.setting c.start taken e c.before c.holds
-
 -- the sink stands at the place in a byte where the code does, however much it holds
 pub code_place : (s : Parameters) (e : EncodingValue) (xs ys : List ℤ) → HoldsCode s e xs ys → IsAlignedWith s (complete_samples s ys) e.sink
 code_place s e xs ys h pads =
@@ -155,6 +130,46 @@ taken_on {s} {e} {f} {xs} {zs} {ys} {n} h pushes bits samples before =
       goes_on = k.completes;
       before_last = λ m lt. subst (λ (t : Parameters). complete_samples t (zs ++ take m ys) ≡ complete_samples t zs) h.counts.setting (before m lt zs stands);
     }
+
+-- what an encoding stands for
+abbrev pub standing_of : EncodingValue → Standing
+standing_of v = record { coder = v.coder; sink = v.sink; meter = v.meter }
+
+-- an encoding whose coder has taken more samples
+abbrev pub after_push : EncodingValue → Standing → Taken → EncodingValue
+after_push v m taken = record { samples = v.samples + taken.samples; coder = m.coder; sink = m.sink; meter = m.meter; bits = v.bits + taken.bits }
+
+-- there is room for the code of a segment
+pub has_room : (s : Parameters) (old : Beginning) (now : Option Room) (v : EncodingValue) (xs : List ℤ) → IsEncodingOf s old now v xs → length xs ≤ 281474976710656 → HasRoomAt (standing_of v)
+has_room s old now v xs h few =
+    let small = counts_small s v xs h.counts in
+    record { room = sink_short s old now v xs h; steps = omega (arith, small.1, small.2, few) }
+
+-- the sink where no code is put ahead,
+pub shows_all : (m m_new : Standing) {sink : List Bool} {ahead : Bool} → ahead ≡ false → ShowsCode ahead m m_new sink → m_new.sink ≡ sink
+shows_all m m_new {sink} is shows = subst (λ b. ShowsCode b m m_new sink) is shows
+
+-- or where no segment is made whole
+pub shows_none : (m m_new : Standing) (sink : List Bool) {ahead : Bool} → ahead ≡ true → ShowsCode ahead m m_new sink → m_new.sink ≡ m.sink
+shows_none m m_new sink is shows = subst (λ b. ShowsCode b m m_new sink) is shows
+
+-- the samples that bytes spell are taken
+module _ (s : Parameters) (v : EncodingValue) {m_new : Standing} {bytes : List ℕ} {sink_new : List Bool} {taken : Taken} (same : v.coder.setting ≡ s)
+    (t : TakesSpelled (standing_of v) m_new bytes sink_new taken) where
+  pub spelled_of : Reads s bytes t.samples (drop (width s * taken.samples) bytes)
+  spelled_of = subst (λ (s : Parameters). Reads s bytes t.samples (drop (width s * taken.samples) bytes)) same t.reads
+
+  pub few_spelled : (taken.samples ≤ length bytes) × (width s * taken.samples ≤ length bytes)
+  few_spelled =
+      let r = spelled_of in
+      let size = ap length r.split ∙ length-append (spellings s t.samples) (drop (width s * taken.samples) bytes) in
+      let n = ap (λ n. width s * n) t.number in
+      let per : taken.samples * 1 ≤ taken.samples * width s = mul-le-mul_left taken.samples (some_width s) in
+      let within : width s * taken.samples ≤ length bytes = omega (arith, size, length-spellings s t.samples, length-drop (width s * taken.samples) bytes, n) in
+      (omega (arith, within, per), within)
+
+  pub taken_spelled : {xs zs : List ℤ} → HoldsCode s v xs zs → TakesSamples s (after_push v m_new taken) xs zs t.samples
+  taken_spelled h = taken_on h t.pushes refl (ap (λ n. v.samples + n) (sym t.number)) (λ n lt. t.before_last n (omega (arith, lt, t.number)))
 
 -- nothing is whole
 pub none_whole : {s : Parameters} {old : Beginning} {now : Option Room} {e f : EncodingValue} {xs : List ℤ} (ys : List ℤ) → IsEncodingOf s old now e xs
@@ -223,43 +238,42 @@ parts_of [] h = absurd (omega arith)
 parts_of (y ∷ []) h = record { before = []; last = y; split = refl }
 parts_of (y ∷ z ∷ ys) h = let p = parts_of (z ∷ ys) (omega arith) in record { before = y ∷ p.before; last = p.last; split = ap (λ l. y ∷ l) p.split }
 
--- not all that the samples complete was written
-pub fails_in : {s : Parameters} {old : Beginning} {now new : Option Room} {e f g : EncodingValue} {xs samples : List ℤ} {n : ℕ}
-    → IsEncodingOf s old now e xs → TakesSamples s f xs xs (take n samples) → 0 < n → n ≤ length samples → TakesPart now new (whole_bytes f.sink)
-    → CountsSamples s g (xs ++ take n samples) → FailsIn s old new g xs samples
-fails_in {s} {old} {now} {new} {f} {g} {xs} {samples} {n} h takes some within part counts =
-    let ys = take n samples in
-    let len = length-take-le n samples within in
-    let p = parts_of ys (omega (arith, len)) in
-    let front : take (length p.before) ys ≡ p.before = ap (take (length p.before)) p.split ∙ take-append_seam p.before (p.last ∷ []) in
-    let size : length ys ≡ length p.before + 1 = ap length p.split ∙ length-append p.before (p.last ∷ []) in
-    let all : xs ++ ys ≡ (xs ++ p.before) ++ p.last ∷ [] = ap (λ l. xs ++ l) p.split ∙ sym (append_assoc xs p.before (p.last ∷ [])) in
+-- not all that the samples of some bytes complete was written
+pub meets_failure : {s : Parameters} {old : Beginning} {now new : Option Room} {e f g : EncodingValue} {xs samples : List ℤ} {bytes rest : List ℕ}
+    → IsEncodingOf s old now e xs → TakesSamples s f xs xs samples → TakesPart now new (whole_bytes f.sink) → CountsSamples s g (xs ++ samples) → Reads s bytes samples rest
+    → MeetsFailure s old new g xs bytes
+meets_failure {s} {old} {now} {new} {e} {f} {g} {xs} {samples} {bytes} {rest} h takes part counts reads =
+    let p = parts_of samples (some samples takes) in
+    let front : take (length p.before) samples ≡ p.before = ap (take (length p.before)) p.split ∙ take-append_seam p.before (p.last ∷ []) in
+    let size : length samples ≡ length p.before + 1 = ap length p.split ∙ length-append p.before (p.last ∷ []) in
+    let all : xs ++ samples ≡ (xs ++ p.before) ++ p.last ∷ [] = ap (λ l. xs ++ l) p.split ∙ sym (append_assoc xs p.before (p.last ∷ [])) in
     let before : early_output s (xs ++ p.before) ≡ early_output s xs =
     ap (λ l. early_output s (xs ++ l)) (sym front) ∙ ap (λ l. whole_bytes (code s l)) (takes.before_last (length p.before) (omega (arith, size))) in
-    let between = part_follows old now new (early_output s xs) (whole_bytes f.sink) (early_output s (xs ++ ys)) h.took part
-    (more_bytes (complete_code s xs) (complete_code s (xs ++ ys)) f.sink (sym takes.code_is)) in
+    let between = part_follows old now new (early_output s xs) (whole_bytes f.sink) (early_output s (xs ++ samples)) h.took part
+    (more_bytes (complete_code s xs) (complete_code s (xs ++ samples)) f.sink (sym takes.code_is)) in
     record {
-      before = p.before;
+      more = p.before;
       last = p.last;
-      behind = drop n samples;
-      split = sym (take-append-drop n samples) ∙ ap (λ l. l ++ drop n samples) p.split ∙ append_assoc p.before (p.last ∷ []) (drop n samples);
+      rest = rest;
+      reads = subst (λ (l : List ℤ). Reads s bytes l rest) p.split reads;
       fails = record {
         counts = subst (CountsSamples s g) all counts;
         takes = subst (λ (l : List ℕ). FollowsBetween old new l (early_output s ((xs ++ p.before) ++ p.last ∷ []))) (sym before)
             (subst (λ (l : List ℤ). FollowsBetween old new (early_output s xs) (early_output s l)) all between);
       };
     }
+  where
+    none : (l : List ℕ) → length l ≡ 0 → l ≡ []
+    none [] e = refl
+    none (x ∷ l) e = absurd (omega (arith, e))
 
--- the samples before some others were taken
-pub fails_later : (s : Parameters) (old : Beginning) (new : Option Room) (e : EncodingValue) (xs samples : List ℤ) (at : ℕ)
-    → FailsIn s old new e (xs ++ take at samples) (drop at samples) → FailsIn s old new e xs samples
-fails_later s old new e xs samples at f = record {
-  before = take at samples ++ f.before;
-  last = f.last;
-  behind = f.behind;
-  split = sym (take-append-drop at samples) ∙ ap (λ l. take at samples ++ l) f.split ∙ sym (append_assoc (take at samples) f.before (f.last ∷ f.behind));
-  fails = subst (λ (l : List ℤ). FailsAt s old new e l f.last) (append_assoc xs (take at samples) f.before) f.fails;
-}
+    -- no samples complete no byte, of which a write could lack a part
+    some : (ys : List ℤ) → TakesSamples s f xs xs ys → 0 < length ys
+    some [] t =
+        let size = ap length (sym t.code_is) ∙ ap (λ l. length (complete_code s l)) (append-nil xs) in
+        let few : length f.sink < 8 = omega (arith, size, length-append (whole_part (complete_code s xs)) f.sink, length-part (complete_code s xs)) in
+        absurd (part.short (none part.missing (omega (arith, ap length (sym part.split ∙ whole_short f.sink few), length-append part.front part.missing))))
+    some (y ∷ ys) t = omega arith
 
 -- nothing is coded of no samples
 pub settled_nothing : (s : Parameters) → complete_samples s [] ≡ []
@@ -310,27 +324,7 @@ samples_end {s} {old} {now} {e} {r} {sink} {xs} {n} h finishes bits samples fill
       (λ i. sym all i ++ replicate (sym gap i) false) ∙ append_assoc part sink (replicate (bits_to_byte (length sink)) false) ∙ ap (λ l. part ++ l) (sym fill),
     )
 
-All-front : {X : Type 0} (P : X → Type 0) (xs ys : List X) → All P (xs ++ ys) → All P xs
-All-front P xs ys h = subst (All P) (take-append_seam xs ys) (All-take P (length xs) (xs ++ ys) h)
-
--- of samples that the bytes spell one is the last that was taken
-pub fails_among : {s : Parameters} {old : Beginning} {new : Option Room} {e : EncodingValue} {xs ys : List ℤ} {bytes rest : List ℕ} → Reads s bytes ys rest
-    → FailsIn s old new e xs ys → MeetsFailure s old new e xs bytes
-fails_among {s} {ys} {rest} reads f =
-    let parts : ys ≡ (f.before ++ f.last ∷ []) ++ f.behind = f.split ∙ sym (append_assoc f.before (f.last ∷ []) f.behind) in
-    record {
-      more = f.before;
-      last = f.last;
-      rest = spellings s f.behind ++ rest;
-      reads = record {
-        split = reads.split ∙ ap (λ l. spellings s l ++ rest) parts ∙ ap (λ l. l ++ rest) (spellings-append s (f.before ++ f.last ∷ []) f.behind)
-            ∙ append_assoc (spellings s (f.before ++ f.last ∷ [])) (spellings s f.behind) rest;
-        legal = All-front (IsSample s) (f.before ++ f.last ∷ []) f.behind (subst (All (IsSample s)) parts reads.legal);
-      };
-      fails = f.fails;
-    }
-
--- and others stand before them
+-- where the outlet fails after other samples, others stand before them
 pub fails_behind : {s : Parameters} {old : Beginning} {new : Option Room} {e : EncodingValue} {xs more : List ℤ} {bytes rest : List ℕ} → Reads s bytes more rest
     → MeetsFailure s old new e (xs ++ more) rest → MeetsFailure s old new e xs bytes
 fails_behind {s} {old} {new} {e} {xs} {more} {bytes} {rest} reads m = record {
@@ -340,3 +334,17 @@ fails_behind {s} {old} {new} {e} {xs} {more} {bytes} {rest} reads m = record {
   reads = subst (λ (ys : List ℤ). Reads s bytes ys m.rest) (sym (append_assoc more m.more (m.last ∷ []))) (reads_then s bytes rest m.rest more (m.more ++ m.last ∷ []) reads m.reads);
   fails = subst (λ (ys : List ℤ). FailsAt s old new e ys m.last) (append_assoc xs more m.more) m.fails;
 }
+
+-- an encoding that holds nothing puts no code ahead
+pub nothing_held : {s : Parameters} {v : EncodingValue} {xs : List ℤ} → CountsSamples s v xs → cut s (length xs) ≡ length xs → v.coder.residuals ≡ []
+nothing_held {v = v} {xs = xs} k all = ap (λ c. c.residuals) (holds_nothing v.coder xs k.stands (ap (λ t. cut t (length xs)) k.setting ∙ all))
+
+-- what is counted is the same with other bits in the sink
+pub counts_with : {s : Parameters} {v : EncodingValue} {xs : List ℤ} (sink : List Bool) → CountsSamples s v xs
+    → CountsSamples s (record { samples = v.samples; coder = v.coder; sink = sink; meter = v.meter; bits = v.bits }) xs
+counts_with sink k = record { setting = k.setting; stands = k.stands; samples = k.samples; bits = k.bits; least = k.least; most = k.most }
+
+-- nothing is written of no samples
+pub nothing_early : (s : Parameters) → 1 ≤ s.block → early_output s [] ≡ []
+unfolding whole_bytes
+nothing_early s j = ap whole_bytes (ap (code s) (settled_nothing s) ∙ code_nothing s j)

@@ -10,7 +10,7 @@ use Rattle.rice_stream.specs.EncodingState.{Beginning, Pushes}
 use Rattle.rice_stream.specs.EncodingState.{EncodingValue}
 use Rattle.rice_stream.specs.declared.outcome.Fault.{Fault}
 use Rattle.rice_stream.specs.declared.outcome.Fault.TheVariants.{Read, Write, TooLong, SampleOutOfRange, SampleCut, CodeEnds, RunPastSegment, ResidualTooLarge}
-use Rattle.rice_samples.proofs.lemmas.bytes.SampleReaderLemmas.{reads_before}
+use Rattle.rice_samples.proofs.lemmas.bytes.ReadSamples.{reads_before}
 use Rattle.rice_samples.proofs.lemmas.bytes.SpellingLengths.{length-spellings}
 
 -- what spells no sample spells none with more behind it
@@ -61,8 +61,8 @@ none_left s more bytes rest k r few whole =
       | inr le ↦ (let p : w * k ≤ w * n = mul-le-mul_left w le in omega (arith, p))
     ]
 
--- so many bytes spell no more samples
-pub few_more : (s : Parameters) (more : List ℤ) (bytes rest : List ℕ) → Reads s bytes more rest → 1 ≤ width s → length more ≤ length bytes
+-- samples, and the bytes that are left, are at most as many as the bytes
+pub few_more : (s : Parameters) (more : List ℤ) (bytes rest : List ℕ) → Reads s bytes more rest → 1 ≤ width s → length more + length rest ≤ length bytes
 few_more s more bytes rest r some =
     let p : length more * 1 ≤ length more * width s = mul-le-mul_left (length more) some in
     omega (arith, p, ap length r.split, length-append (spellings s more) rest, length-spellings s more)

@@ -19,8 +19,8 @@ use Rattle.rice_code.specs.encode.Coder.{HasTaken}
 use Rattle.rice_code.specs.encode.OpenSegment.{state_between}
 use Rattle.rice_code.proofs.lemmas.encode.PushedCode.{holds_nothing, between_all}
 use Rattle.rice_stream.specs.Encodes.{ReportsTaken, ReportsAll}
-use Rattle.rice_stream.specs.EncodingState.{Beginning, CountsSamples, IsEncodingOf, IsRowStart, TakesAll, Pushes, WritesRest}
-use Rattle.rice_stream.specs.Feeding.{IsSeam, behind, bytes_in_all, samples_to_take, TakesPiece, EncodesMore, AreAll, EncodesRest}
+use Rattle.rice_stream.specs.EncodingState.{Beginning, CountsSamples, IsEncodingOf, TakesAll, Pushes, WritesRest}
+use Rattle.rice_stream.specs.Feeding.{IsSeam, behind, encoding_at, bytes_in_all, samples_to_take, TakesPiece, EncodesMore, AreAll, EncodesRest}
 use Rattle.rice_stream.specs.EncodingState.{EncodingValue}
 use Rattle.rice_stream.specs.declared.outcome.Fault.{Fault}
 use Rattle.rice_stream.specs.declared.outcome.Fault.TheVariants.{Read, Write, TooLong, SampleOutOfRange, SampleCut, CodeEnds, RunPastSegment, ResidualTooLarge}
@@ -79,9 +79,6 @@ byte_fits x n k byte few is = shr_below x n (8 - k) (let e : n + (8 - k) ≡ 8 =
 
 -- ---- where the code goes on
 
-abbrev pub encoding_at : Parameters → Seam → EncodingValue
-encoding_at s seam = record { coder = state_between s seam.start seam.previous; sink = word seam.waiting_bits seam.waiting; meter = seam.steps; samples = seam.samples; bits = seam.bits }
-
 -- an encoding that begins at a seam has taken its samples
 pub encoding_is_resumed : (s : Parameters) (seam : Seam) (xs : List ℤ) (now : Option Room) → IsSeam s seam xs → IsEncodingOf s (behind s xs now) now (encoding_at s seam) xs
 encoding_is_resumed s seam xs now h = record {
@@ -115,30 +112,24 @@ pub record IsSeamOf (e : EncodingValue) (seam : Seam) : Type 0 where
   pub waiting : word (length e.sink) seam.waiting ≡ e.sink
   pub fits : seam.waiting < 2 ^ length e.sink
 
--- where a row begins, of an encoding between two segments
-pub row_start_of : {s : Parameters} {old : Beginning} {now : Option Room} {e : EncodingValue} {start : Seam} {xs : List ℤ} → IsEncodingOf s old now e xs
-    → cut s (length xs) ≡ length xs → IsSeamOf e start → length e.sink < 8 → IsRowStart s start xs
-row_start_of {s = s} {e = e} {start = start} {xs = xs} h all holds few =
+-- where the samples make whole segments, the encoding's place is a seam
+pub seam_of : {s : Parameters} {old : Beginning} {now : Option Room} {e : EncodingValue} {seam : Seam} {xs : List ℤ} → IsEncodingOf s old now e xs
+    → cut s (length xs) ≡ length xs → width s * length xs ≤ 281474976710656 →
+    IsSeamOf e seam → length e.sink < 8 → IsSeam s seam xs
+seam_of {s = s} {e = e} {seam = seam} {xs = xs} h all limit holds few =
     let nothing : e.coder ≡ state_between e.coder.setting e.coder.start e.coder.previous = holds_nothing e.coder xs h.counts.stands (ap (λ t. cut t (length xs)) h.counts.setting ∙ all) in
-    let same : e.coder ≡ state_between s start.start start.previous = nothing ∙ (λ i. state_between (h.counts.setting i) (sym holds.start i) (sym holds.previous i)) in
+    let same : e.coder ≡ state_between s seam.start seam.previous = nothing ∙ (λ i. state_between (h.counts.setting i) (sym holds.start i) (sym holds.previous i)) in
     record {
       taken = subst (λ c. HasTaken c xs) same h.counts.stands;
       samples = holds.samples ∙ h.counts.samples;
       bits = holds.bits ∙ h.counts.bits;
       least = omega (arith, holds.steps, h.counts.least);
       most = omega (arith, holds.steps, h.counts.most);
-      waiting = ap (λ n. word n start.waiting) holds.waiting_bits ∙ holds.waiting ∙ h.sink;
+      waiting = ap (λ n. word n seam.waiting) holds.waiting_bits ∙ holds.waiting ∙ h.sink;
       few = omega (arith, holds.waiting_bits, few);
-      fits = subst (λ n. start.waiting < 2 ^ n) (sym holds.waiting_bits) holds.fits;
+      fits = subst (λ n. seam.waiting < 2 ^ n) (sym holds.waiting_bits) holds.fits;
+      limit = limit;
     }
-
--- where the samples make whole segments, the encoding's place is a seam
-pub seam_of : {s : Parameters} {old : Beginning} {now : Option Room} {e : EncodingValue} {seam : Seam} {xs : List ℤ} → IsEncodingOf s old now e xs
-    → cut s (length xs) ≡ length xs → width s * length xs ≤ 281474976710656 →
-    IsSeamOf e seam → length e.sink < 8 → IsSeam s seam xs
-seam_of h all limit holds few =
-    let r = row_start_of h all holds few in
-    record { taken = r.taken; samples = r.samples; bits = r.bits; least = r.least; most = r.most; waiting = r.waiting; few = r.few; fits = r.fits; limit = limit }
 
 -- ---- what a piece gives
 
@@ -168,33 +159,39 @@ cut_grows s seam xs n h le =
     let up = cut_is_greatest s legal n k.0 k.2 (omega (arith, k.1, all, le)) in
     omega (arith, up, k.1, all)
 
--- an encoding that ends between two segments leaves a seam
-pub goes_on : {s : Parameters} {old new : Option Room} {e : EncodingValue} {at seam : Seam} {xs : List ℤ} {bytes : List ℕ} (count : ℕ) → IsSeam s at xs
-    → TakesAll s (behind s xs old) new e xs (take (width s * count) bytes) →
-    length xs + count ≡ samples_to_take s xs bytes → width s * count ≤ length bytes → bytes_in_all s xs bytes ≤ 281474976710656 →
-    ((ys : List ℤ) → IsEncodingOf s (behind s xs old) new e ys → cut s (length ys) ≡ length ys → width s * length ys ≤ 281474976710656 → IsSeam s seam ys) → TakesPiece s xs bytes old new seam
-goes_on {s} {e} {xs} {bytes} count h t is within limit stands =
-    let w = width s in
-    let len = length-take-le (w * count) bytes within in
-    let spelled = none_left s t.more (take (w * count) bytes) t.rest count t.reads t.few len in
-    let n : length t.more ≡ count = same_count w (length t.more) count (some_width s) (omega (arith, ap length spelled, length-spellings s t.more, len)) in
-    let size = length-append xs t.more in
-    let all : length (xs ++ t.more) ≡ samples_to_take s xs bytes = omega (arith, size, n, is) in
-    let whole : cut s (length (xs ++ t.more)) ≡ length (xs ++ t.more) = ap (cut s) all ∙ cut_again s (length xs + length bytes / w) h.taken.holds.legal ∙ sym all in
-    let part : w * length (xs ++ t.more) ≡ w * length xs + w * length t.more = parts w _ _ _ size in
-    let same : w * length t.more ≡ w * count = ap (λ m. w * m) n in
-    record {
-      limit = limit;
-      more = t.more;
-      rest = drop (w * count) bytes;
-      reads = record { split = sym (take-append-drop (w * count) bytes) ∙ ap (λ l. l ++ drop (w * count) bytes) spelled; legal = t.reads.legal };
-      all = all;
-      stands = stands (xs ++ t.more) t.holds whole (omega (arith, part, same, within, limit));
-      writes = t.holds.took;
-    }
-  where
-    parts : (w m n k : ℕ) → m ≡ n + k → w * m ≡ w * n + w * k
-    parts w m n k e = ap (λ v. w * v) e ∙ (let p : w * (n + k) ≡ w * n + w * k = omega arith in p)
+-- The samples of whole segments are taken.
+module _ {s : Parameters} {old new : Option Room} {e : EncodingValue} {at : Seam} {xs : List ℤ} (bytes : List ℕ) (count : ℕ) (h : IsSeam s at xs)
+    (t : TakesAll s (behind s xs old) new e xs (take (width s * count) bytes)) (is : length xs + count ≡ samples_to_take s xs bytes) (within : width s * count ≤ length bytes) where
+  spelled : take (width s * count) bytes ≡ spellings s t.more
+  spelled = none_left s t.more (take (width s * count) bytes) t.rest count t.reads t.few (length-take-le (width s * count) bytes within)
+
+  number : length t.more ≡ count
+  number = same_count (width s) (length t.more) count (some_width s) (omega (arith, ap length spelled, length-spellings s t.more, length-take-le (width s * count) bytes within))
+
+  all_taken : length (xs ++ t.more) ≡ samples_to_take s xs bytes
+  all_taken = omega (arith, length-append xs t.more, number, is)
+
+  -- the samples so far make whole segments
+  pub all_whole : cut s (length (xs ++ t.more)) ≡ length (xs ++ t.more)
+  all_whole = ap (cut s) all_taken ∙ cut_again s (length xs + length bytes / width s) h.taken.holds.legal ∙ sym all_taken
+
+  -- an encoding that ends between two segments leaves a seam
+  pub goes_on : {seam : Seam} → bytes_in_all s xs bytes ≤ 281474976710656 → (width s * length (xs ++ t.more) ≤ 281474976710656 → IsSeam s seam (xs ++ t.more)) → TakesPiece s xs bytes old new seam
+  goes_on limit stands =
+      let part : width s * length (xs ++ t.more) ≡ width s * length xs + width s * length t.more = parts (width s) _ _ _ (length-append xs t.more) in
+      let same : width s * length t.more ≡ width s * count = ap (λ m. width s * m) number in
+      record {
+        limit = limit;
+        more = t.more;
+        rest = drop (width s * count) bytes;
+        reads = record { split = sym (take-append-drop (width s * count) bytes) ∙ ap (λ l. l ++ drop (width s * count) bytes) spelled; legal = t.reads.legal };
+        all = all_taken;
+        stands = stands (omega (arith, part, same, within, limit));
+        writes = t.holds.took;
+      }
+    where
+      parts : (w m n k : ℕ) → m ≡ n + k → w * m ≡ w * n + w * k
+      parts w m n k e = ap (λ v. w * v) e ∙ (let p : w * (n + k) ≡ w * n + w * k = omega arith in p)
 
 -- what stops it inside the bytes, with others after them
 pub stopped_in : (s : Parameters) (old : Beginning) (new : Option Room) (e : EncodingValue) (xs : List ℤ) (bytes : List ℕ) (k : ℕ) (f : Fault)

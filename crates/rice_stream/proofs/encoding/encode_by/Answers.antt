@@ -1,166 +1,194 @@
-use Rattle.std.proofs.Common.{arith, ◌≡◌, ◌+◌, ◌*◌, ◌<◌, ◌≤◌, ◌++◌, ◌∷◌, List, [], length, length-append, take, refl, ap, sym, ◌∙◌, subst, ℕ, ℤ, Option, Some}
-use Rattle.std.specs.Prelude.{All}
-use Rattle.std.proofs.lemmas.List.{length-take-le, take-map}
+use Rattle.std.proofs.Common.{arith, ◌≡◌, ◌==◌, ◌+◌, ◌*◌, ◌%◌, ◌<◌, ◌≤◌, ◌++◌, List, [], ◌∷◌, length, length-append, true, false, Err, IsTrue, refl, ap, sym, ◌∙◌, subst, ℕ, ℤ, Option, Some}
 use Rattle.std.proofs.KnownBytes.{Consumes-nil}
-use Rattle.rice_samples.specs.Parameters.{Parameters, value_at, value_count, values_at, width}
-use Rattle.rice_samples.specs.bytes.SampleReader.{GivesSamples}
-use Rattle.rice_samples.proofs.lemmas.setting.ValuesAtLevels.{length-values}
-use Rattle.rice_stream.specs.EncodingState.{seen, afresh, FailsIn, IsEncodingOf}
-use Rattle.rice_stream.specs.Encodes.{fault_at, EncodesBetween}
-use Rattle.rice_stream.specs.declared.outcome.Fault.{Fault}
-use Rattle.rice_stream.proofs.lemmas.EncodingLemmas.{settled_by}
-use Rattle.rice_stream.proofs.lemmas.EncodingEnds.{within_early, within_all, few_given, reads_further, reads_none, reading_ends, reading_fails, finish_ends, writing_ends}
+use Rattle.rice_samples.specs.Parameters.{Parameters, width}
+use Rattle.rice_samples.proofs.lemmas.bytes.SpellingLengths.{narrow_width, some_width}
+use Rattle.rice_stream.specs.EncodingState.{afresh, IsEncodingOf, Pushes, TakesAll}
+use Rattle.rice_stream.specs.WaitingBytes.{with_last}
+use Rattle.rice_stream.specs.Encodes.{EncodesBetween}
+use Rattle.rice_stream.specs.declared.outcome.Fault.TheVariants.{SampleCut}
+use Rattle.rice_stream.specs.Feeding.{IsSeam, encoding_at}
+use Rattle.rice_stream.specs.declared.seam.Seam.{Seam}
+use Rattle.rice_stream.proofs.lemmas.EncodingLemmas.{nothing_early, settled_by}
+use Rattle.rice_stream.proofs.lemmas.Seams.{encoding_is_resumed}
+use Rattle.rice_stream.proofs.lemmas.EncodingEnds.{within_early, within_all, few_given, draws_on, takes_on, rest_is, drawing_ends, drawing_fails, cut_ends, finish_ends, pushing_ends, push_fails, push_within}
 use Rattle.rice_stream.proofs.encoding.encode_by.Goals as goal
 
--- so many samples are taken
-taken_count : (s : Parameters) (levels : List ℕ) (n : ℕ) → n ≤ length levels → (length (take n levels) ≡ n) × (length (take n (values_at s levels)) ≡ n)
-taken_count s levels n le = (length-take-le n levels le, length-take-le n (values_at s levels) (omega (arith, length-values s levels)))
+-- bytes of which there are none,
+empty : (l : List ℕ) → true ≡ (length l == 0) → l ≡ []
+empty [] e = refl
+empty (x ∷ l) e = absurd (subst IsTrue e tt)
+
+-- or some
+filled : (l : List ℕ) → false ≡ (length l == 0) → 0 < length l
+filled [] e = absurd (subst IsTrue (sym e) tt)
+filled (x ∷ l) e = omega arith
+
+-- a block has samples
+some_block : (s : Parameters) {seam : Seam} → IsSeam s seam [] → 1 ≤ s.block
+some_block s h = let legal = h.taken.holds.legal in grind (arith, legal.block)
+
+pub resume-encoding-requires : goal.resume-encoding-requires
+resume-encoding-requires g c = ([], c.new-seam.ensures)
+
+pub put_bits_of_seam-requires : goal.put_bits_of_seam-requires
+put_bits_of_seam-requires g c = (c.args.setting.now, [], c.new-seam.ensures, c.resume-encoding.ensures)
 
 pub encode_all-init : goal.encode_all-init
-encode_all-init g c = record {
-  runs = record {
-    bytes = [];
-    samples = [];
-    setting = ap (λ r. r.setting) c.new-samples.ensures;
-    reads = record { split = ap (λ r. r.waiting) (sym c.new-samples.ensures); legal = λ k d lt. absurd (omega arith) };
-    count = ap (λ r. r.given) c.new-samples.ensures;
-    gave = Consumes-nil (g.I.Intake.left c.args.intake.now);
-    holds = c.new-encoding.ensures (g.O.Outlet.taken c.args.outlet.now);
-  };
-  reads = refl;
-  writes = refl;
-}
+encode_all-init g c =
+    let s = c.args.setting.now in
+    let now = g.O.Outlet.taken c.args.outlet.now in
+    let seam = c.new-seam.result in
+    record {
+      value = encoding_at s seam;
+      sees = c.put_bits_of_seam.ensures s c.resume-encoding.ensures;
+      runs = record {
+        bytes = [];
+        samples = [];
+        reads = record { split = ap (λ r. r.waiting) (sym c.new-input.ensures); legal = λ k d lt. absurd (omega arith) };
+        count = ap (λ r. r.given) c.new-input.ensures;
+        gave = Consumes-nil (g.I.Intake.left c.args.intake.now);
+        holds = subst (λ l. IsEncodingOf s (record { before = l; state = now }) now (encoding_at s seam) []) (nothing_early s (some_block s c.new-seam.ensures)) (encoding_is_resumed s seam [] now c.new-seam.ensures);
+      };
+      few = omega (arith, ap (λ r. length r.waiting) c.new-input.ensures, some_width s);
+      reads = refl;
+      writes = refl;
+    }
 
+pub draw-requires-clause-few : goal.draw-requires-clause-few
+draw-requires-clause-few g c = omega (arith, c.encode_all.invariant.few, narrow_width c.args.setting.now)
+
+-- the intake gives no more
 pub returns-in-Err-clause-call : goal.returns-in-Err-clause-call
 returns-in-Err-clause-call g c =
     let i = c.encode_all.invariant in
-    let fault = c.fault_at.ensures ∙ ap (fault_at c.in-Err.fault) c.taken.ensures in
-    reading_ends c.next_levels.new.self c.in-Err.fault i.runs c.in-Err.ensures.err c.in-Err.ensures.limits.0 c.in-Err.ensures.limits.1
-    (λ xs h. c.stopped.ensures.told c.args.setting.now xs h) (c.stopped.ensures.fault ∙ ap Some fault)
+    drawing_ends c.draw.new.self c.in-Err.fault i.runs i.few c.in-Err.ensures.err c.in-Err.ensures.limit (λ xs k. c.stopped.ensures.told i.value c.args.setting.now xs i.sees k) c.stopped.ensures.fault
+
+pub returns-in-Err-clause-failures : goal.returns-in-Err-clause-failures
+returns-in-Err-clause-failures g c =
+    let i = c.encode_all.invariant in
+    drawing_fails c.in-Err.fault (g.I.Intake.failed c.draw.new.intake) _ _ _ _ c.in-Err.ensures.err c.stopped.ensures.fault c.in-Err.ensures.failures i.reads i.writes
 
 pub returns-in-Err-clause-bounds : goal.returns-in-Err-clause-bounds
 returns-in-Err-clause-bounds g c =
     let s = c.args.setting.now in
-    let runs = c.encode_all.invariant.runs in
-    let k = runs.holds.counts in
-    within_early s c.stopped.result.report runs.samples (settled_by s (seen g.C.TakesLevels.state c.encode_all.encoding) runs.samples k) (c.stopped.ensures.told s runs.samples k)
+    let i = c.encode_all.invariant in
+    let k = i.runs.holds.counts in
+    within_early s c.stopped.result.report i.runs.samples (settled_by s i.value i.runs.samples k) (c.stopped.ensures.told i.value s i.runs.samples i.sees k)
 
+-- all is given
 pub finish-requires : goal.finish-requires
 finish-requires g c =
-    let s = c.args.setting.now in
     let i = c.encode_all.invariant in
     let start = g.O.Outlet.taken c.args.outlet.now in
-    let few = few_given i.runs c.in-Ok.ensures.gives in
-    record { ready = (s, afresh start, i.runs.samples, i.runs.holds, omega (arith, few, c.in-Ok.ensures.limits.1)); writes = omega (arith, c.requires.writes, i.writes) }
+    let runs = draws_on i.runs c.in-Ok.ensures.ok in
+    record {
+      ready = (i.value, i.sees, c.args.setting.now, afresh start, runs.samples, runs.holds, omega (arith, few_given runs, c.in-Ok.ensures.limit));
+      writes = omega (arith, c.requires.writes, i.writes);
+    }
 
+pub returns-then-is_empty-clause-call : goal.returns-then-is_empty-clause-call
+returns-then-is_empty-clause-call g c =
+    let s = c.args.setting.now in
+    let i = c.encode_all.invariant in
+    let runs = draws_on i.runs c.in-Ok.ensures.ok in
+    let did = c.finish.ensures.did i.value s (afresh (g.O.Outlet.taken c.args.outlet.now)) runs.samples i.sees runs.holds in
+    finish_ends runs (c.in-Ok.ensures.end c.if-count-eq0.true) (sym c.waiting.ensures ∙ empty c.waiting.result.now c.if-is_empty.ensures) c.in-Ok.ensures.limit did.0 did.1
+
+pub returns-then-is_empty-clause-bounds : goal.returns-then-is_empty-clause-bounds
+returns-then-is_empty-clause-bounds g c =
+    let s = c.args.setting.now in
+    let i = c.encode_all.invariant in
+    let runs = i.runs in
+    let did = c.finish.ensures.did i.value s (afresh (g.O.Outlet.taken c.args.outlet.now)) runs.samples i.sees runs.holds in
+    within_all s c.finish.result.report runs.samples (settled_by s i.value runs.samples runs.holds.counts) did.0
+
+-- a sample is cut
 pub returns-then-count-eq0-clause-call : goal.returns-then-count-eq0-clause-call
 returns-then-count-eq0-clause-call g c =
     let s = c.args.setting.now in
-    let left = g.I.Intake.left c.encode_all.intake in
-    let new = g.I.Intake.left c.next_levels.new.intake in
-    let start = g.O.Outlet.taken c.args.outlet.now in
-    let values = values_at c.encode_all.samples.setting c.next_levels.new.levels in
-    let gives = subst (λ (n : ℕ). GivesSamples c.encode_all.samples c.next_levels.new.self left new (take n values)) c.if-count-eq0.true c.in-Ok.ensures.gives in
-    let runs = reads_none c.encode_all.invariant.runs gives in
-    let did = c.finish.ensures.did s (afresh start) runs.samples runs.holds in
-    let end = c.in-Ok.ensures.end c.if-count-eq0.true in
-    finish_ends runs end.1 end.0 c.in-Ok.ensures.limits.1 did.0 did.1
+    let i = c.encode_all.invariant in
+    let d = c.in-Ok.ensures.ok in
+    let runs = draws_on i.runs d in
+    let o = c.stopped-then-count-eq0 in
+    let few : length c.draw.new.self.waiting < width s = omega (arith, i.few, ap length d.waiting, length-append c.encode_all.input.waiting d.bytes, d.number, c.if-count-eq0.true) in
+    let some : 0 < length c.draw.new.self.waiting = omega (arith, filled c.waiting.result.now c.if-is_empty.ensures, ap length c.waiting.ensures) in
+    subst (EncodesBetween s (g.I.Intake.left c.args.intake.now) (g.I.Intake.left c.draw.new.intake) (g.O.Outlet.taken c.args.outlet.now) (g.O.Outlet.taken c.encode_all.outlet) o.result.report)
+    (sym (o.ensures.fault ∙ ap (λ n. Some (SampleCut n)) (c.taken-index.ensures ∙ sym i.sees.samples)))
+    (cut_ends runs few c.in-Ok.ensures.limit (λ xs k. o.ensures.told i.value s xs i.sees k) some (c.in-Ok.ensures.end c.if-count-eq0.true))
 
 pub returns-then-count-eq0-clause-bounds : goal.returns-then-count-eq0-clause-bounds
 returns-then-count-eq0-clause-bounds g c =
     let s = c.args.setting.now in
-    let runs = c.encode_all.invariant.runs in
-    let did = c.finish.ensures.did s (afresh (g.O.Outlet.taken c.args.outlet.now)) runs.samples runs.holds in
-    within_all s c.finish.result.report runs.samples (settled_by s (seen g.C.TakesLevels.state c.encode_all.encoding) runs.samples runs.holds.counts) did.0
-
-pub push_all_levels-requires : goal.push_all_levels-requires
-push_all_levels-requires g c =
-    let s = c.args.setting.now in
     let i = c.encode_all.invariant in
-    let start = g.O.Outlet.taken c.args.outlet.now in
-    let says = c.in-Ok.ensures in
-    let few = few_given i.runs says.gives in
-    let n = taken_count c.encode_all.samples.setting c.next_levels.new.levels c.in-Ok.count says.count in record {
+    let k = i.runs.holds.counts in
+    within_early s c.stopped-then-count-eq0.result.report i.runs.samples (settled_by s i.value i.runs.samples k) (c.stopped-then-count-eq0.ensures.told i.value s i.runs.samples i.sees k)
+
+pub push_bytes-requires : goal.push_bytes-requires
+push_bytes-requires g c =
+    let i = c.encode_all.invariant in
+    let runs = draws_on i.runs c.in-Ok.ensures.ok in
+    record {
       ready = record {
-        setting = s;
-        start = afresh start;
-        before = i.runs.samples;
-        holds = i.runs.holds;
-        legal = subst (All (λ l. l < value_count s)) (sym c.front.ensures)
-            (subst (λ (s : Parameters). All (λ l. l < value_count s) (take c.in-Ok.count c.next_levels.new.levels)) i.runs.setting says.legal);
-        few = omega (arith, few, n.0, n.1, ap length c.front.ensures, says.limits.1);
+        value = i.value;
+        sees = i.sees;
+        start = afresh (g.O.Outlet.taken c.args.outlet.now);
+        before = runs.samples;
+        holds = runs.holds;
+        few = omega (arith, few_given runs, c.in-Ok.ensures.limit, ap length c.waiting-in-encode_all.ensures);
       };
       writes = omega (arith, c.requires.writes, i.writes);
     }
 
-pub encode_all-smaller : goal.encode_all-smaller
-encode_all-smaller g c =
+-- the bytes are not all taken
+pub returns-in-Err-push_bytes-clause-call : goal.returns-in-Err-push_bytes-clause-call
+returns-in-Err-push_bytes-clause-call g c =
     let s = c.args.setting.now in
-    let runs = c.encode_all.invariant.runs in
+    let i = c.encode_all.invariant in
     let start = g.O.Outlet.taken c.args.outlet.now in
-    let says = c.in-Ok.ensures in
-    let few = few_given runs says.gives in
-    let n = taken_count c.encode_all.samples.setting c.next_levels.new.levels c.in-Ok.count says.count in
-    let more = c.front.result in
-    let all = c.in-Ok-push_all_levels.ensures.ok s (afresh start) runs.samples runs.holds in
-    let front = ap length c.front.ensures in
-    omega (arith, few, n.0, n.1, front, says.limits.1, runs.holds.counts.samples, all.counts.samples, length-append runs.samples (values_at s more), length-values s more, c.if-count-eq0.false)
+    let new = g.O.Outlet.taken c.push_bytes.new.outlet in
+    let runs = draws_on i.runs c.in-Ok.ensures.ok in
+    let q = c.in-Err-push_bytes.ensures.did i.value (afresh start) runs.samples i.sees runs.holds in
+    let o = c.stopped-in-Err-push_bytes in
+    let fault = c.in-Err-push_bytes.fault in
+    let stops = subst (λ (l : List ℕ). Pushes {T = Unit {0}} s (afresh start) new q.0 runs.samples l (Err fault)) c.waiting-in-encode_all.ensures q.2 in
+    pushing_ends fault runs stops c.in-Ok.ensures.waits c.in-Ok.ensures.limit (λ xs k. o.ensures.told q.0 s xs q.1 k) o.ensures.fault
+
+pub returns-in-Err-push_bytes-clause-failures : goal.returns-in-Err-push_bytes-clause-failures
+returns-in-Err-push_bytes-clause-failures g c =
+    let i = c.encode_all.invariant in
+    let runs = draws_on i.runs c.in-Ok.ensures.ok in
+    let q = c.in-Err-push_bytes.ensures.did i.value (afresh (g.O.Outlet.taken c.args.outlet.now)) runs.samples i.sees runs.holds in
+    push_fails (g.O.Outlet.taken c.push_bytes.new.outlet) q.0 runs.samples c.waiting-in-encode_all.result.now (g.O.Outlet.failed c.push_bytes.new.outlet)
+    (c.in-Ok.ensures.failures ∙ i.reads) i.writes (record { pushed = q.2; fails = c.in-Err-push_bytes.ensures.failures }) c.stopped-in-Err-push_bytes.ensures.fault
+
+pub returns-in-Err-push_bytes-clause-bounds : goal.returns-in-Err-push_bytes-clause-bounds
+returns-in-Err-push_bytes-clause-bounds g c =
+    let s = c.args.setting.now in
+    let i = c.encode_all.invariant in
+    let start = g.O.Outlet.taken c.args.outlet.now in
+    let runs = draws_on i.runs c.in-Ok.ensures.ok in
+    let q = c.in-Err-push_bytes.ensures.did i.value (afresh start) runs.samples i.sees runs.holds in
+    push_within (afresh start) (g.O.Outlet.taken c.push_bytes.new.outlet) q.0 c.in-Err-push_bytes.fault runs.samples c.waiting-in-encode_all.result.now
+    (λ xs k. c.stopped-in-Err-push_bytes.ensures.told q.0 s xs q.1 k) q.2
 
 pub encode_all-preserved : goal.encode_all-preserved
 encode_all-preserved g c =
     let s = c.args.setting.now in
     let i = c.encode_all.invariant in
-    let left = g.I.Intake.left c.encode_all.intake in
-    let new = g.I.Intake.left c.next_levels.new.intake in
     let start = g.O.Outlet.taken c.args.outlet.now in
-    let taken = g.O.Outlet.taken c.push_all_levels.new.outlet in
-    let levels = c.next_levels.new.levels in
-    let n = c.in-Ok.count in
-    let ys = take n (values_at s levels) in
-    let gives = subst (λ (s : Parameters). GivesSamples c.encode_all.samples c.next_levels.new.self left new (take n (values_at s levels))) i.runs.setting c.in-Ok.ensures.gives in
-    let holds = subst (λ (l : List ℤ). IsEncodingOf s (afresh start) taken (seen g.C.TakesLevels.state c.push_all_levels.new.self) (i.runs.samples ++ l))
-    (ap (values_at s) c.front.ensures ∙ sym (take-map (value_at s) n levels))
-    (c.in-Ok-push_all_levels.ensures.ok s (afresh start) i.runs.samples i.runs.holds) in
+    let new = g.O.Outlet.taken c.push_bytes.new.outlet in
+    let runs = draws_on i.runs c.in-Ok.ensures.ok in
+    let r = c.draw.new.self in
+    let q = c.in_default.ensures.did i.value (afresh start) runs.samples i.sees runs.holds in
+    let t = subst (λ (l : List ℕ). TakesAll s (afresh start) new q.0 runs.samples l) c.waiting-in-encode_all.ensures q.2 in
+    let kept : c.keep_last.new.self ≡ with_last (length r.waiting % width s) r =
+    c.keep_last.ensures ∙ (λ i. with_last (length (c.waiting-in-encode_all-2.ensures i) % c.width-width.ensures.value i) r) in
+    let rest = (rest_is s r.waiting t.rest t.more t.reads t.few).1 in
     record {
-      runs = reads_further i.runs gives holds;
+      value = q.0;
+      sees = q.1;
+      runs = takes_on runs t kept;
+      few = omega (arith, ap (λ r. length r.waiting) kept, ap length rest, t.few);
       reads = c.in-Ok.ensures.failures ∙ i.reads;
-      writes = c.in-Ok-push_all_levels.ensures.calm ∙ i.writes;
+      writes = c.in_default.ensures.failures ∙ i.writes;
     }
-
-pub returns-in-Err-push_all_levels-clause-call : goal.returns-in-Err-push_all_levels-clause-call
-returns-in-Err-push_all_levels-clause-call g c =
-    let s = c.args.setting.now in
-    let runs = c.encode_all.invariant.runs in
-    let left_old = g.I.Intake.left c.args.intake.now in
-    let left = g.I.Intake.left c.encode_all.intake in
-    let new = g.I.Intake.left c.next_levels.new.intake in
-    let start = g.O.Outlet.taken c.args.outlet.now in
-    let taken = g.O.Outlet.taken c.push_all_levels.new.outlet in
-    let levels = c.next_levels.new.levels in
-    let says = c.in-Ok.ensures in
-    let n = c.in-Ok.count in
-    let ys = take n (values_at s levels) in
-    let o = c.stopped-in-Err-push_all_levels in
-    let gives = subst (λ (s : Parameters). GivesSamples c.encode_all.samples c.next_levels.new.self left new (take n (values_at s levels))) runs.setting says.gives in
-    let fails = subst (λ (l : List ℤ). FailsIn s (afresh start) taken (seen g.C.TakesLevels.state c.push_all_levels.new.self) runs.samples l)
-    (ap (values_at s) c.front.ensures ∙ sym (take-map (value_at s) n levels))
-    (c.in-Err-push_all_levels.ensures.err s (afresh start) runs.samples runs.holds) in
-    let count : length ys ≡ n = (taken_count s levels n says.count).1 in
-    let piece : width s * n + length c.next_levels.new.self.waiting ≤ 4096 = subst (λ (s : Parameters). width s * n + length c.next_levels.new.self.waiting ≤ 4096) runs.setting says.piece in
-    subst (λ (f : Option Fault). EncodesBetween s left_old new start taken o.result.report f) (sym o.ensures.fault)
-    (writing_ends o.result.report runs gives fails (omega (arith, piece, ap (λ n. width s * n) count)) says.limits.1 (λ xs h. o.ensures.told s xs h))
-
-pub returns-in-Err-push_all_levels-clause-bounds : goal.returns-in-Err-push_all_levels-clause-bounds
-returns-in-Err-push_all_levels-clause-bounds g c =
-    let s = c.args.setting.now in
-    let runs = c.encode_all.invariant.runs in
-    let fails = c.in-Err-push_all_levels.ensures.err s (afresh (g.O.Outlet.taken c.args.outlet.now)) runs.samples runs.holds in
-    let xs = (runs.samples ++ fails.before) ++ fails.last ∷ [] in
-    let k = fails.fails.counts in
-    within_early s c.stopped-in-Err-push_all_levels.result.report xs (settled_by s (seen g.C.TakesLevels.state c.push_all_levels.new.self) xs k) (c.stopped-in-Err-push_all_levels.ensures.told s xs k)
-
-pub returns-in-Err-clause-failures : goal.returns-in-Err-clause-failures
-returns-in-Err-clause-failures g c =
-    let i = c.encode_all.invariant in
-    let fault = c.stopped.ensures.fault ∙ ap Some c.fault_at.ensures in
-    reading_fails c.in-Err.fault c.taken.result (g.I.Intake.failed c.next_levels.new.intake) fault c.in-Err.ensures.failures i.reads i.writes

@@ -1,14 +1,17 @@
-use Rattle.std.proofs.Common.{◌≡◌, ◌-◌, ◌^◌}
-use Rattle.rice_stream.specs.EncodingState.{seen, EncodingProgress}
+use Rattle.std.proofs.Common.{◌≡◌, ◌-◌, ◌^◌, ◌<◌, length}
+use Rattle.rice_samples.specs.Parameters.{width}
+use Rattle.rice_stream.specs.EncodingState.{EncodingValue, Sees, EncodingProgress}
 use Rattle.rice_stream.proofs.encoding.encode_by.Given as goal
 
 abbrev pub invariant-encode_all : goal.invariant-encode_all
 invariant-encode_all g l = record {
-  runs : EncodingProgress l.setting (g.I.Intake.left l.fn.intake) (g.I.Intake.left l.intake) (g.O.Outlet.taken l.fn.outlet) (g.O.Outlet.taken l.outlet)
-      (seen g.C.TakesLevels.state l.encoding) l.samples;
+  value : EncodingValue;
+  sees : Sees g.C.TakesBytes.stands l.encoding value;
+  runs : EncodingProgress l.setting (g.I.Intake.left l.fn.intake) (g.I.Intake.left l.intake) (g.O.Outlet.taken l.fn.outlet) (g.O.Outlet.taken l.outlet) value l.input;
+  few : length l.input.waiting < width l.setting;
   reads : g.I.Intake.failed l.intake ≡ g.I.Intake.failed l.fn.intake;
   writes : g.O.Outlet.failed l.outlet ≡ g.O.Outlet.failed l.fn.outlet;
 }
 
 abbrev pub decreases-encode_all : goal.decreases-encode_all
-decreases-encode_all g l = 2 ^ 48 - (seen g.C.TakesLevels.state l.encoding).samples
+decreases-encode_all g l = 2 ^ 48 - l.input.given

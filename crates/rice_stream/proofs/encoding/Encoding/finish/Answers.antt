@@ -1,5 +1,5 @@
 use Rattle.std.proofs.Common.{subst, sym, List, ℕ}
-use Rattle.rice_stream.specs.EncodingState.{seen, Follows}
+use Rattle.rice_stream.specs.EncodingState.{Follows}
 use Rattle.rice_bits.specs.Bits.{padded_bits, whole_bytes}
 use Rattle.rice_code.specs.code.Code.{code, output, early_output}
 use Rattle.rice_code.specs.encode.Coder.{complete_code}
@@ -8,18 +8,18 @@ use Rattle.rice_stream.proofs.lemmas.EncodingLemmas.{Follows-trans, part_follows
 use Rattle.rice_stream.proofs.encoding.Encoding.finish.Goals as goal
 
 pub returns-in-Ok-clause-did : goal.returns-in-Ok-clause-did
-returns-in-Ok-clause-did g c s old xs h =
+returns-in-Ok-clause-did g c v s old xs sees h =
     let now = g.O.Outlet.taken c.args.outlet.now in
     let new = g.O.Outlet.taken c.write_whole.new.outlet in
-    let r = c.code_rest_and_fill-report.ensures s old now xs h in
-    let sink = (seen g.C.TakesLevels.state c.code_rest_and_fill-report.new.self).sink in
+    let r = c.code_rest_and_fill-report.ensures v s old now xs sees h in
+    let sink = c.code_rest_and_fill-report.new.self.sink in
     let more = more_bytes (complete_code s xs) (padded_bits (code s xs)) sink (sym r.1) in
     (r.0, subst (λ (l : List ℕ). Follows old new l) (sym more) (Follows-trans old now new (early_output s xs) (whole_bytes sink) h.took c.in-Ok.ensures.ok.0))
 
 pub returns-in-Err-clause-did : goal.returns-in-Err-clause-did
-returns-in-Err-clause-did g c s old xs h =
+returns-in-Err-clause-did g c v s old xs sees h =
     let now = g.O.Outlet.taken c.args.outlet.now in
     let new = g.O.Outlet.taken c.write_whole.new.outlet in
-    let r = c.code_rest_and_fill-report.ensures s old now xs h in
-    let sink = (seen g.C.TakesLevels.state c.code_rest_and_fill-report.new.self).sink in
+    let r = c.code_rest_and_fill-report.ensures v s old now xs sees h in
+    let sink = c.code_rest_and_fill-report.new.self.sink in
     (r.0, part_follows old now new (early_output s xs) (whole_bytes sink) (output s xs) h.took c.in-Err.ensures.err.0 (more_bytes (complete_code s xs) (padded_bits (code s xs)) sink (sym r.1)))

@@ -1,18 +1,18 @@
-use Rattle.std.proofs.Common.{rules, refl, w64, FitsSigned, arith, ◌∙◌, ap}
+use Rattle.std.proofs.Common.{rules, refl, w64, FitsSigned, arith, ap, subst}
 use Rattle.std.proofs.lemmas.Int.{to_z-of_z}
-use Rattle.rice_code.specs.encode.OpenSegment.{state_between}
+use Rattle.rice_stream.specs.TakenBytes.{standing_between}
 use Rattle.rice_stream.proofs.lemmas.Seams.{few_steps_so_far}
 use Rattle.rice_stream.proofs.encoding.Encoding.resume.Goals as goal
 
 pub tick-requires : goal.tick-requires
-tick-requires g c = omega (arith, c.new-meter.ensures, few_steps_so_far c.args.setting c.args.seam.now c.requires.seam.0 c.requires.seam.1)
+tick-requires g c = omega (arith, c.new-meter.ensures, few_steps_so_far c.args.setting c.args.seam.now c.requires.0 c.requires.1)
 
 pub returns : goal.returns
 returns g c =
     let seam = c.args.seam.now in
     let fits : FitsSigned w64 seam.previous = search rules in
     record {
-      coder = c.resume.ensures ∙ ap (state_between c.args.setting seam.start) (to_z-of_z w64 seam.previous fits);
+      coder = λ bits steps. subst (λ p. g.C.TakesBytes.stands c.resume.result bits steps (standing_between c.args.setting seam.start p bits steps)) (to_z-of_z w64 seam.previous fits) (c.resume.ensures bits steps);
       sink = c.new.ensures;
       steps = omega (arith, c.tick.ensures, c.new-meter.ensures);
       samples = refl;

@@ -5,7 +5,7 @@ use Rattle.rice_samples.specs.Parameters.{value_at, width}
 use Rattle.rice_samples.specs.bytes.Spelling.{IsNoSpelling}
 use Rattle.rice_samples.proofs.lemmas.bytes.ReadLevels.{length-held, no_stop, reads_row}
 use Rattle.rice_samples.proofs.lemmas.bytes.SpellingLengths.{some_width}
-use Rattle.rice_samples.proofs.lemmas.bytes.SampleReaderLemmas.{stops_first}
+use Rattle.rice_samples.proofs.lemmas.bytes.ReadSamples.{stops_first}
 use Rattle.rice_samples.proofs.fast.level_row.LevelRow.read_first.Goals as goal
 
 pub returns-in-Some-clause-reads : goal.returns-in-Some-clause-reads
