@@ -1,5 +1,6 @@
-use Rattle.std.proofs.Common.{arith, ◌≡◌, ◌==◌, ◌+◌, ◌*◌, ◌%◌, ◌<◌, ◌≤◌, ◌++◌, List, [], ◌∷◌, length, length-append, true, false, Err, IsTrue, refl, ap, sym, ◌∙◌, subst, ℕ, ℤ, Option, Some}
+use Rattle.std.proofs.Common.{arith, ◌≡◌, ◌==◌, ◌+◌, ◌*◌, ◌%◌, ◌<◌, ◌≤◌, ◌++◌, List, [], ◌∷◌, length, length-append, true, false, Err, refl, ap, sym, ◌∙◌, subst, ℕ, ℤ, Option, Some}
 use Rattle.std.proofs.KnownBytes.{Consumes-nil}
+use Rattle.std.proofs.lemmas.Bool.Decides.{nat_tests}
 use Rattle.rice_samples.specs.Parameters.{Parameters, width}
 use Rattle.rice_samples.proofs.lemmas.bytes.SpellingLengths.{narrow_width, some_width}
 use Rattle.rice_stream.specs.EncodingState.{afresh, IsEncodingOf, Pushes, TakesAll}
@@ -16,12 +17,11 @@ use Rattle.rice_stream.proofs.encoding.encode_by.Goals as goal
 -- bytes of which there are none,
 empty : (l : List ℕ) → true ≡ (length l == 0) → l ≡ []
 empty [] e = refl
-empty (x ∷ l) e = absurd (subst IsTrue e tt)
+empty (x ∷ l) e = absurd (let none : length (x ∷ l) ≡ 0 = grind (arith, nat_tests, e) in omega (arith, none))
 
 -- or some
 filled : (l : List ℕ) → false ≡ (length l == 0) → 0 < length l
-filled [] e = absurd (subst IsTrue (sym e) tt)
-filled (x ∷ l) e = omega arith
+filled l e = grind (arith, nat_tests, e)
 
 -- a block has samples
 some_block : (s : Parameters) {seam : Seam} → IsSeam s seam [] → 1 ≤ s.block
