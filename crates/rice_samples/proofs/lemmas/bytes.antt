@@ -3,6 +3,7 @@ pub mod BufferOfReader
 pub mod LevelsSpelledInByteLanes
 pub mod SampleReaderLemmas
 pub mod LevelPatterns
+pub mod LevelsInLanes
 pub mod ReadLevels
 pub mod SamplesInTurn
 pub mod UnusedBits
