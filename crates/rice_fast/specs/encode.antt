@@ -2,4 +2,5 @@
 pub mod HighParts
 pub mod LowParts
 pub mod Sequences
+pub mod Standing
 pub mod Stops
