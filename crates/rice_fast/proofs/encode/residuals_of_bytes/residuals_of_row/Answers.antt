@@ -16,7 +16,7 @@ pub ranks-requires : goal.ranks-requires
 ranks-requires g c =
     let values = c.number_of_values.ensures in
     let above : c.number_of_values.result - 1 + 1 ≡ value_count c.args.setting.now = omega (arith, values.value, values.range) in
-    greatest_fits (c.number_of_values.result - 1) c.args.setting.now.bits g.L.Lanes.bits above c.requires
+    record { greatest = greatest_fits (c.number_of_values.result - 1) c.args.setting.now.bits g.L.Lanes.bits above c.requires }
 
 pub returns : goal.returns
 returns g c = λ within legal.
@@ -25,4 +25,4 @@ returns g c = λ within legal.
     let above : c.number_of_values.result - 1 + 1 ≡ value_count s = omega (arith, values.value, values.range) in
     let e : s.preprocess ≡ true = search rules in
     row_ranked s (c.number_of_values.result - 1) g.L.Lanes.COUNT (get_or (g.L.Lanes.numbers c.args.earlier) (g.L.Lanes.COUNT - 1) 0) (g.L.Lanes.numbers c.args.levels)
-    e above (g.met.L.Lanes.len c.args.levels) within legal c.before.ensures c.ranks.ensures
+    e above (g.met.L.Lanes.len c.args.levels) within legal c.before-2.ensures c.ranks.ensures
