@@ -114,8 +114,8 @@ fn residuals_of_row<L: Lanes>(setting: &Setting, earlier: L, levels: L) -> L
     ensures { get_or (L.numbers earlier) (L.COUNT - 1) 0 < value_count setting.now →
         Each1 (λ l. l < value_count setting.now) (L.numbers levels) →
         L.numbers result ≡ later_residuals setting.now
-            (value_at setting.now (get_or (L.numbers earlier) (L.COUNT - 1) 0))
-            (values_at setting.now (L.numbers levels)) }
+        (value_at setting.now (get_or (L.numbers earlier) (L.COUNT - 1) 0))
+        (values_at setting.now (L.numbers levels)) }
 {
     if !setting.preprocess() {
         return patterns_of_levels(setting, levels);

@@ -1,6 +1,8 @@
-use Rattle.std.proofs.Common.{◌≡◌, ◌+◌, ◌-◌, ◌≤◌, ◌∙◌, true, false, arith, get_or, rules, sym}
+use Rattle.std.proofs.Common.{◌≡◌, ◌+◌, ◌-◌, ◌≤◌, ◌∙◌, true, false, arith, get_or, map, rules, sym}
 use Rattle.rice_samples.specs.Parameters.{value_at, value_count, values_at}
+use Rattle.rice_samples.specs.predict.Residuals.{pattern}
 use Rattle.rice_samples.proofs.lemmas.bytes.LevelsInLanes.{greatest_fits}
+use Rattle.rice_code.specs.encode.OpenSegment.{later_residuals}
 use Rattle.rice_code.proofs.lemmas.encode.SeveralSamplesHeld.{later_patterns}
 use Rattle.rice_fast.proofs.lemmas.encode.ResidualsOfBytes.{row_ranked}
 use Rattle.rice_fast.proofs.encode.residuals_of_bytes.residuals_of_row.Goals as goal
@@ -9,8 +11,10 @@ pub returns-then-not-preprocess : goal.returns-then-not-preprocess
 returns-then-not-preprocess g c = λ within legal.
     let s = c.args.setting.now in
     let b = get_or (g.L.Lanes.numbers c.args.earlier) (g.L.Lanes.COUNT - 1) 0 in
+    let levels = g.L.Lanes.numbers c.args.levels in
     let e : s.preprocess ≡ false = search rules in
-    c.patterns_of_levels.ensures legal ∙ sym (later_patterns s (value_at s b) (values_at s (g.L.Lanes.numbers c.args.levels)) e)
+    let patterns : map (pattern s) (values_at s levels) ≡ later_residuals s (value_at s b) (values_at s levels) = sym (later_patterns s (value_at s b) (values_at s levels) e) in
+    c.patterns_of_levels.ensures legal ∙ patterns
 
 pub ranks-requires : goal.ranks-requires
 ranks-requires g c =

@@ -1,4 +1,4 @@
-use Rattle.std.proofs.Common.{◌≡◌, ◌∙◌, ap, arith, sym}
+use Rattle.std.proofs.Common.{◌∙◌, ap, arith, sym}
 use Rattle.std.specs.Prelude.{flat_map}
 use Rattle.rice_samples.specs.bytes.Spelling.{ordered_bytes}
 use Rattle.rice_samples.proofs.lemmas.predict.HalfLanes.{two_bytes}

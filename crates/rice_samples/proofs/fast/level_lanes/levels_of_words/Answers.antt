@@ -1,5 +1,4 @@
 use Rattle.std.proofs.Common.{◌*◌, ◌≤◌, arith}
-use Rattle.rice_samples.specs.Parameters.{Parameters}
 use Rattle.rice_samples.proofs.lemmas.bytes.LevelsInLanes.{greatest_fits, offset_fits, words_spelled}
 use Rattle.rice_samples.proofs.fast.level_lanes.levels_of_words.Goals as goal
 

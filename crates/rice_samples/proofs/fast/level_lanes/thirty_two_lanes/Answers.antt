@@ -1,4 +1,4 @@
-use Rattle.std.proofs.Common.{◌<◌, ◌≤◌, arith, get_or, length, subst, sym, List, ℕ}
+use Rattle.std.proofs.Common.{◌<◌, arith, get_or, subst, sym, List, ℕ}
 use Rattle.std.proofs.lemmas.List.{take_all}
 use Rattle.rice_samples.proofs.fast.level_lanes.thirty_two_lanes.Goals as goal
 

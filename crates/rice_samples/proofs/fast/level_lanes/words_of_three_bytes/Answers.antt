@@ -1,4 +1,4 @@
-use Rattle.std.proofs.Common.{◌≡◌, ◌++◌, ◌∙◌, drop, take}
+use Rattle.std.proofs.Common.{◌++◌, ◌∙◌, drop, take}
 use Rattle.std.specs.Simd.Lanes.{digits_l, number_l}
 use Rattle.rice_samples.proofs.lemmas.blocks.EightsInLanes.{map_same}
 use Rattle.rice_samples.proofs.lemmas.bytes.LevelsInLanes.{ThreesOfHalves, halves_fit, halves_read}

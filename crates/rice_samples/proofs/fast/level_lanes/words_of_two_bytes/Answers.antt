@@ -1,4 +1,4 @@
-use Rattle.std.proofs.Common.{◌≡◌, ◌∙◌, ap, sym}
+use Rattle.std.proofs.Common.{◌∙◌, ap}
 use Rattle.std.specs.Prelude.{flat_map}
 use Rattle.std.specs.Simd.Lanes.{digits_l, number_l}
 use Rattle.rice_samples.specs.bytes.Spelling.{ordered_bytes}
