@@ -1,5 +1,5 @@
 -- Samples that are read from bytes, and their residuals.
-use Rattle.std.proofs.Common.{◌≡◌, ℕ, zero, suc, ◌+◌, ◌-◌, ◌*◌, ◌%◌, ◌<◌, ◌≤◌, true, List, [], ◌∷◌, ◌++◌, length, take, drop, get_or, All, ap, refl, sym, subst, arith, ◌∙◌, append-nil, length-append, ℤ}
+use Rattle.std.proofs.Common.{◌≡◌, ℕ, ◌+◌, ◌-◌, ◌*◌, ◌<◌, ◌≤◌, true, List, [], ◌∷◌, ◌++◌, length, take, drop, get_or, All, ap, refl, sym, subst, arith, ◌∙◌, append-nil, length-append, ℤ}
 use Rattle.std.specs.Prelude.{bit_or, replicate, slice_range}
 use Rattle.std.specs.Simd.Lanes.{Each1, put_chunk, zip2}
 use Rattle.std.proofs.Math.Nat.{mul-le-mul_left}
@@ -7,7 +7,7 @@ use Rattle.std.proofs.Math.Seq.{take-add}
 use Rattle.std.proofs.lemmas.List.{get_or-replicate, length-drop, length-take-le, map-append, take-append-drop, take_all}
 use Rattle.std.proofs.lemmas.Simd.{Each1-get_or, Each1-weaker, take_more_put_chunk}
 use Rattle.rice_samples.specs.Parameters.{Parameters, value_at, value_count, values_at, width}
-use Rattle.rice_samples.specs.predict.Residuals.{last_number, last_of, pattern, rank, rank_below, ranks_below}
+use Rattle.rice_samples.specs.predict.Residuals.{last_number, last_of, rank_below, ranks_below}
 use Rattle.rice_samples.specs.bytes.Spelling.{ReadsSamples, spellings}
 use Rattle.rice_samples.proofs.lemmas.blocks.EightsInLanes.{parts_below}
 use Rattle.rice_samples.proofs.lemmas.bytes.LevelsInLanes.{Each1-append}

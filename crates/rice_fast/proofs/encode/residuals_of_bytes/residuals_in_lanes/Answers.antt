@@ -1,5 +1,4 @@
-use Rattle.std.proofs.Common.{◌≡◌, ◌+◌, ◌-◌, ◌*◌, ◌<◌, ◌≤◌, ◌∙◌, ap, arith, length, refl, sym}
-use Rattle.std.proofs.Math.Nat.{mul-le-mul_left}
+use Rattle.std.proofs.Common.{◌≡◌, ◌+◌, ◌-◌, ◌*◌, ◌≤◌, ◌∙◌, ap, arith, length, refl, sym}
 use Rattle.std.proofs.lemmas.Simd.{length-put_chunk}
 use Rattle.rice_samples.specs.Parameters.{value_count, width}
 use Rattle.rice_samples.proofs.lemmas.bytes.LevelsInLanes.{greatest_fits, level_fits}

@@ -1,4 +1,4 @@
-use Rattle.std.proofs.Common.{◌≡◌, ◌+◌, ◌-◌, ◌≤◌, ◌∙◌, true, false, arith, get_or, map, rules, sym}
+use Rattle.std.proofs.Common.{◌≡◌, ◌+◌, ◌-◌, ◌∙◌, true, false, arith, get_or, map, rules, sym}
 use Rattle.rice_samples.specs.Parameters.{value_at, value_count, values_at}
 use Rattle.rice_samples.specs.predict.Residuals.{pattern}
 use Rattle.rice_samples.proofs.lemmas.bytes.LevelsInLanes.{greatest_fits}
