@@ -2,5 +2,6 @@
 pub mod HighParts
 pub mod LowParts
 pub mod Sequences
+pub mod Standing
 pub mod Stops
 pub mod Standing

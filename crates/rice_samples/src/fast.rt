@@ -2,6 +2,7 @@
 
 pub mod block;
 pub mod lanes;
+pub mod level_lanes;
 pub mod level_row;
 pub mod levels;
 pub mod pattern_lanes;

@@ -20,11 +20,18 @@ pub use fast::lanes::Lanes;
 pub use fast::lanes::bytes::Bytes;
 pub use fast::lanes::halves::Halves;
 pub use fast::lanes::words::Words;
+pub use fast::level_lanes::{
+    levels_in_bytes, levels_in_halves, levels_in_words, levels_of_bytes_in_halves,
+    levels_of_threes_in_words, patterns_of_levels,
+};
 pub use fast::level_row::LevelRow;
 pub use fast::levels::Levels;
 pub use fast::pattern_lanes::bytes_of_patterns;
 pub use fast::residuals::Residuals;
-pub use fast::residuals_of_levels::from_levels::pattern_of_level;
+pub use fast::residuals_of_levels::from_levels::{
+    pattern_of_level, replace_by_patterns, replace_by_residuals,
+};
+pub use fast::residuals_of_levels::ranks::ranks;
 pub use fast::restoring::levels::level_of_pattern;
 pub use fast::restoring::near::running_sums;
 pub use fast::restoring::parts::{join_parts, near_levels_of_parts};

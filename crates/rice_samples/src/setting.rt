@@ -70,7 +70,7 @@ impl Model for Setting {
 }
 
 /// Returns the greatest level of samples of `bits` bits.
-fn greatest_level(bits: u32) -> u32
+pub(crate) fn greatest_level(bits: u32) -> u32
     requires { (1 ≤ bits) × (bits ≤ 32) }
     ensures { result + 1 ≡ 2 ^ bits }
 {

@@ -4,4 +4,5 @@ pub mod HighParts
 pub mod JoinedSequences
 pub mod JoinedWords
 pub mod LowParts
+pub mod ResidualsOfBytes
 pub mod Stops

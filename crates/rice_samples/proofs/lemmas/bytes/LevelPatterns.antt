@@ -54,35 +54,41 @@ one_pattern s v i now levels h k e r =
     take_more_set now i v h ∙ ((λ j. e j ++ r j ∷ []) ∙ sym (ap (map (pattern s)) values ∙ map-append (pattern s) (values_at s (take i levels)) (value_at s (get_or levels i 0) ∷ [])))
 
 -- back to a level
-level_again : (l o more : ℕ) → more ≤ 32 → l < 2 ^ more → o ≤ 2 ^ more → ((l + (2 ^ 32 - o)) % 2 ^ 32 % 2 ^ more + o) % 2 ^ more ≡ l
-level_again l o more h lt le =
-    let e : 32 ≡ 32 - more + more = omega arith in
-    let parts = pow-add 2 (32 - more) more in
-    let whole : 2 ^ 32 ≡ 2 ^ (32 - more) * 2 ^ more = ap (λ k. 2 ^ k) e ∙ parts in
-    let some = pow_pos (32 - more) in
-    let low : (l + (2 ^ 32 - o)) % 2 ^ 32 % 2 ^ more ≡ (l + (2 ^ 32 - o)) % 2 ^ more = ap (λ k. (l + (2 ^ 32 - o)) % 2 ^ k % 2 ^ more) e ∙ mod-mod-pow (l + (2 ^ 32 - o)) (32 - more) more in
-    ap (λ m. (m + o) % 2 ^ more) low ∙ (mod-add-mod (l + (2 ^ 32 - o)) (2 ^ more) o ∙ wraps (2 ^ (32 - more)) (2 ^ more) whole some lt le)
+level_again : (wide l o more : ℕ) → more ≤ wide → l < 2 ^ more → o ≤ 2 ^ more → ((l + (2 ^ wide - o)) % 2 ^ wide % 2 ^ more + o) % 2 ^ more ≡ l
+level_again wide l o more h lt le =
+    let e : wide ≡ wide - more + more = omega arith in
+    let parts = pow-add 2 (wide - more) more in
+    let whole : 2 ^ wide ≡ 2 ^ (wide - more) * 2 ^ more = ap (λ k. 2 ^ k) e ∙ parts in
+    let some = pow_pos (wide - more) in
+    let low : (l + (2 ^ wide - o)) % 2 ^ wide % 2 ^ more ≡ (l + (2 ^ wide - o)) % 2 ^ more = ap (λ k. (l + (2 ^ wide - o)) % 2 ^ k % 2 ^ more) e
+    ∙ mod-mod-pow (l + (2 ^ wide - o)) (wide - more) more in
+    ap (λ m. (m + o) % 2 ^ more) low ∙ (mod-add-mod (l + (2 ^ wide - o)) (2 ^ more) o ∙ wraps (2 ^ wide) (2 ^ (wide - more)) (2 ^ more) whole some lt le)
   where
-    wraps : (parts c : ℕ) → 2 ^ 32 ≡ parts * c → 0 < parts → l < c → o ≤ c → (l + (2 ^ 32 - o) + o) % c ≡ l
-    wraps parts c e some lt le =
-        let inside : o ≤ 2 ^ 32 = let m : 1 * c ≤ parts * c = mul-le-mul_right c some in omega arith in
-        let f : l + (2 ^ 32 - o) + o ≡ parts * c + l = omega arith in
+    wraps : (all parts c : ℕ) → all ≡ parts * c → 0 < parts → l < c → o ≤ c → (l + (all - o) + o) % c ≡ l
+    wraps all parts c e some lt le =
+        let inside : o ≤ all = let m : 1 * c ≤ parts * c = mul-le-mul_right c some in omega arith in
+        let f : l + (all - o) + o ≡ parts * c + l = omega arith in
         rw f (mod-mul-add parts c l lt)
 
--- the word in which the value at a level is spelled
-pub word_of_level : (s : Parameters) (more l o : ℕ) → 1 ≤ s.bits → s.bits ≤ more → more ≤ 32 → o ≡ offset s → l < value_count s
-    → (l + (2 ^ 32 - o)) % 2 ^ 32 % 2 ^ more ≡ twos_complement more (value_at s l)
-word_of_level s more l o h le few e lt =
+-- the word in which the value at a level is spelled, by a difference in more bits
+pub word_in_lane : (s : Parameters) (wide more l o : ℕ) → 1 ≤ s.bits → s.bits ≤ more → more ≤ wide → o ≡ offset s → l < value_count s
+    → (l + (2 ^ wide - o)) % 2 ^ wide % 2 ^ more ≡ twos_complement more (value_at s l)
+word_in_lane s wide more l o h le few e lt =
     let x = value_at s l in
     let sample = sample_at s l lt in
-    let wide : Parameters = record s { bits = more } in
+    let own : Parameters = record s { bits = more } in
     let value : IsValue more s.signed x = wider_value s.bits more s.signed x h le sample in
     let limit : o ≤ 2 ^ more = rw e (offset_limit s more h le) in
     let small : l < 2 ^ more = let m = pow_mono le in omega arith in
-    let word = (l + (2 ^ 32 - o)) % 2 ^ 32 % 2 ^ more in
-    same_offset word (twos_complement more x) (offset s) (2 ^ more) (mod_below ((l + (2 ^ 32 - o)) % 2 ^ 32) (2 ^ more) (pow_pos more))
-    (pattern_fits wide x (omega arith) value) (offset_limit s more h le)
-    (ap (λ m. (word + m) % 2 ^ more) (sym e) ∙ (level_again l o more few small limit ∙ sym (level_from_pattern s more x h le sample ∙ gap_above (least s) l)))
+    let word = (l + (2 ^ wide - o)) % 2 ^ wide % 2 ^ more in
+    same_offset word (twos_complement more x) (offset s) (2 ^ more) (mod_below ((l + (2 ^ wide - o)) % 2 ^ wide) (2 ^ more) (pow_pos more))
+    (pattern_fits own x (omega arith) value) (offset_limit s more h le)
+    (ap (λ m. (word + m) % 2 ^ more) (sym e) ∙ (level_again wide l o more few small limit ∙ sym (level_from_pattern s more x h le sample ∙ gap_above (least s) l)))
+
+-- and in 32 bits
+pub word_of_level : (s : Parameters) (more l o : ℕ) → 1 ≤ s.bits → s.bits ≤ more → more ≤ 32 → o ≡ offset s → l < value_count s
+    → (l + (2 ^ 32 - o)) % 2 ^ 32 % 2 ^ more ≡ twos_complement more (value_at s l)
+word_of_level s more l o h le few e lt = word_in_lane s 32 more l o h le few e lt
 
 -- the pattern of the sample at a level
 pub pattern_at_level : (s : Parameters) (l o greatest : ℕ) → 1 ≤ s.bits → s.bits ≤ 32 → l < value_count s → o ≡ offset s → greatest ≡ value_count s - 1

@@ -89,7 +89,7 @@ fn write_residuals_by_eights(setting: &Setting, p: u32, levels: &[u16], residual
 ///
 /// It is never inlined, so that what calls it for few samples, or for none, saves no registers for it.
 #[inline(never)]
-fn replace_by_residuals(setting: &Setting, p: u32, levels: &mut [u32])
+pub fn replace_by_residuals(setting: &Setting, p: u32, levels: &mut [u32])
     requires before { p < value_count setting.now }
     requires legal { All (λ l. l < value_count setting.now) levels.old }
     ensures { levels.new ≡ ranks_below (value_count setting.now) p levels.old }
@@ -128,7 +128,7 @@ pub(crate) fn write_patterns(setting: &Setting, levels: &Levels<'_>, patterns: &
 
 /// Replaces levels of samples by their patterns. It is never inlined either.
 #[inline(never)]
-fn replace_by_patterns(setting: &Setting, levels: &mut [u32])
+pub fn replace_by_patterns(setting: &Setting, levels: &mut [u32])
     requires { All (λ l. l < value_count setting.now) levels.old }
     ensures { levels.new ≡ map (pattern_of setting.now) (values_at setting.now levels.old) }
 {

@@ -1,0 +1,166 @@
+//! The residuals of samples, straight from their bytes.
+ghost use Rattle.std.specs.Prelude.{◌≡◌, ◌-◌, ◌*◌, ◌<◌, ◌≤◌, All, IfNone, IfSome, get_or, length};
+ghost use Rattle.std.specs.Simd.Lanes.{Each1};
+ghost use Rattle.rice_samples.specs.Parameters.{value_at, value_count, values_at, width as width_of};
+ghost use Rattle.rice_code.specs.encode.OpenSegment.{later_residuals};
+ghost use Rattle.rice_fast.specs.BlocksAhead.{HasBits};
+ghost use Rattle.rice_fast.specs.encode.Standing.{HasResidualsOf, MeetsNoSample};
+
+use crate::encode::level_lanes::LevelLanes;
+use rice_samples::{
+    Bytes, Halves, Lanes, Setting, Words, patterns_of_levels, ranks, read_legal_levels,
+    replace_by_patterns, replace_by_residuals,
+};
+
+/// Writes the residuals of the samples that the bytes spell: of the first one after the sample at level `before`, and of each other after
+/// the one before it. Without preprocessing these are their patterns. Returns the level of the last sample, or `None` if some bytes spell
+/// no sample.
+#[inline(always)]
+pub fn residuals_of_bytes(
+    setting: &Setting,
+    bytes: &[u8],
+    before: u32,
+    residuals: &mut [u32],
+) -> Option<u32>
+    requires before { before < value_count setting.now }
+    requires some { 0 < length residuals.old }
+    requires few { length residuals.old ≤ 64 }
+    requires len { length bytes.now ≡ width_of setting.now * length residuals.old }
+    ensures some { IfSome result
+        (λ last. HasResidualsOf setting.now bytes.now before residuals.new last) }
+    ensures none { IfNone result (MeetsNoSample setting.now bytes.now (length bytes.now)) }
+    ensures len { length residuals.new ≡ length residuals.old }
+{
+    match residuals_in_any_lanes(setting, bytes, before, residuals) {
+        Some(last) => Some(last),
+        None => residuals_one_by_one(setting, bytes, before, residuals),
+    }
+}
+
+/// Does what `residuals_of_bytes` does in the lanes of vectors, or returns `None`: if samples fill no such vectors, or if some bytes spell
+/// no sample.
+#[inline(always)]
+fn residuals_in_any_lanes(
+    setting: &Setting,
+    bytes: &[u8],
+    before: u32,
+    residuals: &mut [u32],
+) -> Option<u32>
+    requires before { before < value_count setting.now }
+    requires len { length bytes.now ≡ width_of setting.now * length residuals.old }
+    ensures some { IfSome result
+        (λ last. HasResidualsOf setting.now bytes.now before residuals.new last) }
+    ensures len { length residuals.new ≡ length residuals.old }
+{
+    let bits = setting.bits();
+    if residuals.len() % 8 != 0 {
+        return None;
+    }
+    if bits > 16 {
+        return residuals_in_lanes::<Words>(setting, bytes, before, residuals);
+    }
+    if bits > 8 || residuals.len() % 16 != 0 {
+        return residuals_in_lanes::<Halves>(setting, bytes, before, residuals);
+    }
+    residuals_in_lanes::<Bytes>(setting, bytes, before, residuals)
+}
+
+/// Does what `residuals_of_bytes` does in lanes, or returns `None`: if samples do not fill whole vectors, or if some bytes spell no sample.
+///
+/// It is a call, to which all is passed in registers. Levels that are none of samples show in one test at the end.
+#[inline(never)]
+fn residuals_in_lanes<L: LevelLanes>(
+    setting: &Setting,
+    bytes: &[u8],
+    before: u32,
+    residuals: &mut [u32],
+) -> Option<u32>
+    requires bits { HasBits L.fewer L.bits setting.now }
+    requires before { before < value_count setting.now }
+    requires len { length bytes.now ≡ width_of setting.now * length residuals.old }
+    ensures some { IfSome result
+        (λ last. HasResidualsOf setting.now bytes.now before residuals.new last) }
+    ensures len { length residuals.new ≡ length residuals.old }
+{
+    let setting = *setting;
+    let width = setting.width() as usize;
+    let greatest = (setting.number_of_values() - 1) as u32;
+    let lanes = L::COUNT;
+    let count = residuals.len();
+    let mut earlier = L::splat(before);
+    let mut seen = L::splat(0);
+    let mut at = 0;
+    while at + lanes <= count {
+        let row = L::levels_in(&setting, &bytes[width * at..width * (at + lanes)]);
+        residuals_of_row(&setting, earlier, row).write(residuals, at);
+        seen = seen.or(row);
+        earlier = row;
+        at += lanes;
+    }
+    if at < count {
+        return None;
+    }
+    if !seen.above(L::splat(greatest)).is_zero() {
+        return None;
+    }
+    Some(earlier.last())
+}
+
+/// Returns the residuals of the samples with these levels: of the first one after the last sample of `earlier`, and of each other after
+/// the one before it.
+#[inline(always)]
+fn residuals_of_row<L: Lanes>(setting: &Setting, earlier: L, levels: L) -> L
+    requires { setting.now.bits ≤ L.bits }
+    ensures { get_or (L.numbers earlier) (L.COUNT - 1) 0 < value_count setting.now →
+        Each1 (λ l. l < value_count setting.now) (L.numbers levels) →
+        L.numbers result ≡ later_residuals setting.now
+        (value_at setting.now (get_or (L.numbers earlier) (L.COUNT - 1) 0))
+        (values_at setting.now (L.numbers levels)) }
+{
+    if !setting.preprocess() {
+        return patterns_of_levels(setting, levels);
+    }
+    let greatest = (setting.number_of_values() - 1) as u32;
+    ranks(greatest, levels.before(earlier), levels)
+}
+
+/// Does what `residuals_of_bytes` does, for any number of samples, one by one.
+#[inline(never)]
+fn residuals_one_by_one(
+    setting: &Setting,
+    bytes: &[u8],
+    before: u32,
+    residuals: &mut [u32],
+) -> Option<u32>
+    requires before { before < value_count setting.now }
+    requires some { 0 < length residuals.old }
+    requires len { length bytes.now ≡ width_of setting.now * length residuals.old }
+    ensures some { IfSome result
+        (λ last. HasResidualsOf setting.now bytes.now before residuals.new last) }
+    ensures none { IfNone result (MeetsNoSample setting.now bytes.now (length bytes.now)) }
+    ensures len { length residuals.new ≡ length residuals.old }
+{
+    let read = read_legal_levels(setting, bytes, residuals);
+    if read < residuals.len() {
+        return None;
+    }
+    let last = residuals[residuals.len() - 1];
+    replace_levels(setting, before, residuals);
+    Some(last)
+}
+
+/// Replaces the levels of samples by their residuals: of the first one after the sample at level `before`, and of each other after the one
+/// before it.
+fn replace_levels(setting: &Setting, before: u32, levels: &mut [u32])
+    requires before { before < value_count setting.now }
+    requires legal { All (λ l. l < value_count setting.now) levels.old }
+    ensures value { levels.new ≡ later_residuals setting.now
+        (value_at setting.now before) (values_at setting.now levels.old) }
+    ensures len { length levels.new ≡ length levels.old }
+{
+    if setting.preprocess() {
+        replace_by_residuals(setting, before, levels);
+    } else {
+        replace_by_patterns(setting, levels);
+    }
+}
