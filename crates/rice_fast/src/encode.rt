@@ -1,4 +1,4 @@
-//! The coder of rows of samples. It does what the plain coder does, by the same contracts. It looks at several residuals at once, gathers
+//! The coder of the bytes of samples. It does what the plain coder does, by the same contracts. It looks at several residuals at once, gathers
 //! fields before it puts them, and counts the looks of the plain search.
 
 mod bit_buffer;
@@ -9,9 +9,9 @@ pub mod coder;
 mod cost;
 mod high_parts;
 mod low_parts;
-mod open_segment;
 mod options;
 mod pairs;
+mod residuals_of_bytes;
 mod sequences_by_products;
 mod stops;
 mod sums;

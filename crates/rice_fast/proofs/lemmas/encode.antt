@@ -1,7 +1,13 @@
 -- The coder.
 pub mod AddedBits
+pub mod CodeAhead
+pub mod EndedSegments
+pub mod HeldResiduals
 pub mod HighParts
 pub mod JoinedSequences
 pub mod JoinedWords
 pub mod LowParts
+pub mod StandingCoders
 pub mod Stops
+pub mod TakenBytes
+pub mod TakenSamples

@@ -41,6 +41,6 @@ pub record MeetsNoSample (s : Parameters) (bytes : List ℕ) (most : ℕ) : Type
 pub record HasResidualsOf (s : Parameters) (bytes : List ℕ) (before : ℕ) (residuals : List ℕ) (last : ℕ) : Type 0 where
   pub samples : List ℤ
   pub reads : Reads s bytes samples []
-  pub residuals : residuals ≡ later_residuals s (value_at s before) samples
-  pub last : value_at s last ≡ last_of (value_at s before) samples
   pub below : last < value_count s
+  pub residuals_are : residuals ≡ later_residuals s (value_at s before) samples
+  pub last_is : value_at s last ≡ last_of (value_at s before) samples
