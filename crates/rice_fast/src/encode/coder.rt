@@ -293,7 +293,8 @@ impl BlockCoder {
     /// Returns what stands before the sample that the bytes spell first, or `None` if they spell none.
     #[inline(always)]
     fn before_next(&self, bytes: &[u8]) -> Option<Before>
-        requires { width_of self.now.setting ≤ length bytes.now }
+        requires below { self.now.previous < value_count self.now.setting }
+        requires len { width_of self.now.setting ≤ length bytes.now }
         ensures some { IfSome result (λ b. IsBefore self.now bytes.now b.reference b.level) }
         ensures none { IfNone result (IsNoSpelling self.now.setting bytes.now) }
     {

@@ -6,7 +6,7 @@ use Rattle.std.specs.List.{AllByRecursion}
 use Rattle.std.proofs.lemmas.Bool.Decides.{nat_tests}
 use Rattle.std.proofs.lemmas.List.Sums.{sum_by-cons}
 use Rattle.std.proofs.lemmas.List.{length-replicate, length-take-le}
-use Rattle.std.proofs.Math.Nat.{mul-div_cancel_left, mul-add-mod_self_left, mod-eq_of_lt}
+use Rattle.std.proofs.Math.Nat.{mul-div_cancel_left, mul-add-mod_self_left, mod-eq_of_lt, mod-lt}
 use Rattle.rice_bits.specs.Bits.{bits_to_byte, word}
 use Rattle.rice_bits.proofs.lemmas.bits.WordsAndNumbers.{length-word}
 use Rattle.rice_samples.specs.Parameters.{Parameters, IsLegal, IsSample, id_len, value_at, value_count, width}
@@ -35,7 +35,7 @@ use Rattle.rice_fast.specs.encode.Standing.{HasRoomAt, Standing, TakesSpelled}
 use Rattle.rice_fast.specs.declared.encode.coder.BlockCoder.{BlockCoder}
 use Rattle.rice_fast.proofs.lemmas.encode.CodeAhead.{end_puts, room_for_end}
 use Rattle.rice_fast.proofs.lemmas.encode.HeldResiduals.{fill_is_taken, fill_none, no_items}
-use Rattle.rice_fast.proofs.lemmas.encode.StandingCoders.{between_stands, blocks_few, blocks_inside, meter_behind, residuals_counted}
+use Rattle.rice_fast.proofs.lemmas.encode.StandingCoders.{after_none, between_stands, blocks_few, blocks_inside, part_counted, meter_behind, residuals_counted}
 
 behind_id : (s : Parameters) (n : ℕ) (rest : List Bool) → 0 < length (word (id_len s) n ++ rest)
 behind_id s n rest = let some : 3 ≤ id_len s = grind (arith, nat_tests) in omega (arith, some, length-append (word (id_len s) n) rest, length-word (id_len s) n)
@@ -59,6 +59,10 @@ some_bits_of s b (c ∷ cs) some = first (is_zero_block c)
     first : (z : Bool) → 0 < sum_by (λ d. length (bits_of_set s d)) (cond z (cond (false && not (begins_segment s b)) [] (zero_run s b c.reference (c ∷ cs) ∷ [])) (shortest s c ∷ []) ++ data_sets s (b + 1) (is_zero_block c) cs)
     first true = of_cons (zero_run s b c.reference (c ∷ cs)) (data_sets s (b + 1) (is_zero_block c) cs)
     first false = of_cons (shortest s c) (data_sets s (b + 1) (is_zero_block c) cs)
+
+-- a segment begins inside an interval
+pub start_is_low : {c : BlockCoder} {row : List ℕ} {sink : List Bool} {meter : ℕ} {ds : List ℕ} {from : List Bool} {m : ℕ} → HoldsOpen c row sink meter ds from m → c.start < 4096
+start_is_low {c} h = omega (arith, h.opens.place, mod-lt c.start h.opens.legal.interval_from, h.opens.legal.interval_to)
 
 -- the code of the pending run is the last
 pub end_has_room : {c : BlockCoder} {sink : List Bool} {meter : ℕ} {m : Standing} {xs : List ℤ} → StandsAfter c sink meter m xs → HasRoomAt m
@@ -149,20 +153,6 @@ pushes_segment {c} {sink} {sink_new} {meter} {meter_new} {bits} {start} {m} {xs}
         let count : blocks_held coder ≡ n = ap (λ v. v / coder.setting.block) whole ∙ mul-div_cancel_left n one in
         some_bits_of coder.setting coder.start (contents_held coder) (omega (arith, held_len coder.setting coder.reference (blocks_held coder) coder.residuals, count, some))
 
--- What the end adds, where the last block was filled.
-pub finish_adds_all : {m : Standing} {xs : List ℤ} {sink_new : List Bool} {bits meter_new : ℕ} → (0 < fill_count m.coder.setting (length m.coder.residuals) → 0 < length m.coder.residuals)
-    → CodesHeld (state_after_all m.coder (replicate (fill_count m.coder.setting (length m.coder.residuals)) m.coder.previous)) m.sink sink_new bits
-    (m.meter + length (replicate (fill_count m.coder.setting (length m.coder.residuals)) m.coder.previous)) meter_new
-    → HasTaken m.coder xs → AddsCode m.coder.setting (complete_samples m.coder.setting xs) xs m.sink sink_new bits (fill_count_of m.coder.setting xs) m.meter meter_new
-finish_adds_all {m} {xs} some codes taken =
-    let n = fill_count m.coder.setting (length m.coder.residuals) in
-    let filled = fill_is_taken m.coder n (λ put. held m.coder.residuals (some put)) in
-    finish_adds refl filled codes (ap (λ v. m.meter + v) (length-replicate n m.coder.previous)) taken
-  where
-    held : (ds : List ℕ) → 0 < length ds → is_empty ds ≡ false
-    held [] h = absurd (omega arith)
-    held (d ∷ ds) h = refl
-
 -- a coder with no whole number of blocks holds residuals
 pub fill_needs_some : (s : Parameters) (n : ℕ) → 1 ≤ s.block → 0 < fill_count s n → 0 < n
 fill_needs_some s zero one some = absurd (let none = fill_none s 0 0 one (omega arith) in omega (arith, none, some))
@@ -173,6 +163,35 @@ pub fill_of_part : (s : Parameters) (blocks held : ℕ) → held < s.block → 0
 fill_of_part s blocks held part some =
     let rest : (s.block * blocks + held) % s.block ≡ held = mul-add-mod_self_left s.block blocks held ∙ mod-eq_of_lt part in
     ap (λ v. (s.block - v) % s.block) rest ∙ mod-eq_of_lt (omega arith)
+
+-- What the end adds, where the last block was filled.
+pub finish_adds_all : {m : Standing} {xs : List ℤ} {sink_new : List Bool} {bits meter_new : ℕ} (s : Parameters) → m.coder.setting ≡ s → 1 ≤ s.block
+    → CodesHeld (state_after_all m.coder (replicate (fill_count s (length m.coder.residuals)) m.coder.previous)) m.sink sink_new bits
+    (m.meter + length (replicate (fill_count s (length m.coder.residuals)) m.coder.previous)) meter_new
+    → HasTaken m.coder xs → AddsCode s (complete_samples s xs) xs m.sink sink_new bits (fill_count_of s xs) m.meter meter_new
+finish_adds_all {m} {xs} {sink_new} {bits} {meter_new} s same one codes taken =
+    let own : 1 ≤ m.coder.setting.block = subst (λ (v : Parameters). 1 ≤ v.block) (sym same) one in
+    let n = fill_count m.coder.setting (length m.coder.residuals) in
+    let P : Parameters → Type 0 = λ v. CodesHeld (state_after_all m.coder (replicate (fill_count v (length m.coder.residuals)) m.coder.previous)) m.sink sink_new bits
+        (m.meter + length (replicate (fill_count v (length m.coder.residuals)) m.coder.previous)) meter_new in
+    let Q : Parameters → Type 0 = λ v. AddsCode v (complete_samples v xs) xs m.sink sink_new bits (fill_count_of v xs) m.meter meter_new in
+    let filled = fill_is_taken m.coder n (λ put. held m.coder.residuals (fill_needs_some m.coder.setting (length m.coder.residuals) own put)) in
+    subst Q same (finish_adds refl filled (subst P (sym same) codes) (ap (λ v. m.meter + v) (length-replicate n m.coder.previous)) taken)
+  where
+    held : (ds : List ℕ) → 0 < length ds → is_empty ds ≡ false
+    held [] h = absurd (omega arith)
+    held (d ∷ ds) h = refl
+
+-- what the end fills is the block that is not whole
+pub fill_for : {c : BlockCoder} {sink : List Bool} {meter : ℕ} {m : Standing} → (h : StandsFor c sink meter m) → 0 < c.held → fill_count c.setting (length m.coder.residuals) ≡ c.setting.block - c.held
+fill_for {c} h some =
+    let count = part_counted (after_none h) in
+    ap (fill_count c.setting) (ap (λ (v : CoderState). length v.residuals) h.coder ∙ (h.holds.number ∙ ap (λ n. c.setting.block * c.blocks + n) count)) ∙ fill_of_part c.setting c.blocks c.held h.held some
+
+pub fill_for_none : {c : BlockCoder} {sink : List Bool} {meter : ℕ} {m : Standing} → (h : StandsFor c sink meter m) → c.held ≡ 0 → fill_count c.setting (length m.coder.residuals) ≡ 0
+fill_for_none {c} {m = m} h none =
+    let one : 1 ≤ c.setting.block = grind (arith, h.holds.opens.legal.block) in
+    fill_none c.setting c.blocks (length m.coder.residuals) one (omega (arith, ap (λ (v : CoderState). length v.residuals) h.coder, h.holds.number, part_counted (after_none h), none))
 
 -- before the last of the samples none completes the segment
 none_before : {c : BlockCoder} {row : List ℕ} {sink : List Bool} {meter : ℕ} {m : Standing} {xs : List ℤ} (n : ℕ) → StandsWith c row sink meter m xs → n < length xs → CompletesNone m.coder (take n xs)

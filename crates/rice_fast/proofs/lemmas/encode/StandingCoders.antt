@@ -21,7 +21,7 @@ use Rattle.rice_code.specs.encode.HeldBlocks.{held_blocks, reference_at}
 use Rattle.rice_code.specs.encode.OpenSegment.{CoderState, IsOpen, HoldsSoundBlocks, IsWhole, is_empty, is_first, next_residual, next_residuals, next_reference, next_references, state_after, state_after_all, state_between, later_residuals}
 use Rattle.rice_code.proofs.lemmas.code.RepeatedSamples.{last_append}
 use Rattle.rice_code.proofs.lemmas.encode.PendingRuns.{held_len}
-use Rattle.rice_code.proofs.lemmas.encode.PushedCode.{open_between, steps_of_segment}
+use Rattle.rice_code.proofs.lemmas.encode.PushedCode.{open_between, short_of, steps_of_segment}
 use Rattle.rice_code.proofs.lemmas.encode.PushedSamples.{HoldsMore, open_pushes, is_coder_after}
 use Rattle.rice_code.proofs.lemmas.encode.SeveralSamplesHeld.{length-state_after_all, length-later, state_after_all-none, state_after_all-snoc, state_after_all-first}
 use Rattle.rice_code.proofs.lemmas.meaning.CoveredBlocks.{bool_cases, and-split}
@@ -59,6 +59,9 @@ blocks_inside {c} h = let all = ap (λ n. c.setting.block * n) h.ends in omega (
 
 pub blocks_few : {c : BlockCoder} {row : List ℕ} {sink : List Bool} {meter : ℕ} {ds : List ℕ} {from : List Bool} {m : ℕ} → HoldsOpen c row sink meter ds from m → c.blocks ≤ c.end
 blocks_few {c} {ds = ds} h = let few = h.ahead.few in let count = held_len c.setting c.reference c.blocks ds in omega (arith, few, count, h.ends)
+
+pub run_inside : {c : BlockCoder} {row : List ℕ} {sink : List Bool} {meter : ℕ} {ds : List ℕ} {from : List Bool} {m : ℕ} → HoldsOpen c row sink meter ds from m → c.run ≤ c.blocks
+run_inside {c} {ds = ds} h = omega (arith, h.ahead.inside, held_len c.setting c.reference c.blocks ds)
 
 -- and fewer where part of one is held, or the segment is open
 pub still_open : (j blocks end held : ℕ) → held < j → blocks < end → j * blocks + held < j * end
@@ -119,7 +122,7 @@ next_block {c} {row} {ds = ds} h whole =
     ∙ ap (λ v. v ++ block_with (reference_at c.reference c.blocks) row ∷ []) (sym (held_more s c.reference c.blocks front row (omega (arith, len))) ∙ ap (held_blocks s c.reference c.blocks) (sym parts)))
 
 -- such a row can be put,
-pub row_has_room : {c : BlockCoder} {row : List ℕ} {sink : List Bool} {meter : ℕ} {m : Standing} {xs : List ℤ} → StandsWith c row sink meter m xs → HasRoomAt m → length row ≡ c.setting.block → c.blocks < c.end
+unfoldable pub row_has_room : {c : BlockCoder} {row : List ℕ} {sink : List Bool} {meter : ℕ} {m : Standing} {xs : List ℤ} → StandsWith c row sink meter m xs → HasRoomAt m → length row ≡ c.setting.block → c.blocks < c.end
     → HasRoomForBlock c sink meter row
 row_has_room {c} {row} {sink} {meter} {m} {xs} h room whole less =
     let s = c.setting in
@@ -320,3 +323,37 @@ pushes_nothing {c} {sink} {meter} {m} {xs} h part less =
   where
     small : (s : Parameters) → IsLegal s → s.block ≤ 64
     small s legal = grind (arith, legal.block)
+
+-- the residuals in the part
+pub part_counted : {c : BlockCoder} {sink : List Bool} {meter : ℕ} {m : Standing} {xs : List ℤ} → StandsAfter c sink meter m xs → length (take c.held c.part) ≡ c.held
+part_counted {c} h = let few = block_is_small c.setting h.stands.holds.opens.legal in length-take-le c.held c.part (omega (arith, h.room, h.held, few))
+  where
+    block_is_small : (s : Parameters) → IsLegal s → s.block ≤ 64
+    block_is_small s legal = grind (arith, legal.block)
+
+-- there is a step for the next sample
+pub step_for_one : {c : BlockCoder} {sink : List Bool} {meter : ℕ} {m : Standing} {xs : List ℤ} → StandsAfter c sink meter m xs → HasRoomAt m → c.held < c.setting.block → c.blocks < c.end → meter + 1 < 2 ^ 62
+step_for_one {c} h room part less = meter_has_room 1 h.stands room (omega (arith, part_counted h, still_open c.setting.block c.blocks c.end c.held part less))
+
+-- and there are those for the next block
+pub steps_for_block : {c : BlockCoder} {sink : List Bool} {meter : ℕ} {m : Standing} {xs : List ℤ} → StandsAfter c sink meter m xs → HasRoomAt m → c.held ≡ 0 → c.blocks < c.end → meter + c.setting.block < 2 ^ 62
+steps_for_block {c} h room none less =
+    let all : c.setting.block * (c.blocks + 1) ≤ c.setting.block * c.end = mul-le-mul_left c.setting.block (omega (arith, less)) in
+    meter_has_room c.setting.block h.stands room (omega (arith, part_counted h, none, all))
+
+-- a coder whose part is whole, as a row
+pub part_as_row : {c : BlockCoder} {sink : List Bool} {meter : ℕ} {m : Standing} {xs : List ℤ} (n : ℕ) → StandsAfter c sink meter m xs → n ≡ c.held → StandsWith c (take n c.part) sink meter m xs
+part_as_row {c} {sink} {meter} {m} {xs} n h e = subst (λ v. StandsWith c (take v c.part) sink meter m xs) (sym e) h.stands
+
+-- between two calls the segment is open
+pub for_open : {c : BlockCoder} {sink : List Bool} {meter : ℕ} {m : Standing} → StandsFor c sink meter m → c.blocks < c.end
+for_open {c} {m = m} h =
+    let short = short_of m.coder h.coded.samples h.coded.taken in
+    let limit : m.coder.setting.block * blocks_left m.coder.setting m.coder.start ≡ c.setting.block * c.end = ap (λ (v : CoderState). v.setting.block * blocks_left v.setting v.start) h.coder ∙ ap (λ n. c.setting.block * n) (sym h.holds.ends) in
+    below c.setting.block c.blocks c.end (omega (arith, short, limit, ap (λ (v : CoderState). length v.residuals) h.coder, h.holds.number))
+  where
+    below : (j n end : ℕ) → j * n < j * end → n < end
+    below j n end h = elim (cases_lt n end) [
+      | inl lt ↦ lt
+      | inr le ↦ absurd (let all : j * end ≤ j * n = mul-le-mul_left j le in omega (arith, all, h))
+    ]
