@@ -1,4 +1,4 @@
-//! The coder of rows of samples. It does what the plain coder does, by the same contracts. It looks at several residuals at once, gathers
+//! The coder of the bytes of samples. It does what the plain coder does, by the same contracts. It looks at several residuals at once, gathers
 //! fields before it puts them, and counts the looks of the plain search.
 
 mod bit_buffer;
@@ -10,7 +10,6 @@ mod cost;
 mod high_parts;
 mod level_lanes;
 mod low_parts;
-mod open_segment;
 mod options;
 mod pairs;
 mod residuals_of_bytes;

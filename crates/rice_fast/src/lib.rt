@@ -1,5 +1,5 @@
 //! The fast decoder and the fast coder of CCSDS 121.0-B-3, in the lanes of vectors. The decoder turns a block in one pass from its buffered
-//! bits into the bytes of its samples. The coder takes rows of samples, and codes a block in one shape for all sizes. What they do not take
+//! bits into the bytes of its samples. The coder takes the bytes of samples, and codes each block as soon as it is whole. What they do not take
 //! is left to the plain core: blocks that the pass leaves, and the code of blocks whose size is no multiple of eight.
 #![tactic(auto)]
 
@@ -12,5 +12,5 @@ pub mod one_pass;
 mod pairs;
 mod rows;
 
-pub use encode::coder::{Pushed, SizedCoder};
+pub use encode::coder::{BlockCoder, Pushed};
 pub use one_pass::pass;

@@ -1,8 +1,14 @@
 -- The coder.
 pub mod AddedBits
+pub mod CodeAhead
+pub mod EndedSegments
+pub mod HeldResiduals
 pub mod HighParts
 pub mod JoinedSequences
 pub mod JoinedWords
 pub mod LowParts
 pub mod ResidualsOfBytes
+pub mod StandingCoders
 pub mod Stops
+pub mod TakenBytes
+pub mod TakenSamples

@@ -1,24 +1,23 @@
-//! Codes the blocks of a segment, one by one.
-ghost use Rattle.std.specs.Prelude.{◌≡◌, ◌+◌, ◌-◌, ◌*◌, ◌/◌, ◌%◌, ◌^◌, ◌<◌, ◌≤◌, true, false, length, Some, None, IfSome, if◌then◌else◌, sum_by};
+//! Codes a block of a segment, after those before it.
+ghost use Rattle.std.specs.Prelude.{◌≡◌, ◌+◌, ◌*◌, ◌/◌, ◌%◌, ◌^◌, ◌<◌, ◌≤◌, true, false, length, Some, None, IfSome, if◌then◌else◌, sum_by};
 ghost use Rattle.rice_bits.specs.Limits.{step_limit};
 ghost use Rattle.rice_samples.specs.Parameters.{k_max, value_count};
-ghost use Rattle.rice_samples.specs.Places.{begins_segment, blocks_left, place};
 ghost use Rattle.rice_code.specs.code.Blocks.{is_zero_block};
 ghost use Rattle.rice_code.specs.code.CodedDataSets.{cost};
 ghost use Rattle.rice_code.specs.code.Choice.{shortest};
 ghost use Rattle.rice_code.specs.encode.BitBuffer.{HasRoomFor};
-ghost use Rattle.rice_code.specs.encode.HeldBlocks.{held_blocks, reference_at, pending_bits, JoinsRun, EndsRun, HasRoomForBlocks, PutsBlocks, HasRoomForShortest, PutsShortest};
-ghost use Rattle.rice_code.specs.code.SoundBlocks.{block_with, IsSoundData, AreSoundBlocks};
+ghost use Rattle.rice_code.specs.encode.HeldBlocks.{reference_at, pending_bits, JoinsRun, EndsRun, HasRoomForShortest, PutsShortest};
+ghost use Rattle.rice_code.specs.code.SoundBlocks.{block_with, IsSoundData};
 
 use crate::encode::choice::choose;
 use crate::encode::options::{put_no_compression, put_second_extension, put_split};
 use crate::encode::sums::sum_of;
 use rice_bits::Meter;
-use rice_code::encode::blocks::{code_block, put_pending_run, put_run_before_block, reference_of};
+use rice_code::encode::blocks::{code_block, put_run_before_block};
 use rice_code::encode::choice::Choice;
 use rice_code::encode::held_block::HeldBlock;
 use rice_code::{SegmentSink, known_or};
-use rice_samples::{Block, Residuals, Setting};
+use rice_samples::{Block, Setting};
 
 /// Appends the shortest code of a block that is not zero, of `SIZE` residuals, or of several times eight if `SIZE` is 0. It has the reference `word`
 /// if `REFERENCE` is true, and else none. `whole` is the sum of its residuals.
@@ -101,7 +100,7 @@ fn sum_of_block(setting: &Setting, block: &HeldBlock<'_>, meter: &mut Meter) -> 
 /// Takes the block after `run` zero blocks that are pending, from block `first` on: a zero block joins them, another ends
 /// the run. Returns the number of blocks that are pending then.
 #[inline(always)]
-fn code_next_or_add_to_run<const SIZE: usize>(
+pub fn code_next_or_add_to_run<const SIZE: usize>(
     setting: &Setting,
     reference: Option<u32>,
     first: usize,
@@ -142,84 +141,4 @@ fn code_next_or_add_to_run<const SIZE: usize>(
         None => code_block_not_zero::<SIZE, false>(setting, 0, residuals, whole, sink, meter),
     }
     0
-}
-
-/// Appends the code of the first `count` blocks of a segment that begins at place `start`.
-#[inline(always)]
-pub fn code_blocks<const N: usize>(
-    setting: &Setting,
-    start: u32,
-    reference: Option<u32>,
-    count: usize,
-    segment: &Residuals<N>,
-    sink: &mut SegmentSink,
-    meter: &mut Meter,
-)
-    requires place { place setting.now start ≡ start }
-    requires begins { begins_segment setting.now start ≡ true }
-    requires few { count ≤ blocks_left setting.now start }
-    requires len { length segment.now ≡ setting.now.block * count }
-    requires fits { IfSome reference (λ v. v < value_count setting.now) }
-    requires sound { AreSoundBlocks setting.now start
-        (held_blocks setting.now reference count segment.now) }
-    requires room { HasRoomForBlocks setting.now start
-        (held_blocks setting.now reference count segment.now)
-        (count * (setting.now.block * (k_max setting.now + 5))) sink.old meter.old }
-    ensures { PutsBlocks setting.now start (held_blocks setting.now reference count segment.now)
-        sink.old sink.new meter.old meter.new }
-{
-    // The loop is laid out for each size of blocks.
-    match setting.block() {
-        8 => code_blocks_of_size::<8, N>(setting, start, reference, count, segment, sink, meter),
-        16 => code_blocks_of_size::<16, N>(setting, start, reference, count, segment, sink, meter),
-        32 => code_blocks_of_size::<32, N>(setting, start, reference, count, segment, sink, meter),
-        size if size < 64 => code_blocks_of_size::<0, N>(
-            setting, start, reference, count, segment, sink, meter,
-        ),
-        _ => code_blocks_of_size::<64, N>(setting, start, reference, count, segment, sink, meter),
-    }
-}
-
-/// Appends the code of the first `count` blocks, of `SIZE` samples each, of a segment that begins at place `start`.
-#[inline(always)]
-fn code_blocks_of_size<const SIZE: usize, const N: usize>(
-    setting: &Setting,
-    start: u32,
-    reference: Option<u32>,
-    count: usize,
-    segment: &Residuals<N>,
-    sink: &mut SegmentSink,
-    meter: &mut Meter,
-)
-    requires size { 0 < SIZE → SIZE ≡ setting.now.block }
-    requires place { place setting.now start ≡ start }
-    requires begins { begins_segment setting.now start ≡ true }
-    requires few { count ≤ blocks_left setting.now start }
-    requires len { length segment.now ≡ setting.now.block * count }
-    requires fits { IfSome reference (λ v. v < value_count setting.now) }
-    requires sound { AreSoundBlocks setting.now start
-        (held_blocks setting.now reference count segment.now) }
-    requires room { HasRoomForBlocks setting.now start
-        (held_blocks setting.now reference count segment.now)
-        (count * (setting.now.block * (k_max setting.now + 5))) sink.old meter.old }
-    ensures { PutsBlocks setting.now start (held_blocks setting.now reference count segment.now)
-        sink.old sink.new meter.old meter.new }
-{
-    let size = setting.block();
-    let known = known_or::<SIZE>(size as usize);
-    let mut run: u32 = 0;
-    for i in 0..count {
-        let block = HeldBlock::new(reference_of(reference, i), segment.block(i, known));
-        run = code_next_or_add_to_run::<SIZE>(
-            setting,
-            reference,
-            i - run as usize,
-            run,
-            block,
-            sink,
-            meter,
-        );
-    }
-    let first = reference_of(reference, count - run as usize);
-    put_pending_run(setting, first, run, true, sink, meter);
 }

@@ -1,18 +1,28 @@
-//! The coder, from samples to code.
-ghost use Rattle.std.specs.Prelude.{◌≡◌, ℕ, ◌+◌, ◌*◌, ◌<◌, ◌≤◌, [], length, take, All, List, ℤ};
+//! The coder, from the bytes of samples to code.
+ghost use Rattle.std.specs.Prelude.{◌≡◌, ℕ, ◌+◌, ◌-◌, ◌*◌, ◌<◌, ◌≤◌, ◌++◌, ◌∷◌, [], Bool, true, false, length, replicate, List, ℤ, IfSome, IfNone, ◌&&◌};
 ghost use Rattle.rice_bits.specs.Limits.{step_limit};
-ghost use Rattle.rice_samples.specs.Limits.{longest_segment};
-ghost use Rattle.rice_samples.specs.Parameters.{value_count, values_at};
-ghost use Rattle.rice_samples.specs.Places.{cut};
-ghost use Rattle.rice_code.specs.CoderSteps.{segment_steps};
+ghost use Rattle.rice_samples.specs.Parameters.{IsSample, value_at, value_count, width as width_of};
+ghost use Rattle.rice_samples.specs.Places.{blocks_left};
+ghost use Rattle.rice_samples.specs.bytes.Spelling.{IsNoSpelling, Reads};
+ghost use Rattle.rice_code.specs.code.Blocks.{fill_count, fill_count_of};
+ghost use Rattle.rice_code.specs.code.Code.{complete_samples};
+ghost use Rattle.rice_code.specs.code.SoundBlocks.{block_with};
+ghost use Rattle.rice_code.specs.encode.Coder.{AddsCode, HasTaken};
+ghost use Rattle.rice_code.specs.encode.HeldBlocks.{reference_at};
+ghost use Rattle.rice_code.specs.encode.OpenSegment.{CodesHeld, empty_state, state_after_all, state_between};
+ghost use Rattle.rice_fast.specs.encode.OpenBlocks.{HasRoomForBlock, IsAhead, IsBefore, PushesOpen, StandsAfter, StandsFor, coder_between, is_at_first};
+ghost use Rattle.rice_fast.specs.encode.Standing.{HasRoomAt, MeetsNoSample, Standing, TakesSpelled};
 
-use crate::encode::open_segment::OpenSegment;
+use crate::encode::blocks::code_next_or_add_to_run;
+use crate::encode::residuals_of_bytes::residuals_of_bytes;
 use rice_bits::Meter;
-use rice_code::SegmentSink;
-use rice_samples::{Levels, Setting};
-use std::marker::Model;
+use rice_code::encode::blocks::{put_pending_run, reference_of};
+use rice_code::encode::held_block::HeldBlock;
+use rice_code::encode::open_segment::{next_residual, next_start, note_reference, pad_interval};
+use rice_code::{SegmentSink, known_or};
+use rice_samples::{Block, Setting, pattern, sample_of};
 
-/// What `SizedCoder::push_some` took and appended.
+/// What `BlockCoder::push` took and appended.
 #[derive(Clone, Copy, Debug, PartialEq, Eq)]
 pub struct Pushed {
     /// The number of samples taken.
@@ -21,158 +31,506 @@ pub struct Pushed {
     pub bits: u64,
 }
 
-/// Takes samples, and appends the code of each whole segment (CCSDS 121.0-B-3, sections 3 to 5). A segment has 64 blocks, or fewer at the
-/// end of a reference interval.
+/// What stands before the next sample.
+#[derive(Clone, Copy)]
+struct Before {
+    /// The reference of the open segment.
+    reference: Option<u32>,
+    /// The level of the sample before, or at a reference place of the next sample itself.
+    level: u32,
+}
+
+/// Takes samples by their bytes, and appends the code of each whole segment (CCSDS 121.0-B-3, sections 3 to 5). A segment has 64 blocks, or
+/// fewer at the end of a reference interval.
 ///
-/// It has room for `N` residuals, enough for any segment of its setting. In contracts its value is the state of its open segment, and
-/// `HasTaken` says which samples it has taken.
+/// Each block is coded as soon as it is whole, so that the sink and the meter are ahead of those of a coder that waits for the segment.
+/// In contracts `StandsFor` says which coder this is.
 #[derive(Drop)]
-pub struct SizedCoder<const N: usize> {
-    segment: OpenSegment<N>,
+pub struct BlockCoder {
+    setting: Setting,
+    /// The place in its interval of the first block of the open segment.
+    start: u32,
+    /// The number of its blocks that are whole.
+    blocks: u32,
+    /// The number of blocks of the whole segment.
+    end: u32,
+    /// The reference of its first block.
+    reference: Option<u32>,
+    /// The number of zero blocks that are pending.
+    run: u32,
+    /// The level of the sample before the next one.
+    previous: u32,
+    /// The bits by which the sink is ahead.
+    bits_ahead: u64,
+    /// The steps by which the meter is ahead.
+    steps_ahead: u64,
+    /// The residuals of the block that is not whole yet.
+    part: [u32; 64],
+    /// Their number.
+    held: usize,
 }
 
-impl<const N: usize> Model for SizedCoder<N> {
-    ghost use Rattle.rice_code.specs.encode.Coder.{IsCoder};
-    ghost use Rattle.rice_code.specs.encode.OpenSegment.{CoderState};
-
-    ghost Value = { CoderState };
-
-    ghost view = { λ c. c.segment };
-
-    ghost invariant = { λ c. IsCoder c.segment };
-}
-
-impl<const N: usize> SizedCoder<N> {
-    ghost use Rattle.rice_code.specs.Bounds.{block_bound};
-    ghost use Rattle.rice_code.specs.encode.BitBuffer.{sink_bits};
-    ghost use Rattle.rice_code.specs.encode.OpenSegment.{HoldsAnySegment, HasRoomForSegment, most_before, state_between};
-    ghost use Rattle.rice_code.specs.code.Code.{complete_samples};
-    ghost use Rattle.rice_code.specs.code.Blocks.{fill_count_of};
-    ghost use Rattle.rice_code.specs.encode.Coder.{HasTaken, AddsCode, PushesSamples, CompletesNone, CompletesAll};
-
-    /// Returns a coder that has taken no samples. `N` residuals must be enough for each of its segments.
+impl BlockCoder {
+    /// Returns a coder that has taken no samples.
     pub fn begin(setting: Setting) -> Self
-        requires size { N ≤ longest_segment }
-        requires room { HoldsAnySegment N setting }
-        ensures taken { HasTaken result [] }
-        ensures setting { result.setting ≡ setting }
+        ensures { (sink : List Bool) (meter : ℕ) → StandsFor result sink meter
+            (record { coder = empty_state setting; sink = sink; meter = meter }) }
     {
         let _block = setting.block();
-        SizedCoder {
-            segment: OpenSegment::new(setting),
-        }
+        BlockCoder::resume(setting, 0, 0)
     }
 
     /// Returns a coder that continues after whole segments. Its next segment begins at the place `start` of its interval, after the sample
     /// `previous`.
     pub fn resume(setting: Setting, start: u32, previous: i64) -> Self
-        requires size { N ≤ longest_segment }
-        requires room { HoldsAnySegment N setting }
-        requires taken { (xs : List ℤ) × HasTaken (state_between setting start previous) xs }
-        ensures { result ≡ state_between setting start previous }
+        requires { (xs : List ℤ) × HasTaken (state_between setting start previous) xs }
+        ensures { (sink : List Bool) (meter : ℕ) → StandsFor result sink meter
+            (record { coder = state_between setting start previous; sink = sink; meter = meter }) }
     {
-        SizedCoder {
-            segment: OpenSegment::resume(setting, start, previous),
+        let setting = setting;
+        BlockCoder {
+            setting,
+            start,
+            blocks: 0,
+            end: setting.blocks_left(start as u64),
+            reference: None,
+            run: 0,
+            previous: level_of_sample(&setting, previous),
+            bits_ahead: 0,
+            steps_ahead: 0,
+            part: [0; 64],
+            held: 0,
         }
-    }
-
-    /// Goes back to the end of whole segments, as `resume` does. The next segment begins at the place `start` of its interval, after the
-    /// sample `previous`.
-    pub fn go_back(&mut self, start: u32, previous: i64)
-        requires { (xs : List ℤ) × HasTaken (state_between self.old.setting start previous) xs }
-        ensures { self.new ≡ state_between self.old.setting start previous }
-    {
-        self.segment.go_to(start, previous);
-    }
-
-    /// Returns how many bits a sink may hold before `push_some`, so that the code of a segment fits.
-    #[inline]
-    pub fn most_before(&self) -> u64
-        ensures value { result ≡ most_before self.now.setting }
-        ensures room { result + 64 * block_bound self.now.setting ≤ sink_bits }
-    {
-        self.segment.most_before()
     }
 
     /// Returns the place in its interval where the open segment begins.
     pub fn start(&self) -> u32
-        ensures { result ≡ self.now.start }
+        ensures { (sink : List Bool) (meter : ℕ) (m : Standing) →
+            StandsFor self.now sink meter m → result ≡ m.coder.start }
     {
-        self.segment.start()
+        self.start
     }
 
     /// Returns the last sample taken, or 0.
     pub fn previous(&self) -> i64
-        ensures { result ≡ self.now.previous }
+        ensures sample { IsSample self.now.setting result }
+        ensures value { (sink : List Bool) (meter : ℕ) (m : Standing) →
+            StandsFor self.now sink meter m → result ≡ m.coder.previous }
+        ensures level { self.now.previous < value_count self.now.setting →
+            result ≡ value_at self.now.setting self.now.previous }
     {
-        self.segment.previous()
+        let greatest = self.setting.number_of_values() - 1;
+        self.setting.value_at((self.previous as u64).min(greatest))
     }
 
-    /// Returns the number of samples in the open segment: fewer than 64 blocks.
-    pub fn pending(&self) -> u32
-        ensures value { (xs : List ℤ) → HasTaken self.now xs →
-            result + cut self.now.setting (length xs) ≡ length xs }
-        ensures limit { result < 64 * self.now.setting.block }
+    /// Returns the number of steps, of which those of a coder that waits for the segment are counted.
+    pub fn steps(&self, meter: &Meter) -> u64
+        ensures { (sink : List Bool) (m : Standing) → StandsFor self.now sink meter.now m →
+            result ≡ m.meter }
     {
-        self.segment.len() as u32
+        meter.steps().saturating_sub(self.steps_ahead)
     }
 
-    /// Takes the samples with these levels, up to and including the one that completes a segment, or all of them. It does what `push` does
-    /// with each, so that only the last one appends code.
+    /// Takes samples from the front of the bytes, at least one where the first bytes spell one, and at most up to the one that completes a
+    /// segment. It does what `push` of the plain coder does with each.
     ///
     /// A step is a sample, a bit put, except padding, or a look at a residual.
-    #[inline(always)]
-    pub fn push_some(
+    #[inline]
+    pub fn push(
         &mut self,
-        levels: &Levels<'_>,
+        bytes: &[u8],
         sink: &mut SegmentSink,
         meter: &mut Meter,
     ) -> Pushed
-        requires legal { All (λ l. l < value_count self.old.setting) levels.now }
-        requires room { HasRoomForSegment self.old.setting sink.old }
-        requires meter { meter.old + segment_steps self.old.setting < step_limit }
-        ensures taken { result.samples ≤ length levels.now }
-        ensures some { 0 < length levels.now → 0 < result.samples }
-        ensures pushes { PushesSamples self.old self.new
-            (take result.samples (values_at self.old.setting levels.now))
-            sink.old sink.new result.bits meter.old meter.new }
-        ensures before_last { (m : ℕ) → m < result.samples →
-            CompletesNone self.old (take m (values_at self.old.setting levels.now)) }
-        ensures stops { result.samples < length levels.now →
-            CompletesAll self.old (take result.samples (values_at self.old.setting levels.now)) }
+        requires some { width_of self.old.setting ≤ length bytes.now }
+        requires stands { (m : Standing) × StandsFor self.old sink.old meter.old m × HasRoomAt m }
+        ensures count { width_of self.old.setting * result.samples ≤ length bytes.now }
+        ensures takes { (m : Standing) → StandsFor self.old sink.old meter.old m → HasRoomAt m →
+            (m_new : Standing) × StandsFor self.new sink.new meter.new m_new ×
+            TakesSpelled m m_new bytes.now result.samples result.bits }
+        ensures none { result.samples ≡ 0 → IsNoSpelling self.old.setting bytes.now }
     {
-        let taken = levels.len().min(self.segment.room());
-        meter.tick(taken as u64);
-        self.segment.hold_levels(&levels.front(taken));
-        if self.segment.is_whole() {
-            let bits = self.segment.code(sink, meter);
-            self.segment.begin_next();
-            Pushed {
-                samples: taken,
-                bits,
-            }
-        } else {
-            Pushed {
-                samples: taken,
-                bits: 0,
-            }
+        if self.held > 0 {
+            return self.hold_some(bytes, sink, meter);
         }
+        let pushed = self.push_blocks(bytes, sink, meter);
+        if pushed.samples > 0 {
+            return pushed;
+        }
+        self.hold_some(bytes, sink, meter)
     }
 
     /// Fills the last block by repeating the last sample, a step for each, and appends the code of the pending samples. Returns the number
     /// of appended bits, without padding, and resets the coder.
-    pub fn finish_reset(&mut self, sink: &mut SegmentSink, meter: &mut Meter) -> u64
-        requires room { length sink.old ≤ 7 }
-        requires meter { meter.old + segment_steps self.old.setting < step_limit }
-        ensures adds { (xs : List ℤ) → HasTaken self.old xs →
+    pub fn finish(&mut self, sink: &mut SegmentSink, meter: &mut Meter) -> u64
+        requires { (m : Standing) × StandsFor self.old sink.old meter.old m × HasRoomAt m }
+        ensures adds { (m : Standing) (xs : List ℤ) → StandsFor self.old sink.old meter.old m →
+            HasRoomAt m → HasTaken m.coder xs →
             AddsCode self.old.setting (complete_samples self.old.setting xs) xs
-            sink.old sink.new result (fill_count_of self.old.setting xs) meter.old meter.new }
-        ensures taken { HasTaken self.new [] }
-        ensures setting { self.new.setting ≡ self.old.setting }
+            m.sink sink.new result (fill_count_of self.old.setting xs) m.meter meter.new }
+        ensures reset { (sink : List Bool) (meter : ℕ) → StandsFor self.new sink meter
+            (record { coder = empty_state self.old.setting; sink = sink; meter = meter }) }
     {
-        self.segment.fill(meter);
-        let bits = self.segment.code_in_a_call(sink, meter);
-        self.segment.begin_first();
+        self.fill(sink, meter);
+        let bits = self.put_end(sink, meter);
+        self.previous = level_of_sample(&self.setting, 0);
+        self.go_to(0);
         bits
     }
+
+    /// Takes whole blocks from the front of the bytes, up to the one that completes a segment, or up to one in which bytes spell no sample.
+    fn push_blocks(
+        &mut self,
+        bytes: &[u8],
+        sink: &mut SegmentSink,
+        meter: &mut Meter,
+    ) -> Pushed
+        requires between { self.old.held ≡ 0 }
+        requires stands { (m : Standing) × StandsFor self.old sink.old meter.old m × HasRoomAt m }
+        ensures setting { self.new.setting ≡ self.old.setting }
+        ensures count { width_of self.old.setting * result.samples ≤ length bytes.now }
+        ensures takes { (m : Standing) → StandsFor self.old sink.old meter.old m → HasRoomAt m →
+            (m_new : Standing) × StandsFor self.new sink.new meter.new m_new ×
+            TakesSpelled m m_new bytes.now result.samples result.bits }
+        ensures kept { result.samples ≡ 0 → (m : Standing) →
+            StandsFor self.old sink.old meter.old m → HasRoomAt m →
+            StandsFor self.new sink.new meter.new m }
+    {
+        // The loop is laid out for each size of blocks.
+        match self.setting.block() {
+            8 => self.push_blocks_of_size::<8>(bytes, sink, meter),
+            16 => self.push_blocks_of_size::<16>(bytes, sink, meter),
+            32 => self.push_blocks_of_size::<32>(bytes, sink, meter),
+            64 => self.push_blocks_of_size::<64>(bytes, sink, meter),
+            _ => self.push_blocks_of_size::<0>(bytes, sink, meter),
+        }
+    }
+
+    /// Does what `push_blocks` does with blocks of `SIZE` samples, or of any number if `SIZE` is 0.
+    fn push_blocks_of_size<const SIZE: usize>(
+        &mut self,
+        bytes: &[u8],
+        sink: &mut SegmentSink,
+        meter: &mut Meter,
+    ) -> Pushed
+        requires size { 0 < SIZE → SIZE ≡ self.old.setting.block }
+        requires between { self.old.held ≡ 0 }
+        requires stands { (m : Standing) × StandsFor self.old sink.old meter.old m × HasRoomAt m }
+        ensures setting { self.new.setting ≡ self.old.setting }
+        ensures count { width_of self.old.setting * result.samples ≤ length bytes.now }
+        ensures takes { (m : Standing) → StandsFor self.old sink.old meter.old m → HasRoomAt m →
+            (m_new : Standing) × StandsFor self.new sink.new meter.new m_new ×
+            TakesSpelled m m_new bytes.now result.samples result.bits }
+        ensures kept { result.samples ≡ 0 → (m : Standing) →
+            StandsFor self.old sink.old meter.old m → HasRoomAt m →
+            StandsFor self.new sink.new meter.new m }
+    {
+        let known = known_or::<SIZE>(self.setting.block() as usize);
+        let len = self.setting.width() as usize * known;
+        let most = (bytes.len() / len).min((self.end - self.blocks) as usize);
+        let mut row = [0u32; 64];
+        for i in 0..most {
+            if !self.take_block::<SIZE>(&bytes[len * i..len * i + len], &mut row, sink, meter) {
+                return Pushed {
+                    samples: known * i,
+                    bits: 0,
+                };
+            }
+        }
+        let bits = self.end_if_whole(sink, meter);
+        Pushed {
+            samples: known * most,
+            bits,
+        }
+    }
+
+    /// Takes the samples of a whole block by their bytes, and returns whether these spell samples.
+    #[inline(always)]
+    fn take_block<const SIZE: usize>(
+        &mut self,
+        bytes: &[u8],
+        row: &mut [u32; 64],
+        sink: &mut SegmentSink,
+        meter: &mut Meter,
+    ) -> bool
+        requires size { 0 < SIZE → SIZE ≡ self.old.setting.block }
+        requires len { length bytes.now ≡ width_of self.old.setting * self.old.setting.block }
+        requires between { self.old.held ≡ 0 }
+        requires inside { self.old.blocks < self.old.end }
+        requires stands { (m : Standing) × (xs : List ℤ) ×
+            StandsAfter self.old sink.old meter.old m xs × HasRoomAt m }
+        ensures setting { self.new.setting ≡ self.old.setting }
+        ensures end { self.new.end ≡ self.old.end }
+        ensures held { self.new.held ≡ 0 }
+        ensures blocks { result ≡ true → self.new.blocks ≡ self.old.blocks + 1 }
+        ensures takes { result ≡ true → (m : Standing) (xs : List ℤ) →
+            StandsAfter self.old sink.old meter.old m xs → HasRoomAt m →
+            (ys : List ℤ) × Reads self.old.setting bytes.now ys [] ×
+            (length ys ≡ self.old.setting.block) ×
+            StandsAfter self.new sink.new meter.new m (xs ++ ys) }
+        ensures kept { result ≡ false → (m : Standing) (xs : List ℤ) →
+            StandsAfter self.old sink.old meter.old m xs →
+            StandsAfter self.new sink.new meter.new m xs }
+        ensures same { result ≡ false → self.new.blocks ≡ self.old.blocks }
+    {
+        let size = known_or::<SIZE>(self.setting.block() as usize);
+        let before = match self.before_next(bytes) {
+            Some(before) => before,
+            None => return false,
+        };
+        match residuals_of_bytes(&self.setting, bytes, before.level, &mut row[..size]) {
+            Some(last) => {
+                meter.tick(size as u64);
+                self.reference = before.reference;
+                self.previous = last;
+                self.put_block::<SIZE>(&row[..size], sink, meter);
+                true
+            }
+            None => false,
+        }
+    }
+
+    /// Returns what stands before the sample that the bytes spell first, or `None` if they spell none.
+    #[inline(always)]
+    fn before_next(&self, bytes: &[u8]) -> Option<Before>
+        requires below { self.now.previous < value_count self.now.setting }
+        requires len { width_of self.now.setting ≤ length bytes.now }
+        ensures some { IfSome result (λ b. IsBefore self.now bytes.now b.reference b.level) }
+        ensures none { IfNone result (IsNoSpelling self.now.setting bytes.now) }
+    {
+        if !(self.setting.preprocess() && self.is_at_first()) {
+            return Some(Before {
+                reference: self.reference,
+                level: self.previous,
+            });
+        }
+        let width = self.setting.width() as usize;
+        match sample_of(&self.setting, &bytes[..width]) {
+            Some(x) => Some(Before {
+                reference: Some(pattern(&self.setting, x)),
+                level: level_of_sample(&self.setting, x),
+            }),
+            None => None,
+        }
+    }
+
+    /// Returns whether a reference interval begins with the next sample.
+    #[inline]
+    fn is_at_first(&self) -> bool
+        ensures { result ≡ is_at_first self.now }
+    {
+        self.held == 0 && self.blocks == 0 && self.start == 0
+    }
+
+    /// Codes the block that has these residuals: a zero block is pending then, the code of any other is appended.
+    #[inline(always)]
+    fn put_block<const SIZE: usize>(
+        &mut self,
+        residuals: &[u32],
+        sink: &mut SegmentSink,
+        meter: &mut Meter,
+    )
+        requires size { 0 < SIZE → SIZE ≡ length residuals.now }
+        requires room { HasRoomForBlock self.old sink.old meter.old residuals.now }
+        ensures value { self.new ≡ record self.old {
+            blocks = self.old.blocks + 1;
+            run = self.new.run;
+            bits_ahead = self.new.bits_ahead;
+            steps_ahead = self.new.steps_ahead;
+        } }
+        ensures ahead { (h : HasRoomForBlock self.old sink.old meter.old residuals.now) →
+            IsAhead self.old.setting self.old.start self.old.reference
+            self.new.run self.new.bits_ahead self.new.steps_ahead
+            (h.blocks ++ block_with (reference_at self.old.reference (length h.blocks))
+            residuals.now ∷ []) sink.new h.from }
+        ensures meter { (h : HasRoomForBlock self.old sink.old meter.old residuals.now) →
+            meter.new ≡ h.meter_from + self.new.steps_ahead }
+    {
+        let _n = residuals.len();
+        let _len = sink.len();
+        let _steps = meter.steps();
+        self.blocks += 1;
+    }
+
+    /// Takes samples one by one from the front of the bytes, until a block is whole, or until bytes spell no sample.
+    fn hold_some(
+        &mut self,
+        bytes: &[u8],
+        sink: &mut SegmentSink,
+        meter: &mut Meter,
+    ) -> Pushed
+        requires stands { (m : Standing) × StandsFor self.old sink.old meter.old m × HasRoomAt m }
+        ensures count { width_of self.old.setting * result.samples ≤ length bytes.now }
+        ensures takes { (m : Standing) → StandsFor self.old sink.old meter.old m → HasRoomAt m →
+            (m_new : Standing) × StandsFor self.new sink.new meter.new m_new ×
+            TakesSpelled m m_new bytes.now result.samples result.bits }
+        ensures none { width_of self.old.setting ≤ length bytes.now → result.samples ≡ 0 →
+            IsNoSpelling self.old.setting bytes.now }
+    {
+        let width = self.setting.width() as usize;
+        let size = self.setting.block() as usize;
+        let most = (bytes.len() / width).min(size - self.held);
+        for i in 0..most {
+            match sample_of(&self.setting, &bytes[width * i..width * i + width]) {
+                Some(x) => self.hold(x, meter),
+                None => {
+                    return Pushed {
+                        samples: i,
+                        bits: 0,
+                    };
+                }
+            }
+        }
+        let bits = self.end_part(sink, meter);
+        Pushed {
+            samples: most,
+            bits,
+        }
+    }
+
+    /// Takes the sample `x` into the block that is not whole yet, for a step.
+    fn hold(&mut self, x: i64, meter: &mut Meter)
+        requires sample { IsSample self.old.setting x }
+        requires room { self.old.held < self.old.setting.block }
+        requires inside { self.old.blocks < self.old.end }
+        requires meter { meter.old + 1 < step_limit }
+        ensures setting { self.new.setting ≡ self.old.setting }
+        ensures held { self.new.held ≡ self.old.held + 1 }
+        ensures blocks { self.new.blocks ≡ self.old.blocks }
+        ensures end { self.new.end ≡ self.old.end }
+        ensures stands { (sink : List Bool) (m : Standing) (xs : List ℤ) →
+            StandsAfter self.old sink meter.old m xs →
+            StandsAfter self.new sink meter.new m (xs ++ x ∷ []) }
+    {
+        let _size = self.setting.block();
+        let first = self.is_at_first();
+        let previous = self.previous();
+        let residual = next_residual(&self.setting, first, previous, x);
+        note_reference(&self.setting, first, &mut self.reference, x);
+        self.part[self.held] = residual;
+        self.held += 1;
+        self.previous = level_of_sample(&self.setting, x);
+        meter.tick(1);
+    }
+
+    /// Codes the block that is held, which is whole.
+    fn put_part(&mut self, sink: &mut SegmentSink, meter: &mut Meter)
+        requires whole { self.old.held ≡ self.old.setting.block }
+        requires inside { self.old.blocks < self.old.end }
+        requires stands { (m : Standing) × (xs : List ℤ) ×
+            StandsAfter self.old sink.old meter.old m xs × HasRoomAt m }
+        ensures setting { self.new.setting ≡ self.old.setting }
+        ensures held { self.new.held ≡ 0 }
+        ensures stands { (m : Standing) (xs : List ℤ) →
+            StandsAfter self.old sink.old meter.old m xs → HasRoomAt m →
+            StandsAfter self.new sink.new meter.new m xs }
+    {
+        let size = self.setting.block() as usize;
+        let part = self.part;
+        self.put_block::<0>(&part[..size], sink, meter);
+        self.held = 0;
+    }
+
+    /// Codes the block that is held, if it is whole, and ends the segment if that is whole then. Returns the number of bits of the code of
+    /// the segment, or 0.
+    fn end_part(&mut self, sink: &mut SegmentSink, meter: &mut Meter) -> u64
+        requires inside { self.old.blocks < self.old.end }
+        requires stands { (m : Standing) × (xs : List ℤ) ×
+            StandsAfter self.old sink.old meter.old m xs × HasRoomAt m }
+        ensures { (m : Standing) (xs : List ℤ) →
+            StandsAfter self.old sink.old meter.old m xs → HasRoomAt m →
+            (m_new : Standing) × StandsFor self.new sink.new meter.new m_new ×
+            PushesOpen m m_new xs result }
+    {
+        if self.held < self.setting.block() as usize {
+            return 0;
+        }
+        self.put_part(sink, meter);
+        self.end_if_whole(sink, meter)
+    }
+
+    /// Ends the segment if it is whole, and begins the next. Returns the number of bits of the code of the segment, or 0.
+    fn end_if_whole(&mut self, sink: &mut SegmentSink, meter: &mut Meter) -> u64
+        requires between { self.old.held ≡ 0 }
+        requires stands { (m : Standing) × (xs : List ℤ) ×
+            StandsAfter self.old sink.old meter.old m xs × HasRoomAt m }
+        ensures setting { self.new.setting ≡ self.old.setting }
+        ensures stands { (m : Standing) (xs : List ℤ) →
+            StandsAfter self.old sink.old meter.old m xs → HasRoomAt m →
+            (m_new : Standing) × StandsFor self.new sink.new meter.new m_new ×
+            PushesOpen m m_new xs result }
+    {
+        if self.blocks < self.end {
+            return 0;
+        }
+        let bits = self.put_end(sink, meter);
+        let start = next_start(&self.setting, self.start);
+        self.go_to(start);
+        bits
+    }
+
+    /// Appends the code of the zero blocks that are pending, and the padding of an interval that ends. Returns the number of bits of the
+    /// code of the segment, without padding.
+    fn put_end(&self, sink: &mut SegmentSink, meter: &mut Meter) -> u64
+        requires between { self.now.held ≡ 0 }
+        requires stands { (m : Standing) × (xs : List ℤ) ×
+            StandsAfter self.now sink.old meter.old m xs × HasRoomAt m }
+        ensures { (m : Standing) (xs : List ℤ) →
+            StandsAfter self.now sink.old meter.old m xs → HasRoomAt m →
+            CodesHeld (state_after_all m.coder xs) m.sink sink.new result
+            (m.meter + length xs) meter.new }
+    {
+        let from = sink.len() - self.bits_ahead;
+        let first = reference_of(self.reference, (self.blocks - self.run) as usize);
+        put_pending_run(&self.setting, first, self.run, true, sink, meter);
+        let bits = sink.len() - from;
+        pad_interval(&self.setting, (self.start + self.blocks) as usize, sink);
+        bits
+    }
+
+    /// Fills the block that is held by repeating the last sample, a step for each, and codes it, unless no sample of it is held.
+    fn fill(&mut self, sink: &mut SegmentSink, meter: &mut Meter)
+        requires { (m : Standing) × StandsFor self.old sink.old meter.old m × HasRoomAt m }
+        ensures setting { self.new.setting ≡ self.old.setting }
+        ensures held { self.new.held ≡ 0 }
+        ensures stands { (m : Standing) → StandsFor self.old sink.old meter.old m → HasRoomAt m →
+            StandsAfter self.new sink.new meter.new m (replicate
+            (fill_count self.old.setting (length m.coder.residuals)) m.coder.previous) }
+    {
+        if self.held == 0 {
+            return;
+        }
+        let x = self.previous();
+        let count = self.setting.block() as usize - self.held;
+        for i in 0..count {
+            let _i = i;
+            self.hold(x, meter);
+        }
+        self.put_part(sink, meter);
+    }
+
+    /// Begins the segment at the place `start` of its interval, after the last sample.
+    fn go_to(&mut self, start: u32)
+        ensures { self.new ≡ coder_between self.old.setting start
+            (blocks_left self.old.setting start) self.old.previous self.old.part }
+    {
+        self.start = start;
+        self.end = self.setting.blocks_left(start as u64);
+        self.blocks = 0;
+        self.reference = None;
+        self.run = 0;
+        self.bits_ahead = 0;
+        self.steps_ahead = 0;
+        self.held = 0;
+    }
+}
+
+/// Returns the level of the sample `x`.
+#[inline]
+fn level_of_sample(setting: &Setting, x: i64) -> u32
+    requires { IsSample setting.now x }
+    ensures below { result < value_count setting.now }
+    ensures value { value_at setting.now result ≡ x }
+{
+    setting.level(x) as u32
 }

@@ -1,0 +1,15 @@
+use Rattle.std.proofs.Common.{◌≡◌, ◌+◌, ◌*◌, List, length, drop, ℤ}
+use Rattle.rice_samples.specs.bytes.Spelling.{Reads}
+use Rattle.rice_fast.specs.encode.OpenBlocks.{StandsAfter, StandsFor}
+use Rattle.rice_fast.specs.encode.Standing.{HasRoomAt, Standing}
+use Rattle.rice_fast.proofs.encode.coder.BlockCoder.hold_some.Given as goal
+
+abbrev pub invariant-loop-i : goal.invariant-loop-i
+invariant-loop-i l = record {
+  stands : (m : Standing) → StandsFor l.fn.self l.fn.sink l.fn.meter m → HasRoomAt m → (xs : List ℤ) × (length xs ≡ l.i) × Reads l.fn.self.setting l.fn.bytes xs (drop (l.width * l.i) l.fn.bytes)
+      × StandsAfter l.self l.fn.sink l.meter m xs;
+  setting : l.self.setting ≡ l.fn.self.setting;
+  end : l.self.end ≡ l.fn.self.end;
+  held : l.self.held ≡ l.fn.self.held + l.i;
+  blocks : l.self.blocks ≡ l.fn.self.blocks;
+}

@@ -1,0 +1,359 @@
+-- What the fast coder stands for, from call to call.
+use Rattle.std.proofs.Common.{◌≡◌, ℕ, zero, suc, ◌+◌, ◌-◌, ◌*◌, ◌/◌, ◌^◌, ◌<◌, ◌≤◌, ◌==◌, Bool, true, false, cond, ◌&&◌, List, [], ◌∷◌, ◌++◌, length, take, drop, replicate}
+use Rattle.std.proofs.Common.{refl, ap, arith, sym, ◌∙◌, subst, inl, inr, append-nil, append_assoc, length-append, Option, Some, None, IfSome, ℤ, pos}
+use Rattle.std.specs.Prelude.{◌⊎◌}
+use Rattle.std.specs.List.{AllByRecursion}
+use Rattle.std.proofs.lemmas.Bool.{cases_lt}
+use Rattle.std.proofs.lemmas.Bool.Decides.{nat_tests}
+use Rattle.std.proofs.lemmas.List.{length-take-le, take-append-drop, drop_at}
+use Rattle.std.proofs.lemmas.List.Elements.{recursion_from_All}
+use Rattle.std.proofs.Math.Nat.{mul-le-mul_left}
+use Rattle.rice_samples.specs.Parameters.{Parameters, IsLegal, IsSample, value_at, value_count, width}
+use Rattle.rice_samples.specs.Places.{blocks_left}
+use Rattle.rice_samples.specs.predict.Residuals.{pattern, rank, last_of}
+use Rattle.rice_samples.proofs.lemmas.setting.LevelsOfSamples.{pattern_fits}
+use Rattle.rice_samples.proofs.lemmas.setting.PlaceLemmas.{some_left}
+use Rattle.rice_samples.proofs.lemmas.setting.ValuesAboveLeast.{sample_at}
+use Rattle.rice_code.specs.CoderSteps.{coding_steps, segment_steps}
+use Rattle.rice_code.specs.code.SoundBlocks.{AreSoundBlocks, block_with}
+use Rattle.rice_code.specs.encode.Coder.{HasTaken, IsCoder}
+use Rattle.rice_code.specs.encode.HeldBlocks.{held_blocks, reference_at}
+use Rattle.rice_code.specs.encode.OpenSegment.{CoderState, IsOpen, HoldsSoundBlocks, IsWhole, is_empty, is_first, next_residual, next_residuals, next_reference, next_references, state_after, state_after_all, state_between, later_residuals}
+use Rattle.rice_code.proofs.lemmas.code.RepeatedSamples.{last_append}
+use Rattle.rice_code.proofs.lemmas.encode.PendingRuns.{held_len}
+use Rattle.rice_code.proofs.lemmas.encode.PushedCode.{open_between, short_of, steps_of_segment}
+use Rattle.rice_code.proofs.lemmas.encode.PushedSamples.{HoldsMore, open_pushes, is_coder_after}
+use Rattle.rice_code.proofs.lemmas.encode.SeveralSamplesHeld.{length-state_after_all, length-later, state_after_all-none, state_after_all-snoc, state_after_all-first}
+use Rattle.rice_code.proofs.lemmas.meaning.CoveredBlocks.{bool_cases, and-split}
+use Rattle.rice_fast.specs.encode.OpenBlocks.{HasRoomForBlock, HoldsOpen, IsAhead, IsBefore, PushesOpen, StandsAfter, StandsFor, StandsWith, coder_between, coder_with, is_at_first}
+use Rattle.rice_fast.specs.encode.Standing.{HasResidualsOf, HasRoomAt, Standing}
+use Rattle.rice_fast.specs.declared.encode.coder.BlockCoder.{BlockCoder}
+use Rattle.rice_fast.proofs.lemmas.encode.CodeAhead.{none_ahead, nothing_ahead, other_reference, steps_are_few}
+use Rattle.rice_fast.proofs.lemmas.encode.HeldResiduals.{held_more, held_next, is_empty-by_counts, sound_after, blocks_are_sound, state_after_all-append}
+use Rattle.rice_fast.proofs.lemmas.encode.TakenBytes.{first_of_samples, samples_counted}
+
+-- a coder between two calls has taken no sample in the next
+pub after_none : {c : BlockCoder} {sink : List Bool} {meter : ℕ} {m : Standing} → StandsFor c sink meter m → StandsAfter c sink meter m []
+after_none {c} {sink} {meter} {m} h =
+    let same : m.meter ≡ m.meter + 0 = omega arith in
+    record {
+      room = h.room;
+      held = omega (arith, h.held);
+      stands = record {
+        coded = h.coded;
+        legal = tt;
+        residuals = h.residuals;
+        coder = state_after_all-none m.coder [] refl ∙ h.coder;
+        holds = subst (λ v. HoldsOpen c (take c.held c.part) sink meter h.residuals m.sink v) same h.holds;
+      };
+    }
+
+-- the blocks of a segment are few
+pub few_blocks : {c : BlockCoder} {row : List ℕ} {sink : List Bool} {meter : ℕ} {ds : List ℕ} {from : List Bool} {m : ℕ} → HoldsOpen c row sink meter ds from m → c.end ≤ 64
+few_blocks {c} h = let left = some_left c.setting c.start h.opens.legal.interval_from in omega (arith, left.1, h.ends)
+
+-- no more blocks are whole than the segment has,
+pub blocks_inside : {c : BlockCoder} {row : List ℕ} {sink : List Bool} {meter : ℕ} {ds : List ℕ} {from : List Bool} {m : ℕ} → HoldsOpen c row sink meter ds from m
+    → c.setting.block * c.blocks + length row ≤ c.setting.block * c.end
+blocks_inside {c} h = let all = ap (λ n. c.setting.block * n) h.ends in omega (arith, all, h.number, h.opens.few)
+
+pub blocks_few : {c : BlockCoder} {row : List ℕ} {sink : List Bool} {meter : ℕ} {ds : List ℕ} {from : List Bool} {m : ℕ} → HoldsOpen c row sink meter ds from m → c.blocks ≤ c.end
+blocks_few {c} {ds = ds} h = let few = h.ahead.few in let count = held_len c.setting c.reference c.blocks ds in omega (arith, few, count, h.ends)
+
+pub run_inside : {c : BlockCoder} {row : List ℕ} {sink : List Bool} {meter : ℕ} {ds : List ℕ} {from : List Bool} {m : ℕ} → HoldsOpen c row sink meter ds from m → c.run ≤ c.blocks
+run_inside {c} {ds = ds} h = omega (arith, h.ahead.inside, held_len c.setting c.reference c.blocks ds)
+
+-- and fewer where part of one is held, or the segment is open
+pub still_open : (j blocks end held : ℕ) → held < j → blocks < end → j * blocks + held < j * end
+still_open j blocks end held part less = let all : j * suc blocks ≤ j * end = mul-le-mul_left j less in omega (arith, all, part)
+
+pub not_whole_yet : (j blocks end held : ℕ) → 0 < held → j * blocks + held ≤ j * end → blocks < end
+not_whole_yet j blocks end held some h = elim (cases_lt blocks end) [
+  | inl lt ↦ lt
+  | inr le ↦ absurd (let all : j * end ≤ j * blocks = mul-le-mul_left j le in omega (arith, all, some, h))
+]
+
+-- the residuals of all samples of the segment
+pub residuals_counted : {c : BlockCoder} {row : List ℕ} {sink : List Bool} {meter : ℕ} {m : Standing} {xs : List ℤ} → (h : StandsWith c row sink meter m xs)
+    → length m.coder.residuals + length xs ≡ c.setting.block * c.blocks + length row
+residuals_counted {m = m} {xs = xs} h = omega (arith, length-state_after_all m.coder xs, ap (λ (v : CoderState). length v.residuals) h.coder, h.holds.number)
+
+-- the meter has room for the samples of the segment, and for its code
+pub meter_behind : {c : BlockCoder} {row : List ℕ} {sink : List Bool} {meter : ℕ} {m : Standing} {xs : List ℤ} (n : ℕ) → StandsWith c row sink meter m xs → HasRoomAt m
+    → c.setting.block * c.blocks + length row + n ≤ c.setting.block * c.end → m.meter + length xs + n + coding_steps c.setting < 2 ^ 62
+meter_behind {c} {row} {sink} {meter} {m} {xs} n h room fits =
+    let s = c.setting in
+    let same = ap (λ (v : CoderState). segment_steps v.setting) h.coder in
+    let most : s.block * c.end ≤ s.block * 64 = mul-le-mul_left s.block (few_blocks h.holds) in
+    omega (arith, same, most, fits, room.steps, steps_of_segment s, residuals_counted h)
+
+-- also with the steps that are ahead
+pub meter_has_room : {c : BlockCoder} {row : List ℕ} {sink : List Bool} {meter : ℕ} {m : Standing} {xs : List ℤ} (n : ℕ) → StandsWith c row sink meter m xs → HasRoomAt m
+    → c.setting.block * c.blocks + length row + n ≤ c.setting.block * c.end → meter + n < 2 ^ 62
+meter_has_room n h room fits = omega (arith, meter_behind n h room fits, steps_are_few h.holds.ahead h.holds.opens.legal, h.holds.steps_ahead)
+
+-- sound blocks of all residuals, where they make whole blocks
+pub blocks_sound : {c : BlockCoder} {row : List ℕ} {sink : List Bool} {meter : ℕ} {m : Standing} {xs : List ℤ} (n : ℕ) → (h : StandsWith c row sink meter m xs) → n ≤ c.end
+    → length h.residuals ≡ c.setting.block * n → AreSoundBlocks c.setting c.start (held_blocks c.setting c.reference n h.residuals)
+blocks_sound {c} {row} {sink} {meter} {m} {xs} n h few whole =
+    let one : 1 ≤ c.setting.block = grind (arith, h.holds.opens.legal.block) in
+    let same = h.coder in
+    let left : n ≤ blocks_left m.coder.setting m.coder.start = omega (arith, few, h.holds.ends, ap (λ (v : CoderState). blocks_left v.setting v.start) same) in
+    let count : length m.coder.residuals + length xs ≡ m.coder.setting.block * n =
+        sym (length-state_after_all m.coder xs) ∙ (ap (λ (v : CoderState). length v.residuals) same ∙ (whole ∙ ap (λ (v : CoderState). v.setting.block * n) (sym same))) in
+    let sound : HoldsSoundBlocks (coder_with c h.residuals) = subst HoldsSoundBlocks same (sound_after m.coder xs n h.coded h.legal count left) in
+    blocks_are_sound (coder_with c h.residuals) n one whole sound
+
+-- residuals are those of whole blocks, and a row
+pub parts_of : {c : BlockCoder} {row : List ℕ} {sink : List Bool} {meter : ℕ} {ds : List ℕ} {from : List Bool} {m : ℕ} → HoldsOpen c row sink meter ds from m
+    → ds ≡ take (c.setting.block * c.blocks) ds ++ row
+parts_of {c} {ds = ds} h = sym (take-append-drop (c.setting.block * c.blocks) ds) ∙ ap (λ v. take (c.setting.block * c.blocks) ds ++ v) h.part
+
+-- a row that is a block makes one block more
+pub next_block : {c : BlockCoder} {row : List ℕ} {sink : List Bool} {meter : ℕ} {ds : List ℕ} {from : List Bool} {m : ℕ} → HoldsOpen c row sink meter ds from m → length row ≡ c.setting.block
+    → held_blocks c.setting c.reference (c.blocks + 1) ds ≡ held_blocks c.setting c.reference c.blocks ds ++ block_with (reference_at c.reference c.blocks) row ∷ []
+next_block {c} {row} {ds = ds} h whole =
+    let s = c.setting in
+    let front = take (s.block * c.blocks) ds in
+    let len : length front ≡ s.block * c.blocks = length-take-le (s.block * c.blocks) ds (omega (arith, h.number)) in
+    let parts = parts_of h in
+    ap (held_blocks s c.reference (c.blocks + 1)) parts
+    ∙ (held_next s c.reference c.blocks front row len whole
+    ∙ ap (λ v. v ++ block_with (reference_at c.reference c.blocks) row ∷ []) (sym (held_more s c.reference c.blocks front row (omega (arith, len))) ∙ ap (held_blocks s c.reference c.blocks) (sym parts)))
+
+-- such a row can be put,
+unfoldable pub row_has_room : {c : BlockCoder} {row : List ℕ} {sink : List Bool} {meter : ℕ} {m : Standing} {xs : List ℤ} → StandsWith c row sink meter m xs → HasRoomAt m → length row ≡ c.setting.block → c.blocks < c.end
+    → HasRoomForBlock c sink meter row
+row_has_room {c} {row} {sink} {meter} {m} {xs} h room whole less =
+    let s = c.setting in
+    let holds = h.holds in
+    let count = held_len s c.reference c.blocks h.residuals in
+    let more : s.block * (c.blocks + 1) ≤ s.block * c.end = mul-le-mul_left s.block (omega (arith, less)) in
+    let sound = blocks_sound (c.blocks + 1) h (omega (arith, less)) (omega (arith, holds.number, whole)) in
+    record {
+      blocks = held_blocks s c.reference c.blocks h.residuals;
+      from = m.sink;
+      meter_from = m.meter + length xs;
+      number = count;
+      legal = holds.opens.legal;
+      ahead = holds.ahead;
+      sound = subst (AreSoundBlocks s c.start) (next_block holds whole ∙ ap (λ n. held_blocks s c.reference c.blocks h.residuals ++ block_with (reference_at c.reference n) row ∷ []) (sym count)) sound;
+      below = omega (arith, count, less, holds.ends);
+      steps_ahead = holds.steps_ahead;
+      room = room.room;
+      steps = let all = meter_behind 0 h room (omega (arith, blocks_inside holds)) in omega (arith, all);
+    }
+
+-- and then it is coded
+abbrev pub with_block : BlockCoder → ℕ → ℕ → ℕ → BlockCoder
+with_block c run bits steps = record c {
+  blocks = c.blocks + 1;
+  run = run;
+  bits_ahead = bits;
+  steps_ahead = steps;
+}
+
+pub row_is_put : {c : BlockCoder} {row : List ℕ} {sink sink_new : List Bool} {meter meter_new : ℕ} {m : Standing} {xs : List ℤ} (run bits steps : ℕ) → (h : StandsWith c row sink meter m xs) → length row ≡ c.setting.block → c.blocks < c.end
+    → IsAhead c.setting c.start c.reference run bits steps
+    (held_blocks c.setting c.reference c.blocks h.residuals ++ block_with (reference_at c.reference (length (held_blocks c.setting c.reference c.blocks h.residuals))) row ∷ []) sink_new m.sink
+    → meter_new ≡ m.meter + length xs + steps → StandsWith (with_block c run bits steps) [] sink_new meter_new m xs
+row_is_put {c} {row} {sink} {sink_new} {meter} {meter_new} {m} {xs} run bits steps h whole less ahead ticks =
+    let s = c.setting in
+    let holds = h.holds in
+    let count = held_len s c.reference c.blocks h.residuals in
+    let number : length h.residuals ≡ s.block * (c.blocks + 1) + 0 = omega (arith, holds.number, whole) in
+    record {
+      coded = h.coded;
+      legal = h.legal;
+      residuals = h.residuals;
+      coder = h.coder;
+      holds = record {
+        opens = holds.opens;
+        ends = holds.ends;
+        below = holds.below;
+        number = number;
+        fits = omega arith;
+        part = drop_whole (s.block * (c.blocks + 1)) h.residuals (omega (arith, number));
+  steps_ahead = ticks;
+        ahead = subst (λ cs. IsAhead s c.start c.reference run bits steps cs sink_new m.sink)
+            (ap (λ n. held_blocks s c.reference c.blocks h.residuals ++ block_with (reference_at c.reference n) row ∷ []) count ∙ sym (next_block holds whole)) ahead;
+      };
+    }
+  where
+    drop_whole : (n : ℕ) (ds : List ℕ) → length ds ≡ n → drop n ds ≡ []
+    drop_whole n ds e = ap (λ v. drop n v) (sym (append-nil ds)) ∙ drop_at ds [] n e
+
+-- What is held of a block counts as a row, whichever the part of the coder is.
+pub other_part : {c : BlockCoder} {row : List ℕ} {sink : List Bool} {meter : ℕ} {m : Standing} {xs : List ℤ} (part : List ℕ) (held : ℕ) → StandsWith c row sink meter m xs
+    → StandsWith (record c { part = part; held = held; }) row sink meter m xs
+other_part part held h = record {
+  coded = h.coded;
+  legal = h.legal;
+  residuals = h.residuals;
+  coder = h.coder;
+  holds = record {
+    opens = h.holds.opens;
+    ends = h.holds.ends;
+    below = h.holds.below;
+    number = h.holds.number;
+    fits = h.holds.fits;
+    part = h.holds.part;
+    steps_ahead = h.holds.steps_ahead;
+    ahead = h.holds.ahead;
+  };
+}
+
+-- where nothing is held, the row has nothing
+pub none_held : {c : BlockCoder} {sink : List Bool} {meter : ℕ} {m : Standing} {xs : List ℤ} → StandsWith c [] sink meter m xs → c.held ≡ 0 → length c.part ≡ 64 → StandsAfter c sink meter m xs
+none_held {c} {sink} {meter} {m} {xs} h none room = record {
+  room = room;
+  held = omega (arith, none);
+  stands = subst (λ n. StandsWith c (take n c.part) sink meter m xs) (sym none) h;
+}
+
+-- A reference is noted before the first block only.
+pub noted_reference : {s : Parameters} {start : ℕ} {r : Option ℕ} (q : Option ℕ) {run bits steps : ℕ} {sink from : List Bool} (n : ℕ) (ds es : List ℕ) → s.block * n ≤ length ds
+    → (q ≡ r) ⊎ (n ≡ 0) → IsAhead s start r run bits steps (held_blocks s r n ds) sink from → IsAhead s start q run bits steps (held_blocks s q n (ds ++ es)) sink from
+noted_reference {s} {start} {r} q {run} {bits} {steps} {sink} {from} n ds es long (inl same) h =
+    subst (λ v. IsAhead s start v run bits steps (held_blocks s v n (ds ++ es)) sink from) (sym same)
+    (subst (λ cs. IsAhead s start r run bits steps cs sink from) (sym (held_more s r n ds es long)) h)
+noted_reference {s} {start} {r} q {run} {bits} {steps} {sink} {from} zero ds es long (inr none) h = other_reference q run h
+noted_reference {s} {start} {r} q {run} {bits} {steps} {sink} {from} (suc n) ds es long (inr none) h = absurd (omega arith)
+
+-- behind no residuals nothing is ahead
+pub blank_holds : (s : Parameters) (start level : ℕ) (part : List ℕ) (sink : List Bool) (meter : ℕ) → IsOpen (state_between s start (value_at s level)) (s.block * blocks_left s start) → level < value_count s
+    → HoldsOpen (coder_between s start (blocks_left s start) level part) [] sink meter [] sink meter
+blank_holds s start level part sink meter opens below = record {
+  opens = opens;
+  ends = refl;
+  below = below;
+  number = omega arith;
+  fits = omega arith;
+  part = nothing (s.block * 0);
+  steps_ahead = omega arith;
+  ahead = none_ahead s start None sink;
+}
+  where
+    nothing : (n : ℕ) → drop n (let none : List ℕ = [] in none) ≡ []
+    nothing zero = refl
+    nothing (suc n) = refl
+
+-- so a coder between two segments stands for the plain one there
+pub between_stands : (s : Parameters) (start level : ℕ) (part : List ℕ) (sink : List Bool) (meter : ℕ) → IsOpen (state_between s start (value_at s level)) (s.block * blocks_left s start) → level < value_count s
+    → IsCoder (state_between s start (value_at s level)) → length part ≡ 64
+    → StandsFor (coder_between s start (blocks_left s start) level part) sink meter (record { coder = state_between s start (value_at s level); sink = sink; meter = meter })
+between_stands s start level part sink meter opens below coded room =
+    let one : 1 ≤ s.block = grind (arith, opens.legal.block) in
+    record {
+      room = room;
+      held = omega (arith, one);
+      coded = coded;
+      residuals = [];
+      coder = refl;
+      holds = blank_holds s start level part sink meter opens below;
+    }
+
+-- which has taken the samples of whole segments
+pub begun_stands : (s : Parameters) (start end level : ℕ) (part : List ℕ) (sink : List Bool) (meter : ℕ) (p : ℤ) (xs : List ℤ) → HasTaken (state_between s start p) xs → value_at s level ≡ p → level < value_count s
+    → end ≡ blocks_left s start → length part ≡ 64 → StandsFor (coder_between s start end level part) sink meter (record { coder = state_between s start p; sink = sink; meter = meter })
+begun_stands s start end level part sink meter p xs taken same below ends room =
+    let P : ℤ → Type 0 = λ v. IsOpen (state_between s start v) (s.block * blocks_left s start) in
+    let Q : ℤ → Type 0 = λ v. IsCoder (state_between s start v) in
+    let R : ℕ → ℤ → Type 0 = λ n v. StandsFor (coder_between s start n level part) sink meter (record { coder = state_between s start v; sink = sink; meter = meter }) in
+    let begun = between_stands s start level part sink meter (subst P (sym same) (open_between s start p xs taken)) below (subst Q (sym same) (record { samples = xs; taken = taken })) room in
+    subst (R end) same (subst (λ n. R n (value_at s level)) (sym ends) begun)
+
+-- a coder with no residuals of the open segment is ahead by nothing
+pub stands_between : {c : BlockCoder} {sink : List Bool} {meter : ℕ} {m : Standing} → StandsFor c sink meter m → m.coder.residuals ≡ [] → (m.sink ≡ sink) × (m.meter ≡ meter)
+stands_between {c} {sink} {meter} {m} h none =
+    let holds = h.holds in
+    let one : 1 ≤ c.setting.block = grind (arith, holds.opens.legal.block) in
+    let count : c.setting.block * c.blocks + length (take c.held c.part) ≡ 0 = omega (arith, holds.number, ap (λ (v : CoderState). length v.residuals) h.coder, ap length none) in
+    let blocks = no_blocks c.setting.block c.blocks (length (take c.held c.part)) one count in
+    let ahead : IsAhead c.setting c.start c.reference c.run c.bits_ahead c.steps_ahead [] sink m.sink =
+        subst (λ n. IsAhead c.setting c.start c.reference c.run c.bits_ahead c.steps_ahead (held_blocks c.setting c.reference n h.residuals) sink m.sink) blocks holds.ahead in
+    let nothing = nothing_ahead c.run ahead in
+    (sym nothing.same, omega (arith, holds.steps_ahead, nothing.steps_are))
+  where
+    no_blocks : (j n k : ℕ) → 1 ≤ j → j * n + k ≡ 0 → n ≡ 0
+    no_blocks j zero k one e = refl
+    no_blocks j (suc n) k one e = absurd (let m : j * suc n ≡ j * n + j = omega arith in omega (arith, m, e, one))
+
+-- it has the setting of the plain coder,
+pub setting_of : {c : BlockCoder} {sink : List Bool} {meter : ℕ} {m : Standing} → StandsFor c sink meter m → m.coder.setting ≡ c.setting
+setting_of h = ap (λ (v : CoderState). v.setting) h.coder
+
+-- which has taken some samples
+pub is_coder : {c : BlockCoder} {sink : List Bool} {meter : ℕ} {m : Standing} → StandsFor c sink meter m → IsCoder m.coder
+is_coder h = h.coded
+
+-- Samples that leave the segment open are pushed, and nothing is put.
+pub pushes_nothing : {c : BlockCoder} {sink : List Bool} {meter : ℕ} {m : Standing} {xs : List ℤ} → StandsAfter c sink meter m xs → c.held < c.setting.block → c.blocks < c.end
+    → (m_new : Standing) × StandsFor c sink meter m_new × PushesOpen m m_new xs 0
+pushes_nothing {c} {sink} {meter} {m} {xs} h part less =
+    let stands = h.stands in
+    let holds = stands.holds in
+    let s = c.setting in
+    let row : length (take c.held c.part) ≡ c.held = length-take-le c.held c.part (omega (arith, h.room, part, small s holds.opens.legal)) in
+    let short = still_open s.block c.blocks c.end c.held part less in
+    let limit : m.coder.setting.block * blocks_left m.coder.setting m.coder.start ≡ s.block * c.end = ap (λ (v : CoderState). v.setting.block * blocks_left v.setting v.start) stands.coder ∙ ap (λ n. s.block * n) (sym holds.ends) in
+    let count = residuals_counted stands in
+    let all = state_after_all m.coder xs in
+    let more : HoldsMore m.coder m.coder all xs = record {
+      same = refl;
+      coded = stands.coded;
+      legal = stands.legal;
+      room = omega (arith, count, row, short, limit);
+      holds = refl;
+    } in
+    let open_still : IsWhole all → ⊥ = λ whole. omega (arith, whole, length-state_after_all m.coder xs, count, row, short, limit) in
+    let pushes = open_pushes {sink = m.sink} more open_still refl in
+    (
+      record { coder = all; sink = m.sink; meter = m.meter + length xs },
+      record {
+        room = h.room;
+        held = part;
+        coded = is_coder_after more pushes;
+        residuals = stands.residuals;
+        coder = stands.coder;
+        holds = holds;
+      },
+      record { pushes = pushes; whole = λ some. absurd (omega (arith, some)); waits = λ none. refl },
+    )
+  where
+    small : (s : Parameters) → IsLegal s → s.block ≤ 64
+    small s legal = grind (arith, legal.block)
+
+-- the residuals in the part
+pub part_counted : {c : BlockCoder} {sink : List Bool} {meter : ℕ} {m : Standing} {xs : List ℤ} → StandsAfter c sink meter m xs → length (take c.held c.part) ≡ c.held
+part_counted {c} h = let few = block_is_small c.setting h.stands.holds.opens.legal in length-take-le c.held c.part (omega (arith, h.room, h.held, few))
+  where
+    block_is_small : (s : Parameters) → IsLegal s → s.block ≤ 64
+    block_is_small s legal = grind (arith, legal.block)
+
+-- there is a step for the next sample
+pub step_for_one : {c : BlockCoder} {sink : List Bool} {meter : ℕ} {m : Standing} {xs : List ℤ} → StandsAfter c sink meter m xs → HasRoomAt m → c.held < c.setting.block → c.blocks < c.end → meter + 1 < 2 ^ 62
+step_for_one {c} h room part less = meter_has_room 1 h.stands room (omega (arith, part_counted h, still_open c.setting.block c.blocks c.end c.held part less))
+
+-- and there are those for the next block
+pub steps_for_block : {c : BlockCoder} {sink : List Bool} {meter : ℕ} {m : Standing} {xs : List ℤ} → StandsAfter c sink meter m xs → HasRoomAt m → c.held ≡ 0 → c.blocks < c.end → meter + c.setting.block < 2 ^ 62
+steps_for_block {c} h room none less =
+    let all : c.setting.block * (c.blocks + 1) ≤ c.setting.block * c.end = mul-le-mul_left c.setting.block (omega (arith, less)) in
+    meter_has_room c.setting.block h.stands room (omega (arith, part_counted h, none, all))
+
+-- a coder whose part is whole, as a row
+pub part_as_row : {c : BlockCoder} {sink : List Bool} {meter : ℕ} {m : Standing} {xs : List ℤ} (n : ℕ) → StandsAfter c sink meter m xs → n ≡ c.held → StandsWith c (take n c.part) sink meter m xs
+part_as_row {c} {sink} {meter} {m} {xs} n h e = subst (λ v. StandsWith c (take v c.part) sink meter m xs) (sym e) h.stands
+
+-- between two calls the segment is open
+pub for_open : {c : BlockCoder} {sink : List Bool} {meter : ℕ} {m : Standing} → StandsFor c sink meter m → c.blocks < c.end
+for_open {c} {m = m} h =
+    let short = short_of m.coder h.coded.samples h.coded.taken in
+    let limit : m.coder.setting.block * blocks_left m.coder.setting m.coder.start ≡ c.setting.block * c.end = ap (λ (v : CoderState). v.setting.block * blocks_left v.setting v.start) h.coder ∙ ap (λ n. c.setting.block * n) (sym h.holds.ends) in
+    below c.setting.block c.blocks c.end (omega (arith, short, limit, ap (λ (v : CoderState). length v.residuals) h.coder, h.holds.number))
+  where
+    below : (j n end : ℕ) → j * n < j * end → n < end
+    below j n end h = elim (cases_lt n end) [
+      | inl lt ↦ lt
+      | inr le ↦ absurd (let all : j * end ≤ j * n = mul-le-mul_left j le in omega (arith, all, h))
+    ]
