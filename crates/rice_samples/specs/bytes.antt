@@ -1,6 +1,4 @@
 -- Samples in bytes.
-pub mod Levels
-pub mod LevelRow
 pub mod PatternLanes
 pub mod UnusedBits
 pub mod Spelling

@@ -3,10 +3,7 @@
 pub mod block;
 pub mod lanes;
 pub mod level_lanes;
-pub mod level_row;
-pub mod levels;
 pub mod pattern_lanes;
-pub mod residuals;
 pub(crate) mod residuals_of_levels;
 pub mod restoring;
 pub mod spelling_lanes;

@@ -24,10 +24,7 @@ pub use fast::level_lanes::{
     levels_in_bytes, levels_in_halves, levels_in_words, levels_of_bytes_in_halves,
     levels_of_threes_in_words, patterns_of_levels,
 };
-pub use fast::level_row::LevelRow;
-pub use fast::levels::Levels;
 pub use fast::pattern_lanes::bytes_of_patterns;
-pub use fast::residuals::Residuals;
 pub use fast::residuals_of_levels::from_levels::{
     pattern_of_level, replace_by_patterns, replace_by_residuals,
 };

@@ -15,10 +15,11 @@ ghost use Rattle.rice_code.specs.encode.Coder.{complete_code};
 use crate::input::Input;
 use crate::outcome::{Fault, Outcome, Report};
 use crate::seam::{Seam, take_waiting_number};
-use crate::takes::{OneByOne, TakesBytes};
+use crate::takes::TakesBytes;
 use crate::write::write_whole;
 use rice_bits::{BitSink, Intake, Meter, Outlet, WriteFault};
 use rice_code::SegmentSink;
+use rice_fast::BlockCoder;
 use rice_samples::Setting;
 
 /// A coder, its sink, its meter, and the counts for the report.
@@ -215,7 +216,7 @@ pub fn encode<I: Intake, O: Outlet>(setting: &Setting, intake: &mut I, outlet: &
         (O.failed outlet.old) (O.failed outlet.new) }
     ensures bounds { EncodesWithin setting.now result.report }
 {
-    encode_by::<OneByOne, I, O>(setting, intake, outlet)
+    encode_by::<BlockCoder, I, O>(setting, intake, outlet)
 }
 
 /// Encodes by this coder, as `encode` does.

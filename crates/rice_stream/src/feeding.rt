@@ -11,8 +11,9 @@ use crate::encoding::Encoding;
 use crate::input::MOST_INPUT;
 use crate::outcome::{Fault, Outcome};
 use crate::seam::Seam;
-use crate::takes::{OneByOne, TakesBytes};
+use crate::takes::TakesBytes;
 use rice_bits::Outlet;
+use rice_fast::BlockCoder;
 use rice_samples::Setting;
 
 /// Encodes the next samples, whose bytes are `bytes`, and returns the end of their code.
@@ -31,7 +32,7 @@ pub fn encode_more<O: Outlet>(
         (O.taken outlet.old) (O.taken outlet.new) result }
     ensures failures { PushFails (O.failed outlet.old) (O.failed outlet.new) result }
 {
-    encode_more_by::<OneByOne, O>(setting, seam, bytes, outlet)
+    encode_more_by::<BlockCoder, O>(setting, seam, bytes, outlet)
 }
 
 /// Encodes by this coder, as `encode_more` does.
@@ -74,7 +75,7 @@ pub fn encode_rest<O: Outlet>(
     ensures failures { Fails result.fault 0 0 (O.failed outlet.old) (O.failed outlet.new) }
     ensures bounds { EncodesWithin setting.now result.report }
 {
-    encode_rest_by::<OneByOne, O>(setting, seam, bytes, outlet)
+    encode_rest_by::<BlockCoder, O>(setting, seam, bytes, outlet)
 }
 
 /// Encodes by this coder, as `encode_rest` does.

@@ -7,6 +7,7 @@ ghost use Rattle.rice_stream.specs.TakenBytes.{standing_between, TakesSpelled};
 
 use rice_bits::Meter;
 use rice_code::{Coder, SegmentSink};
+use rice_fast::BlockCoder;
 use rice_samples::{Setting, sample_of};
 
 /// What a coder took and appended.
@@ -77,6 +78,47 @@ pub trait TakesBytes: Drop {
     ghost with_sink: { (c : Self) (bits : List Bool) (steps : ℕ) (m : Standing) → stands c bits steps m →
         m.sink ≡ bits → (others : List Bool) →
         stands c others steps (record { coder = m.coder; sink = others; meter = m.meter }) };
+}
+
+impl TakesBytes for BlockCoder {
+    ghost use Rattle.rice_fast.specs.encode.OpenBlocks.{StandsFor};
+    ghost use Rattle.rice_fast.proofs.lemmas.encode.StandingCoders.{stands_between, stands_with};
+
+    ghost stands = { λ c bits steps m. StandsFor c bits steps m };
+
+    ghost between = { λ c bits steps m. stands_between c bits steps m };
+
+    ghost with_sink = { λ c bits steps m. stands_with c bits steps m };
+
+    fn resume(setting: Setting, start: u32, previous: i64) -> Self {
+        BlockCoder::resume(setting, start, previous)
+    }
+
+    #[inline(always)]
+    fn push(&mut self, bytes: &[u8], sink: &mut SegmentSink, meter: &mut Meter) -> Taken {
+        let pushed = self.push(bytes, sink, meter);
+        Taken {
+            samples: pushed.samples,
+            bits: pushed.bits,
+            ahead: pushed.bits == 0,
+        }
+    }
+
+    fn start(&self) -> u32 {
+        self.start()
+    }
+
+    fn previous(&self) -> i64 {
+        self.previous()
+    }
+
+    fn steps(&self, meter: &Meter) -> u64 {
+        self.steps(meter)
+    }
+
+    fn finish(&mut self, sink: &mut SegmentSink, meter: &mut Meter) -> u64 {
+        self.finish(sink, meter)
+    }
 }
 
 /// A coder that takes one sample per call.

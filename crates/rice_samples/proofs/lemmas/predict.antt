@@ -10,7 +10,6 @@ pub mod NumbersThatFit16Bits
 pub mod NearEights
 pub mod DistinctPatternsAndResiduals
 pub mod RankLaws
-pub mod RankedLevels
 pub mod Ranks
 pub mod ResidualLemmas
 pub mod RestoredLevels

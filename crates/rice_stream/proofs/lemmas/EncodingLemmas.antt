@@ -39,10 +39,6 @@ use Rattle.std.proofs.lemmas.List.Elements.{All-take}
 use Rattle.rice_stream.proofs.lemmas.EncodingBounds.{Settles, taken_settles, early_bounded, all_bounded, few_steps, few_bits}
 use Rattle.rice_stream.proofs.lemmas.BytesOfGrowingCode.{length-part, more_bytes, more_rest}
 
--- nothing follows what was written, what follows it goes on, and where nothing was written before it is all
-pub Follows-nil : (now : Option Room) → Follows (afresh now) now []
-Follows-nil now = record { more = []; split = refl; took = Appends-nil now }
-
 -- bytes that the outlet takes behind those that are written are written with them
 pub Follows-trans : (old : Beginning) (now new : Option Room) (bytes more : List ℕ) → Follows old now bytes → Appends now new more → Follows old new (bytes ++ more)
 Follows-trans old now new bytes more f a = record {

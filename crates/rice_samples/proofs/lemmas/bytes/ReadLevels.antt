@@ -1,12 +1,8 @@
 -- Levels that are read, and the samples at these.
-use Rattle.std.proofs.Common.{◌≡◌, ◌≢◌, ℕ, ℤ, ◌+◌, ◌-◌, ◌*◌, ◌/◌, ◌<◌, ◌≤◌, ◌++◌, List, length, take, drop, All, ap, sym, subst, arith, ◌∙◌}
-use Rattle.std.proofs.Math.Nat.{le-div_iff_mul-le}
-use Rattle.std.proofs.lemmas.List.{take-append-drop, take-map, take_all}
+use Rattle.std.proofs.Common.{◌≡◌, ◌≢◌, ℕ, ℤ, ◌+◌, ◌-◌, ◌*◌, ◌<◌, List, length, take, drop, All, ap, sym, subst, arith, ◌∙◌}
+use Rattle.std.proofs.lemmas.List.{take-map, take_all}
 use Rattle.rice_samples.specs.Parameters.{Parameters, IsSample, value_at, value_count, values_at, width}
-use Rattle.rice_samples.specs.bytes.LevelRow.{IsRowRead, held_levels}
-use Rattle.rice_samples.specs.declared.fast.level_row.Held.{Held}
-use Rattle.rice_samples.specs.declared.fast.level_row.Held.TheVariants.{Bytes, Halves, Words}
-use Rattle.rice_samples.specs.bytes.Spelling.{IsNoSpelling, Reads, ReadsSamples, spelling, spellings}
+use Rattle.rice_samples.specs.bytes.Spelling.{IsNoSpelling, ReadsSamples, spelling, spellings}
 use Rattle.rice_samples.proofs.lemmas.setting.ValuesAtLevels.{legal_values, length-values}
 
 -- one level more was read
@@ -35,27 +31,3 @@ pub no_spelling : (s : Parameters) (w i : ℕ) (bytes : List ℕ) → w ≡ widt
 no_spelling s w i bytes e h = λ x sample spells.
     let m : w * i + w - w * i ≡ width s = omega (arith, e) in
     h x sample ((λ j. take (m j) (drop (e j * i) bytes)) ∙ spells)
-
--- where the first bytes spell n samples, these are read, and the rest is left
-pub reads_row : (s : Parameters) (bytes levels : List ℕ) (n : ℕ) → All (λ l. l < value_count s) (take n levels) → take (width s * n) bytes ≡ spellings s (values_at s (take n levels))
-    → Reads s bytes (take n (values_at s levels)) (drop (width s * n) bytes)
-reads_row s bytes levels n legal spelled =
-    let front : take n (values_at s levels) ≡ values_at s (take n levels) = take-map (value_at s) n levels in
-    record {
-      split = sym (take-append-drop (width s * n) bytes) ∙ ap (λ v. v ++ drop (width s * n) bytes) (spelled ∙ ap (spellings s) (sym front));
-      legal = subst (All (IsSample s)) (sym front) (legal_values s (take n levels) legal);
-    }
-
--- a row that is read whole ends where fewer bytes than a sample has are left, or where the row has no more room
-pub no_stop : {s : Parameters} {bytes levels : List ℕ} {n : ℕ} → 1 ≤ width s → IsRowRead s bytes n levels → n < 512 → width s * (n + 1) ≤ length bytes → ⊥
-no_stop {s} {bytes} {n = n} some row few room =
-    let least = row.count in
-    let swapped : (n + 1) * width s ≤ length bytes = omega (arith, room) in
-    let whole : n + 1 ≤ length bytes / width s = (le-div_iff_mul-le some).1 swapped in
-    absurd (omega (arith, least, few, whole))
-
--- a row has as many places, wherever the levels are held
-pub length-held : (h : Held) (bytes halves words : List ℕ) → length bytes ≡ 512 → length halves ≡ 512 → length words ≡ 512 → length (held_levels h bytes halves words) ≡ 512
-length-held Bytes bytes halves words a b c = a
-length-held Halves bytes halves words a b c = b
-length-held Words bytes halves words a b c = c

@@ -19,33 +19,3 @@ pub fn ranks<L: Lanes>(greatest: u32, before: L, numbers: L) -> L
     let reach = before.least(L::splat(greatest).minus(before));
     down.plus(up).plus(nearer.least(reach))
 }
-
-/// Writes the ranks of levels up to `greatest`: of the first from `p`, of each other from the one before it. It writes a whole vector at a
-/// time, while one is left, and returns how many ranks it wrote.
-#[inline(always)]
-pub fn write_ranks<L: Lanes>(
-    greatest: u32,
-    p: u32,
-    levels: &[L::Number],
-    residuals: &mut [u32],
-) -> usize
-    requires greatest { greatest < 2 ^ L.bits }
-    requires before { p ≤ greatest }
-    requires legal { All (λ l. l ≤ greatest) (map L.number levels.now) }
-    requires len { length residuals.old ≡ length levels.now }
-    ensures len { length residuals.new ≡ length levels.now }
-    ensures most { result ≤ length levels.now }
-    ensures all { length levels.now < result + L.COUNT }
-    ensures value { take result residuals.new
-        ≡ ranks_below (greatest + 1) p (take result (map L.number levels.now)) }
-{
-    let mut before = L::splat(p);
-    let mut at = 0;
-    while at + L::COUNT <= levels.len() {
-        let row = L::read(&levels[at..at + L::COUNT]);
-        ranks(greatest, row.before(before), row).write(residuals, at);
-        before = row;
-        at += L::COUNT;
-    }
-    at
-}

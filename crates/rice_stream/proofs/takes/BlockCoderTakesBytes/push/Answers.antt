@@ -1,0 +1,38 @@
+use Rattle.std.proofs.Common.{arith, ◌≡◌, ◌==◌, ◌<◌, ◌≤◌, ℕ, zero, suc, List, Bool, [], length, refl, subst, sym}
+use Rattle.rice_samples.specs.Parameters.{width}
+use Rattle.rice_fast.specs.declared.encode.coder.BlockCoder.{BlockCoder}
+use Rattle.rice_fast.specs.encode.OpenBlocks.{StandsFor}
+use Rattle.rice_fast.specs.encode.Standing.{Standing}
+use Rattle.rice_fast.proofs.lemmas.encode.StandingCoders.{setting_of, stands_between}
+use Rattle.rice_samples.specs.bytes.Spelling.{IsNoSpelling}
+use Rattle.rice_stream.specs.TakenBytes.{ShowsCode}
+use Rattle.rice_stream.proofs.takes.BlockCoderTakesBytes.push.Goals as goal
+
+-- only with the code of a segment that is whole is nothing ahead
+shows_by : (c : BlockCoder) (sink : List Bool) (meter : ℕ) (m m_new : Standing) (bits : ℕ) → StandsFor c sink meter m_new → (0 < bits → m_new.coder.residuals ≡ [])
+    → (bits ≡ 0 → m_new.sink ≡ m.sink) → ShowsCode (bits == 0) m m_new sink
+shows_by c sink meter m m_new zero stands whole waits = waits refl
+shows_by c sink meter m m_new (suc bits) stands whole waits = (stands_between c sink meter m_new stands (whole (omega arith))).0
+
+pub push-pushed-requires : goal.push-pushed-requires
+push-pushed-requires c =
+    let same = setting_of _ _ _ c.requires.0 c.requires.1 in
+    record { some = subst (λ s. width s ≤ length c.args.bytes.now) same c.requires.3; stands = (c.requires.0, c.requires.1, c.requires.2) }
+
+pub returns : goal.returns
+returns c m stands room =
+    let p = c.push-pushed.ensures.takes m stands room in
+    let t = p.2 in
+    let same = setting_of _ _ _ m stands in (
+      p.0,
+      p.1,
+      record {
+        samples = t.samples;
+        reads = t.reads;
+        number = t.number;
+        none = λ none. subst (λ s. IsNoSpelling s c.args.bytes.now) (sym same) (c.push-pushed.ensures.none none);
+        pushes = t.pushes;
+        before_last = t.before_last;
+        shows = shows_by c.push-pushed.new.self c.push-pushed.new.sink c.push-pushed.new.meter m p.0 c.push-pushed.result.bits p.1 t.whole t.waits;
+      },
+    )
