@@ -228,6 +228,12 @@ impl BlockCoder {
         let known = known_or::<SIZE>(self.setting.block() as usize);
         let len = self.setting.width() as usize * known;
         let most = (bytes.len() / len).min((self.end - self.blocks) as usize);
+        if most == 0 {
+            return Pushed {
+                samples: 0,
+                bits: 0,
+            };
+        }
         let mut row = [0u32; 64];
         for i in 0..most {
             if !self.take_block::<SIZE>(&bytes[len * i..len * i + len], &mut row, sink, meter) {
@@ -346,10 +352,24 @@ impl BlockCoder {
         ensures meter { (h : HasRoomForBlock self.old sink.old meter.old residuals.now) →
             meter.new ≡ h.meter_from + self.new.steps_ahead }
     {
-        let _n = residuals.len();
-        let _len = sink.len();
-        let _steps = meter.steps();
+        let from = sink.len() - self.bits_ahead;
+        let meter_from = meter.steps() - self.steps_ahead;
+        let blocks = self.blocks as usize;
+        let reference = self.reference;
+        let block = HeldBlock::new(reference_of(reference, blocks), Block::of(residuals));
+        let first = blocks - self.run as usize;
+        self.run = code_next_or_add_to_run::<SIZE>(
+            &self.setting,
+            reference,
+            first,
+            self.run,
+            block,
+            sink,
+            meter,
+        );
         self.blocks += 1;
+        self.bits_ahead = sink.len() - from;
+        self.steps_ahead = meter.steps() - meter_from;
     }
 
     /// Takes samples one by one from the front of the bytes, until a block is whole, or until bytes spell no sample.

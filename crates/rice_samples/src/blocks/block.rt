@@ -31,8 +31,9 @@ impl<'a> Model for Block<'a> {
 }
 
 impl<'a> Block<'a> {
+    /// Returns the block of these residuals. The caller counts each look at them as a step.
     #[inline]
-    pub(crate) fn of(items: &'a [u32]) -> Self
+    pub fn of(items: &'a [u32]) -> Self
         requires { IsBlockSize (length items.now) }
         ensures { result ≡ items.now }
     {

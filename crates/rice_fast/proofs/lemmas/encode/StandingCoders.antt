@@ -357,3 +357,17 @@ for_open {c} {m = m} h =
       | inl lt ↦ lt
       | inr le ↦ absurd (let all : j * end ≤ j * n = mul-le-mul_left j le in omega (arith, all, h))
     ]
+
+-- a coder that has taken no sample still stands for the same one
+pub for_again : {c : BlockCoder} {sink : List Bool} {meter : ℕ} {m : Standing} {xs : List ℤ} → StandsAfter c sink meter m xs → xs ≡ [] → c.held < c.setting.block → StandsFor c sink meter m
+for_again {c} {sink} {meter} {m} {xs} stood none part =
+    let h : StandsAfter c sink meter m [] = subst (StandsAfter c sink meter m) none stood in
+    let same : m.meter + 0 ≡ m.meter = omega arith in
+    record {
+      room = h.room;
+      held = part;
+      coded = h.stands.coded;
+      residuals = h.stands.residuals;
+      coder = sym (state_after_all-none m.coder [] refl) ∙ h.stands.coder;
+      holds = subst (λ v. HoldsOpen c (take c.held c.part) sink meter h.stands.residuals m.sink v) same h.stands.holds;
+    }

@@ -4,7 +4,7 @@ use Rattle.std.proofs.Common.{refl, ap, arith, sym, ◌∙◌, subst, inl, inr, 
 use Rattle.std.specs.Prelude.{◌⊎◌, slice_set}
 use Rattle.std.specs.List.{AllByRecursion}
 use Rattle.std.proofs.lemmas.Bool.Decides.{nat_tests}
-use Rattle.std.proofs.lemmas.List.{length-take-le, drop_at}
+use Rattle.std.proofs.lemmas.List.{length-take-le, take_at}
 use Rattle.std.proofs.lemmas.List.Elements.{recursion_from_All}
 use Rattle.std.proofs.Math.Nat.{mul-le-mul_left}
 use Rattle.rice_samples.specs.Parameters.{Parameters, IsLegal, IsSample, value_at, value_count, width}
@@ -290,3 +290,20 @@ block_held {c} {sink} {meter} {m} {xs} {bytes} {reference} {before} {es} {last} 
         let Q : ℕ → Type 0 = λ v. HoldsOpen (with_last c reference last) new sink n (stood.stands.residuals ++ es) m.sink v in
         let R : List ℕ → Type 0 = λ v. HoldsOpen (with_last c reference last) v sink n (stood.stands.residuals ++ es) m.sink a in
         subst P f (subst Q g (subst R e k))
+
+-- The row may be given otherwise, and so may the meter.
+pub block_in_row : {c : BlockCoder} {sink : List Bool} {meter : ℕ} {m : Standing} {xs : List ℤ} {bytes : List ℕ} {reference : Option ℕ} {before : ℕ} {es : List ℕ} {last : ℕ} (rest : List ℕ) (size now : ℕ)
+    → StandsAfter c sink meter m xs → c.held ≡ 0 → c.blocks < c.end → length bytes ≡ width c.setting * c.setting.block → IsBefore c bytes reference before → (h : HasResidualsOf c.setting bytes before es last)
+    → size ≡ c.setting.block → now ≡ meter + size
+    → (length h.samples ≡ c.setting.block) × (length (take size (es ++ rest)) ≡ c.setting.block) × StandsWith (with_last c reference last) (take size (es ++ rest)) sink now m (xs ++ h.samples)
+block_in_row {c} {sink} {meter} {m} {xs} {es = es} {last = last} rest size now stood none less len is h whole ticks =
+    let held = block_held stood none less len is h in
+    let row : take size (es ++ rest) ≡ es = take_at es rest size (held.1 ∙ sym whole) in
+    let steps : now ≡ meter + c.setting.block = ticks ∙ ap (λ n. meter + n) whole in
+    (held.0, ap length row ∙ held.1, at row steps held.2)
+  where
+    at : {k : BlockCoder} {row new : List ℕ} {n to : ℕ} {ys : List ℤ} → new ≡ row → to ≡ n → StandsWith k row sink n m ys → StandsWith k new sink to m ys
+    at {k} {row} {new} {n} {to} {ys} e f w =
+        let P : List ℕ → Type 0 = λ v. StandsWith k v sink to m ys in
+        let Q : ℕ → Type 0 = λ v. StandsWith k row sink v m ys in
+        subst P (sym e) (subst Q (sym f) w)

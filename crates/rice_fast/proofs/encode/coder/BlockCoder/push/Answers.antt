@@ -5,7 +5,7 @@ pub hold_some-requires-2 : goal.hold_some-requires-2
 hold_some-requires-2 c =
     let given = c.requires.stands in
     let none : c.push_blocks-pushed.result.samples ≡ 0 = omega arith in
-    (given.0, c.push_blocks-pushed.ensures.kept none given.0 given.1 given.2, given.2)
+    record { stands = (given.0, c.push_blocks-pushed.ensures.kept none given.0 given.1 given.2, given.2) }
 
 pub returns-clause-takes : goal.returns-clause-takes
 returns-clause-takes c m h room =

@@ -1,0 +1,31 @@
+use Rattle.std.proofs.Common.{◌≡◌, ◌+◌, ◌∙◌, ◌++◌, arith, rules, subst, sym, [], List, ℤ}
+use Rattle.rice_fast.specs.encode.OpenBlocks.{StandsAfter}
+use Rattle.rice_fast.specs.declared.encode.coder.BlockCoder.{BlockCoder}
+use Rattle.rice_fast.proofs.lemmas.encode.StandingCoders.{none_held, row_has_room, row_is_put, steps_for_block}
+use Rattle.rice_fast.proofs.lemmas.encode.TakenSamples.{block_in_row}
+use Rattle.rice_fast.proofs.encode.coder.BlockCoder.take_block.Goals as goal
+
+pub tick-requires : goal.tick-requires
+tick-requires g c =
+    let given = c.requires.stands in
+    omega (arith, steps_for_block given.2 given.3 c.requires.between c.requires.inside, c.known_or-size.ensures, c.block.ensures.value)
+
+pub put_block-requires-clause-room : goal.put_block-requires-clause-room
+put_block-requires-clause-room g c =
+    let given = c.requires.stands in
+    let held = block_in_row _ c.known_or-size.result c.tick.new.self given.2 c.requires.between c.requires.inside c.requires.len c.in-Some.ensures.some c.in-Some-residuals_of_bytes.ensures.some
+    (c.known_or-size.ensures ∙ c.block.ensures.value) c.tick.ensures in
+    row_has_room held.2 given.3 held.1 c.requires.inside
+
+pub returns-in-Some-residuals_of_bytes-clause-takes : goal.returns-in-Some-residuals_of_bytes-clause-takes
+unfolding row_has_room
+returns-in-Some-residuals_of_bytes-clause-takes g c e m xs h room =
+    let read = c.in-Some-residuals_of_bytes.ensures.some in
+    let held = block_in_row _ c.known_or-size.result c.tick.new.self h c.requires.between c.requires.inside c.requires.len c.in-Some.ensures.some read
+    (c.known_or-size.ensures ∙ c.block.ensures.value) c.tick.ensures in
+    let fit = row_has_room held.2 room held.1 c.requires.inside in
+    let did = c.put_block.ensures in
+    let new = c.put_block.new.self in
+    let put = row_is_put new.run new.bits_ahead new.steps_ahead held.2 held.1 c.requires.inside (did.ahead fit) (did.meter fit) in
+    let P : BlockCoder → Type 0 = λ v. StandsAfter v c.put_block.new.sink c.put_block.new.meter m (xs ++ read.samples) in
+    (read.samples, read.reads, held.0, subst P (sym did.value) (none_held put c.requires.between h.room))
