@@ -136,3 +136,9 @@ returns-clause-kept g c none m h room =
     not_none : (j n : ℕ) → 1 ≤ j → (n ≡ 0 → ⊥) → j * n ≡ 0 → ⊥
     not_none j zero one some none = some refl
     not_none j (suc n) one some none = omega (arith, none, one, (let m : j * suc n ≡ j * n + j = omega arith in m))
+
+pub returns-then-most-eq0-clause-takes : goal.returns-then-most-eq0-clause-takes
+returns-then-most-eq0-clause-takes g c m h room =
+    let s = c.args.self.now.setting in
+    let pushed = pushes_nothing (after_none h) h.held (for_open h) in
+    (pushed.0, pushed.1, spelled_are_taken s c.args.bytes.now 0 0 refl (after_none h).stands refl (reads_none s c.args.bytes.now 0 refl) (omega arith) pushed.2)
