@@ -1,5 +1,5 @@
 -- The open segment of the fast coder, whose blocks are coded as soon as they are whole.
-use Rattle.std.specs.Prelude.{◌≡◌, ℕ, ◌+◌, ◌-◌, ◌*◌, ◌<◌, ◌≤◌, ◌==◌, ◌&&◌, Bool, true, false, List, [], ◌∷◌, ◌++◌, length, take, drop, sum_by, Option, Some, None, ℤ}
+use Rattle.std.specs.Prelude.{◌≡◌, ℕ, ◌+◌, ◌-◌, ◌*◌, ◌<◌, ◌≤◌, ◌==◌, ◌&&◌, Bool, true, false, List, [], ◌∷◌, ◌++◌, length, take, drop, sum_by, Option, Some, None, IfSome, ℤ}
 use Rattle.std.specs.List.{AllByRecursion}
 use Rattle.rice_bits.specs.Limits.{step_limit}
 use Rattle.rice_samples.specs.Parameters.{Parameters, IsLegal, IsSample, width, value_at, value_count}
@@ -76,6 +76,7 @@ pub record HasRoomForBlock (c : BlockCoder) (sink : List Bool) (meter : ℕ) (re
   pub meter_from : ℕ
   pub number : length blocks ≡ c.blocks
   pub legal : IsLegal c.setting
+  pub fits : IfSome c.reference (λ v. v < value_count c.setting)
   pub ahead : IsAhead c.setting c.start c.reference c.run c.bits_ahead c.steps_ahead blocks sink from
   pub sound : AreSoundBlocks c.setting c.start (blocks ++ block_with (reference_at c.reference (length blocks)) residuals ∷ [])
   pub below : length blocks < blocks_left c.setting c.start

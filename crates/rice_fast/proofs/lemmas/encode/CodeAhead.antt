@@ -1,8 +1,9 @@
 -- The code of the first blocks of a segment, but for the zero blocks that are pending, and one block more.
-use Rattle.std.proofs.Common.{◌≡◌, ℕ, zero, suc, ◌+◌, ◌-◌, ◌*◌, ◌^◌, ◌<◌, ◌≤◌, min, Bool, true, false, List, [], ◌∷◌, ◌++◌, length, take}
+use Rattle.std.proofs.Common.{◌≡◌, ℕ, zero, suc, ◌+◌, ◌-◌, ◌*◌, ◌^◌, ◌<◌, ◌≤◌, min, Bool, true, false, List, [], ◌∷◌, ◌++◌, length, take, drop}
 use Rattle.std.proofs.Common.{refl, ap, arith, sym, ◌∙◌, subst, append_assoc, append-nil, length-append, Option, None, inl, inr}
 use Rattle.std.specs.Prelude.{sum_by}
 use Rattle.std.proofs.lemmas.Grind.{flat_map-append}
+use Rattle.std.proofs.lemmas.List.{drop_at}
 use Rattle.std.proofs.lemmas.List.Concat.{length-flat_map}
 use Rattle.std.proofs.lemmas.List.Sums.{sum_by-append, sum_by-cons}
 use Rattle.std.proofs.Math.Nat.{mul-le-mul_right, mul-le-mul_left}
@@ -319,3 +320,19 @@ end_puts {s} {start} {r} {run} {bits} {steps} {blocks} {sink} {from} m h some pu
       steps_from = omega (arith, lens, h.len, h.least, counted, ticks);
       steps_to = omega (arith, lens, h.len, h.most, counted, ticks);
     }
+
+-- Where no bits are ahead, the bits before them do not matter.
+pub ahead_with : {s : Parameters} {start : ℕ} {r : Option ℕ} {run bits steps : ℕ} {blocks : List BlockData} {sink from : List Bool} → IsAhead s start r run bits steps blocks sink from → from ≡ sink
+    → (others : List Bool) → IsAhead s start r run bits steps blocks others others
+ahead_with {s} {start} {r} {run} {blocks = blocks} {sink} {from} h none others = record {
+  sound = h.sound;
+  few = h.few;
+  inside = h.inside;
+  same = λ more fits. ap (λ v. others ++ v) (rest (to_follow s start r (length blocks) run more) (code_of_blocks s start (blocks ++ more)) (h.same more fits ∙ ap (λ v. v ++ code_of_blocks s start (blocks ++ more)) none));
+  len = omega (arith, h.len, ap length none);
+  least = h.least;
+  most = h.most;
+}
+  where
+    rest : (x y : List Bool) → sink ++ x ≡ sink ++ y → x ≡ y
+    rest x y e = sym (drop_at sink x (length sink) refl) ∙ ap (drop (length sink)) e ∙ drop_at sink y (length sink) refl

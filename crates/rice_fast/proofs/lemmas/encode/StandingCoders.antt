@@ -28,7 +28,7 @@ use Rattle.rice_code.proofs.lemmas.meaning.CoveredBlocks.{bool_cases, and-split}
 use Rattle.rice_fast.specs.encode.OpenBlocks.{HasRoomForBlock, HoldsOpen, IsAhead, IsBefore, PushesOpen, StandsAfter, StandsFor, StandsWith, coder_between, coder_with, is_at_first}
 use Rattle.rice_fast.specs.encode.Standing.{HasResidualsOf, HasRoomAt, Standing}
 use Rattle.rice_fast.specs.declared.encode.coder.BlockCoder.{BlockCoder}
-use Rattle.rice_fast.proofs.lemmas.encode.CodeAhead.{none_ahead, nothing_ahead, other_reference, steps_are_few}
+use Rattle.rice_fast.proofs.lemmas.encode.CodeAhead.{ahead_with, none_ahead, nothing_ahead, other_reference, steps_are_few}
 use Rattle.rice_fast.proofs.lemmas.encode.HeldResiduals.{held_more, held_next, is_empty-by_counts, sound_after, blocks_are_sound, state_after_all-append}
 use Rattle.rice_fast.proofs.lemmas.encode.TakenBytes.{first_of_samples, samples_counted}
 
@@ -136,6 +136,7 @@ row_has_room {c} {row} {sink} {meter} {m} {xs} h room whole less =
       meter_from = m.meter + length xs;
       number = count;
       legal = holds.opens.legal;
+      fits = holds.opens.reference;
       ahead = holds.ahead;
       sound = subst (AreSoundBlocks s c.start) (next_block holds whole ∙ ap (λ n. held_blocks s c.reference c.blocks h.residuals ++ block_with (reference_at c.reference n) row ∷ []) (sym count)) sound;
       below = omega (arith, count, less, holds.ends);
@@ -371,3 +372,24 @@ for_again {c} {sink} {meter} {m} {xs} stood none part =
       coder = sym (state_after_all-none m.coder [] refl) ∙ h.stands.coder;
       holds = subst (λ v. HoldsOpen c (take c.held c.part) sink meter h.stands.residuals m.sink v) same h.stands.holds;
     }
+
+-- where no code is put ahead, it may be taken out of the sink
+pub stands_with : (c : BlockCoder) (sink : List Bool) (meter : ℕ) (m : Standing) → StandsFor c sink meter m → m.sink ≡ sink → (others : List Bool)
+    → StandsFor c others meter (record { coder = m.coder; sink = others; meter = m.meter })
+stands_with c sink meter m h none others = record {
+  room = h.room;
+  held = h.held;
+  coded = h.coded;
+  residuals = h.residuals;
+  coder = h.coder;
+  holds = record {
+    opens = h.holds.opens;
+    ends = h.holds.ends;
+    below = h.holds.below;
+    number = h.holds.number;
+    fits = h.holds.fits;
+    part = h.holds.part;
+    steps_ahead = h.holds.steps_ahead;
+    ahead = ahead_with h.holds.ahead none others;
+  };
+}
