@@ -86,7 +86,7 @@ impl TakesBytes for BlockCoder {
 
     ghost stands = { λ c bits steps m. StandsFor c bits steps m };
 
-    ghost between = { λ c bits steps m. stands_between c bits steps m };
+    ghost between = { λ c bits steps m stands none. stands_between stands none };
 
     ghost with_sink = { λ c bits steps m. stands_with c bits steps m };
 

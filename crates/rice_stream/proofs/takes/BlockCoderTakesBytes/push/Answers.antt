@@ -1,4 +1,5 @@
-use Rattle.std.proofs.Common.{arith, ◌≡◌, ◌==◌, ◌<◌, ◌≤◌, ℕ, zero, suc, List, Bool, [], length, refl, subst, sym}
+use Rattle.std.proofs.Common.{arith, ◌≡◌, ◌==◌, ◌<◌, ◌≤◌, ℕ, zero, suc, List, Bool, false, [], length, refl, subst, sym}
+use Rattle.std.proofs.lemmas.Bool.Decides.{nat_tests}
 use Rattle.rice_samples.specs.Parameters.{width}
 use Rattle.rice_fast.specs.declared.encode.coder.BlockCoder.{BlockCoder}
 use Rattle.rice_fast.specs.encode.OpenBlocks.{StandsFor}
@@ -12,18 +13,19 @@ use Rattle.rice_stream.proofs.takes.BlockCoderTakesBytes.push.Goals as goal
 shows_by : (c : BlockCoder) (sink : List Bool) (meter : ℕ) (m m_new : Standing) (bits : ℕ) → StandsFor c sink meter m_new → (0 < bits → m_new.coder.residuals ≡ [])
     → (bits ≡ 0 → m_new.sink ≡ m.sink) → ShowsCode (bits == 0) m m_new sink
 shows_by c sink meter m m_new zero stands whole waits = waits refl
-shows_by c sink meter m m_new (suc bits) stands whole waits = (stands_between c sink meter m_new stands (whole (omega arith))).0
+shows_by c sink meter m m_new (suc bits) stands whole waits =
+    let some : (suc bits == 0) ≡ false = grind (arith, nat_tests) in subst (λ b. ShowsCode b m m_new sink) (sym some) (stands_between stands (whole (omega arith))).0
 
 pub push-pushed-requires : goal.push-pushed-requires
 push-pushed-requires c =
-    let same = setting_of _ _ _ c.requires.0 c.requires.1 in
+    let same = setting_of c.requires.1 in
     record { some = subst (λ s. width s ≤ length c.args.bytes.now) same c.requires.3; stands = (c.requires.0, c.requires.1, c.requires.2) }
 
 pub returns : goal.returns
 returns c m stands room =
     let p = c.push-pushed.ensures.takes m stands room in
     let t = p.2 in
-    let same = setting_of _ _ _ m stands in (
+    let same = setting_of stands in (
       p.0,
       p.1,
       record {
