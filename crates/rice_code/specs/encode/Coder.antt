@@ -74,7 +74,3 @@ pub record PushesSamples (old new : CoderState) (samples : List ℤ) (sink_old s
 -- these samples complete no segment, after those that the coder has taken
 abbrev pub CompletesNone : CoderState → List ℤ → Type 0
 CompletesNone coder ys = (xs : List ℤ) → HasTaken coder xs → complete_samples coder.setting (xs ++ ys) ≡ complete_samples coder.setting xs
-
--- the last of them completes one
-abbrev pub CompletesAll : CoderState → List ℤ → Type 0
-CompletesAll coder ys = (xs : List ℤ) → HasTaken coder xs → complete_samples coder.setting (xs ++ ys) ≡ xs ++ ys

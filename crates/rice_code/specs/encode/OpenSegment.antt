@@ -1,5 +1,5 @@
 -- What a coder holds of the segment that it fills: its residuals, and how each call changes it.
-use Rattle.std.specs.Prelude.{◌≡◌, ℕ, ◌+◌, ◌-◌, ◌*◌, ◌/◌, ◌<◌, ◌≤◌, ◌⊎◌, Bool, true, false, ◌&&◌, ◌==◌, if◌then◌else◌}
+use Rattle.std.specs.Prelude.{◌≡◌, ℕ, ◌+◌, ◌*◌, ◌/◌, ◌<◌, ◌≤◌, ◌⊎◌, Bool, true, false, ◌&&◌, ◌==◌, if◌then◌else◌}
 use Rattle.std.specs.Prelude.{List, [], ◌∷◌, ◌++◌, length, replicate, Option, Some, None, IfSome, sum_by, ℤ, pos}
 use Rattle.rice_samples.specs.Parameters.{Parameters, IsLegal, IsSample, value_count}
 use Rattle.rice_samples.specs.Places.{place, begins_segment, blocks_left}
@@ -43,10 +43,6 @@ is_empty (d ∷ ds) = false
 -- so many residuals are as many as any segment has
 abbrev pub HoldsAnySegment : ℕ → Parameters → Type 0
 HoldsAnySegment size s = (b : ℕ) → s.block * blocks_left s b ≤ size
-
--- how many bits a coder's sink may hold where it has room behind them for 64 blocks, each an identifier of 5 bits and words of 32
-abbrev pub most_before : Parameters → ℕ
-most_before s = sink_bits - 64 * (5 + 32 * s.block)
 
 -- A coder's sink has room for the code of a segment: it holds less than a byte, or so much is left.
 abbrev pub HasRoomForSegment : Parameters → List Bool → Type 0

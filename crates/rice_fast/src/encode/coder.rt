@@ -71,15 +71,6 @@ pub struct BlockCoder {
 }
 
 impl BlockCoder {
-    /// Returns a coder that has taken no samples.
-    pub fn begin(setting: Setting) -> Self
-        ensures { (sink : List Bool) (meter : ℕ) → StandsFor result sink meter
-            (record { coder = empty_state setting; sink = sink; meter = meter }) }
-    {
-        let _block = setting.block();
-        BlockCoder::resume(setting, 0, 0)
-    }
-
     /// Returns a coder that continues after whole segments. Its next segment begins at the place `start` of its interval, after the sample
     /// `previous`.
     pub fn resume(setting: Setting, start: u32, previous: i64) -> Self
@@ -136,12 +127,7 @@ impl BlockCoder {
     ///
     /// A step is a sample, a bit put, except padding, or a look at a residual.
     #[inline]
-    pub fn push(
-        &mut self,
-        bytes: &[u8],
-        sink: &mut SegmentSink,
-        meter: &mut Meter,
-    ) -> Pushed
+    pub fn push(&mut self, bytes: &[u8], sink: &mut SegmentSink, meter: &mut Meter) -> Pushed
         requires some { width_of self.old.setting ≤ length bytes.now }
         requires stands { (m : Standing) × StandsFor self.old sink.old meter.old m × HasRoomAt m }
         ensures count { width_of self.old.setting * result.samples ≤ length bytes.now }
@@ -179,12 +165,7 @@ impl BlockCoder {
     }
 
     /// Takes whole blocks from the front of the bytes, up to the one that completes a segment, or up to one in which bytes spell no sample.
-    fn push_blocks(
-        &mut self,
-        bytes: &[u8],
-        sink: &mut SegmentSink,
-        meter: &mut Meter,
-    ) -> Pushed
+    fn push_blocks(&mut self, bytes: &[u8], sink: &mut SegmentSink, meter: &mut Meter) -> Pushed
         requires between { self.old.held ≡ 0 }
         requires stands { (m : Standing) × StandsFor self.old sink.old meter.old m × HasRoomAt m }
         ensures setting { self.new.setting ≡ self.old.setting }
@@ -339,10 +320,10 @@ impl BlockCoder {
         requires size { 0 < SIZE → SIZE ≡ length residuals.now }
         requires room { HasRoomForBlock self.old sink.old meter.old residuals.now }
         ensures value { self.new ≡ record self.old {
-            blocks = self.old.blocks + 1;
-            run = self.new.run;
-            bits_ahead = self.new.bits_ahead;
-            steps_ahead = self.new.steps_ahead;
+          blocks = self.old.blocks + 1;
+          run = self.new.run;
+          bits_ahead = self.new.bits_ahead;
+          steps_ahead = self.new.steps_ahead;
         } }
         ensures ahead { (h : HasRoomForBlock self.old sink.old meter.old residuals.now) →
             IsAhead self.old.setting self.old.start self.old.reference
@@ -373,12 +354,7 @@ impl BlockCoder {
     }
 
     /// Takes samples one by one from the front of the bytes, until a block is whole, or until bytes spell no sample.
-    fn hold_some(
-        &mut self,
-        bytes: &[u8],
-        sink: &mut SegmentSink,
-        meter: &mut Meter,
-    ) -> Pushed
+    fn hold_some(&mut self, bytes: &[u8], sink: &mut SegmentSink, meter: &mut Meter) -> Pushed
         requires stands { (m : Standing) × StandsFor self.old sink.old meter.old m × HasRoomAt m }
         ensures count { width_of self.old.setting * result.samples ≤ length bytes.now }
         ensures takes { (m : Standing) → StandsFor self.old sink.old meter.old m → HasRoomAt m →

@@ -12,9 +12,9 @@ use Rattle.std.proofs.KnownBytes.{Consumes-trans}
 use Rattle.rice_bits.specs.device.OutletRoom.{Room}
 use Rattle.rice_samples.specs.Parameters.{Parameters, IsSample, width}
 use Rattle.rice_stream.specs.WaitingBytes.{WaitingBytes, with_last, Draws, PassesInput, StopsDrawing, CountsReads}
-use Rattle.rice_samples.specs.bytes.Spelling.{Spells, Reads, spellings, EndsSpelling, AtEnd, NoSpelling, TooFew}
+use Rattle.rice_samples.specs.bytes.Spelling.{Spells, Reads, spellings, AtEnd, TooFew}
 use Rattle.rice_stream.specs.DevicesInCalls.{Fails, IsWithinLimit, PassesLimit, StopsBetween}
-use Rattle.rice_stream.specs.EncodingState.{Beginning, afresh, IsEncodingOf, CountsSamples, TakesAll, WritesRest, EncodingProgress, Pushes, PushFails}
+use Rattle.rice_stream.specs.EncodingState.{Beginning, afresh, CountsSamples, TakesAll, WritesRest, EncodingProgress, Pushes, PushFails}
 use Rattle.rice_stream.specs.Encodes.{EncodesBetween, EndsEncoding, EncodesWithin, ReportsTaken, ReportsAll, LeavesEarly, SpellsSoFar}
 use Rattle.rice_code.specs.code.Code.{code_bits, output, early_output, complete_samples}
 use Rattle.rice_stream.specs.EncodingState.{EncodingValue}
@@ -25,7 +25,6 @@ use Rattle.rice_stream.proofs.lemmas.EncodingBounds.{Settles, early_bounded, all
 use Rattle.rice_stream.proofs.lemmas.EncodingLemmas.{Follows-all, settled_by}
 use Rattle.rice_samples.proofs.lemmas.bytes.ReadSamples.{reads_then, reads_before}
 use Rattle.rice_samples.proofs.lemmas.bytes.SpellingLengths.{length-spellings, some_width, narrow_width}
-use Rattle.rice_stream.proofs.lemmas.SamplesOfFirstBytes.{few_more}
 
 -- a call that stops early is within the bounds
 pub within_early : (s : Parameters) (r : Report) (xs : List ℤ) → Settles s xs → ReportsTaken s r xs → EncodesWithin s r
@@ -86,6 +85,7 @@ rest_is s bytes rest xs r few =
     let left : length bytes % w ≡ length rest = ap (λ n. n % w) size ∙ (ap (λ n. (n + length rest) % w) (mul_comm w (length xs)) ∙ mod-mul-add (length xs) w (length rest) few) in
     let front : length bytes - length bytes % w ≡ length (spellings s xs) = omega (arith, size, left, length-spellings s xs) in
     (omega (arith, size, left), ap (λ n. drop n bytes) front ∙ ap (drop (length (spellings s xs))) r.split ∙ drop_at (spellings s xs) rest (length (spellings s xs)) refl)
+
 -- the samples of those that wait are taken
 pub takes_on : {s : Parameters} {left_old left : Option (List ℕ)} {taken_old taken taken_new : Option Room} {v v_new : EncodingValue} {r r_new : WaitingBytes}
     → (p : EncodingProgress s left_old left taken_old taken v r) → (t : TakesAll s (afresh taken_old) taken_new v_new p.samples r.waiting)

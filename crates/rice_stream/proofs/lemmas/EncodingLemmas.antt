@@ -1,17 +1,17 @@
 -- A coder at work takes a sample, writes, and ends.
 use Rattle.std.proofs.Common.{◌≡◌, ℕ, ◌+◌, ◌*◌, ◌<◌, ◌≤◌, Bool, List, [], ◌∷◌, ◌++◌, length, take, drop, replicate, false, true}
 use Rattle.std.proofs.Common.{refl, ap, arith, sym, ◌∙◌, subst, append_assoc, append-nil, length-append, length-drop, take-append-drop, Option, ℤ, pos, zero, suc}
-use Rattle.std.specs.Prelude.{All, sum_by}
+use Rattle.std.specs.Prelude.{sum_by}
 use Rattle.std.specs.Int.{div_ceil}
 use Rattle.rice_code.specs.code.CodedDataSets.{bits_of_set}
 use Rattle.rice_code.specs.code.Blocks.{blocks_from, fill_count_of}
 use Rattle.rice_code.specs.code.Code.{data_sets, complete_samples}
 use Rattle.rice_code.specs.code.Layout.{layout}
 use Rattle.rice_bits.specs.device.OutletRoom.{Room, Appends}
-use Rattle.rice_bits.proofs.lemmas.device.OutletLemmas.{Appends-nil, Appends-trans}
+use Rattle.rice_bits.proofs.lemmas.device.OutletLemmas.{Appends-trans}
 use Rattle.rice_bits.proofs.lemmas.bits.BytesAndBits.{whole_short}
 use Rattle.rice_bits.specs.Bits.{bits_in_bytes, bits_to_byte, padded_bits, whole_bytes}
-use Rattle.rice_samples.specs.Parameters.{Parameters, IsSample, width}
+use Rattle.rice_samples.specs.Parameters.{Parameters, width}
 use Rattle.rice_samples.specs.Places.{block_count, cut}
 use Rattle.rice_samples.specs.predict.Residuals.{filled_samples}
 use Rattle.rice_samples.specs.bytes.Spelling.{Reads, spellings}
@@ -31,11 +31,9 @@ use Rattle.rice_stream.specs.FailedWrites.{TakesPart}
 use Rattle.rice_stream.specs.EncodingState.{EncodingValue}
 use Rattle.rice_stream.specs.declared.outcome.Report.{Report}
 use Rattle.rice_samples.proofs.lemmas.bytes.ReadSamples.{reads_then}
-use Rattle.rice_samples.proofs.lemmas.bytes.SpellingLengths.{length-spellings, some_width, spellings-append}
+use Rattle.rice_samples.proofs.lemmas.bytes.SpellingLengths.{length-spellings, some_width}
 use Rattle.std.proofs.Math.Nat.{mul-le-mul_left}
 use Rattle.std.proofs.Math.Seq.{take-append_seam}
-use Rattle.std.proofs.lemmas.List.{length-take-le}
-use Rattle.std.proofs.lemmas.List.Elements.{All-take}
 use Rattle.rice_stream.proofs.lemmas.EncodingBounds.{Settles, taken_settles, early_bounded, all_bounded, few_steps, few_bits}
 use Rattle.rice_stream.proofs.lemmas.BytesOfGrowingCode.{length-part, more_bytes, more_rest}
 

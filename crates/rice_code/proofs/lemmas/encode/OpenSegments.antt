@@ -1,5 +1,5 @@
 -- What an open segment holds, and the room that its code takes.
-use Rattle.std.proofs.Common.{◌≡◌, ℕ, suc, ◌+◌, ◌-◌, ◌*◌, ◌/◌, ◌%◌, ◌^◌, ◌<◌, ◌≤◌, ◌==◌, Bool, true, false}
+use Rattle.std.proofs.Common.{◌≡◌, ℕ, suc, ◌+◌, ◌-◌, ◌*◌, ◌/◌, ◌%◌, ◌^◌, ◌<◌, ◌≤◌, ◌==◌, Bool, false}
 use Rattle.std.proofs.Common.{cond, ◌&&◌, List, ◌++◌, length, replicate, subst, ap, arith, sym, ◌∙◌, inl, inr, append_assoc, length-append}
 use Rattle.std.specs.Prelude.{sum_by}
 use Rattle.std.proofs.lemmas.Bool.{cases_lt}
@@ -32,14 +32,6 @@ holds_any s legal b =
     let left = some_left s b legal.interval_from in
     let most : s.block * blocks_left s b ≤ s.block * 64 = mul-le-mul_left s.block left.1 in
     omega (arith, most, j)
-
--- and those where an interval has few samples
-pub holds_short : (s : Parameters) (size : ℕ) → 1 ≤ s.interval → s.block * s.interval ≤ size → HoldsAnySegment size s
-holds_short s size some few b =
-    let lt : place s b < s.interval = mod-lt b some in
-    let left : blocks_left s b ≤ s.interval = omega (arith, lt) in
-    let most : s.block * blocks_left s b ≤ s.block * s.interval = mul-le-mul_left s.block left in
-    omega (arith, most, few)
 
 -- the room that the code of a segment takes
 pub segment_room : (s : Parameters) (n : ℕ) → IsLegal s → n ≤ 64 → n * block_bound s ≤ 131392
@@ -183,22 +175,6 @@ next_is_open coder end next h e =
       reference = tt;
       ends = e;
     }
-
--- where the interval is one segment, the next begins at the same place, 0
-pub next_of_whole : (coder : CoderState) (end : ℕ) → IsOpen coder end → coder.setting.interval ≤ 64 → next_start coder ≡ coder.start
-next_of_whole coder end h le =
-    let s = coder.setting in
-    let r = h.legal.interval_from in
-    let b = coder.start + blocks_left s coder.start in
-    let now = at_front (place s coder.start) (omega (arith, le, mod-lt coder.start r)) h.begins in
-    let next = at_front (place s b) (omega (arith, le, mod-lt b r)) (begins_next s coder.start r h.begins) in
-    sym (next_start_is s coder.start coder.start r h.place) ∙ (next ∙ (sym now ∙ h.place))
-  where
-    at_front : (p : ℕ) → p < 64 → (p == 64 * (p / 64)) ≡ true → p ≡ 0
-    at_front p lt e = let f : p ≡ 64 * (p / 64) = same p (64 * (p / 64)) e in omega arith
-      where
-        same : (x y : ℕ) → (x == y) ≡ true → x ≡ y
-        same x y e = grind (arith, nat_tests)
 
 -- a first segment
 pub first_is_open : (s : Parameters) (end : ℕ) → IsLegal s → end ≡ s.block * blocks_left s 0 → IsOpen (empty_state s) end

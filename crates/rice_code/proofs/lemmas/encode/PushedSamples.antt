@@ -5,14 +5,13 @@ use Rattle.std.specs.List.{AllByRecursion}
 use Rattle.std.proofs.Math.Nat.{mod-lt, mul-le-mul_left}
 use Rattle.std.proofs.Math.Seq.{take-length}
 use Rattle.std.proofs.lemmas.Bool.{cases_lt}
-use Rattle.std.proofs.lemmas.List.{length-take-le, take-map}
+use Rattle.std.proofs.lemmas.List.{length-take-le}
 use Rattle.std.proofs.lemmas.List.Elements.{recursion_from_All, All-take}
-use Rattle.rice_samples.specs.Parameters.{Parameters, IsSample, value_at, value_count, values_at}
+use Rattle.rice_samples.specs.Parameters.{IsSample}
 use Rattle.rice_samples.specs.Places.{blocks_left, cut}
 use Rattle.rice_samples.proofs.lemmas.setting.PlaceLemmas.{some_left}
-use Rattle.rice_samples.proofs.lemmas.setting.ValuesAtLevels.{legal_values, length-values}
 use Rattle.rice_code.specs.code.Code.{complete_samples}
-use Rattle.rice_code.specs.encode.Coder.{HasTaken, IsCoder, PushesSamples, CompletesNone, CompletesAll}
+use Rattle.rice_code.specs.encode.Coder.{HasTaken, IsCoder, PushesSamples, CompletesNone}
 use Rattle.rice_code.specs.code.Blocks.{fill_count}
 use Rattle.rice_code.specs.encode.OpenSegment.{CoderState, IsWhole, state_after, state_after_all, state_after_segment, state_with_fill, next_residual, HoldsSoundBlocks, CodesHeld}
 use Rattle.rice_code.specs.CoderSteps.{coding_steps, segment_steps}
@@ -132,19 +131,6 @@ holds_first {coder} xs t e k legal room few g = record {
 steps_of_first : (xs : List ℤ) (t m0 m1 : ℕ) → t ≤ length xs → m1 ≡ m0 + t → m1 ≡ m0 + length (take t xs)
 steps_of_first xs t m0 m1 few steps = let len : length (take t xs) ≡ t = length-take-le t xs few in omega (arith, len, steps)
 
--- which are given by their levels,
-pub holds_levels : {value coder held : CoderState} (levels : List ℕ) {front : List ℕ} {t : ℕ} → coder ≡ value → IsCoder coder → All (λ l. l < value_count value.setting) levels
-    → length coder.residuals + t ≤ coder.setting.block * blocks_left coder.setting coder.start → t ≤ length levels →
-    front ≡ take t levels → held ≡ state_after_all coder (values_at coder.setting front) → HoldsMore value coder held (take t (values_at value.setting levels))
-holds_levels {value} {coder} {held} levels {front} {t} e k legal room few first g =
-    let s = value.setting in
-    let same : values_at coder.setting front ≡ take t (values_at s levels) = (λ j. values_at (e j).setting (first j)) ∙ sym (take-map (value_at s) t levels) in
-    holds_first (values_at s levels) t e k (legal_values s levels legal) room (omega (arith, few, length-values s levels)) (g ∙ ap (state_after_all coder) same)
-
--- where t steps were made, one was made for each of these,
-pub steps_of_levels : (s : Parameters) (levels : List ℕ) (t m0 m1 : ℕ) → t ≤ length levels → m1 ≡ m0 + t → m1 ≡ m0 + length (take t (values_at s levels))
-steps_of_levels s levels t m0 m1 few steps = steps_of_first (values_at s levels) t m0 m1 (omega (arith, few, length-values s levels)) steps
-
 -- or one
 pub holds_one : {value coder held : CoderState} {x y : ℤ} → coder ≡ value → IsCoder coder → IsSample value.setting x → y ≡ x → held ≡ state_after coder y → HoldsMore value coder held (x ∷ [])
 holds_one {coder} {x} e k legal f g = record {
@@ -197,11 +183,6 @@ whole_pushes {coder} {after} {ys} {old} {new} {n} {m0} {m1} {m2} h whole e codes
       adds = λ xs k. adds_code (several_add_code coder ys xs h.legal is_whole k) coded steps;
     })
 
--- and all samples so far are complete
-pub whole_completes_all : (value coder held : CoderState) (ys : List ℤ) → HoldsMore value coder held ys → IsWhole held → CompletesAll value ys
-whole_completes_all value coder held ys h whole =
-    subst (λ v. CompletesAll v ys) h.same (λ xs k. all_complete (state_after_segment (state_after_all coder ys)) (xs ++ ys) (several_end coder ys xs h.legal (subst IsWhole h.holds whole) k) refl)
-
 -- Where they leave it open, nothing is appended.
 pub still_short : (value coder held : CoderState) (ys : List ℤ) → HoldsMore value coder held ys → (IsWhole held → ⊥)
     → length coder.residuals + length ys < coder.setting.block * blocks_left coder.setting coder.start
@@ -232,14 +213,6 @@ none_before_last {coder} xs {m} e legal room few less =
     let firsts = recursion_from_All (IsSample coder.setting) (take m xs) (All-take (IsSample coder.setting) m xs all) in
     let len : length (take m xs) ≡ m = length-take-le m xs (omega (arith, less, few)) in
     subst (λ v. CompletesNone v (take m xs)) e (λ zs k. (several_stay_open coder (take m xs) zs k firsts (omega (arith, len, less, room))).1)
-
--- the same of samples that are given by their levels
-pub none_before_level : {value coder : CoderState} (levels : List ℕ) {t m : ℕ} → coder ≡ value → All (λ l. l < value_count value.setting) levels
-    → length coder.residuals + t ≤ coder.setting.block * blocks_left coder.setting coder.start → t ≤ length levels → m < t →
-    CompletesNone value (take m (values_at value.setting levels))
-none_before_level {value} {coder} levels {t} {m} e legal room few less =
-    let s = value.setting in
-    none_before_last (values_at s levels) e (legal_values s levels legal) room (omega (arith, few, length-values s levels)) less
 
 -- After the call the coder has taken some samples still.
 pub is_coder_after : {value coder held after : CoderState} {ys : List ℤ} {old new : List Bool} {n m0 m2 : ℕ} → HoldsMore value coder held ys

@@ -1,14 +1,11 @@
 -- What a coder holds when it takes several samples.
-use Rattle.std.proofs.Common.{◌≡◌, ℕ, suc, ◌+◌, ◌*◌, ◌≤◌, ◌==◌, Bool, true, false, cond, ◌&&◌, List, [], ◌∷◌}
-use Rattle.std.proofs.Common.{◌++◌, length, map, All, refl, ap, arith, sym, ◌∙◌, append_assoc, append-nil, length-append, Some, ℤ}
+use Rattle.std.proofs.Common.{◌≡◌, ℕ, suc, ◌+◌, ◌==◌, Bool, true, false, cond, ◌&&◌, List, [], ◌∷◌}
+use Rattle.std.proofs.Common.{◌++◌, length, map, refl, ap, arith, sym, ◌∙◌, append_assoc, append-nil, length-append, Some, ℤ}
 use Rattle.std.proofs.Math.Bool.{and-false}
-use Rattle.std.proofs.lemmas.List.Elements.{recursion_from_All}
-use Rattle.rice_samples.specs.Parameters.{Parameters, IsSample, level, value_count}
-use Rattle.rice_samples.specs.Places.{blocks_left}
+use Rattle.rice_samples.specs.Parameters.{Parameters, level, value_count}
 use Rattle.rice_samples.specs.predict.Residuals.{pattern, rank, ranks, last_of}
-use Rattle.rice_code.specs.encode.OpenSegment.{CoderState, IsOpen, is_empty, is_first, next_residual, next_residuals, next_references, later_residuals, state_after, state_after_all, state_with_later}
+use Rattle.rice_code.specs.encode.OpenSegment.{CoderState, is_empty, is_first, next_residual, next_residuals, next_references, later_residuals, state_after, state_after_all, state_with_later}
 use Rattle.rice_code.proofs.lemmas.code.RepeatedSamples.{same_rank}
-use Rattle.rice_code.proofs.lemmas.code.SoundBlocks.{last_legal}
 
 -- samples after others, with preprocessing and without
 pub later_ranks : (s : Parameters) (p : ℤ) (xs : List ℤ) → s.preprocess ≡ true → later_residuals s p xs ≡ ranks s p xs
@@ -74,21 +71,6 @@ pub state_after_all-snoc : (coder : CoderState) (xs : List ℤ) (x : ℤ) → st
 state_after_all-snoc coder [] x = sym (ap (λ v. state_after v x) (state_after_all-none coder [] refl))
 state_after_all-snoc coder (y ∷ ys) x = sym (state_after_all-cons coder y (ys ++ x ∷ []))
     ∙ (state_after_all-snoc (state_after coder y) ys x ∙ ap (λ v. state_after v x) (state_after_all-cons coder y ys))
-
--- the segment stays open
-pub open_later : {coder : CoderState} {end : ℕ} (p : ℤ) {ds : List ℕ} (xs : List ℤ) → IsOpen coder end → IsSample coder.setting p
-    → ds ≡ coder.residuals ++ later_residuals coder.setting p xs → All (IsSample coder.setting) xs →
-    length coder.residuals + length xs ≤ coder.setting.block * blocks_left coder.setting coder.start →
-    IsOpen (record { setting = coder.setting; residuals = ds; reference = coder.reference; previous = last_of p xs; start = coder.start }) end
-open_later {coder} p xs h sample e legal room = record {
-  legal = h.legal;
-  place = h.place;
-  begins = h.begins;
-  few = let l = ap length e ∙ length-append coder.residuals (later_residuals coder.setting p xs) in let m = length-later coder.setting p xs in omega (arith, l, m, room);
-  previous = last_legal coder.setting p xs sample (recursion_from_All (IsSample coder.setting) xs legal);
-  reference = h.reference;
-  ends = h.ends;
-}
 
 -- After a reference the samples are held as after that sample itself.
 pub state_after_all-first : (coder : CoderState) (x : ℤ) (xs : List ℤ) → (coder.setting.preprocess && is_first coder) ≡ true →

@@ -1,6 +1,6 @@
 -- The code of the first blocks of a segment, but for the zero blocks that are pending, and one block more.
-use Rattle.std.proofs.Common.{◌≡◌, ℕ, zero, suc, ◌+◌, ◌-◌, ◌*◌, ◌^◌, ◌<◌, ◌≤◌, min, Bool, true, false, List, [], ◌∷◌, ◌++◌, length, take, drop}
-use Rattle.std.proofs.Common.{refl, ap, arith, sym, ◌∙◌, subst, append_assoc, append-nil, length-append, Option, None, inl, inr}
+use Rattle.std.proofs.Common.{◌≡◌, ℕ, zero, suc, ◌+◌, ◌-◌, ◌*◌, ◌^◌, ◌<◌, ◌≤◌, Bool, true, false, List, [], ◌∷◌, ◌++◌, length, drop}
+use Rattle.std.proofs.Common.{refl, ap, arith, sym, ◌∙◌, subst, append_assoc, append-nil, length-append, Option, None}
 use Rattle.std.specs.Prelude.{sum_by}
 use Rattle.std.proofs.lemmas.Grind.{flat_map-append}
 use Rattle.std.proofs.lemmas.List.{drop_at}
@@ -210,8 +210,14 @@ bits_are_few : {s : Parameters} {start : ℕ} {r : Option ℕ} {run bits steps :
     → bits ≤ length (code_of_blocks s start blocks)
 bits_are_few {s} {start} {r} {run} {bits} {steps} {blocks} {sink} {from} h =
     let whole = ap length (h.same [] (omega (arith, h.few))) in
-    omega (arith, whole, h.len, length-append sink (to_follow s start r (length blocks) run []), length-append from (code_of_blocks s start (blocks ++ [])),
-    ap (λ v. length (code_of_blocks s start v)) (append-nil blocks))
+    omega (
+      arith,
+      whole,
+      h.len,
+      length-append sink (to_follow s start r (length blocks) run []),
+      length-append from (code_of_blocks s start (blocks ++ [])),
+      ap (λ v. length (code_of_blocks s start v)) (append-nil blocks),
+    )
 
 -- and the steps are fewer than those of a whole segment.
 pub steps_are_few : {s : Parameters} {start : ℕ} {r : Option ℕ} {run bits steps : ℕ} {blocks : List BlockData} {sink from : List Bool} → IsAhead s start r run bits steps blocks sink from → IsLegal s
@@ -256,8 +262,15 @@ room_for_other {s} {start} {r} {run} {bits} {steps} {blocks} {c} {sink} {from} m
     let follow = before_other s start r n run c [] legal.interval_from h.inside next.below z in
     let whole = ap length (ap (λ v. sink ++ v) (sym follow) ∙ h.same (c ∷ []) (omega (arith, next.below))) in
     let lens = shortest_len s (start + n) c one (last_sound s start blocks c next.sound) in
-    let put : length sink + (length w + cost s (shortest s c)) ≤ length from + length (code_of_blocks s start cs) = omega (arith, whole, lens,
-        length-append sink (w ++ (x ++ y)), length-append w (x ++ y), length-append x y, length-append from (code_of_blocks s start cs)) in
+    let put : length sink + (length w + cost s (shortest s c)) ≤ length from + length (code_of_blocks s start cs) = omega (
+      arith,
+      whole,
+      lens,
+      length-append sink (w ++ (x ++ y)),
+      length-append w (x ++ y),
+      length-append x y,
+      length-append from (code_of_blocks s start cs),
+    ) in
     let short = code_is_short s start cs legal next.sound in
     let small = segment_is_short s start cs legal next.sound (omega (arith, count, next.below)) in
     let looks = s.block * (k_max s + 5) in
@@ -276,7 +289,7 @@ end_follows {s} {start} {r} {run} {bits} {steps} {blocks} {sink} {from} h some =
     let n = length blocks in
     let b = start + (n - run) in
     let ends : to_follow s start r n run [] ≡ pending_bits s true (reference_at r (n - run)) run = ap (λ cs. bits_of_sets s (data_sets s b false cs)) (append-nil (pending_zeros s (reference_at r (n - run)) run))
-        ∙ ap (bits_of_sets s) (run_ends s b run (reference_at r (n - run)) some (enough run h.inside)) in
+    ∙ ap (bits_of_sets s) (run_ends s b run (reference_at r (n - run)) some (enough run h.inside)) in
     ap (λ v. sink ++ v) (sym ends) ∙ (h.same [] (omega (arith, h.few)) ∙ ap (λ v. from ++ code_of_blocks s start v) (append-nil blocks))
   where
     enough : (run : ℕ) → run ≤ length blocks → run ≤ blocks_left s (start + (length blocks - run))

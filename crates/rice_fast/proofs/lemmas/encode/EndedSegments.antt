@@ -1,19 +1,17 @@
 -- What the fast coder stands for when a segment ends.
 use Rattle.std.proofs.Common.{◌≡◌, ℕ, zero, suc, ◌+◌, ◌-◌, ◌*◌, ◌/◌, ◌%◌, ◌^◌, ◌<◌, ◌≤◌, ◌==◌, Bool, true, false, cond, not, ◌&&◌, List, [], ◌∷◌, ◌++◌, length, take, drop, replicate}
-use Rattle.std.proofs.Common.{refl, ap, arith, sym, ◌∙◌, subst, inl, inr, append-nil, length-append, Option, Some, None, ℤ, pos}
+use Rattle.std.proofs.Common.{refl, ap, arith, sym, ◌∙◌, subst, length-append, ℤ}
 use Rattle.std.specs.Prelude.{sum_by}
-use Rattle.std.specs.List.{AllByRecursion}
 use Rattle.std.proofs.lemmas.Bool.Decides.{nat_tests}
 use Rattle.std.proofs.lemmas.List.Sums.{sum_by-cons}
 use Rattle.std.proofs.lemmas.List.{length-replicate, length-take-le}
 use Rattle.std.proofs.Math.Nat.{mul-div_cancel_left, mul-add-mod_self_left, mod-eq_of_lt, mod-lt}
 use Rattle.rice_bits.specs.Bits.{bits_to_byte, word}
 use Rattle.rice_bits.proofs.lemmas.bits.WordsAndNumbers.{length-word}
-use Rattle.rice_samples.specs.Parameters.{Parameters, IsLegal, IsSample, id_len, value_at, value_count, width}
+use Rattle.rice_samples.specs.Parameters.{Parameters, IsSample, id_len, value_at, width}
 use Rattle.rice_samples.specs.Places.{begins_segment, blocks_left}
 use Rattle.rice_samples.specs.bytes.Spelling.{Reads}
 use Rattle.rice_samples.proofs.lemmas.setting.PlaceLemmas.{some_left}
-use Rattle.rice_code.specs.CoderSteps.{coding_steps}
 use Rattle.rice_code.specs.code.Blocks.{BlockData, fill_count, fill_count_of, is_zero_block}
 use Rattle.rice_code.specs.code.Choice.{shortest}
 use Rattle.rice_code.specs.code.Code.{complete_samples, data_sets}
@@ -22,19 +20,19 @@ use Rattle.rice_code.specs.code.Runs.{zero_run}
 use Rattle.rice_code.specs.code.SoundBlocks.{AreSoundBlocks}
 use Rattle.rice_code.specs.encode.BitBuffer.{HasRoomFor}
 use Rattle.rice_code.specs.encode.Coder.{AddsCode, CompletesNone, HasTaken, IsCoder, PushesSamples}
-use Rattle.rice_code.specs.encode.HeldBlocks.{PutsBlocks, held_blocks, pending_bits, reference_at}
-use Rattle.rice_code.specs.encode.OpenSegment.{CodesHeld, CoderState, HoldsSoundBlocks, IsOpen, IsWhole, bits_held, blocks_held, contents_held, is_empty, sets_held, state_after_all, state_after_segment, state_between, next_start}
+use Rattle.rice_code.specs.encode.HeldBlocks.{held_blocks, pending_bits, reference_at}
+use Rattle.rice_code.specs.encode.OpenSegment.{CodesHeld, CoderState, HoldsSoundBlocks, IsOpen, IsWhole, bits_held, blocks_held, contents_held, is_empty, state_after_all, state_after_segment, state_between, next_start}
 use Rattle.rice_code.proofs.lemmas.code.SoundBlocks.{all_take}
 use Rattle.rice_code.proofs.lemmas.encode.OpenSegments.{codes_held, next_is_open}
 use Rattle.rice_code.proofs.lemmas.encode.PendingRuns.{held_len}
 use Rattle.rice_code.proofs.lemmas.encode.PushedCode.{finish_adds}
 use Rattle.rice_code.proofs.lemmas.encode.PushedSamples.{HoldsMore, is_coder_after, several_stay_open, whole_pushes}
 use Rattle.rice_code.proofs.lemmas.encode.SeveralSamplesHeld.{length-state_after_all}
-use Rattle.rice_fast.specs.encode.OpenBlocks.{HoldsOpen, IsAhead, PushesOpen, StandsAfter, StandsFor, StandsWith, coder_between, coder_with}
+use Rattle.rice_fast.specs.encode.OpenBlocks.{HoldsOpen, PushesOpen, StandsAfter, StandsFor, StandsWith, coder_between, coder_with}
 use Rattle.rice_fast.specs.encode.Standing.{HasRoomAt, Standing, TakesSpelled}
 use Rattle.rice_fast.specs.declared.encode.coder.BlockCoder.{BlockCoder}
 use Rattle.rice_fast.proofs.lemmas.encode.CodeAhead.{end_puts, room_for_end}
-use Rattle.rice_fast.proofs.lemmas.encode.HeldResiduals.{fill_is_taken, fill_none, no_items}
+use Rattle.rice_fast.proofs.lemmas.encode.HeldResiduals.{fill_is_taken, fill_none}
 use Rattle.rice_fast.proofs.lemmas.encode.StandingCoders.{after_none, between_stands, blocks_few, blocks_inside, part_counted, meter_behind, residuals_counted}
 
 behind_id : (s : Parameters) (n : ℕ) (rest : List Bool) → 0 < length (word (id_len s) n ++ rest)
@@ -120,7 +118,7 @@ pushes_segment {c} {sink} {sink_new} {meter} {meter_new} {bits} {start} {m} {xs}
     let is_end : c.blocks ≡ c.end = omega (arith, few, full) in
     let number = residuals_counted stands in
     let limit : m.coder.setting.block * blocks_left m.coder.setting m.coder.start ≡ s.block * c.blocks =
-        ap (λ (v : CoderState). v.setting.block * blocks_left v.setting v.start) same ∙ ap (λ n. s.block * n) (sym holds.ends ∙ sym is_end) in
+    ap (λ (v : CoderState). v.setting.block * blocks_left v.setting v.start) same ∙ ap (λ n. s.block * n) (sym holds.ends ∙ sym is_end) in
     let whole : IsWhole all = omega (arith, length-state_after_all m.coder xs, number, empty, limit) in
     let more : HoldsMore m.coder m.coder all xs = record {
       same = refl;
@@ -134,11 +132,10 @@ pushes_segment {c} {sink} {sink_new} {meter} {meter_new} {bits} {start} {m} {xs}
     let is_next : state_after_segment all ≡ next = ap state_after_segment same ∙ ap (λ v. state_between s v (value_at s c.previous)) (sym goes_on) in
     let coded : IsCoder next = subst IsCoder is_next (is_coder_after more pushes) in
     let opens : IsOpen next (s.block * blocks_left s start) = subst (λ v. IsOpen (state_between s v (value_at s c.previous)) (s.block * blocks_left s v)) (sym goes_on)
-        (next_is_open (coder_with c ds) (s.block * c.end) _ holds.opens refl) in
+    (next_is_open (coder_with c ds) (s.block * c.end) _ holds.opens refl) in
     let begun = between_stands s start c.previous c.part sink_new meter_new opens holds.below coded h.room in
     let some : 0 < c.blocks = let left = some_left s c.start holds.opens.legal.interval_from in omega (arith, left.0, holds.ends, is_end) in
-    let some_put : 0 < bits = omega (arith, codes.bits, subst (λ (v : CoderState). 0 < bits_held v) (sym same) (held_bits (coder_with c ds) c.blocks one (omega (arith, holds.number, empty)) some)) in
-    (
+    let some_put : 0 < bits = omega (arith, codes.bits, subst (λ (v : CoderState). 0 < bits_held v) (sym same) (held_bits (coder_with c ds) c.blocks one (omega (arith, holds.number, empty)) some)) in (
       record { coder = next; sink = sink_new; meter = meter_new },
       begun,
       record {
@@ -173,7 +170,7 @@ finish_adds_all {m} {xs} {sink_new} {bits} {meter_new} s same one codes taken =
     let own : 1 ≤ m.coder.setting.block = subst (λ (v : Parameters). 1 ≤ v.block) (sym same) one in
     let n = fill_count m.coder.setting (length m.coder.residuals) in
     let P : Parameters → Type 0 = λ v. CodesHeld (state_after_all m.coder (replicate (fill_count v (length m.coder.residuals)) m.coder.previous)) m.sink sink_new bits
-        (m.meter + length (replicate (fill_count v (length m.coder.residuals)) m.coder.previous)) meter_new in
+    (m.meter + length (replicate (fill_count v (length m.coder.residuals)) m.coder.previous)) meter_new in
     let Q : Parameters → Type 0 = λ v. AddsCode v (complete_samples v xs) xs m.sink sink_new bits (fill_count_of v xs) m.meter meter_new in
     let filled = fill_is_taken m.coder n (λ put. held m.coder.residuals (fill_needs_some m.coder.setting (length m.coder.residuals) own put)) in
     subst Q same (finish_adds refl filled (subst P (sym same) codes) (ap (λ v. m.meter + v) (length-replicate n m.coder.previous)) taken)

@@ -1,6 +1,6 @@
 -- The blocks of residuals that a coder holds, and what it holds behind several samples.
 use Rattle.std.proofs.Common.{◌≡◌, ℕ, zero, suc, ◌+◌, ◌-◌, ◌*◌, ◌/◌, ◌%◌, ◌<◌, ◌≤◌, ◌==◌, Bool, true, false, cond, ◌&&◌, List, [], ◌∷◌, ◌++◌, length, take, drop, replicate}
-use Rattle.std.proofs.Common.{refl, ap, arith, sym, ◌∙◌, subst, inl, inr, append-nil, length-append, length-drop, Option, Some, None, ℤ}
+use Rattle.std.proofs.Common.{refl, ap, arith, sym, ◌∙◌, subst, inl, inr, append-nil, length-drop, Option, Some, None, ℤ}
 use Rattle.std.specs.List.{AllByRecursion}
 use Rattle.std.proofs.lemmas.Bool.{cases_lt}
 use Rattle.std.proofs.lemmas.Bool.Decides.{nat_tests}
@@ -8,12 +8,12 @@ use Rattle.std.proofs.lemmas.List.{take-append-le, take_all}
 use Rattle.std.proofs.Math.Nat.{mod_self, mul-mod_right, mul-div_cancel_left, mul-le-mul_left}
 use Rattle.rice_samples.specs.Parameters.{Parameters, IsSample}
 use Rattle.rice_samples.specs.Places.{blocks_left}
-use Rattle.rice_samples.specs.predict.Residuals.{pattern, rank, last_of}
+use Rattle.rice_samples.specs.predict.Residuals.{pattern, rank}
 use Rattle.rice_code.specs.code.Blocks.{fill_count}
 use Rattle.rice_code.specs.code.SoundBlocks.{AreSoundBlocks, block_with}
 use Rattle.rice_code.specs.encode.Coder.{IsCoder}
 use Rattle.rice_code.specs.encode.HeldBlocks.{held_blocks, reference_at}
-use Rattle.rice_code.specs.encode.OpenSegment.{CoderState, HoldsSoundBlocks, is_empty, is_first, later_residuals, next_residual, next_residuals, next_reference, next_references, state_after, state_after_all, state_with_fill}
+use Rattle.rice_code.specs.encode.OpenSegment.{CoderState, HoldsSoundBlocks, is_empty, later_residuals, next_residual, next_reference, state_after, state_after_all, state_with_fill}
 use Rattle.rice_code.proofs.lemmas.code.RepeatedSamples.{last_replicate}
 use Rattle.rice_code.proofs.lemmas.encode.PushedCode.{filled_sound}
 use Rattle.rice_code.proofs.lemmas.encode.PushedSamples.{several_stay_open, whole_is_sound}
@@ -144,11 +144,11 @@ fill_is_taken coder (suc n) some =
     let x = coder.previous in
     let e = some (omega arith) in
     let later : next_residual coder x ≡ cond coder.setting.preprocess (rank coder.setting x x) (pattern coder.setting x) =
-        ap (λ v. cond coder.setting.preprocess (cond (v && coder.start == 0) 0 (rank coder.setting x x)) (pattern coder.setting x)) e in
+    ap (λ v. cond coder.setting.preprocess (cond (v && coder.start == 0) 0 (rank coder.setting x x)) (pattern coder.setting x)) e in
     let rest = later_copies coder.setting n x ∙ ap (replicate n) (sym later) in
     let head : next_reference coder x ≡ coder.reference =
-        ap (λ v. cond (coder.setting.preprocess && (v && coder.start == 0)) (Some (pattern coder.setting x)) coder.reference) e
-        ∙ ap (λ v. cond v (Some (pattern coder.setting x)) coder.reference) (and-false coder.setting.preprocess) in
+    ap (λ v. cond (coder.setting.preprocess && (v && coder.start == 0)) (Some (pattern coder.setting x)) coder.reference) e
+    ∙ ap (λ v. cond v (Some (pattern coder.setting x)) coder.reference) (and-false coder.setting.preprocess) in
     λ i. record {
       setting = coder.setting;
       residuals = coder.residuals ++ next_residual coder x ∷ rest i;

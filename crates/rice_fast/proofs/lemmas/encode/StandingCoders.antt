@@ -1,36 +1,27 @@
 -- What the fast coder stands for, from call to call.
-use Rattle.std.proofs.Common.{◌≡◌, ℕ, zero, suc, ◌+◌, ◌-◌, ◌*◌, ◌/◌, ◌^◌, ◌<◌, ◌≤◌, ◌==◌, Bool, true, false, cond, ◌&&◌, List, [], ◌∷◌, ◌++◌, length, take, drop, replicate}
-use Rattle.std.proofs.Common.{refl, ap, arith, sym, ◌∙◌, subst, inl, inr, append-nil, append_assoc, length-append, Option, Some, None, IfSome, ℤ, pos}
+use Rattle.std.proofs.Common.{◌≡◌, ℕ, zero, suc, ◌+◌, ◌*◌, ◌^◌, ◌<◌, ◌≤◌, Bool, List, [], ◌∷◌, ◌++◌, length, take, drop}
+use Rattle.std.proofs.Common.{refl, ap, arith, sym, ◌∙◌, subst, inl, inr, append-nil, Option, None, ℤ}
 use Rattle.std.specs.Prelude.{◌⊎◌}
-use Rattle.std.specs.List.{AllByRecursion}
 use Rattle.std.proofs.lemmas.Bool.{cases_lt}
-use Rattle.std.proofs.lemmas.Bool.Decides.{nat_tests}
 use Rattle.std.proofs.lemmas.List.{length-take-le, take-append-drop, drop_at}
-use Rattle.std.proofs.lemmas.List.Elements.{recursion_from_All}
 use Rattle.std.proofs.Math.Nat.{mul-le-mul_left}
-use Rattle.rice_samples.specs.Parameters.{Parameters, IsLegal, IsSample, value_at, value_count, width}
+use Rattle.rice_samples.specs.Parameters.{Parameters, IsLegal, value_at, value_count}
 use Rattle.rice_samples.specs.Places.{blocks_left}
-use Rattle.rice_samples.specs.predict.Residuals.{pattern, rank, last_of}
-use Rattle.rice_samples.proofs.lemmas.setting.LevelsOfSamples.{pattern_fits}
 use Rattle.rice_samples.proofs.lemmas.setting.PlaceLemmas.{some_left}
-use Rattle.rice_samples.proofs.lemmas.setting.ValuesAboveLeast.{sample_at}
 use Rattle.rice_code.specs.CoderSteps.{coding_steps, segment_steps}
 use Rattle.rice_code.specs.code.SoundBlocks.{AreSoundBlocks, block_with}
 use Rattle.rice_code.specs.encode.Coder.{HasTaken, IsCoder}
 use Rattle.rice_code.specs.encode.HeldBlocks.{held_blocks, reference_at}
-use Rattle.rice_code.specs.encode.OpenSegment.{CoderState, IsOpen, HoldsSoundBlocks, IsWhole, is_empty, is_first, next_residual, next_residuals, next_reference, next_references, state_after, state_after_all, state_between, later_residuals}
-use Rattle.rice_code.proofs.lemmas.code.RepeatedSamples.{last_append}
+use Rattle.rice_code.specs.encode.OpenSegment.{CoderState, IsOpen, HoldsSoundBlocks, IsWhole, state_after_all, state_between}
 use Rattle.rice_code.proofs.lemmas.encode.PendingRuns.{held_len}
 use Rattle.rice_code.proofs.lemmas.encode.PushedCode.{open_between, short_of, steps_of_segment}
 use Rattle.rice_code.proofs.lemmas.encode.PushedSamples.{HoldsMore, open_pushes, is_coder_after}
-use Rattle.rice_code.proofs.lemmas.encode.SeveralSamplesHeld.{length-state_after_all, length-later, state_after_all-none, state_after_all-snoc, state_after_all-first}
-use Rattle.rice_code.proofs.lemmas.meaning.CoveredBlocks.{bool_cases, and-split}
-use Rattle.rice_fast.specs.encode.OpenBlocks.{HasRoomForBlock, HoldsOpen, IsAhead, IsBefore, PushesOpen, StandsAfter, StandsFor, StandsWith, coder_between, coder_with, is_at_first}
-use Rattle.rice_fast.specs.encode.Standing.{HasResidualsOf, HasRoomAt, Standing}
+use Rattle.rice_code.proofs.lemmas.encode.SeveralSamplesHeld.{length-state_after_all, state_after_all-none}
+use Rattle.rice_fast.specs.encode.OpenBlocks.{HasRoomForBlock, HoldsOpen, IsAhead, PushesOpen, StandsAfter, StandsFor, StandsWith, coder_between, coder_with}
+use Rattle.rice_fast.specs.encode.Standing.{HasRoomAt, Standing}
 use Rattle.rice_fast.specs.declared.encode.coder.BlockCoder.{BlockCoder}
 use Rattle.rice_fast.proofs.lemmas.encode.CodeAhead.{ahead_with, none_ahead, nothing_ahead, other_reference, steps_are_few}
-use Rattle.rice_fast.proofs.lemmas.encode.HeldResiduals.{held_more, held_next, is_empty-by_counts, sound_after, blocks_are_sound, state_after_all-append}
-use Rattle.rice_fast.proofs.lemmas.encode.TakenBytes.{first_of_samples, samples_counted}
+use Rattle.rice_fast.proofs.lemmas.encode.HeldResiduals.{held_more, held_next, sound_after, blocks_are_sound}
 
 -- a coder between two calls has taken no sample in the next
 pub after_none : {c : BlockCoder} {sink : List Bool} {meter : ℕ} {m : Standing} → StandsFor c sink meter m → StandsAfter c sink meter m []
@@ -67,12 +58,6 @@ run_inside {c} {ds = ds} h = omega (arith, h.ahead.inside, held_len c.setting c.
 pub still_open : (j blocks end held : ℕ) → held < j → blocks < end → j * blocks + held < j * end
 still_open j blocks end held part less = let all : j * suc blocks ≤ j * end = mul-le-mul_left j less in omega (arith, all, part)
 
-pub not_whole_yet : (j blocks end held : ℕ) → 0 < held → j * blocks + held ≤ j * end → blocks < end
-not_whole_yet j blocks end held some h = elim (cases_lt blocks end) [
-  | inl lt ↦ lt
-  | inr le ↦ absurd (let all : j * end ≤ j * blocks = mul-le-mul_left j le in omega (arith, all, some, h))
-]
-
 -- the residuals of all samples of the segment
 pub residuals_counted : {c : BlockCoder} {row : List ℕ} {sink : List Bool} {meter : ℕ} {m : Standing} {xs : List ℤ} → (h : StandsWith c row sink meter m xs)
     → length m.coder.residuals + length xs ≡ c.setting.block * c.blocks + length row
@@ -100,7 +85,7 @@ blocks_sound {c} {row} {sink} {meter} {m} {xs} n h few whole =
     let same = h.coder in
     let left : n ≤ blocks_left m.coder.setting m.coder.start = omega (arith, few, h.holds.ends, ap (λ (v : CoderState). blocks_left v.setting v.start) same) in
     let count : length m.coder.residuals + length xs ≡ m.coder.setting.block * n =
-        sym (length-state_after_all m.coder xs) ∙ (ap (λ (v : CoderState). length v.residuals) same ∙ (whole ∙ ap (λ (v : CoderState). v.setting.block * n) (sym same))) in
+    sym (length-state_after_all m.coder xs) ∙ (ap (λ (v : CoderState). length v.residuals) same ∙ (whole ∙ ap (λ (v : CoderState). v.setting.block * n) (sym same))) in
     let sound : HoldsSoundBlocks (coder_with c h.residuals) = subst HoldsSoundBlocks same (sound_after m.coder xs n h.coded h.legal count left) in
     blocks_are_sound (coder_with c h.residuals) n one whole sound
 
@@ -175,7 +160,7 @@ row_is_put {c} {row} {sink} {sink_new} {meter} {meter_new} {m} {xs} run bits ste
         number = number;
         fits = omega arith;
         part = drop_whole (s.block * (c.blocks + 1)) h.residuals (omega (arith, number));
-  steps_ahead = ticks;
+        steps_ahead = ticks;
         ahead = subst (λ cs. IsAhead s c.start c.reference run bits steps cs sink_new m.sink)
             (ap (λ n. held_blocks s c.reference c.blocks h.residuals ++ block_with (reference_at c.reference n) row ∷ []) count ∙ sym (next_block holds whole)) ahead;
       };
@@ -186,7 +171,7 @@ row_is_put {c} {row} {sink} {sink_new} {meter} {meter_new} {m} {xs} run bits ste
 
 -- What is held of a block counts as a row, whichever the part of the coder is.
 pub other_part : {c : BlockCoder} {row : List ℕ} {sink : List Bool} {meter : ℕ} {m : Standing} {xs : List ℤ} (part : List ℕ) (held : ℕ) → StandsWith c row sink meter m xs
-    → StandsWith (record c { part = part; held = held; }) row sink meter m xs
+    → StandsWith (record c { part = part; held = held }) row sink meter m xs
 other_part part held h = record {
   coded = h.coded;
   legal = h.legal;
@@ -272,7 +257,7 @@ stands_between {c} {sink} {meter} {m} h none =
     let count : c.setting.block * c.blocks + length (take c.held c.part) ≡ 0 = omega (arith, holds.number, ap (λ (v : CoderState). length v.residuals) h.coder, ap length none) in
     let blocks = no_blocks c.setting.block c.blocks (length (take c.held c.part)) one count in
     let ahead : IsAhead c.setting c.start c.reference c.run c.bits_ahead c.steps_ahead [] sink m.sink =
-        subst (λ n. IsAhead c.setting c.start c.reference c.run c.bits_ahead c.steps_ahead (held_blocks c.setting c.reference n h.residuals) sink m.sink) blocks holds.ahead in
+    subst (λ n. IsAhead c.setting c.start c.reference c.run c.bits_ahead c.steps_ahead (held_blocks c.setting c.reference n h.residuals) sink m.sink) blocks holds.ahead in
     let nothing = nothing_ahead c.run ahead in
     (sym nothing.same, omega (arith, holds.steps_ahead, nothing.steps_are))
   where
@@ -283,10 +268,6 @@ stands_between {c} {sink} {meter} {m} h none =
 -- it has the setting of the plain coder,
 pub setting_of : {c : BlockCoder} {sink : List Bool} {meter : ℕ} {m : Standing} → StandsFor c sink meter m → m.coder.setting ≡ c.setting
 setting_of h = ap (λ (v : CoderState). v.setting) h.coder
-
--- which has taken some samples
-pub is_coder : {c : BlockCoder} {sink : List Bool} {meter : ℕ} {m : Standing} → StandsFor c sink meter m → IsCoder m.coder
-is_coder h = h.coded
 
 -- Samples that leave the segment open are pushed, and nothing is put.
 pub pushes_nothing : {c : BlockCoder} {sink : List Bool} {meter : ℕ} {m : Standing} {xs : List ℤ} → StandsAfter c sink meter m xs → c.held < c.setting.block → c.blocks < c.end
@@ -308,8 +289,7 @@ pushes_nothing {c} {sink} {meter} {m} {xs} h part less =
       holds = refl;
     } in
     let open_still : IsWhole all → ⊥ = λ whole. omega (arith, whole, length-state_after_all m.coder xs, count, row, short, limit) in
-    let pushes = open_pushes {sink = m.sink} more open_still refl in
-    (
+    let pushes = open_pushes {sink = m.sink} more open_still refl in (
       record { coder = all; sink = m.sink; meter = m.meter + length xs },
       record {
         room = h.room;

@@ -1,10 +1,9 @@
 -- Samples that bytes spell, one piece after another.
-use Rattle.std.proofs.Common.{◌≡◌, ℕ, zero, suc, ◌+◌, ◌-◌, ◌*◌, ◌/◌, ◌^◌, ◌<◌, ◌≤◌, List, [], ◌∷◌, ◌++◌, length, take, drop, ℤ}
-use Rattle.std.proofs.Common.{refl, ap, arith, sym, ◌∙◌, subst, append_assoc, append-nil, length-append, length-drop, All}
+use Rattle.std.proofs.Common.{◌≡◌, ℕ, ◌+◌, ◌*◌, ◌^◌, ◌<◌, ◌≤◌, List, [], ◌∷◌, ◌++◌, length, take, drop, ℤ}
+use Rattle.std.proofs.Common.{refl, ap, arith, sym, ◌∙◌, subst, append_assoc, append-nil}
 use Rattle.std.proofs.lemmas.Bool.Decides.{nat_tests}
-use Rattle.std.proofs.lemmas.List.{take-append-drop, take_at, drop-drop, length-take-le}
+use Rattle.std.proofs.lemmas.List.{take-append-drop, take_at, drop-drop}
 use Rattle.std.proofs.lemmas.List.Elements.{All-append, All-from_recursion, recursion_from_All}
-use Rattle.std.proofs.Math.Nat.{mul-le-mul_left, div-add-mod}
 use Rattle.rice_samples.specs.Parameters.{Parameters, IsLegal, IsSample, width}
 use Rattle.rice_samples.specs.bytes.Spelling.{Reads, ordered_bytes, spelling, spellings}
 use Rattle.rice_samples.specs.bytes.ValueRange.{IsValue}
@@ -85,5 +84,5 @@ first_of_samples s bytes x [] legal sample e read some = absurd (omega arith)
 first_of_samples s bytes x (y ∷ ys) legal sample e read some =
     let own = recursion_from_All (IsSample s) (y ∷ ys) read.legal in
     let front : take (width s) bytes ≡ spelling s y =
-        ap (take (width s)) (read.split ∙ append_assoc (spelling s y) (spellings s ys) []) ∙ take_at (spelling s y) (spellings s ys ++ []) (width s) (length-spelling s y) in
+    ap (take (width s)) (read.split ∙ append_assoc (spelling s y) (spellings s ys) []) ∙ take_at (spelling s y) (spellings s ys ++ []) (width s) (length-spelling s y) in
     (ys, ap (λ v. v ∷ ys) (one_sample s y x legal own.0 sample (sym front ∙ e)))

@@ -1,6 +1,6 @@
 -- What the fast coder stands for when it takes a sample, or the samples of a block.
-use Rattle.std.proofs.Common.{◌≡◌, ℕ, zero, suc, ◌+◌, ◌-◌, ◌*◌, ◌<◌, ◌≤◌, ◌==◌, Bool, true, false, cond, ◌&&◌, List, [], ◌∷◌, ◌++◌, length, take, drop}
-use Rattle.std.proofs.Common.{refl, ap, arith, sym, ◌∙◌, subst, inl, inr, append-nil, append_assoc, length-append, Option, Some, None, IfSome, ℤ}
+use Rattle.std.proofs.Common.{◌≡◌, ℕ, zero, suc, ◌+◌, ◌*◌, ◌<◌, ◌≤◌, ◌==◌, Bool, true, false, cond, ◌&&◌, List, [], ◌∷◌, ◌++◌, length, take, drop}
+use Rattle.std.proofs.Common.{refl, ap, arith, sym, ◌∙◌, subst, inl, inr, length-append, Option, Some, IfSome, ℤ}
 use Rattle.std.specs.Prelude.{◌⊎◌, slice_set}
 use Rattle.std.specs.List.{AllByRecursion}
 use Rattle.std.proofs.lemmas.Bool.Decides.{nat_tests}
@@ -8,20 +8,18 @@ use Rattle.std.proofs.lemmas.List.{length-take-le, take_at}
 use Rattle.std.proofs.lemmas.List.Elements.{recursion_from_All}
 use Rattle.std.proofs.Math.Nat.{mul-le-mul_left}
 use Rattle.rice_samples.specs.Parameters.{Parameters, IsLegal, IsSample, value_at, value_count, width}
-use Rattle.rice_samples.specs.Places.{blocks_left}
-use Rattle.rice_samples.specs.bytes.Spelling.{Reads}
 use Rattle.rice_samples.specs.predict.Residuals.{pattern, rank, last_of}
 use Rattle.rice_samples.proofs.lemmas.setting.LevelsOfSamples.{pattern_fits}
 use Rattle.rice_samples.proofs.lemmas.setting.ValuesAboveLeast.{sample_at}
-use Rattle.rice_code.specs.encode.OpenSegment.{CoderState, IsOpen, is_empty, is_first, later_residuals, next_reference, next_references, next_residual, next_residuals, state_after, state_after_all, state_with_later}
+use Rattle.rice_code.specs.encode.OpenSegment.{CoderState, is_first, later_residuals, next_reference, next_residual, state_after, state_after_all, state_with_later}
 use Rattle.rice_code.proofs.lemmas.code.SoundBlocks.{all_append}
-use Rattle.rice_code.proofs.lemmas.encode.SeveralSamplesHeld.{length-later, not_first, state_after_all-cons, state_after_all-none, state_after_all-snoc, state_after_all-first}
+use Rattle.rice_code.proofs.lemmas.encode.SeveralSamplesHeld.{length-later, state_after_all-snoc, state_after_all-first}
 use Rattle.rice_code.proofs.lemmas.meaning.CoveredBlocks.{bool_cases, and-split}
-use Rattle.rice_fast.specs.encode.OpenBlocks.{HoldsOpen, IsAhead, IsBefore, StandsAfter, StandsWith, coder_with, is_at_first}
+use Rattle.rice_fast.specs.encode.OpenBlocks.{HoldsOpen, IsBefore, StandsAfter, StandsWith, coder_with, is_at_first}
 use Rattle.rice_fast.specs.encode.Standing.{HasResidualsOf, Standing}
 use Rattle.rice_fast.specs.declared.encode.coder.BlockCoder.{BlockCoder}
 use Rattle.rice_fast.proofs.lemmas.encode.HeldResiduals.{is_empty-by_counts, state_after_all-append}
-use Rattle.rice_fast.proofs.lemmas.encode.StandingCoders.{noted_reference, still_open}
+use Rattle.rice_fast.proofs.lemmas.encode.StandingCoders.{noted_reference}
 use Rattle.rice_fast.proofs.lemmas.encode.TakenBytes.{first_of_samples, samples_counted}
 
 -- a list with one element written behind its front
@@ -43,7 +41,7 @@ drop_front (suc n) (x ∷ xs) ys h = drop_front n xs ys (omega arith)
 
 -- the coder behind a reference, if one is noted, and the level of the last sample
 abbrev pub with_last : BlockCoder → Option ℕ → ℕ → BlockCoder
-with_last c reference level = record c { reference = reference; previous = level; }
+with_last c reference level = record c { reference = reference; previous = level }
 
 -- no residual is held
 same_first : {c : BlockCoder} {row : List ℕ} {sink : List Bool} {meter : ℕ} {ds : List ℕ} {from : List Bool} {m : ℕ} → HoldsOpen c row sink meter ds from m → length row ≡ c.held
@@ -158,8 +156,8 @@ one_held {c} {sink} {meter} {m} {xs} {x} {residual} {reference} {level} h one =
     }) in
     let steps : m.meter + length xs + 1 ≡ m.meter + length (xs ++ x ∷ []) = omega (arith, length-append xs (x ∷ [])) in
     let state : state_after_all m.coder (xs ++ x ∷ []) ≡ coder_with (with_last c reference level) (ds ++ residual ∷ []) =
-        state_after_all-snoc m.coder xs x ∙ (ap (λ v. state_after v x) stands.coder
-        ∙ λ i. record { setting = s; residuals = ds ++ sym d i ∷ []; reference = sym r i; previous = sym one.level_is i; start = c.start }) in
+    state_after_all-snoc m.coder xs x ∙ (ap (λ v. state_after v x) stands.coder
+    ∙ λ i. record { setting = s; residuals = ds ++ sym d i ∷ []; reference = sym r i; previous = sym one.level_is i; start = c.start }) in
     record {
       room = length-written c.held c.part residual ∙ h.room;
       held = omega (arith, one.room);
@@ -214,14 +212,14 @@ block_taken {c} {bytes} {reference} {before} {es} {last} ds legal first is h som
     let s = c.setting in
     let k = coder_with c ds in
     let at : (p : ℤ) (q : Option ℕ) → value_at s before ≡ p → q ≡ reference
-        → state_with_later (record { setting = s; residuals = ds; reference = q; previous = value_at s c.previous; start = c.start }) p h.samples ≡ coder_with (with_last c reference last) (ds ++ es) =
-        λ p q e f i. record {
-          setting = s;
-          residuals = ds ++ (ap (λ v. later_residuals s v h.samples) (sym e) ∙ sym h.residuals_are) i;
-          reference = f i;
-          previous = (ap (λ v. last_of v h.samples) (sym e) ∙ sym h.last_is) i;
-          start = c.start;
-        } in
+    → state_with_later (record { setting = s; residuals = ds; reference = q; previous = value_at s c.previous; start = c.start }) p h.samples ≡ coder_with (with_last c reference last) (ds ++ es) =
+    λ p q e f i. record {
+      setting = s;
+      residuals = ds ++ (ap (λ v. later_residuals s v h.samples) (sym e) ∙ sym h.residuals_are) i;
+      reference = f i;
+      previous = (ap (λ v. last_of v h.samples) (sym e) ∙ sym h.last_is) i;
+      start = c.start;
+    } in
     elim (bool_cases (s.preprocess && is_at_first c)) [
       | inr later ↦
           let same = is.later later in
@@ -261,8 +259,7 @@ block_held {c} {sink} {meter} {m} {xs} {bytes} {reference} {before} {es} {last} 
       room = omega (arith, empty, whole);
       inside = less;
     }) in
-    let all = length-append xs h.samples in
-    (
+    let all = length-append xs h.samples in (
       count,
       whole,
       record {

@@ -1,4 +1,4 @@
-use Rattle.std.proofs.Common.{arith, ◌≡◌, ◌==◌, ◌+◌, ◌*◌, ◌%◌, ◌<◌, ◌≤◌, ◌++◌, List, [], ◌∷◌, length, length-append, true, false, Err, refl, ap, sym, ◌∙◌, subst, ℕ, ℤ, Option, Some}
+use Rattle.std.proofs.Common.{arith, ◌≡◌, ◌==◌, ◌%◌, ◌<◌, ◌≤◌, List, [], ◌∷◌, length, length-append, true, false, Err, refl, ap, sym, ◌∙◌, subst, ℕ, Some}
 use Rattle.std.proofs.KnownBytes.{Consumes-nil}
 use Rattle.std.proofs.lemmas.Bool.Decides.{nat_tests}
 use Rattle.rice_samples.specs.Parameters.{Parameters, width}

@@ -64,9 +64,17 @@ seam-requires g c =
     let t = subst (λ (w : ℕ). TakesAll s (behind s xs now) new q.0 xs (take (w * count) bytes)) c.width-width.ensures.value q.2 in
     let per : length bytes / w ≡ length bytes / width s = (λ i. length bytes / c.width-width.ensures.value i) in
     let total : cut s (seam.samples + length bytes / w) ≡ cut s (length xs + length bytes / width s) = (λ i. cut s (h.samples i + per i)) in
-    let grows = cut_grows s seam xs (length xs + length bytes / width s) h (omega arith) in
-    (q.0, q.1, s, behind s xs now, new, xs ++ t.more, t.holds, all_whole bytes count h t (omega (arith, c.in_whole_segments.ensures.value, total, grows, h.samples))
-    (fit_in (width s) (length bytes) count (omega (arith, c.in_whole_segments.ensures.limit, per))))
+    let grows = cut_grows s seam xs (length xs + length bytes / width s) h (omega arith) in (
+      q.0,
+      q.1,
+      s,
+      behind s xs now,
+      new,
+      xs ++ t.more,
+      t.holds,
+      all_whole bytes count h t (omega (arith, c.in_whole_segments.ensures.value, total, grows, h.samples))
+          (fit_in (width s) (length bytes) count (omega (arith, c.in_whole_segments.ensures.limit, per))),
+    )
 
 pub returns-clause-did : goal.returns-clause-did
 returns-clause-did g c xs h =

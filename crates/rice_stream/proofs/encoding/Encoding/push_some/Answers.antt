@@ -1,4 +1,4 @@
-use Rattle.std.proofs.Common.{arith, rules, ◌≡◌, ◌+◌, ◌*◌, ◌<◌, ◌≤◌, ◌++◌, ◌∙◌, length, length-append, refl, ap, sym, subst, ℕ, ℤ, List}
+use Rattle.std.proofs.Common.{arith, ◌≡◌, ◌+◌, ◌<◌, ◌≤◌, ◌++◌, length, length-append, ap, sym, subst}
 use Rattle.std.proofs.lemmas.Result.{err_from_is_err_and}
 use Rattle.rice_samples.specs.Parameters.{width}
 use Rattle.rice_samples.specs.bytes.Spelling.{IsNoSpelling}
@@ -84,13 +84,16 @@ returns-clause-did g c v old xs sees h =
         samples = ap (λ n. n + taken.samples) sees.samples;
         bits = ap (λ n. n + taken.bits) sees.bits;
       },
-      (record {
-        more = p.2.samples;
-        number = p.2.number;
-        reads = spelled_of s v h.counts.setting p.2;
-        holds = all_written {f = record { samples = v.samples + taken.samples; coder = p.0.coder; sink = c.push-taken.new.sink; meter = p.0.meter; bits = v.bits + taken.bits }}
-            p.2.samples h (counts_with c.push-taken.new.sink t.counts) code_is w.0 w.2 (counts_with new t.counts);
-      }, λ none. subst (λ s. IsNoSpelling s c.args.bytes.now) h.counts.setting (p.2.none none)),
+      (
+        record {
+          more = p.2.samples;
+          number = p.2.number;
+          reads = spelled_of s v h.counts.setting p.2;
+          holds = all_written {f = record { samples = v.samples + taken.samples; coder = p.0.coder; sink = c.push-taken.new.sink; meter = p.0.meter; bits = v.bits + taken.bits }}
+              p.2.samples h (counts_with c.push-taken.new.sink t.counts) code_is w.0 w.2 (counts_with new t.counts);
+        },
+        λ none. subst (λ s. IsNoSpelling s c.args.bytes.now) h.counts.setting (p.2.none none),
+      ),
     )
 
 pub returns-in_err-write_whole-clause-did : goal.returns-in_err-write_whole-clause-did

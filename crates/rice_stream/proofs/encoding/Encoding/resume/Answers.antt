@@ -1,4 +1,4 @@
-use Rattle.std.proofs.Common.{rules, refl, w64, FitsSigned, arith, ap, subst}
+use Rattle.std.proofs.Common.{rules, refl, w64, FitsSigned, arith, subst}
 use Rattle.std.proofs.lemmas.Int.{to_z-of_z}
 use Rattle.rice_stream.specs.TakenBytes.{standing_between}
 use Rattle.rice_stream.proofs.lemmas.Seams.{few_steps_so_far}

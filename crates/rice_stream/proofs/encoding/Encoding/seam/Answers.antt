@@ -1,4 +1,4 @@
-use Rattle.std.proofs.Common.{arith, rules, w64, FitsSigned, ◌≡◌, ◌∙◌, ◌^◌, ◌<◌, ap, sym, subst, length}
+use Rattle.std.proofs.Common.{arith, rules, w64, FitsSigned, ◌∙◌, ◌^◌, ◌<◌, ap, sym, subst, length}
 use Rattle.std.proofs.lemmas.Int.{to_z-of_z}
 use Rattle.rice_bits.specs.Bits.{word}
 use Rattle.rice_stream.proofs.lemmas.EncodingLemmas.{nothing_held, sink_short, standing_of}

@@ -1,4 +1,4 @@
-use Rattle.std.proofs.Common.{rules, refl, sym, ap, subst, zero, suc, ◌∙◌, arith, ◌≡◌, ◌≢◌, ℕ, ◌*◌, ◌+◌, ◌<◌, ◌≤◌, ◌++◌, [], ◌∷◌, Bool, false, length, take, drop, take-append-drop, append-nil, List, ℤ, w64, to_z, of_z, FitsSigned}
+use Rattle.std.proofs.Common.{rules, refl, sym, ap, subst, zero, suc, ◌∙◌, arith, ◌≡◌, ◌≢◌, ℕ, ◌*◌, ◌<◌, ◌++◌, [], ◌∷◌, Bool, false, take, drop, take-append-drop, append-nil, List, ℤ, w64, FitsSigned}
 use Rattle.std.specs.Prelude.{All}
 use Rattle.std.proofs.lemmas.Int.{to_z-of_z}
 use Rattle.rice_samples.specs.Parameters.{Parameters, IsSample, width}

@@ -1,4 +1,4 @@
-use Rattle.std.proofs.Common.{refl, rules, true, false, ◌≡◌, ◌∙◌, ◌&&◌, ap, sym}
+use Rattle.std.proofs.Common.{refl, rules, true, false, ◌≡◌, ◌∙◌, ◌&&◌, sym}
 use Rattle.rice_fast.specs.encode.OpenBlocks.{is_at_first}
 use Rattle.rice_fast.proofs.encode.coder.BlockCoder.before_next.Goals as goal
 

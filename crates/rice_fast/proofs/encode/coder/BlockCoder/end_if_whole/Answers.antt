@@ -1,6 +1,5 @@
-use Rattle.std.proofs.Common.{◌≡◌, ◌≤◌, ◌∙◌, arith, rules, subst, sym}
-use Rattle.rice_fast.specs.encode.OpenBlocks.{PushesOpen, StandsFor}
-use Rattle.rice_fast.specs.encode.Standing.{Standing}
+use Rattle.std.proofs.Common.{◌≤◌, arith, rules, subst, sym}
+use Rattle.rice_fast.specs.encode.OpenBlocks.{StandsFor}
 use Rattle.rice_fast.specs.declared.encode.coder.BlockCoder.{BlockCoder}
 use Rattle.rice_fast.proofs.lemmas.encode.EndedSegments.{pushes_segment}
 use Rattle.rice_fast.proofs.lemmas.encode.StandingCoders.{pushes_nothing}

@@ -1,4 +1,4 @@
-use Rattle.std.proofs.Common.{ℕ, ℤ, List, ◌≡◌, ◌+◌, ◌-◌, ◌∙◌, ◌++◌, ◌∷◌, [], zero, suc, ap, arith, refl, replicate, rules, subst, sym, w64, FitsSigned}
+use Rattle.std.proofs.Common.{ℕ, ℤ, ◌≡◌, ◌+◌, ◌-◌, ◌∙◌, ◌++◌, ◌∷◌, [], zero, suc, ap, arith, refl, replicate, rules, subst, sym, w64, FitsSigned}
 use Rattle.std.proofs.lemmas.Int.{to_z-of_z}
 use Rattle.rice_fast.specs.encode.OpenBlocks.{StandsAfter}
 use Rattle.rice_fast.proofs.lemmas.encode.EndedSegments.{fill_for, fill_for_none}

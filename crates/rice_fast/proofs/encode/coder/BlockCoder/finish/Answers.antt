@@ -1,4 +1,4 @@
-use Rattle.std.proofs.Common.{◌≡◌, ◌≤◌, ◌∙◌, ap, arith, pos, refl, subst, sym, []}
+use Rattle.std.proofs.Common.{◌≤◌, arith, pos, refl, subst, sym, []}
 use Rattle.rice_samples.specs.Parameters.{IsLegal, IsSample, Parameters}
 use Rattle.rice_samples.proofs.lemmas.setting.LevelsOfSamples.{zero_is_sample}
 use Rattle.rice_code.specs.encode.OpenSegment.{empty_state}

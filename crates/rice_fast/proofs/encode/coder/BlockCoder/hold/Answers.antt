@@ -1,9 +1,8 @@
 use Rattle.std.specs.Prelude.{slice_set}
-use Rattle.std.proofs.Common.{ℤ, ◌≡◌, ◌∙◌, cond, ◌&&◌, ap, subst, sym, rules, w64, FitsSigned, Some, ◌++◌, ◌∷◌, []}
+use Rattle.std.proofs.Common.{◌∙◌, cond, ◌&&◌, subst, sym, rules, w64, FitsSigned, Some, ◌++◌, ◌∷◌, []}
 use Rattle.std.proofs.lemmas.Int.{to_z-of_z}
-use Rattle.rice_samples.specs.Parameters.{value_at}
 use Rattle.rice_samples.specs.predict.Residuals.{pattern, rank}
-use Rattle.rice_fast.specs.encode.OpenBlocks.{StandsAfter, is_at_first}
+use Rattle.rice_fast.specs.encode.OpenBlocks.{StandsAfter}
 use Rattle.rice_fast.proofs.lemmas.encode.TakenSamples.{one_held, with_held}
 use Rattle.rice_fast.proofs.encode.coder.BlockCoder.hold.Goals as goal
 

@@ -1,4 +1,4 @@
-use Rattle.std.proofs.Common.{ℕ, ℤ, ◌≡◌, ◌+◌, ◌-◌, ◌*◌, ◌<◌, ◌∙◌, ◌++◌, ◌∷◌, [], List, length, drop, take, ap, arith, refl, rules, subst, sym, length-append, w64, FitsSigned}
+use Rattle.std.proofs.Common.{◌≡◌, ◌+◌, ◌-◌, ◌*◌, ◌<◌, ◌∙◌, ◌++◌, ◌∷◌, [], drop, take, ap, arith, refl, rules, subst, sym, length-append, w64, FitsSigned}
 use Rattle.std.proofs.lemmas.Int.{to_z-of_z}
 use Rattle.rice_samples.specs.Parameters.{Parameters, IsSample, width}
 use Rattle.rice_samples.specs.bytes.Spelling.{Reads, spelling}
@@ -35,9 +35,12 @@ returns-in-None-clause-takes c m h room =
     let less : c.loop-i.self.blocks < c.loop-i.self.end = omega (arith, for_open h, inv.blocks, inv.end) in
     let size = ap (λ (s : Parameters). s.block) inv.setting in
     let taken = inv.stands m h room in
-    let pushed = pushes_nothing taken.3 (omega (arith, inv.held, size, c.block-size.ensures.value)) less in
-    (pushed.0, pushed.1, spelled_are_taken c.args.self.now.setting c.args.bytes.now c.loop-i.i (c.width-width.result * c.loop-i.i) (sym inv.setting) taken.3.stands taken.1 taken.2
-    (ap (λ w. w * c.loop-i.i) c.width-width.ensures.value) pushed.2)
+    let pushed = pushes_nothing taken.3 (omega (arith, inv.held, size, c.block-size.ensures.value)) less in (
+      pushed.0,
+      pushed.1,
+      spelled_are_taken c.args.self.now.setting c.args.bytes.now c.loop-i.i (c.width-width.result * c.loop-i.i) (sym inv.setting) taken.3.stands taken.1 taken.2
+          (ap (λ w. w * c.loop-i.i) c.width-width.ensures.value) pushed.2,
+    )
 
 pub returns-in-None-clause-none : goal.returns-in-None-clause-none
 returns-in-None-clause-none c some none x sample spells =
@@ -67,8 +70,7 @@ loop-i-preserved c =
       stands = λ m h room.
           let taken = inv.stands m h room in
           let one = reads_one s _ x legal (sym (ap (λ n. take n (drop (w * i) c.args.bytes.now)) slice) ∙ (spelled.1 ∙ ap (λ (v : Parameters). spelling v x) own)) in
-          let read = reads_more (w * i) w taken.2 one in
-          (
+          let read = reads_more (w * i) w taken.2 one in (
             taken.0 ++ x ∷ [],
             omega (arith, length-append taken.0 (x ∷ []), taken.1),
             subst (λ n. Reads s c.args.bytes.now (taken.0 ++ x ∷ []) (drop n c.args.bytes.now)) place read,
@@ -94,6 +96,9 @@ returns-clause-takes c m h room =
     let inv = c.loop-i.invariant in
     let taken = inv.stands m h room in
     let pushed = c.end_part-bits.ensures m taken.0 taken.3 room in
-    let end : c.loop-i.i ≡ c.min-most.result = omega arith in
-    (pushed.0, pushed.1, spelled_are_taken c.args.self.now.setting c.args.bytes.now c.min-most.result (c.width-width.result * c.loop-i.i) (sym inv.setting) taken.3.stands (taken.1 ∙ end) taken.2
-    ((λ j. c.width-width.ensures.value j * end j)) pushed.2)
+    let end : c.loop-i.i ≡ c.min-most.result = omega arith in (
+      pushed.0,
+      pushed.1,
+      spelled_are_taken c.args.self.now.setting c.args.bytes.now c.min-most.result (c.width-width.result * c.loop-i.i) (sym inv.setting) taken.3.stands (taken.1 ∙ end) taken.2
+          ((λ j. c.width-width.ensures.value j * end j)) pushed.2,
+    )

@@ -1,4 +1,4 @@
-use Rattle.std.proofs.Common.{ℕ, zero, suc, ℤ, ◌≡◌, ◌+◌, ◌-◌, ◌*◌, ◌/◌, ◌≤◌, ◌<◌, ◌∙◌, ◌++◌, [], ◌∷◌, List, length, drop, take, ap, arith, false, refl, rules, subst, true, sym, length-append}
+use Rattle.std.proofs.Common.{ℕ, zero, suc, ◌≡◌, ◌+◌, ◌-◌, ◌*◌, ◌/◌, ◌≤◌, ◌<◌, ◌∙◌, ◌++◌, [], ◌∷◌, List, length, drop, take, ap, arith, false, refl, rules, subst, true, sym, length-append}
 use Rattle.std.proofs.Math.Nat.{div-add-mod, mul-le-mul_left}
 use Rattle.rice_samples.specs.Parameters.{Parameters, width}
 use Rattle.rice_samples.specs.bytes.Spelling.{Reads}
@@ -74,10 +74,9 @@ loop-i-preserved g c =
           let taken = inv.stands m h room in
           let more = did.takes took m taken.0 taken.3 room in
           let own : Reads s (take len (drop (len * i) c.args.bytes.now)) more.0 [] =
-              subst (λ n. Reads s (take n (drop (len * i) c.args.bytes.now)) more.0 []) slice (subst (λ (v : Parameters). Reads v (take (len * i + len - len * i) (drop (len * i) c.args.bytes.now)) more.0 []) inv.setting more.1) in
+          subst (λ n. Reads s (take n (drop (len * i) c.args.bytes.now)) more.0 []) slice (subst (λ (v : Parameters). Reads v (take (len * i + len - len * i) (drop (len * i) c.args.bytes.now)) more.0 []) inv.setting more.1) in
           let read = reads_more (len * i) len taken.2 own in
-          let block = ap (λ (v : Parameters). v.block) inv.setting in
-          (
+          let block = ap (λ (v : Parameters). v.block) inv.setting in (
             taken.0 ++ more.0,
             omega (arith, length-append taken.0 more.0, taken.1, more.2, block, known),
             subst (λ n. Reads s c.args.bytes.now (taken.0 ++ more.0) (drop n c.args.bytes.now)) place read,
@@ -101,8 +100,8 @@ returns-then-not-take_block-clause-takes g c m h room =
     let less : c.take_block.new.self.blocks < c.take_block.new.self.end = omega (arith, did.same failed, did.end, inv.blocks, inv.end, c.min-most.ensures) in
     let pushed = pushes_nothing kept (omega (arith, did.held, one)) less in
     let place : c.width.result * c.known_or-known.result * c.loop-i.i ≡ width s * (c.known_or-known.result * c.loop-i.i) =
-        (let e : c.width.result * c.known_or-known.result * c.loop-i.i ≡ c.width.result * (c.known_or-known.result * c.loop-i.i) = omega arith in e)
-        ∙ ap (λ n. n * (c.known_or-known.result * c.loop-i.i)) c.width.ensures.value in
+    (let e : c.width.result * c.known_or-known.result * c.loop-i.i ≡ c.width.result * (c.known_or-known.result * c.loop-i.i) = omega arith in e)
+    ∙ ap (λ n. n * (c.known_or-known.result * c.loop-i.i)) c.width.ensures.value in
     (pushed.0, pushed.1, spelled_are_taken s c.args.bytes.now (c.known_or-known.result * c.loop-i.i) (c.width.result * c.known_or-known.result * c.loop-i.i) (sym (did.setting ∙ inv.setting)) kept.stands taken.1 taken.2 place pushed.2)
 
 pub returns-then-not-take_block-clause-kept : goal.returns-then-not-take_block-clause-kept
@@ -123,10 +122,13 @@ returns-clause-takes g c m h room =
     let pushed = c.end_if_whole-bits.ensures.stands m taken.0 taken.3 room in
     let end : c.loop-i.i ≡ c.min-most.result = omega arith in
     let place : c.width.result * c.known_or-known.result * c.loop-i.i ≡ width s * (c.known_or-known.result * c.min-most.result) =
-        (let e : c.width.result * c.known_or-known.result * c.loop-i.i ≡ c.width.result * (c.known_or-known.result * c.loop-i.i) = omega arith in e)
-        ∙ λ j. c.width.ensures.value j * (c.known_or-known.result * end j) in
-    (pushed.0, pushed.1, spelled_are_taken s c.args.bytes.now (c.known_or-known.result * c.min-most.result) (c.width.result * c.known_or-known.result * c.loop-i.i) (sym inv.setting) taken.3.stands
-    (taken.1 ∙ ap (λ n. c.known_or-known.result * n) end) taken.2 place pushed.2)
+    (let e : c.width.result * c.known_or-known.result * c.loop-i.i ≡ c.width.result * (c.known_or-known.result * c.loop-i.i) = omega arith in e)
+    ∙ λ j. c.width.ensures.value j * (c.known_or-known.result * end j) in (
+      pushed.0,
+      pushed.1,
+      spelled_are_taken s c.args.bytes.now (c.known_or-known.result * c.min-most.result) (c.width.result * c.known_or-known.result * c.loop-i.i) (sym inv.setting) taken.3.stands
+          (taken.1 ∙ ap (λ n. c.known_or-known.result * n) end) taken.2 place pushed.2,
+    )
 
 pub returns-clause-kept : goal.returns-clause-kept
 returns-clause-kept g c none m h room =

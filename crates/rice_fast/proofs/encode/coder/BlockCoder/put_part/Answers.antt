@@ -1,4 +1,4 @@
-use Rattle.std.proofs.Common.{◌≡◌, ◌∙◌, arith, length, take, refl, subst, sym}
+use Rattle.std.proofs.Common.{◌≡◌, ◌∙◌, length, take, refl, subst, sym}
 use Rattle.rice_fast.specs.encode.OpenBlocks.{StandsAfter}
 use Rattle.rice_fast.specs.declared.encode.coder.BlockCoder.{BlockCoder}
 use Rattle.rice_fast.proofs.lemmas.encode.StandingCoders.{none_held, other_part, part_as_row, part_counted, row_has_room, row_is_put}
@@ -21,5 +21,5 @@ returns-clause-stands c m xs h room =
     let did = c.put_block.ensures in
     let new = c.put_block.new.self in
     let put = row_is_put new.run new.bits_ahead new.steps_ahead stands row c.requires.inside (did.ahead fit) (did.meter fit) in
-    let P : BlockCoder → Type 0 = λ v. StandsAfter (record v { held = 0; }) c.put_block.new.sink c.put_block.new.meter m xs in
+    let P : BlockCoder → Type 0 = λ v. StandsAfter (record v { held = 0 }) c.put_block.new.sink c.put_block.new.meter m xs in
     subst P (sym did.value) (none_held (other_part c.args.self.now.part 0 put) refl h.room)

@@ -1,4 +1,4 @@
-use Rattle.std.proofs.Common.{◌≡◌, ◌+◌, ◌∙◌, ◌++◌, arith, rules, subst, sym, [], List, ℤ}
+use Rattle.std.proofs.Common.{◌∙◌, ◌++◌, arith, subst, sym}
 use Rattle.rice_fast.specs.encode.OpenBlocks.{StandsAfter}
 use Rattle.rice_fast.specs.declared.encode.coder.BlockCoder.{BlockCoder}
 use Rattle.rice_fast.proofs.lemmas.encode.StandingCoders.{none_held, row_has_room, row_is_put, steps_for_block}
