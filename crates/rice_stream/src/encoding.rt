@@ -1,5 +1,5 @@
 //! Encodes samples, from an intake to an outlet.
-ghost use Rattle.std.specs.Prelude.{◌≡◌, ◌+◌, ◌*◌, ◌^◌, ◌<◌, ◌≤◌, List, [], ◌++◌, length, Option, Some, OnOk, OnErr, IfOk, ℤ};
+ghost use Rattle.std.specs.Prelude.{◌≡◌, ◌+◌, ◌*◌, ◌^◌, ◌<◌, ◌≤◌, List, ◌++◌, length, Option, Some, OnOk, OnErr, IfOk, ℤ};
 ghost use Rattle.rice_bits.specs.device.OutletRoom.{Room};
 ghost use Rattle.rice_bits.specs.Bits.{padded_bits};
 ghost use Rattle.rice_samples.specs.Limits.{most_input};

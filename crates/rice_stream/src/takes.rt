@@ -1,5 +1,5 @@
 //! The coder that an encoding engine needs.
-ghost use Rattle.std.specs.Prelude.{◌≡◌, ℕ, ◌*◌, ◌≤◌, List, Bool, [], length, ℤ};
+ghost use Rattle.std.specs.Prelude.{◌≡◌, ℕ, ◌≤◌, List, Bool, [], length, ℤ};
 ghost use Rattle.rice_samples.specs.Parameters.{width};
 ghost use Rattle.rice_code.specs.encode.OpenSegment.{state_between};
 ghost use Rattle.rice_fast.specs.encode.Standing.{Standing, HasRoomAt};

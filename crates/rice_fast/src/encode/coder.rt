@@ -1,5 +1,5 @@
 //! The coder, from the bytes of samples to code.
-ghost use Rattle.std.specs.Prelude.{◌≡◌, ℕ, ◌+◌, ◌-◌, ◌*◌, ◌<◌, ◌≤◌, ◌++◌, ◌∷◌, [], Bool, true, false, length, replicate, List, ℤ, IfSome, IfNone, ◌&&◌};
+ghost use Rattle.std.specs.Prelude.{◌≡◌, ℕ, ◌+◌, ◌-◌, ◌*◌, ◌<◌, ◌≤◌, ◌++◌, ◌∷◌, [], Bool, true, false, length, replicate, List, ℤ, IfSome, IfNone};
 ghost use Rattle.rice_bits.specs.Limits.{step_limit};
 ghost use Rattle.rice_samples.specs.Parameters.{IsSample, value_at, value_count, width as width_of};
 ghost use Rattle.rice_samples.specs.Places.{blocks_left};
@@ -11,7 +11,7 @@ ghost use Rattle.rice_code.specs.encode.Coder.{AddsCode, HasTaken};
 ghost use Rattle.rice_code.specs.encode.HeldBlocks.{reference_at};
 ghost use Rattle.rice_code.specs.encode.OpenSegment.{CodesHeld, empty_state, state_after_all, state_between};
 ghost use Rattle.rice_fast.specs.encode.OpenBlocks.{HasRoomForBlock, IsAhead, IsBefore, PushesOpen, StandsAfter, StandsFor, coder_between, is_at_first};
-ghost use Rattle.rice_fast.specs.encode.Standing.{HasRoomAt, MeetsNoSample, Standing, TakesSpelled};
+ghost use Rattle.rice_fast.specs.encode.Standing.{HasRoomAt, Standing, TakesSpelled};
 
 use crate::encode::blocks::code_next_or_add_to_run;
 use crate::encode::residuals_of_bytes::residuals_of_bytes;

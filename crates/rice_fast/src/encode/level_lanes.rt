@@ -1,6 +1,5 @@
 //! The lanes in which the levels of samples are read from their bytes.
 ghost use Rattle.std.specs.Prelude.{◌≡◌, ℕ, ◌*◌, length};
-ghost use Rattle.std.proofs.Common.{rules};
 ghost use Rattle.rice_samples.specs.Parameters.{values_at, width as width_of};
 ghost use Rattle.rice_samples.specs.bytes.Spelling.{spellings};
 ghost use Rattle.rice_fast.specs.BlocksAhead.{HasBits};

@@ -134,8 +134,18 @@ module _ {s : Parameters} {left_old left : Option (List ℕ)} {taken_old taken :
 
   -- since too few bytes are left for a sample,
   pub cut_ends : 0 < length r.waiting → IsAtEnd left → EncodesBetween s left_old left taken_old taken report (Some (SampleCut v.samples))
-  cut_ends some end = at (Some (SampleCut v.samples))
-      (record { rest = r.waiting; whole = p.reads.split; legal = p.reads.legal; stops = ((λ none. absurd (omega (arith, some, ap length none))), few) }, end, p.holds.counts.samples, early left p.bytes)
+  cut_ends some end = at (Some (SampleCut v.samples)) (
+    record {
+      rest = r.waiting;
+      whole = p.reads.split;
+      legal = p.reads.legal;
+      stops =
+          ((λ none. absurd (omega (arith, some, ap length none))), few);
+    },
+    end,
+    p.holds.counts.samples,
+    early left p.bytes,
+  )
       (omega (arith, p.count, limit))
 
   -- or since a byte came that is one too many
@@ -279,7 +289,8 @@ pushing_ends {s} {left_old} {left} {taken_old} {taken} {taken_new} {v} {v_new} {
         let k : length before ≡ length xs + length m.more = length-append xs m.more in
         let front : take (length all - 1) all ≡ before = (let i : length all - 1 ≡ length before = omega arith in ap (λ i. take i all) i ∙ take-append_seam before (m.last ∷ [])) in
         let same : xs ++ (m.more ++ m.last ∷ []) ≡ all = sym (append_assoc xs m.more (m.last ∷ [])) in
-        let size : length p.bytes ≡ width s * length xs + length r.waiting = ap length p.reads.split ∙ length-append (spellings s xs) r.waiting ∙ ap (λ n. n + length r.waiting) (length-spellings s xs) in
+        let size : length p.bytes ≡ width s * length xs + length r.waiting = ap length p.reads.split ∙ length-append (spellings s xs) r.waiting
+        ∙ ap (λ n. n + length r.waiting) (length-spellings s xs) in
         let fewer = ahead (width s) (length xs) (length r.waiting) (length p.bytes) report.samples size few (some_width s) (omega (arith, t.samples, n, k)) in (
           record { given = p.bytes; left = left; written = m.fails.takes.written },
           record { gave = p.gave; left = refl; took = Follows-all taken_old taken_new _ m.fails.takes.took },

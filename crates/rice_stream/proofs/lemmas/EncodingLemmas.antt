@@ -150,9 +150,11 @@ shows_none m m_new sink is shows = subst (λ b. ShowsCode b m m_new sink) is sho
 -- the samples that bytes spell are taken
 module _ (s : Parameters) (v : EncodingValue) {m_new : Standing} {bytes : List ℕ} {sink_new : List Bool} {taken : Taken} (same : v.coder.setting ≡ s)
     (t : TakesSpelled (standing_of v) m_new bytes sink_new taken) where
+  -- which the bytes spell by the setting of the code,
   pub spelled_of : Reads s bytes t.samples (drop (width s * taken.samples) bytes)
   spelled_of = subst (λ (s : Parameters). Reads s bytes t.samples (drop (width s * taken.samples) bytes)) same t.reads
 
+  -- which are no more than the bytes,
   pub few_spelled : (taken.samples ≤ length bytes) × (width s * taken.samples ≤ length bytes)
   few_spelled =
       let r = spelled_of in
@@ -162,6 +164,7 @@ module _ (s : Parameters) (v : EncodingValue) {m_new : Standing} {bytes : List �
       let within : width s * taken.samples ≤ length bytes = omega (arith, size, length-spellings s t.samples, length-drop (width s * taken.samples) bytes, n) in
       (omega (arith, within, per), within)
 
+  -- and which go on from those before
   pub taken_spelled : {xs zs : List ℤ} → HoldsCode s v xs zs → TakesSamples s (after_push v m_new taken) xs zs t.samples
   taken_spelled h = taken_on h t.pushes refl (ap (λ n. v.samples + n) (sym t.number)) (λ n lt. t.before_last n (omega (arith, lt, t.number)))
 

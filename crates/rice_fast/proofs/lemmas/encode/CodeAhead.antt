@@ -46,6 +46,7 @@ pub record NothingAhead (run bits steps : ℕ) (sink from : List Bool) : Type 0 
   pub steps_are : steps ≡ 0
   pub same : sink ≡ from
 
+-- where no block is whole
 pub nothing_ahead : {s : Parameters} {start : ℕ} {r : Option ℕ} (run : ℕ) {bits steps : ℕ} {sink from : List Bool} → IsAhead s start r run bits steps [] sink from
     → NothingAhead run bits steps sink from
 nothing_ahead zero {bits} {steps} {sink} {from} h =
@@ -245,7 +246,9 @@ room_to_look {s} {start} {r} {run} {bits} {steps} {blocks} {sink} {from} m h leg
     (record { few = omega (arith, left.1, below); grown = h.most; by_blocks = omega (arith, looks_are_few s blocks); short = omega (arith, bits_are_few h, short) }) fits in
     omega (arith, all, some)
 
-pub room_for_other : {s : Parameters} {start : ℕ} {r : Option ℕ} {run bits steps : ℕ} {blocks : List BlockData} {c : BlockData} {sink from : List Bool} (m : ℕ) → IsAhead s start r run bits steps blocks sink from
+-- and for what a block that is not zero puts
+pub room_for_other : {s : Parameters} {start : ℕ} {r : Option ℕ} {run bits steps : ℕ} {blocks : List BlockData} {c : BlockData} {sink from : List Bool} (m : ℕ)
+    → IsAhead s start r run bits steps blocks sink from
     → IsNext s start r blocks c → is_zero_block c ≡ false → length from ≤ 7 → m + coding_steps s < 2 ^ 62
     → HasRoomFor (length (pending_bits s false (reference_at r (length blocks - run)) run) + cost s (shortest s c))
     (length (pending_bits s false (reference_at r (length blocks - run)) run) + cost s (shortest s c) + s.block * (k_max s + 5)) (length sink) (m + steps)
@@ -283,12 +286,14 @@ room_for_other {s} {start} {r} {run} {bits} {steps} {blocks} {c} {sink} {from} m
     within {a} {x} k n bound e h g = subst (λ v. a ≤ v * bound) e (omega (arith, h, g))
 
 -- At the end only the code of the run is still to come.
-pub end_follows : {s : Parameters} {start : ℕ} {r : Option ℕ} {run bits steps : ℕ} {blocks : List BlockData} {sink from : List Bool} → IsAhead s start r run bits steps blocks sink from → 1 ≤ s.interval
+pub end_follows : {s : Parameters} {start : ℕ} {r : Option ℕ} {run bits steps : ℕ} {blocks : List BlockData} {sink from : List Bool} → IsAhead s start r run bits steps blocks sink from
+    → 1 ≤ s.interval
     → sink ++ pending_bits s true (reference_at r (length blocks - run)) run ≡ from ++ code_of_blocks s start blocks
 end_follows {s} {start} {r} {run} {bits} {steps} {blocks} {sink} {from} h some =
     let n = length blocks in
     let b = start + (n - run) in
-    let ends : to_follow s start r n run [] ≡ pending_bits s true (reference_at r (n - run)) run = ap (λ cs. bits_of_sets s (data_sets s b false cs)) (append-nil (pending_zeros s (reference_at r (n - run)) run))
+    let ends : to_follow s start r n run [] ≡ pending_bits s true (reference_at r (n - run)) run = ap (λ cs. bits_of_sets s (data_sets s b false cs))
+    (append-nil (pending_zeros s (reference_at r (n - run)) run))
     ∙ ap (bits_of_sets s) (run_ends s b run (reference_at r (n - run)) some (enough run h.inside)) in
     ap (λ v. sink ++ v) (sym ends) ∙ (h.same [] (omega (arith, h.few)) ∙ ap (λ v. from ++ code_of_blocks s start v) (append-nil blocks))
   where
@@ -341,7 +346,8 @@ ahead_with {s} {start} {r} {run} {blocks = blocks} {sink} {from} h none others =
   sound = h.sound;
   few = h.few;
   inside = h.inside;
-  same = λ more fits. ap (λ v. others ++ v) (rest (to_follow s start r (length blocks) run more) (code_of_blocks s start (blocks ++ more)) (h.same more fits ∙ ap (λ v. v ++ code_of_blocks s start (blocks ++ more)) none));
+  same = λ more fits. ap (λ v. others ++ v)
+      (rest (to_follow s start r (length blocks) run more) (code_of_blocks s start (blocks ++ more)) (h.same more fits ∙ ap (λ v. v ++ code_of_blocks s start (blocks ++ more)) none));
   len = omega (arith, h.len, ap length none);
   least = h.least;
   most = h.most;

@@ -15,13 +15,15 @@ use Rattle.rice_samples.proofs.lemmas.setting.PlaceLemmas.{some_left}
 use Rattle.rice_code.specs.code.Blocks.{BlockData, fill_count, fill_count_of, is_zero_block}
 use Rattle.rice_code.specs.code.Choice.{shortest}
 use Rattle.rice_code.specs.code.Code.{complete_samples, data_sets}
-use Rattle.rice_code.specs.code.CodedDataSets.{CodedDataSet, NoCompression, RemainderOfSegment, SecondExtension, Split, ZeroBlocks, bits_of_set, no_compression_tail, run_number, run_tail, second_extension_tail, split_tail}
+use Rattle.rice_code.specs.code.CodedDataSets.{CodedDataSet, NoCompression, RemainderOfSegment, SecondExtension, Split, ZeroBlocks}
+use Rattle.rice_code.specs.code.CodedDataSets.{bits_of_set, no_compression_tail, run_number, run_tail, second_extension_tail, split_tail}
 use Rattle.rice_code.specs.code.Runs.{zero_run}
 use Rattle.rice_code.specs.code.SoundBlocks.{AreSoundBlocks}
 use Rattle.rice_code.specs.encode.BitBuffer.{HasRoomFor}
 use Rattle.rice_code.specs.encode.Coder.{AddsCode, CompletesNone, HasTaken, IsCoder, PushesSamples}
 use Rattle.rice_code.specs.encode.HeldBlocks.{held_blocks, pending_bits, reference_at}
-use Rattle.rice_code.specs.encode.OpenSegment.{CodesHeld, CoderState, HoldsSoundBlocks, IsOpen, IsWhole, bits_held, blocks_held, contents_held, is_empty, state_after_all, state_after_segment, state_between, next_start}
+use Rattle.rice_code.specs.encode.OpenSegment.{CodesHeld, CoderState, HoldsSoundBlocks, IsOpen, IsWhole, bits_held}
+use Rattle.rice_code.specs.encode.OpenSegment.{blocks_held, contents_held, is_empty, state_after_all, state_after_segment, state_between, next_start}
 use Rattle.rice_code.proofs.lemmas.code.SoundBlocks.{all_take}
 use Rattle.rice_code.proofs.lemmas.encode.OpenSegments.{codes_held, next_is_open}
 use Rattle.rice_code.proofs.lemmas.encode.PendingRuns.{held_len}
@@ -54,7 +56,8 @@ some_bits_of s b (c ∷ cs) some = first (is_zero_block c)
     of_cons : (d : CodedDataSet) (ds : List CodedDataSet) → 0 < sum_by (λ d. length (bits_of_set s d)) (d ∷ ds)
     of_cons d ds = omega (arith, sum_by-cons (λ d. length (bits_of_set s d)) d ds, some_bits s d)
 
-    first : (z : Bool) → 0 < sum_by (λ d. length (bits_of_set s d)) (cond z (cond (false && not (begins_segment s b)) [] (zero_run s b c.reference (c ∷ cs) ∷ [])) (shortest s c ∷ []) ++ data_sets s (b + 1) (is_zero_block c) cs)
+    first : (z : Bool) → 0 < sum_by (λ d. length (bits_of_set s d))
+        (cond z (cond (false && not (begins_segment s b)) [] (zero_run s b c.reference (c ∷ cs) ∷ [])) (shortest s c ∷ []) ++ data_sets s (b + 1) (is_zero_block c) cs)
     first true = of_cons (zero_run s b c.reference (c ∷ cs)) (data_sets s (b + 1) (is_zero_block c) cs)
     first false = of_cons (shortest s c) (data_sets s (b + 1) (is_zero_block c) cs)
 
@@ -64,13 +67,15 @@ start_is_low {c} h = omega (arith, h.opens.place, mod-lt c.start h.opens.legal.i
 
 -- the code of the pending run is the last
 pub end_has_room : {c : BlockCoder} {sink : List Bool} {meter : ℕ} {m : Standing} {xs : List ℤ} → StandsAfter c sink meter m xs → HasRoomAt m
-    → HasRoomFor (length (pending_bits c.setting true (reference_at c.reference (c.blocks - c.run)) c.run)) (length (pending_bits c.setting true (reference_at c.reference (c.blocks - c.run)) c.run)) (length sink) meter
+    → HasRoomFor (length (pending_bits c.setting true (reference_at c.reference (c.blocks - c.run)) c.run))
+    (length (pending_bits c.setting true (reference_at c.reference (c.blocks - c.run)) c.run)) (length sink) meter
 end_has_room {c} {sink} {meter} {m} {xs} h room =
     let s = c.setting in
     let holds = h.stands.holds in
     let count = held_len s c.reference c.blocks h.stands.residuals in
     let fits = meter_behind 0 h.stands room (omega (arith, blocks_inside holds)) in
-    subst (λ n. HasRoomFor (length (pending_bits s true (reference_at c.reference (n - c.run)) c.run)) (length (pending_bits s true (reference_at c.reference (n - c.run)) c.run)) (length sink) meter) count
+    subst (λ n. HasRoomFor (length (pending_bits s true (reference_at c.reference (n - c.run)) c.run)) (length (pending_bits s true (reference_at c.reference (n - c.run)) c.run))
+    (length sink) meter) count
     (subst (λ v. HasRoomFor (length (pending_bits s true (reference_at c.reference (length (held_blocks s c.reference c.blocks h.stands.residuals) - c.run)) c.run))
     (length (pending_bits s true (reference_at c.reference (length (held_blocks s c.reference c.blocks h.stands.residuals) - c.run)) c.run)) (length sink) v) (sym holds.steps_ahead)
     (room_for_end (m.meter + length xs) holds.ahead holds.opens.legal room.room (omega (arith, fits))))
@@ -92,7 +97,8 @@ end_codes {c} {sink} {put} {new} {meter} {meter_new} {bits} {m} {xs} h none puts
     let whole : length ds ≡ s.block * c.blocks = omega (arith, holds.number, empty) in
     let number : c.blocks ≡ blocks_held (coder_with c ds) = sym (ap (λ v. v / s.block) whole ∙ mul-div_cancel_left c.blocks one) in
     let w = λ (n : ℕ). pending_bits s true (reference_at c.reference (n - c.run)) c.run in
-    let all = end_puts (m.meter + length xs) holds.ahead holds.opens.legal.interval_from (puts ∙ ap (λ n. sink ++ w n) (sym blocks)) holds.steps_ahead (ticks ∙ ap (λ n. meter + length (w n)) (sym blocks)) in
+    let all = end_puts (m.meter + length xs) holds.ahead holds.opens.legal.interval_from (puts ∙ ap (λ n. sink ++ w n) (sym blocks)) holds.steps_ahead
+    (ticks ∙ ap (λ n. meter + length (w n)) (sym blocks)) in
     let sound : HoldsSoundBlocks (coder_with c ds) = record {
       sound = subst (λ n. AreSoundBlocks s c.start (held_blocks s c.reference n ds)) number holds.ahead.sound;
       whole = whole ∙ ap (λ n. s.block * n) number;
@@ -135,7 +141,12 @@ pushes_segment {c} {sink} {sink_new} {meter} {meter_new} {bits} {start} {m} {xs}
     (next_is_open (coder_with c ds) (s.block * c.end) _ holds.opens refl) in
     let begun = between_stands s start c.previous c.part sink_new meter_new opens holds.below coded h.room in
     let some : 0 < c.blocks = let left = some_left s c.start holds.opens.legal.interval_from in omega (arith, left.0, holds.ends, is_end) in
-    let some_put : 0 < bits = omega (arith, codes.bits, subst (λ (v : CoderState). 0 < bits_held v) (sym same) (held_bits (coder_with c ds) c.blocks one (omega (arith, holds.number, empty)) some)) in (
+    let some_put : 0 < bits = omega (
+      arith,
+      codes.bits,
+      subst (λ (v : CoderState). 0 < bits_held v) (sym same)
+          (held_bits (coder_with c ds) c.blocks one (omega (arith, holds.number, empty)) some),
+    ) in (
       record { coder = next; sink = sink_new; meter = meter_new },
       begun,
       record {
@@ -183,8 +194,10 @@ finish_adds_all {m} {xs} {sink_new} {bits} {meter_new} s same one codes taken =
 pub fill_for : {c : BlockCoder} {sink : List Bool} {meter : ℕ} {m : Standing} → (h : StandsFor c sink meter m) → 0 < c.held → fill_count c.setting (length m.coder.residuals) ≡ c.setting.block - c.held
 fill_for {c} h some =
     let count = part_counted (after_none h) in
-    ap (fill_count c.setting) (ap (λ (v : CoderState). length v.residuals) h.coder ∙ (h.holds.number ∙ ap (λ n. c.setting.block * c.blocks + n) count)) ∙ fill_of_part c.setting c.blocks c.held h.held some
+    ap (fill_count c.setting) (ap (λ (v : CoderState). length v.residuals) h.coder ∙ (h.holds.number ∙ ap (λ n. c.setting.block * c.blocks + n) count))
+    ∙ fill_of_part c.setting c.blocks c.held h.held some
 
+-- no sample fills a block of which none is held
 pub fill_for_none : {c : BlockCoder} {sink : List Bool} {meter : ℕ} {m : Standing} → (h : StandsFor c sink meter m) → c.held ≡ 0 → fill_count c.setting (length m.coder.residuals) ≡ 0
 fill_for_none {c} {m = m} h none =
     let one : 1 ≤ c.setting.block = grind (arith, h.holds.opens.legal.block) in

@@ -60,7 +60,8 @@ residuals_read s before last n bytes levels residuals len some all legal read co
     let most : w * length levels ≤ w * n = mul-le-mul_left w all in
     let each : All (λ l. l < value_count s) levels = subst (All (λ l. l < value_count s)) (take_all n levels all) legal in
     let spelled = sym (take_all (w * n) bytes (omega (arith, len, most))) ∙ (read.spelled ∙ ap (spellings s) (take_all n (values_at s levels) (omega (arith, all, many)))) in
-    residuals_spelled s before last bytes levels residuals each spelled coded (rw is (each (length levels - 1) 0 (omega (arith, some)))) (ap (value_at s) is ∙ last_value s (value_at s before) levels some)
+    residuals_spelled s before last bytes levels residuals each spelled coded (rw is (each (length levels - 1) 0 (omega (arith, some))))
+    (ap (value_at s) is ∙ last_value s (value_at s before) levels some)
 
 -- in lanes
 

@@ -48,9 +48,11 @@ pub blocks_inside : {c : BlockCoder} {row : List ℕ} {sink : List Bool} {meter 
     → c.setting.block * c.blocks + length row ≤ c.setting.block * c.end
 blocks_inside {c} h = let all = ap (λ n. c.setting.block * n) h.ends in omega (arith, all, h.number, h.opens.few)
 
+-- nor do their samples count as more
 pub blocks_few : {c : BlockCoder} {row : List ℕ} {sink : List Bool} {meter : ℕ} {ds : List ℕ} {from : List Bool} {m : ℕ} → HoldsOpen c row sink meter ds from m → c.blocks ≤ c.end
 blocks_few {c} {ds = ds} h = let few = h.ahead.few in let count = held_len c.setting c.reference c.blocks ds in omega (arith, few, count, h.ends)
 
+-- those that are pending are some of them
 pub run_inside : {c : BlockCoder} {row : List ℕ} {sink : List Bool} {meter : ℕ} {ds : List ℕ} {from : List Bool} {m : ℕ} → HoldsOpen c row sink meter ds from m → c.run ≤ c.blocks
 run_inside {c} {ds = ds} h = omega (arith, h.ahead.inside, held_len c.setting c.reference c.blocks ds)
 
@@ -104,10 +106,12 @@ next_block {c} {row} {ds = ds} h whole =
     let parts = parts_of h in
     ap (held_blocks s c.reference (c.blocks + 1)) parts
     ∙ (held_next s c.reference c.blocks front row len whole
-    ∙ ap (λ v. v ++ block_with (reference_at c.reference c.blocks) row ∷ []) (sym (held_more s c.reference c.blocks front row (omega (arith, len))) ∙ ap (held_blocks s c.reference c.blocks) (sym parts)))
+    ∙ ap (λ v. v ++ block_with (reference_at c.reference c.blocks) row ∷ [])
+    (sym (held_more s c.reference c.blocks front row (omega (arith, len))) ∙ ap (held_blocks s c.reference c.blocks) (sym parts)))
 
 -- such a row can be put,
-unfoldable pub row_has_room : {c : BlockCoder} {row : List ℕ} {sink : List Bool} {meter : ℕ} {m : Standing} {xs : List ℤ} → StandsWith c row sink meter m xs → HasRoomAt m → length row ≡ c.setting.block → c.blocks < c.end
+unfoldable pub row_has_room : {c : BlockCoder} {row : List ℕ} {sink : List Bool} {meter : ℕ} {m : Standing} {xs : List ℤ} → StandsWith c row sink meter m xs → HasRoomAt m
+    → length row ≡ c.setting.block → c.blocks < c.end
     → HasRoomForBlock c sink meter row
 row_has_room {c} {row} {sink} {meter} {m} {xs} h room whole less =
     let s = c.setting in
@@ -123,7 +127,8 @@ row_has_room {c} {row} {sink} {meter} {m} {xs} h room whole less =
       legal = holds.opens.legal;
       fits = holds.opens.reference;
       ahead = holds.ahead;
-      sound = subst (AreSoundBlocks s c.start) (next_block holds whole ∙ ap (λ n. held_blocks s c.reference c.blocks h.residuals ++ block_with (reference_at c.reference n) row ∷ []) (sym count)) sound;
+      sound = subst (AreSoundBlocks s c.start)
+          (next_block holds whole ∙ ap (λ n. held_blocks s c.reference c.blocks h.residuals ++ block_with (reference_at c.reference n) row ∷ []) (sym count)) sound;
       below = omega (arith, count, less, holds.ends);
       steps_ahead = holds.steps_ahead;
       room = room.room;
@@ -139,7 +144,9 @@ with_block c run bits steps = record c {
   steps_ahead = steps;
 }
 
-pub row_is_put : {c : BlockCoder} {row : List ℕ} {sink sink_new : List Bool} {meter meter_new : ℕ} {m : Standing} {xs : List ℤ} (run bits steps : ℕ) → (h : StandsWith c row sink meter m xs) → length row ≡ c.setting.block → c.blocks < c.end
+-- what is put of it is ahead then
+pub row_is_put : {c : BlockCoder} {row : List ℕ} {sink sink_new : List Bool} {meter meter_new : ℕ} {m : Standing} {xs : List ℤ} (run bits steps : ℕ) → (h : StandsWith c row sink meter m xs)
+    → length row ≡ c.setting.block → c.blocks < c.end
     → IsAhead c.setting c.start c.reference run bits steps
     (held_blocks c.setting c.reference c.blocks h.residuals ++ block_with (reference_at c.reference (length (held_blocks c.setting c.reference c.blocks h.residuals))) row ∷ []) sink_new m.sink
     → meter_new ≡ m.meter + length xs + steps → StandsWith (with_block c run bits steps) [] sink_new meter_new m xs
@@ -207,7 +214,8 @@ noted_reference {s} {start} {r} q {run} {bits} {steps} {sink} {from} zero ds es 
 noted_reference {s} {start} {r} q {run} {bits} {steps} {sink} {from} (suc n) ds es long (inr none) h = absurd (omega arith)
 
 -- behind no residuals nothing is ahead
-pub blank_holds : (s : Parameters) (start level : ℕ) (part : List ℕ) (sink : List Bool) (meter : ℕ) → IsOpen (state_between s start (value_at s level)) (s.block * blocks_left s start) → level < value_count s
+pub blank_holds : (s : Parameters) (start level : ℕ) (part : List ℕ) (sink : List Bool) (meter : ℕ) → IsOpen (state_between s start (value_at s level)) (s.block * blocks_left s start)
+    → level < value_count s
     → HoldsOpen (coder_between s start (blocks_left s start) level part) [] sink meter [] sink meter
 blank_holds s start level part sink meter opens below = record {
   opens = opens;
@@ -225,7 +233,8 @@ blank_holds s start level part sink meter opens below = record {
     nothing (suc n) = refl
 
 -- so a coder between two segments stands for the plain one there
-pub between_stands : (s : Parameters) (start level : ℕ) (part : List ℕ) (sink : List Bool) (meter : ℕ) → IsOpen (state_between s start (value_at s level)) (s.block * blocks_left s start) → level < value_count s
+pub between_stands : (s : Parameters) (start level : ℕ) (part : List ℕ) (sink : List Bool) (meter : ℕ) → IsOpen (state_between s start (value_at s level)) (s.block * blocks_left s start)
+    → level < value_count s
     → IsCoder (state_between s start (value_at s level)) → length part ≡ 64
     → StandsFor (coder_between s start (blocks_left s start) level part) sink meter (record { coder = state_between s start (value_at s level); sink = sink; meter = meter })
 between_stands s start level part sink meter opens below coded room =
@@ -240,7 +249,8 @@ between_stands s start level part sink meter opens below coded room =
     }
 
 -- which has taken the samples of whole segments
-pub begun_stands : (s : Parameters) (start end level : ℕ) (part : List ℕ) (sink : List Bool) (meter : ℕ) (p : ℤ) (xs : List ℤ) → HasTaken (state_between s start p) xs → value_at s level ≡ p → level < value_count s
+pub begun_stands : (s : Parameters) (start end level : ℕ) (part : List ℕ) (sink : List Bool) (meter : ℕ) (p : ℤ) (xs : List ℤ) → HasTaken (state_between s start p) xs → value_at s level ≡ p
+    → level < value_count s
     → end ≡ blocks_left s start → length part ≡ 64 → StandsFor (coder_between s start end level part) sink meter (record { coder = state_between s start p; sink = sink; meter = meter })
 begun_stands s start end level part sink meter p xs taken same below ends room =
     let P : ℤ → Type 0 = λ v. IsOpen (state_between s start v) (s.block * blocks_left s start) in
@@ -278,7 +288,8 @@ pushes_nothing {c} {sink} {meter} {m} {xs} h part less =
     let s = c.setting in
     let row : length (take c.held c.part) ≡ c.held = length-take-le c.held c.part (omega (arith, h.room, part, small s holds.opens.legal)) in
     let short = still_open s.block c.blocks c.end c.held part less in
-    let limit : m.coder.setting.block * blocks_left m.coder.setting m.coder.start ≡ s.block * c.end = ap (λ (v : CoderState). v.setting.block * blocks_left v.setting v.start) stands.coder ∙ ap (λ n. s.block * n) (sym holds.ends) in
+    let limit : m.coder.setting.block * blocks_left m.coder.setting m.coder.start ≡ s.block * c.end = ap (λ (v : CoderState). v.setting.block * blocks_left v.setting v.start) stands.coder
+    ∙ ap (λ n. s.block * n) (sym holds.ends) in
     let count = residuals_counted stands in
     let all = state_after_all m.coder xs in
     let more : HoldsMore m.coder m.coder all xs = record {
@@ -313,11 +324,13 @@ part_counted {c} h = let few = block_is_small c.setting h.stands.holds.opens.leg
     block_is_small s legal = grind (arith, legal.block)
 
 -- there is a step for the next sample
-pub step_for_one : {c : BlockCoder} {sink : List Bool} {meter : ℕ} {m : Standing} {xs : List ℤ} → StandsAfter c sink meter m xs → HasRoomAt m → c.held < c.setting.block → c.blocks < c.end → meter + 1 < 2 ^ 62
+pub step_for_one : {c : BlockCoder} {sink : List Bool} {meter : ℕ} {m : Standing} {xs : List ℤ} → StandsAfter c sink meter m xs → HasRoomAt m → c.held < c.setting.block → c.blocks < c.end
+    → meter + 1 < 2 ^ 62
 step_for_one {c} h room part less = meter_has_room 1 h.stands room (omega (arith, part_counted h, still_open c.setting.block c.blocks c.end c.held part less))
 
 -- and there are those for the next block
-pub steps_for_block : {c : BlockCoder} {sink : List Bool} {meter : ℕ} {m : Standing} {xs : List ℤ} → StandsAfter c sink meter m xs → HasRoomAt m → c.held ≡ 0 → c.blocks < c.end → meter + c.setting.block < 2 ^ 62
+pub steps_for_block : {c : BlockCoder} {sink : List Bool} {meter : ℕ} {m : Standing} {xs : List ℤ} → StandsAfter c sink meter m xs → HasRoomAt m → c.held ≡ 0 → c.blocks < c.end
+    → meter + c.setting.block < 2 ^ 62
 steps_for_block {c} h room none less =
     let all : c.setting.block * (c.blocks + 1) ≤ c.setting.block * c.end = mul-le-mul_left c.setting.block (omega (arith, less)) in
     meter_has_room c.setting.block h.stands room (omega (arith, part_counted h, none, all))
@@ -330,7 +343,8 @@ part_as_row {c} {sink} {meter} {m} {xs} n h e = subst (λ v. StandsWith c (take 
 pub for_open : {c : BlockCoder} {sink : List Bool} {meter : ℕ} {m : Standing} → StandsFor c sink meter m → c.blocks < c.end
 for_open {c} {m = m} h =
     let short = short_of m.coder h.coded.samples h.coded.taken in
-    let limit : m.coder.setting.block * blocks_left m.coder.setting m.coder.start ≡ c.setting.block * c.end = ap (λ (v : CoderState). v.setting.block * blocks_left v.setting v.start) h.coder ∙ ap (λ n. c.setting.block * n) (sym h.holds.ends) in
+    let limit : m.coder.setting.block * blocks_left m.coder.setting m.coder.start ≡ c.setting.block * c.end = ap (λ (v : CoderState). v.setting.block * blocks_left v.setting v.start) h.coder
+    ∙ ap (λ n. c.setting.block * n) (sym h.holds.ends) in
     below c.setting.block c.blocks c.end (omega (arith, short, limit, ap (λ (v : CoderState). length v.residuals) h.coder, h.holds.number))
   where
     below : (j n end : ℕ) → j * n < j * end → n < end

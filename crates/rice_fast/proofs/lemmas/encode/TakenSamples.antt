@@ -132,7 +132,8 @@ small : (s : Parameters) → IsLegal s → s.block ≤ 64
 small s legal = grind (arith, legal.block)
 
 -- a sample is held
-pub one_held : {c : BlockCoder} {sink : List Bool} {meter : ℕ} {m : Standing} {xs : List ℤ} {x : ℤ} {residual : ℕ} {reference : Option ℕ} {level : ℕ} → StandsAfter c sink meter m xs → HoldsOne c x residual reference level
+pub one_held : {c : BlockCoder} {sink : List Bool} {meter : ℕ} {m : Standing} {xs : List ℤ} {x : ℤ} {residual : ℕ} {reference : Option ℕ} {level : ℕ} → StandsAfter c sink meter m xs
+    → HoldsOne c x residual reference level
     → StandsAfter (with_held c reference level (slice_set c.part c.held residual)) sink (meter + 1) m (xs ++ x ∷ [])
 one_held {c} {sink} {meter} {m} {xs} {x} {residual} {reference} {level} h one =
     let s = c.setting in
@@ -199,7 +200,8 @@ all_later coder (x ∷ xs) e = λ i. record {
   start = coder.start;
 }
   where
-    by_way : (a b : Bool) → (a && b) ≡ false → cond a (cond b 0 (rank coder.setting coder.previous x)) (pattern coder.setting x) ≡ cond a (rank coder.setting coder.previous x) (pattern coder.setting x)
+    by_way : (a b : Bool) → (a && b) ≡ false
+        → cond a (cond b 0 (rank coder.setting coder.previous x)) (pattern coder.setting x) ≡ cond a (rank coder.setting coder.previous x) (pattern coder.setting x)
     by_way false b e = refl
     by_way true false e = refl
     by_way true true e = absurd (let f : true ≡ false = e in cc)
@@ -236,7 +238,8 @@ block_taken {c} {bytes} {reference} {before} {es} {last} ds legal first is h som
 
 -- it is held as a row that is whole.
 pub block_held : {c : BlockCoder} {sink : List Bool} {meter : ℕ} {m : Standing} {xs : List ℤ} {bytes : List ℕ} {reference : Option ℕ} {before : ℕ} {es : List ℕ} {last : ℕ}
-    → StandsAfter c sink meter m xs → c.held ≡ 0 → c.blocks < c.end → length bytes ≡ width c.setting * c.setting.block → IsBefore c bytes reference before → (h : HasResidualsOf c.setting bytes before es last)
+    → StandsAfter c sink meter m xs → c.held ≡ 0 → c.blocks < c.end → length bytes ≡ width c.setting * c.setting.block → IsBefore c bytes reference before
+    → (h : HasResidualsOf c.setting bytes before es last)
     → (length h.samples ≡ c.setting.block) × (length es ≡ c.setting.block) × StandsWith (with_last c reference last) es sink (meter + c.setting.block) m (xs ++ h.samples)
 block_held {c} {sink} {meter} {m} {xs} {bytes} {reference} {before} {es} {last} stood none less len is h =
     let s = c.setting in
@@ -289,8 +292,10 @@ block_held {c} {sink} {meter} {m} {xs} {bytes} {reference} {before} {es} {last} 
         subst P f (subst Q g (subst R e k))
 
 -- The row may be given otherwise, and so may the meter.
-pub block_in_row : {c : BlockCoder} {sink : List Bool} {meter : ℕ} {m : Standing} {xs : List ℤ} {bytes : List ℕ} {reference : Option ℕ} {before : ℕ} {es : List ℕ} {last : ℕ} (rest : List ℕ) (size now : ℕ)
-    → StandsAfter c sink meter m xs → c.held ≡ 0 → c.blocks < c.end → length bytes ≡ width c.setting * c.setting.block → IsBefore c bytes reference before → (h : HasResidualsOf c.setting bytes before es last)
+pub block_in_row : {c : BlockCoder} {sink : List Bool} {meter : ℕ} {m : Standing} {xs : List ℤ} {bytes : List ℕ} {reference : Option ℕ} {before : ℕ} {es : List ℕ} {last : ℕ} (rest : List ℕ)
+    (size now : ℕ)
+    → StandsAfter c sink meter m xs → c.held ≡ 0 → c.blocks < c.end → length bytes ≡ width c.setting * c.setting.block → IsBefore c bytes reference before
+    → (h : HasResidualsOf c.setting bytes before es last)
     → size ≡ c.setting.block → now ≡ meter + size
     → (length h.samples ≡ c.setting.block) × (length (take size (es ++ rest)) ≡ c.setting.block) × StandsWith (with_last c reference last) (take size (es ++ rest)) sink now m (xs ++ h.samples)
 block_in_row {c} {sink} {meter} {m} {xs} {es = es} {last = last} rest size now stood none less len is h whole ticks =

@@ -190,7 +190,8 @@ first_threes_widened false xs n =
 
 -- and the last twelve
 pub last_threes_widened : (msb : Bool) (xs : List ℕ) → length xs ≡ 16
-    → pick_l 0 (xs ++ replicate 16 0) (cond msb (6 ∷ 5 ∷ 4 ∷ 16 ∷ 9 ∷ 8 ∷ 7 ∷ 16 ∷ 12 ∷ 11 ∷ 10 ∷ 16 ∷ 15 ∷ 14 ∷ 13 ∷ 16 ∷ []) (4 ∷ 5 ∷ 6 ∷ 16 ∷ 7 ∷ 8 ∷ 9 ∷ 16 ∷ 10 ∷ 11 ∷ 12 ∷ 16 ∷ 13 ∷ 14 ∷ 15 ∷ 16 ∷ []))
+    → pick_l 0 (xs ++ replicate 16 0) (cond msb (6 ∷ 5 ∷ 4 ∷ 16 ∷ 9 ∷ 8 ∷ 7 ∷ 16 ∷ 12 ∷ 11 ∷ 10 ∷ 16 ∷ 15 ∷ 14 ∷ 13 ∷ 16 ∷ [])
+    (4 ∷ 5 ∷ 6 ∷ 16 ∷ 7 ∷ 8 ∷ 9 ∷ 16 ∷ 10 ∷ 11 ∷ 12 ∷ 16 ∷ 13 ∷ 14 ∷ 15 ∷ 16 ∷ []))
     ≡ threes_widened msb (drop 4 xs)
 last_threes_widened true xs n =
     sixteen_lanes (λ xs. pick_l 0 (xs ++ replicate 16 0) (6 ∷ 5 ∷ 4 ∷ 16 ∷ 9 ∷ 8 ∷ 7 ∷ 16 ∷ 12 ∷ 11 ∷ 10 ∷ 16 ∷ 15 ∷ 14 ∷ 13 ∷ 16 ∷ []) ≡ threes_widened true (drop 4 xs))
@@ -229,6 +230,7 @@ module _ (msb : Bool) (bytes low high words : List ℕ) (len : length bytes ≡ 
   last_fit : (i : ℕ) → get_or (drop 12 bytes) i 0 < 2 ^ 8
   last_fit i = subst (λ (x : ℕ). x < 2 ^ 8) (sym (get_or-drop 12 bytes i 0)) (fit (12 + i))
 
+  -- the words of both halves spell the bytes
   pub halves_read : flat_map (ordered_bytes msb 3) words ≡ bytes
   halves_read =
       ap (flat_map (ordered_bytes msb 3)) halves
@@ -236,6 +238,7 @@ module _ (msb : Bool) (bytes low high words : List ℕ) (len : length bytes ≡ 
       ∙ ((λ j. threes_read msb 4 (take 12 bytes) (length-take-le 12 bytes (omega (arith, len))) first_fit j ++ threes_read msb 4 (drop 12 bytes) (omega (arith, len, length-drop 12 bytes)) last_fit j)
       ∙ take-append-drop 12 bytes))
 
+  -- and have three bytes each
   pub halves_fit : (i : ℕ) → get_or words i 0 < 2 ^ 24
   halves_fit i =
       let first = digits_l 4294967296 4 (number_l 256 (threes_widened msb (take 12 bytes))) in
@@ -310,7 +313,8 @@ thirty_two P each xs n =
 
 -- the bytes of a vector of 32, picked so, are turned in fours
 pub fours_are_turned : (xs : List ℕ) → length xs ≡ 32
-    → pick_l 0 (xs ++ xs) (3 ∷ 2 ∷ 1 ∷ 0 ∷ 7 ∷ 6 ∷ 5 ∷ 4 ∷ 11 ∷ 10 ∷ 9 ∷ 8 ∷ 15 ∷ 14 ∷ 13 ∷ 12 ∷ 19 ∷ 18 ∷ 17 ∷ 16 ∷ 23 ∷ 22 ∷ 21 ∷ 20 ∷ 27 ∷ 26 ∷ 25 ∷ 24 ∷ 31 ∷ 30 ∷ 29 ∷ 28 ∷ []) ≡ turned_in_fours xs
+    → pick_l 0 (xs ++ xs) (3 ∷ 2 ∷ 1 ∷ 0 ∷ 7 ∷ 6 ∷ 5 ∷ 4 ∷ 11 ∷ 10 ∷ 9 ∷ 8 ∷ 15 ∷ 14 ∷ 13 ∷ 12 ∷ 19 ∷ 18 ∷ 17 ∷ 16 ∷ 23 ∷ 22 ∷ 21 ∷ 20 ∷ 27 ∷ 26 ∷ 25 ∷ 24 ∷ 31 ∷ 30 ∷ 29 ∷ 28 ∷ [])
+    ≡ turned_in_fours xs
 fours_are_turned xs n =
     thirty_two (λ xs. pick_l 0 (xs ++ xs) (3 ∷ 2 ∷ 1 ∷ 0 ∷ 7 ∷ 6 ∷ 5 ∷ 4 ∷ 11 ∷ 10 ∷ 9 ∷ 8 ∷ 15 ∷ 14 ∷ 13 ∷ 12 ∷ 19 ∷ 18 ∷ 17 ∷ 16 ∷ 23 ∷ 22 ∷ 21 ∷ 20 ∷ 27 ∷ 26 ∷ 25 ∷ 24 ∷ 31 ∷ 30 ∷ 29 ∷ 28
     ∷ []) ≡ turned_in_fours xs)

@@ -1,5 +1,5 @@
 //! The residuals of samples in a row, from their levels.
-ghost use Rattle.std.specs.Prelude.{◌≡◌, ◌+◌, ◌<◌, ◌≤◌, All, length, map};
+ghost use Rattle.std.specs.Prelude.{◌≡◌, ◌+◌, ◌<◌, ◌≤◌, All, map};
 ghost use Rattle.rice_samples.specs.Parameters.{value_at, value_count, values_at};
 ghost use Rattle.rice_samples.specs.predict.Residuals.{pattern as pattern_of, ranks_below};
 

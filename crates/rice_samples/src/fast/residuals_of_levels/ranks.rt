@@ -1,7 +1,7 @@
 //! Residuals of levels, in lanes.
-ghost use Rattle.std.specs.Prelude.{◌≡◌, ◌+◌, ◌^◌, ◌<◌, ◌≤◌, All, length, map, take};
+ghost use Rattle.std.specs.Prelude.{◌≡◌, ◌+◌, ◌^◌, ◌<◌, ◌≤◌};
 ghost use Rattle.std.specs.Simd.Lanes.{zip2, Each1};
-ghost use Rattle.rice_samples.specs.predict.Residuals.{rank_below, ranks_below};
+ghost use Rattle.rice_samples.specs.predict.Residuals.{rank_below};
 
 use crate::fast::lanes::Lanes;
 

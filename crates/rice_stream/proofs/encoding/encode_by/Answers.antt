@@ -11,7 +11,8 @@ use Rattle.rice_stream.specs.Feeding.{IsSeam, encoding_at}
 use Rattle.rice_stream.specs.declared.seam.Seam.{Seam}
 use Rattle.rice_stream.proofs.lemmas.EncodingLemmas.{nothing_early, settled_by}
 use Rattle.rice_stream.proofs.lemmas.Seams.{encoding_is_resumed}
-use Rattle.rice_stream.proofs.lemmas.EncodingEnds.{within_early, within_all, few_given, draws_on, takes_on, rest_is, drawing_ends, drawing_fails, cut_ends, finish_ends, pushing_ends, push_fails, push_within}
+use Rattle.rice_stream.proofs.lemmas.EncodingEnds.{within_early, within_all, few_given, draws_on, takes_on, rest_is}
+use Rattle.rice_stream.proofs.lemmas.EncodingEnds.{drawing_ends, drawing_fails, cut_ends, finish_ends, pushing_ends, push_fails, push_within}
 use Rattle.rice_stream.proofs.encoding.encode_by.Goals as goal
 
 -- bytes of which there are none,
@@ -47,7 +48,8 @@ encode_all-init g c =
         reads = record { split = ap (λ r. r.waiting) (sym c.new-input.ensures); legal = λ k d lt. absurd (omega arith) };
         count = ap (λ r. r.given) c.new-input.ensures;
         gave = Consumes-nil (g.I.Intake.left c.args.intake.now);
-        holds = subst (λ l. IsEncodingOf s (record { before = l; state = now }) now (encoding_at s seam) []) (nothing_early s (some_block s c.new-seam.ensures)) (encoding_is_resumed s seam [] now c.new-seam.ensures);
+        holds = subst (λ l. IsEncodingOf s (record { before = l; state = now }) now (encoding_at s seam) []) (nothing_early s (some_block s c.new-seam.ensures))
+            (encoding_is_resumed s seam [] now c.new-seam.ensures);
       };
       few = omega (arith, ap (λ r. length r.waiting) c.new-input.ensures, some_width s);
       reads = refl;

@@ -12,11 +12,13 @@ replace_levels-requires-clause-legal c =
 pub returns-then-read-residuals-clause-none : goal.returns-then-read-residuals-clause-none
 returns-then-read-residuals-clause-none c =
     let read = c.read_legal_levels-read in
-    no_sample_met {s = c.args.setting.now} c.args.bytes.now read.new.levels read.result (c.requires.len ∙ ap (λ n. width c.args.setting.now * n) (sym read.ensures.len)) (omega (arith, c.if-read-residuals.true)) read.ensures.reads
+    no_sample_met {s = c.args.setting.now} c.args.bytes.now read.new.levels read.result (c.requires.len ∙ ap (λ n. width c.args.setting.now * n) (sym read.ensures.len))
+    (omega (arith, c.if-read-residuals.true)) read.ensures.reads
 
 pub returns-clause-some : goal.returns-clause-some
 returns-clause-some c =
     let read = c.read_legal_levels-read in
     let all : length read.new.levels ≤ read.result = omega (arith, c.if-read-residuals.false) in
     residuals_read c.args.setting.now c.args.before (get_or read.new.levels (length read.new.levels - 1) 0) read.result c.args.bytes.now read.new.levels c.replace_levels.new.levels
-    (c.requires.len ∙ ap (λ n. width c.args.setting.now * n) (sym read.ensures.len)) (omega (arith, c.requires.some, read.ensures.len)) all read.ensures.legal read.ensures.reads c.replace_levels.ensures.value refl
+    (c.requires.len ∙ ap (λ n. width c.args.setting.now * n) (sym read.ensures.len))
+    (omega (arith, c.requires.some, read.ensures.len)) all read.ensures.legal read.ensures.reads c.replace_levels.ensures.value refl

@@ -4,7 +4,8 @@ use Rattle.rice_samples.specs.Parameters.{width}
 use Rattle.rice_samples.specs.bytes.Spelling.{IsNoSpelling}
 use Rattle.rice_code.specs.encode.Coder.{complete_code}
 use Rattle.rice_stream.specs.EncodingState.{whole_part}
-use Rattle.rice_stream.proofs.lemmas.EncodingLemmas.{all_written, after_push, counts_with, early_small, few_spelled, has_room, holds_code, meets_failure, none_whole, shows_all, shows_none, sink_short, spelled_of, standing_of}
+use Rattle.rice_stream.proofs.lemmas.EncodingLemmas.{all_written, after_push, counts_with, early_small, few_spelled, has_room, holds_code}
+use Rattle.rice_stream.proofs.lemmas.EncodingLemmas.{meets_failure, none_whole, shows_all, shows_none, sink_short, spelled_of, standing_of}
 use Rattle.rice_stream.proofs.lemmas.EncodingLemmas.{taken_spelled}
 use Rattle.rice_stream.proofs.encoding.Encoding.push_some.Goals as goal
 

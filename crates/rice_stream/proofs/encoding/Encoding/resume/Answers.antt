@@ -12,7 +12,8 @@ returns g c =
     let seam = c.args.seam.now in
     let fits : FitsSigned w64 seam.previous = search rules in
     record {
-      coder = λ bits steps. subst (λ p. g.C.TakesBytes.stands c.resume.result bits steps (standing_between c.args.setting seam.start p bits steps)) (to_z-of_z w64 seam.previous fits) (c.resume.ensures bits steps);
+      coder = λ bits steps. subst (λ p. g.C.TakesBytes.stands c.resume.result bits steps (standing_between c.args.setting seam.start p bits steps)) (to_z-of_z w64 seam.previous fits)
+          (c.resume.ensures bits steps);
       sink = c.new.ensures;
       steps = omega (arith, c.tick.ensures, c.new-meter.ensures);
       samples = refl;

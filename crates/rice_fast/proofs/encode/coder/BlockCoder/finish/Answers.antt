@@ -24,7 +24,8 @@ returns-clause-reset c sink meter =
     let s = c.fill.new.self.setting in
     let legal : IsLegal s = subst IsLegal (sym c.fill.ensures.setting) c.requires.1.holds.opens.legal in
     let room = (c.fill.ensures.stands c.requires.0 c.requires.1 c.requires.2).room in
-    let begun = begun_stands s 0 _ c.level_of_sample-self.result c.fill.new.self.part sink meter (pos 0) [] (none_taken s legal) c.level_of_sample-self.ensures.value c.level_of_sample-self.ensures.below refl room in
+    let begun = begun_stands s 0 _ c.level_of_sample-self.result c.fill.new.self.part sink meter (pos 0) []
+    (none_taken s legal) c.level_of_sample-self.ensures.value c.level_of_sample-self.ensures.below refl room in
     let P : BlockCoder → Type 0 = λ v. StandsFor v sink meter (record { coder = empty_state s; sink = sink; meter = meter }) in
     let Q : Parameters → Type 0 = λ v. StandsFor c.go_to.new.self sink meter (record { coder = empty_state v; sink = sink; meter = meter }) in
     subst Q c.fill.ensures.setting (subst P (sym c.go_to.ensures) begun)

@@ -26,4 +26,5 @@ returns-clause-stands c sink m xs h =
       below = c.level_of_sample-self.ensures.below;
       level_is = c.level_of_sample-self.ensures.value ∙ same;
     }) in
-    subst (λ n. StandsAfter (with_held self c.note_reference.new.reference c.level_of_sample-self.result (slice_set self.part self.held c.next_residual-residual.result)) sink n m (xs ++ x ∷ [])) (sym c.tick.ensures) one
+    subst (λ n. StandsAfter (with_held self c.note_reference.new.reference c.level_of_sample-self.result (slice_set self.part self.held c.next_residual-residual.result)) sink n m (xs ++ x ∷ []))
+    (sym c.tick.ensures) one

@@ -74,7 +74,8 @@ loop-i-preserved g c =
           let taken = inv.stands m h room in
           let more = did.takes took m taken.0 taken.3 room in
           let own : Reads s (take len (drop (len * i) c.args.bytes.now)) more.0 [] =
-          subst (λ n. Reads s (take n (drop (len * i) c.args.bytes.now)) more.0 []) slice (subst (λ (v : Parameters). Reads v (take (len * i + len - len * i) (drop (len * i) c.args.bytes.now)) more.0 []) inv.setting more.1) in
+          subst (λ n. Reads s (take n (drop (len * i) c.args.bytes.now)) more.0 []) slice
+          (subst (λ (v : Parameters). Reads v (take (len * i + len - len * i) (drop (len * i) c.args.bytes.now)) more.0 []) inv.setting more.1) in
           let read = reads_more (len * i) len taken.2 own in
           let block = ap (λ (v : Parameters). v.block) inv.setting in (
             taken.0 ++ more.0,
@@ -101,8 +102,12 @@ returns-then-not-take_block-clause-takes g c m h room =
     let pushed = pushes_nothing kept (omega (arith, did.held, one)) less in
     let place : c.width.result * c.known_or-known.result * c.loop-i.i ≡ width s * (c.known_or-known.result * c.loop-i.i) =
     (let e : c.width.result * c.known_or-known.result * c.loop-i.i ≡ c.width.result * (c.known_or-known.result * c.loop-i.i) = omega arith in e)
-    ∙ ap (λ n. n * (c.known_or-known.result * c.loop-i.i)) c.width.ensures.value in
-    (pushed.0, pushed.1, spelled_are_taken s c.args.bytes.now (c.known_or-known.result * c.loop-i.i) (c.width.result * c.known_or-known.result * c.loop-i.i) (sym (did.setting ∙ inv.setting)) kept.stands taken.1 taken.2 place pushed.2)
+    ∙ ap (λ n. n * (c.known_or-known.result * c.loop-i.i)) c.width.ensures.value in (
+      pushed.0,
+      pushed.1,
+      spelled_are_taken s c.args.bytes.now (c.known_or-known.result * c.loop-i.i) (c.width.result * c.known_or-known.result * c.loop-i.i)
+          (sym (did.setting ∙ inv.setting)) kept.stands taken.1 taken.2 place pushed.2,
+    )
 
 pub returns-then-not-take_block-clause-kept : goal.returns-then-not-take_block-clause-kept
 returns-then-not-take_block-clause-kept g c none m h room =

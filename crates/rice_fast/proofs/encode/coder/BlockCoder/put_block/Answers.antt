@@ -62,18 +62,21 @@ code_next_or_add_to_run-self-requires-clause-room g c =
     let Room : ℕ → ℕ → BlockData → Type 0 = λ n m b. HasRoomFor (length (pending_bits s false (reference_at r (n - run)) run) + cost s (shortest s b))
     (length (pending_bits s false (reference_at r (n - run)) run) + cost s (shortest s b) + s.block * (k_max s + 5)) (length c.args.sink.now) m in
     subst (λ b. is_zero_block b ≡ false → Room c.args.self.now.blocks c.args.meter.now b) (sym e)
-    (λ z. subst (λ n. Room n c.args.meter.now (next_of h)) h.number (subst (λ m. Room (length h.blocks) m (next_of h)) (sym h.steps_ahead) (room_for_other h.meter_from h.ahead (is_next h) z h.room h.steps)))
+    (λ z. subst (λ n. Room n c.args.meter.now (next_of h)) h.number
+    (subst (λ m. Room (length h.blocks) m (next_of h)) (sym h.steps_ahead) (room_for_other h.meter_from h.ahead (is_next h) z h.room h.steps)))
 
 pub overflow_sub-self : goal.overflow_sub-self
 overflow_sub-self g c =
     let h = c.requires.room in
-    let put = grows c.args.self.now.setting _ _ _ _ _ _ _ _ (some_block c.args.self.now.setting h.legal.block) c.code_next_or_add_to_run-self.ensures.joins c.code_next_or_add_to_run-self.ensures.ends in
+    let put = grows c.args.self.now.setting _ _ _ _ _ _ _ _
+    (some_block c.args.self.now.setting h.legal.block) c.code_next_or_add_to_run-self.ensures.joins c.code_next_or_add_to_run-self.ensures.ends in
     omega (arith, put.0, c.len.ensures.value, c.len-2.ensures.value)
 
 pub overflow_sub-self-2 : goal.overflow_sub-self-2
 overflow_sub-self-2 g c =
     let h = c.requires.room in
-    let put = grows c.args.self.now.setting _ _ _ _ _ _ _ _ (some_block c.args.self.now.setting h.legal.block) c.code_next_or_add_to_run-self.ensures.joins c.code_next_or_add_to_run-self.ensures.ends in
+    let put = grows c.args.self.now.setting _ _ _ _ _ _ _ _
+    (some_block c.args.self.now.setting h.legal.block) c.code_next_or_add_to_run-self.ensures.joins c.code_next_or_add_to_run-self.ensures.ends in
     omega (arith, put.1, c.steps.ensures.value, c.steps-2.ensures.value)
 
 pub returns-clause-ahead : goal.returns-clause-ahead

@@ -24,5 +24,6 @@ returns c m xs h room =
     let s = c.args.self.now.setting in
     let w = ap (λ r. pending_bits s true r c.args.self.now.run) c.reference_of-first.ensures in
     let ahead = h.stands.holds.ahead in
-    end_codes h c.requires.between (c.put_pending_run.ensures.bits ∙ ap (λ v. c.args.sink.now ++ v) w) (c.put_pending_run.ensures.steps ∙ ap (λ v. c.args.meter.now + length v) w) c.pad_interval.ensures
+    end_codes h c.requires.between (c.put_pending_run.ensures.bits ∙ ap (λ v. c.args.sink.now ++ v) w)
+    (c.put_pending_run.ensures.steps ∙ ap (λ v. c.args.meter.now + length v) w) c.pad_interval.ensures
     (omega (arith, c.len-2.ensures.value, c.len.ensures.value, c.put_pending_run.ensures.len, ahead.len))
