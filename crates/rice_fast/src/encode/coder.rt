@@ -1,5 +1,5 @@
 //! The coder, from the bytes of samples to code.
-ghost use Rattle.std.specs.Prelude.{◌≡◌, ℕ, ◌+◌, ◌-◌, ◌*◌, ◌<◌, ◌≤◌, ◌++◌, ◌∷◌, [], Bool, true, false, length, replicate, List, ℤ, IfSome, IfNone};
+ghost use Rattle.std.specs.Prelude.{◌≡◌, ℕ, ◌+◌, ◌-◌, ◌*◌, ◌/◌, ◌<◌, ◌≤◌, ◌++◌, ◌∷◌, [], min, Bool, true, false, length, replicate, List, ℤ, IfSome, IfNone};
 ghost use Rattle.rice_bits.specs.Limits.{step_limit};
 ghost use Rattle.rice_samples.specs.Parameters.{IsSample, value_at, value_count, width as width_of};
 ghost use Rattle.rice_samples.specs.Places.{blocks_left};
@@ -9,8 +9,8 @@ ghost use Rattle.rice_code.specs.code.Code.{complete_samples};
 ghost use Rattle.rice_code.specs.code.SoundBlocks.{block_with};
 ghost use Rattle.rice_code.specs.encode.Coder.{AddsCode, HasTaken};
 ghost use Rattle.rice_code.specs.encode.HeldBlocks.{reference_at};
-ghost use Rattle.rice_code.specs.encode.OpenSegment.{CodesHeld, empty_state, state_after_all, state_between};
-ghost use Rattle.rice_fast.specs.encode.OpenBlocks.{HasRoomForBlock, IsAhead, IsBefore, PushesOpen, StandsAfter, StandsFor, coder_between, is_at_first};
+ghost use Rattle.rice_code.specs.encode.OpenSegment.{CodesHeld, IsOpen, empty_state, next_start, state_after_all, state_between};
+ghost use Rattle.rice_fast.specs.encode.OpenBlocks.{HasRoomForBlock, IsAhead, IsBefore, PushesOpen, StandsAfter, StandsFor, coder_between, coder_with, is_at_first};
 ghost use Rattle.rice_fast.specs.encode.Standing.{HasRoomAt, Standing, TakesSpelled};
 
 use crate::encode::blocks::code_next_or_add_to_run;
@@ -160,7 +160,8 @@ impl BlockCoder {
         self.fill(sink, meter);
         let bits = self.put_end(sink, meter);
         self.previous = level_of_sample(&self.setting, 0);
-        self.go_to(0);
+        let end = self.setting.blocks_left(0);
+        self.go_to(0, end);
         bits
     }
 
@@ -208,7 +209,7 @@ impl BlockCoder {
     {
         let known = known_or::<SIZE>(self.setting.block() as usize);
         let len = self.setting.width() as usize * known;
-        let most = (bytes.len() / len).min((self.end - self.blocks) as usize);
+        let most = blocks_to_take(bytes.len(), len, (self.end - self.blocks) as usize);
         if most == 0 {
             return Pushed {
                 samples: 0,
@@ -265,7 +266,7 @@ impl BlockCoder {
             Some(before) => before,
             None => return false,
         };
-        match residuals_of_bytes(&self.setting, bytes, before.level, &mut row[..size]) {
+        match residuals_of_bytes::<SIZE>(&self.setting, bytes, before.level, &mut row[..size]) {
             Some(last) => {
                 meter.tick(size as u64);
                 self.reference = before.reference;
@@ -460,8 +461,8 @@ impl BlockCoder {
             return 0;
         }
         let bits = self.put_end(sink, meter);
-        let start = next_start(&self.setting, self.start);
-        self.go_to(start);
+        let (start, end) = self.next_place();
+        self.go_to(start, end);
         bits
     }
 
@@ -505,13 +506,28 @@ impl BlockCoder {
         self.put_part(sink, meter);
     }
 
-    /// Begins the segment at the place `start` of its interval, after the last sample.
-    fn go_to(&mut self, start: u32)
-        ensures { self.new ≡ coder_between self.old.setting start
-            (blocks_left self.old.setting start) self.old.previous self.old.part }
+    /// Returns the place of the first block of the next segment in its interval, and its number of blocks.
+    #[inline]
+    fn next_place(&self) -> (u32, u32)
+        requires { IsOpen (coder_with self.now []) (self.now.setting.block * self.now.end) ×
+            (self.now.end ≡ blocks_left self.now.setting self.now.start) }
+        ensures start { result.0 ≡ next_start (coder_with self.now []) }
+        ensures end { result.1 ≡ blocks_left self.now.setting result.0 }
+    {
+        // A segment that is the whole interval begins at place 0, and the next is as long.
+        if self.setting.interval() <= 64 {
+            return (self.start, self.end);
+        }
+        let start = next_start(&self.setting, self.start);
+        (start, self.setting.blocks_left(start as u64))
+    }
+
+    /// Begins the segment of `end` blocks at the place `start` of its interval, after the last sample.
+    fn go_to(&mut self, start: u32, end: u32)
+        ensures { self.new ≡ coder_between self.old.setting start end self.old.previous self.old.part }
     {
         self.start = start;
-        self.end = self.setting.blocks_left(start as u64);
+        self.end = end;
         self.blocks = 0;
         self.reference = None;
         self.run = 0;
@@ -519,6 +535,21 @@ impl BlockCoder {
         self.steps_ahead = 0;
         self.held = 0;
     }
+}
+
+/// Returns how many blocks of `len` bytes to take, where `left` blocks are left of the segment.
+#[inline(always)]
+fn blocks_to_take(bytes: usize, len: usize, left: usize) -> usize
+    requires some { 0 < len }
+    requires few { len ≤ 256 }
+    requires inside { left ≤ 64 }
+    ensures { result ≡ min (bytes / len) left }
+{
+    // A division takes longer than a short segment's block.
+    if len * left <= bytes {
+        return left;
+    }
+    bytes / len
 }
 
 /// Returns the level of the sample `x`.

@@ -7,6 +7,7 @@ ghost use Rattle.rice_fast.specs.BlocksAhead.{HasBits};
 ghost use Rattle.rice_fast.specs.encode.Standing.{HasResidualsOf, MeetsNoSample};
 
 use crate::encode::level_lanes::LevelLanes;
+use rice_code::known_or;
 use rice_samples::{
     Bytes, Halves, Lanes, Setting, Words, patterns_of_levels, ranks, read_legal_levels,
     replace_by_patterns, replace_by_residuals,
@@ -16,22 +17,22 @@ use rice_samples::{
 /// the one before it. Without preprocessing these are their patterns. Returns the level of the last sample, or `None` if some bytes spell
 /// no sample.
 #[inline(always)]
-pub fn residuals_of_bytes(
+pub fn residuals_of_bytes<const SIZE: usize>(
     setting: &Setting,
     bytes: &[u8],
     before: u32,
     residuals: &mut [u32],
 ) -> Option<u32>
     requires before { before < value_count setting.now }
-    requires some { 0 < length residuals.old }
-    requires few { length residuals.old ≤ 64 }
+    requires size { 0 < SIZE → SIZE ≡ length residuals.old }
+    requires range { (2 ≤ length residuals.old) × (length residuals.old ≤ 64) }
     requires len { length bytes.now ≡ width_of setting.now * length residuals.old }
     ensures some { IfSome result
         (λ last. HasResidualsOf setting.now bytes.now before residuals.new last) }
     ensures none { IfNone result (MeetsNoSample setting.now bytes.now (length bytes.now)) }
     ensures len { length residuals.new ≡ length residuals.old }
 {
-    match residuals_in_any_lanes(setting, bytes, before, residuals) {
+    match residuals_in_any_lanes::<SIZE>(setting, bytes, before, residuals) {
         Some(last) => Some(last),
         None => residuals_one_by_one(setting, bytes, before, residuals),
     }
@@ -40,36 +41,39 @@ pub fn residuals_of_bytes(
 /// Does what `residuals_of_bytes` does in the lanes of vectors, or returns `None`: if samples fill no such vectors, or if some bytes spell
 /// no sample.
 #[inline(always)]
-fn residuals_in_any_lanes(
+fn residuals_in_any_lanes<const SIZE: usize>(
     setting: &Setting,
     bytes: &[u8],
     before: u32,
     residuals: &mut [u32],
 ) -> Option<u32>
     requires before { before < value_count setting.now }
+    requires size { 0 < SIZE → SIZE ≡ length residuals.old }
+    requires range { (2 ≤ length residuals.old) × (length residuals.old ≤ 64) }
     requires len { length bytes.now ≡ width_of setting.now * length residuals.old }
     ensures some { IfSome result
         (λ last. HasResidualsOf setting.now bytes.now before residuals.new last) }
     ensures len { length residuals.new ≡ length residuals.old }
 {
     let bits = setting.bits();
-    if residuals.len() % 8 != 0 {
+    let count = known_or::<SIZE>(residuals.len());
+    if count % 8 != 0 {
         return None;
     }
     if bits > 16 {
-        return residuals_in_lanes::<Words>(setting, bytes, before, residuals);
+        return residuals_in_lanes::<Words, SIZE>(setting, bytes, before, residuals);
     }
-    if bits > 8 || residuals.len() % 16 != 0 {
-        return residuals_in_lanes::<Halves>(setting, bytes, before, residuals);
+    if bits > 8 || count % 16 != 0 {
+        return residuals_in_lanes::<Halves, SIZE>(setting, bytes, before, residuals);
     }
-    residuals_in_lanes::<Bytes>(setting, bytes, before, residuals)
+    residuals_in_lanes::<Bytes, SIZE>(setting, bytes, before, residuals)
 }
 
 /// Does what `residuals_of_bytes` does in lanes, or returns `None`: if samples do not fill whole vectors, or if some bytes spell no sample.
 ///
-/// It is a call, to which all is passed in registers. Levels that are none of samples show in one test at the end.
-#[inline(never)]
-fn residuals_in_lanes<L: LevelLanes>(
+/// Levels that are none of samples show in one test at the end.
+#[inline(always)]
+fn residuals_in_lanes<L: LevelLanes, const SIZE: usize>(
     setting: &Setting,
     bytes: &[u8],
     before: u32,
@@ -77,6 +81,8 @@ fn residuals_in_lanes<L: LevelLanes>(
 ) -> Option<u32>
     requires bits { HasBits L.fewer L.bits setting.now }
     requires before { before < value_count setting.now }
+    requires size { 0 < SIZE → SIZE ≡ length residuals.old }
+    requires range { (2 ≤ length residuals.old) × (length residuals.old ≤ 64) }
     requires len { length bytes.now ≡ width_of setting.now * length residuals.old }
     ensures some { IfSome result
         (λ last. HasResidualsOf setting.now bytes.now before residuals.new last) }
@@ -86,7 +92,7 @@ fn residuals_in_lanes<L: LevelLanes>(
     let width = setting.width() as usize;
     let greatest = (setting.number_of_values() - 1) as u32;
     let lanes = L::COUNT;
-    let count = residuals.len();
+    let count = known_or::<SIZE>(residuals.len());
     let mut earlier = L::splat(before);
     let mut seen = L::splat(0);
     let mut at = 0;

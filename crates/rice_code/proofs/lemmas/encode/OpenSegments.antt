@@ -1,5 +1,5 @@
 -- What an open segment holds, and the room that its code takes.
-use Rattle.std.proofs.Common.{◌≡◌, ℕ, suc, ◌+◌, ◌-◌, ◌*◌, ◌/◌, ◌%◌, ◌^◌, ◌<◌, ◌≤◌, ◌==◌, Bool, false}
+use Rattle.std.proofs.Common.{◌≡◌, ℕ, suc, ◌+◌, ◌-◌, ◌*◌, ◌/◌, ◌%◌, ◌^◌, ◌<◌, ◌≤◌, ◌==◌, Bool, true, false}
 use Rattle.std.proofs.Common.{cond, ◌&&◌, List, ◌++◌, length, replicate, subst, ap, arith, sym, ◌∙◌, inl, inr, append_assoc, length-append}
 use Rattle.std.specs.Prelude.{sum_by}
 use Rattle.std.proofs.lemmas.Bool.{cases_lt}
@@ -175,6 +175,22 @@ next_is_open coder end next h e =
       reference = tt;
       ends = e;
     }
+
+-- where the interval is one segment, the next begins at the same place, 0
+pub next_of_whole : (coder : CoderState) (end : ℕ) → IsOpen coder end → coder.setting.interval ≤ 64 → next_start coder ≡ coder.start
+next_of_whole coder end h le =
+    let s = coder.setting in
+    let r = h.legal.interval_from in
+    let b = coder.start + blocks_left s coder.start in
+    let now = at_front (place s coder.start) (omega (arith, le, mod-lt coder.start r)) h.begins in
+    let next = at_front (place s b) (omega (arith, le, mod-lt b r)) (begins_next s coder.start r h.begins) in
+    sym (next_start_is s coder.start coder.start r h.place) ∙ (next ∙ (sym now ∙ h.place))
+  where
+    at_front : (p : ℕ) → p < 64 → (p == 64 * (p / 64)) ≡ true → p ≡ 0
+    at_front p lt e = let f : p ≡ 64 * (p / 64) = same p (64 * (p / 64)) e in omega arith
+      where
+        same : (x y : ℕ) → (x == y) ≡ true → x ≡ y
+        same x y e = grind (arith, nat_tests)
 
 -- a first segment
 pub first_is_open : (s : Parameters) (end : ℕ) → IsLegal s → end ≡ s.block * blocks_left s 0 → IsOpen (empty_state s) end

@@ -1,5 +1,5 @@
-use Rattle.std.proofs.Common.{◌≤◌, arith, rules, subst, sym}
-use Rattle.rice_fast.specs.encode.OpenBlocks.{StandsFor}
+use Rattle.std.proofs.Common.{ℕ, ◌≤◌, arith, rules, subst, sym}
+use Rattle.rice_fast.specs.encode.OpenBlocks.{StandsFor, coder_between}
 use Rattle.rice_fast.specs.declared.encode.coder.BlockCoder.{BlockCoder}
 use Rattle.rice_fast.proofs.lemmas.encode.EndedSegments.{pushes_segment}
 use Rattle.rice_fast.proofs.lemmas.encode.StandingCoders.{pushes_nothing}
@@ -10,8 +10,17 @@ returns-then-self-clause-stands c m xs h room =
     let one : 1 ≤ c.args.self.now.setting.block = grind (arith, h.stands.holds.opens.legal.block) in
     pushes_nothing h (omega (arith, one, c.requires.between)) (search rules)
 
+pub next_place-start-requires : goal.next_place-start-requires
+next_place-start-requires c =
+    let holds = c.requires.stands.2.stands.holds in
+    let o = holds.opens in
+    (record { legal = o.legal; place = o.place; begins = o.begins; few = omega arith; previous = o.previous; reference = o.reference; ends = o.ends }, holds.ends)
+
 pub returns-clause-stands : goal.returns-clause-stands
 returns-clause-stands c m xs h room =
-    let pushed = pushes_segment h c.requires.between (search rules) (c.put_end-bits.ensures m xs h room) c.next_start-start.ensures in
+    let s = c.args.self.now.setting in
+    let next = c.next_place-start.result in
+    let pushed = pushes_segment h c.requires.between (search rules) (c.put_end-bits.ensures m xs h room) c.next_place-start.ensures.start in
     let P : BlockCoder → Type 0 = λ v. StandsFor v c.put_end-bits.new.sink c.put_end-bits.new.meter pushed.0 in
-    (pushed.0, subst P (sym c.go_to.ensures) pushed.1, pushed.2)
+    let Q : ℕ → Type 0 = λ end. P (coder_between s next.0 end c.args.self.now.previous c.args.self.now.part) in
+    (pushed.0, subst P (sym c.go_to.ensures) (subst Q (sym c.next_place-start.ensures.end) pushed.1), pushed.2)

@@ -1,9 +1,9 @@
-use Rattle.std.proofs.Common.{◌≤◌, arith, pos, refl, subst, sym, []}
+use Rattle.std.proofs.Common.{ℕ, ◌≤◌, arith, pos, refl, subst, sym, []}
 use Rattle.rice_samples.specs.Parameters.{IsLegal, IsSample, Parameters}
 use Rattle.rice_samples.proofs.lemmas.setting.LevelsOfSamples.{zero_is_sample}
 use Rattle.rice_code.specs.encode.OpenSegment.{empty_state}
 use Rattle.rice_code.proofs.lemmas.encode.PushedCode.{none_taken}
-use Rattle.rice_fast.specs.encode.OpenBlocks.{StandsFor}
+use Rattle.rice_fast.specs.encode.OpenBlocks.{StandsFor, coder_between}
 use Rattle.rice_fast.specs.declared.encode.coder.BlockCoder.{BlockCoder}
 use Rattle.rice_fast.proofs.lemmas.encode.EndedSegments.{finish_adds_all}
 use Rattle.rice_fast.proofs.lemmas.encode.StandingCoders.{begun_stands, setting_of}
@@ -27,5 +27,6 @@ returns-clause-reset c sink meter =
     let begun = begun_stands s 0 _ c.level_of_sample-self.result c.fill.new.self.part sink meter (pos 0) []
     (none_taken s legal) c.level_of_sample-self.ensures.value c.level_of_sample-self.ensures.below refl room in
     let P : BlockCoder → Type 0 = λ v. StandsFor v sink meter (record { coder = empty_state s; sink = sink; meter = meter }) in
+    let R : ℕ → Type 0 = λ end. P (coder_between s 0 end c.level_of_sample-self.result c.fill.new.self.part) in
     let Q : Parameters → Type 0 = λ v. StandsFor c.go_to.new.self sink meter (record { coder = empty_state v; sink = sink; meter = meter }) in
-    subst Q c.fill.ensures.setting (subst P (sym c.go_to.ensures) begun)
+    subst Q c.fill.ensures.setting (subst P (sym c.go_to.ensures) (subst R (sym c.blocks_left-end.ensures.value) begun))

@@ -42,20 +42,20 @@ end_if_whole-bits-requires-clause-stands g c =
     (given.0, taken.0, taken.3, given.2)
 
 pub slice_bounds-take_block-end : goal.slice_bounds-take_block-end
-slice_bounds-take_block-end g c = inside (c.width.result * c.known_or-known.result) (length c.args.bytes.now) c.loop-i.i c.min-most.result (omega (arith, c.min-most.ensures)) (search rules)
+slice_bounds-take_block-end g c = inside (c.width.result * c.known_or-known.result) (length c.args.bytes.now) c.loop-i.i c.blocks_to_take-most.result (omega (arith, c.blocks_to_take-most.ensures)) (search rules)
 
 pub returns-then-not-take_block-clause-count : goal.returns-then-not-take_block-clause-count
 returns-then-not-take_block-clause-count g c =
     let len = c.width.result * c.known_or-known.result in
-    let all = inside len (length c.args.bytes.now) c.loop-i.i c.min-most.result (omega (arith, c.min-most.ensures)) (search rules) in
+    let all = inside len (length c.args.bytes.now) c.loop-i.i c.blocks_to_take-most.result (omega (arith, c.blocks_to_take-most.ensures)) (search rules) in
     let w = ap (λ n. n * (c.known_or-known.result * c.loop-i.i)) c.width.ensures.value in
     omega (arith, all, w)
 
 pub returns-clause-count : goal.returns-clause-count
 returns-clause-count g c =
     let len = c.width.result * c.known_or-known.result in
-    let all = all_inside len (length c.args.bytes.now) c.min-most.result (omega (arith, c.min-most.ensures)) in
-    let w = ap (λ n. n * (c.known_or-known.result * c.min-most.result)) c.width.ensures.value in
+    let all = all_inside len (length c.args.bytes.now) c.blocks_to_take-most.result (omega (arith, c.blocks_to_take-most.ensures)) in
+    let w = ap (λ n. n * (c.known_or-known.result * c.blocks_to_take-most.result)) c.width.ensures.value in
     omega (arith, all, w)
 
 pub loop-i-preserved : goal.loop-i-preserved
@@ -98,7 +98,7 @@ returns-then-not-take_block-clause-takes g c m h room =
     let taken = inv.stands m h room in
     let kept = did.kept failed m taken.0 taken.3 in
     let one : 1 ≤ c.take_block.new.self.setting.block = grind (arith, kept.stands.holds.opens.legal.block) in
-    let less : c.take_block.new.self.blocks < c.take_block.new.self.end = omega (arith, did.same failed, did.end, inv.blocks, inv.end, c.min-most.ensures) in
+    let less : c.take_block.new.self.blocks < c.take_block.new.self.end = omega (arith, did.same failed, did.end, inv.blocks, inv.end, c.blocks_to_take-most.ensures) in
     let pushed = pushes_nothing kept (omega (arith, did.held, one)) less in
     let place : c.width.result * c.known_or-known.result * c.loop-i.i ≡ width s * (c.known_or-known.result * c.loop-i.i) =
     (let e : c.width.result * c.known_or-known.result * c.loop-i.i ≡ c.width.result * (c.known_or-known.result * c.loop-i.i) = omega arith in e)
@@ -125,20 +125,20 @@ returns-clause-takes g c m h room =
     let s = c.args.self.now.setting in
     let taken = inv.stands m h room in
     let pushed = c.end_if_whole-bits.ensures.stands m taken.0 taken.3 room in
-    let end : c.loop-i.i ≡ c.min-most.result = omega arith in
-    let place : c.width.result * c.known_or-known.result * c.loop-i.i ≡ width s * (c.known_or-known.result * c.min-most.result) =
+    let end : c.loop-i.i ≡ c.blocks_to_take-most.result = omega arith in
+    let place : c.width.result * c.known_or-known.result * c.loop-i.i ≡ width s * (c.known_or-known.result * c.blocks_to_take-most.result) =
     (let e : c.width.result * c.known_or-known.result * c.loop-i.i ≡ c.width.result * (c.known_or-known.result * c.loop-i.i) = omega arith in e)
     ∙ λ j. c.width.ensures.value j * (c.known_or-known.result * end j) in (
       pushed.0,
       pushed.1,
-      spelled_are_taken s c.args.bytes.now (c.known_or-known.result * c.min-most.result) (c.width.result * c.known_or-known.result * c.loop-i.i) (sym inv.setting) taken.3.stands
+      spelled_are_taken s c.args.bytes.now (c.known_or-known.result * c.blocks_to_take-most.result) (c.width.result * c.known_or-known.result * c.loop-i.i) (sym inv.setting) taken.3.stands
           (taken.1 ∙ ap (λ n. c.known_or-known.result * n) end) taken.2 place pushed.2,
     )
 
 pub returns-clause-kept : goal.returns-clause-kept
 returns-clause-kept g c none m h room =
     let some : 1 ≤ c.known_or-known.result = omega (arith, c.known_or-known.ensures, c.block.ensures.range) in
-    absurd (not_none c.known_or-known.result c.min-most.result some (search rules) none)
+    absurd (not_none c.known_or-known.result c.blocks_to_take-most.result some (search rules) none)
   where
     not_none : (j n : ℕ) → 1 ≤ j → (n ≡ 0 → ⊥) → j * n ≡ 0 → ⊥
     not_none j zero one some none = some refl
