@@ -47,6 +47,9 @@ struct Before {
 /// In contracts `StandsFor` says which coder this is.
 #[derive(Drop)]
 pub struct BlockCoder {
+    /// The bits by which the sink is ahead. Apart from the steps: the compiler would write neighbours as a pair, and load a pair that it had
+    /// just stored in parts.
+    bits_ahead: u64,
     setting: Setting,
     /// The place in its interval of the first block of the open segment.
     start: u32,
@@ -60,14 +63,12 @@ pub struct BlockCoder {
     run: u32,
     /// The level of the sample before the next one.
     previous: u32,
-    /// The bits by which the sink is ahead.
-    bits_ahead: u64,
-    /// The steps by which the meter is ahead.
-    steps_ahead: u64,
     /// The residuals of the block that is not whole yet.
     part: [u32; 64],
     /// Their number.
     held: usize,
+    /// The steps by which the meter is ahead.
+    steps_ahead: u64,
 }
 
 impl BlockCoder {
