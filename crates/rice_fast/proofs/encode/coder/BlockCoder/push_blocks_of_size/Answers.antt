@@ -42,7 +42,8 @@ end_if_whole-bits-requires-clause-stands g c =
     (given.0, taken.0, taken.3, given.2)
 
 pub slice_bounds-take_block-end : goal.slice_bounds-take_block-end
-slice_bounds-take_block-end g c = inside (c.width.result * c.known_or-known.result) (length c.args.bytes.now) c.loop-i.i c.blocks_to_take-most.result (omega (arith, c.blocks_to_take-most.ensures)) (search rules)
+slice_bounds-take_block-end g c = inside (c.width.result * c.known_or-known.result) (length c.args.bytes.now) c.loop-i.i c.blocks_to_take-most.result
+    (omega (arith, c.blocks_to_take-most.ensures)) (search rules)
 
 pub returns-then-not-take_block-clause-count : goal.returns-then-not-take_block-clause-count
 returns-then-not-take_block-clause-count g c =
