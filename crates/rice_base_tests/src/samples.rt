@@ -6,8 +6,8 @@ use crate::case_table::{Columns, answer_to, bytes_of, setting_of};
 use crate::cases::Cases;
 use rice_bits::Meter;
 use rice_samples::{
-    Segment, Setting, SettingFault, bytes_of as bytes_of_sample, from_pattern,
-    level_of_pattern, pattern, pattern_of_level, residual, restore, sample_of,
+    Segment, Setting, SettingFault, bytes_of as bytes_of_sample, from_pattern, level_of_pattern,
+    pattern, pattern_of_level, residual, restore, sample_of,
 };
 use std::alloc::Global;
 use std::test::Fail;
