@@ -1,6 +1,5 @@
-//! Samples in bytes: the unique bytes of each, and reading and writing several at once.
+//! Samples in bytes: the unique bytes of each, and writing several at once.
 
-pub mod reading;
 pub mod spelling;
 pub mod unused_bits;
 pub mod writing;

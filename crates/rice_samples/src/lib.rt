@@ -12,7 +12,6 @@ pub mod setting;
 
 pub use blocks::block::Block;
 pub use blocks::segment::Segment;
-pub use bytes::reading::read_legal_levels;
 pub use bytes::spelling::{bytes_of, sample_of};
 pub use bytes::unused_bits::set_unused_bits;
 pub use bytes::writing::write_spellings;
@@ -25,9 +24,7 @@ pub use fast::level_lanes::{
     levels_of_threes_in_words, patterns_of_levels,
 };
 pub use fast::pattern_lanes::bytes_of_patterns;
-pub use fast::residuals_of_levels::from_levels::{
-    pattern_of_level, replace_by_patterns, replace_by_residuals,
-};
+pub use fast::residuals_of_levels::from_levels::pattern_of_level;
 pub use fast::residuals_of_levels::ranks::ranks;
 pub use fast::restoring::levels::level_of_pattern;
 pub use fast::restoring::near::running_sums;

@@ -69,8 +69,12 @@ pub record StandsFor (c : BlockCoder) (sink : List Bool) (meter : ℕ) (m : Stan
   pub coder : m.coder ≡ coder_with c residuals
   pub holds : HoldsOpen c (take c.held c.part) sink meter residuals m.sink m.meter
 
--- There is room for the block that has these residuals behind those that are coded.
-pub record HasRoomForBlock (c : BlockCoder) (sink : List Bool) (meter : ℕ) (residuals : List ℕ) : Type 0 where
+-- the residuals of a whole block
+abbrev pub whole_part : BlockCoder → List ℕ
+whole_part c = take c.setting.block c.part
+
+-- There is room for the block whose residuals are all held behind those that are coded.
+pub record HasRoomForBlock (c : BlockCoder) (sink : List Bool) (meter : ℕ) : Type 0 where
   pub blocks : List BlockData
   pub from : List Bool
   pub meter_from : ℕ
@@ -78,7 +82,7 @@ pub record HasRoomForBlock (c : BlockCoder) (sink : List Bool) (meter : ℕ) (re
   pub legal : IsLegal c.setting
   pub fits : IfSome c.reference (λ v. v < value_count c.setting)
   pub ahead : IsAhead c.setting c.start c.reference c.run c.bits_ahead c.steps_ahead blocks sink from
-  pub sound : AreSoundBlocks c.setting c.start (blocks ++ block_with (reference_at c.reference (length blocks)) residuals ∷ [])
+  pub sound : AreSoundBlocks c.setting c.start (blocks ++ block_with (reference_at c.reference (length blocks)) (whole_part c) ∷ [])
   pub below : length blocks < blocks_left c.setting c.start
   pub steps_ahead : meter ≡ meter_from + c.steps_ahead
   pub room : length from ≤ 7

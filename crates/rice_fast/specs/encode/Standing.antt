@@ -2,7 +2,7 @@
 use Rattle.std.specs.Prelude.{◌≡◌, ℕ, ◌+◌, ◌*◌, ◌<◌, ◌≤◌, Bool, List, [], length, take, drop, ℤ}
 use Rattle.rice_bits.specs.Limits.{step_limit}
 use Rattle.rice_samples.specs.Parameters.{Parameters, width, value_at, value_count}
-use Rattle.rice_samples.specs.bytes.Spelling.{Reads, EndsSpelling, NoSpelling}
+use Rattle.rice_samples.specs.bytes.Spelling.{Reads}
 use Rattle.rice_samples.specs.predict.Residuals.{last_of}
 use Rattle.rice_code.specs.CoderSteps.{segment_steps}
 use Rattle.rice_code.specs.encode.Coder.{PushesSamples, CompletesNone}
@@ -28,14 +28,6 @@ pub record TakesSpelled (m m_new : Standing) (bytes : List ℕ) (count bits : �
   pub before_last : (n : ℕ) → n < count → CompletesNone m.coder (take n samples)
   pub whole : 0 < bits → m_new.coder.residuals ≡ []
   pub waits : bits ≡ 0 → m_new.sink ≡ m.sink
-
--- Some of the first `most` bytes spell no sample; those before them spell samples.
-pub record MeetsNoSample (s : Parameters) (bytes : List ℕ) (most : ℕ) : Type 0 where
-  pub samples : List ℤ
-  pub rest : List ℕ
-  pub reads : Reads s bytes samples rest
-  pub none : EndsSpelling s rest NoSpelling
-  pub within : width s * (length samples + 1) ≤ most
 
 -- These are the residuals of the samples that the bytes spell: of the first one after the sample at level `before`, of each other after the one before it.
 pub record HasResidualsOf (s : Parameters) (bytes : List ℕ) (before : ℕ) (residuals : List ℕ) (last : ℕ) : Type 0 where

@@ -137,7 +137,9 @@ pub fn code_next_or_add_to_run<const SIZE: usize>(
     }
     let (own, residuals) = block.into_parts();
     match own {
-        Some(word) => code_block_not_zero::<0, true>(setting, word, residuals, whole, sink, meter),
+        Some(word) => code_block_not_zero::<SIZE, true>(
+            setting, word, residuals, whole, sink, meter,
+        ),
         None => code_block_not_zero::<SIZE, false>(setting, 0, residuals, whole, sink, meter),
     }
     0

@@ -10,7 +10,7 @@ ghost use Rattle.rice_code.specs.code.SoundBlocks.{block_with};
 ghost use Rattle.rice_code.specs.encode.Coder.{AddsCode, HasTaken};
 ghost use Rattle.rice_code.specs.encode.HeldBlocks.{reference_at};
 ghost use Rattle.rice_code.specs.encode.OpenSegment.{CodesHeld, IsOpen, empty_state, next_start, state_after_all, state_between};
-ghost use Rattle.rice_fast.specs.encode.OpenBlocks.{HasRoomForBlock, IsAhead, IsBefore, PushesOpen, StandsAfter, StandsFor, coder_between, coder_with, is_at_first};
+ghost use Rattle.rice_fast.specs.encode.OpenBlocks.{HasRoomForBlock, IsAhead, IsBefore, PushesOpen, StandsAfter, StandsFor, coder_between, coder_with, is_at_first, whole_part};
 ghost use Rattle.rice_fast.specs.encode.Standing.{HasRoomAt, Standing, TakesSpelled};
 
 use crate::encode::blocks::code_next_or_add_to_run;
@@ -63,7 +63,7 @@ pub struct BlockCoder {
     run: u32,
     /// The level of the sample before the next one.
     previous: u32,
-    /// The residuals of the block that is not whole yet.
+    /// The residuals of the block that is not whole yet, and a place for those of any other.
     part: [u32; 64],
     /// Their number.
     held: usize,
@@ -166,7 +166,8 @@ impl BlockCoder {
         bits
     }
 
-    /// Takes whole blocks from the front of the bytes, up to the one that completes a segment, or up to one in which bytes spell no sample.
+    /// Takes whole blocks from the front of the bytes, up to the one that completes a segment, or up to one in which bytes spell no sample;
+    /// none if blocks are no multiple of eight samples.
     fn push_blocks(&mut self, bytes: &[u8], sink: &mut SegmentSink, meter: &mut Meter) -> Pushed
         requires between { self.old.held ≡ 0 }
         requires stands { (m : Standing) × StandsFor self.old sink.old meter.old m × HasRoomAt m }
@@ -217,9 +218,8 @@ impl BlockCoder {
                 bits: 0,
             };
         }
-        let mut row = [0u32; 64];
         for i in 0..most {
-            if !self.take_block::<SIZE>(&bytes[len * i..len * i + len], &mut row, sink, meter) {
+            if !self.take_block::<SIZE>(&bytes[len * i..len * i + len], sink, meter) {
                 return Pushed {
                     samples: known * i,
                     bits: 0,
@@ -233,12 +233,11 @@ impl BlockCoder {
         }
     }
 
-    /// Takes the samples of a whole block by their bytes, and returns whether these spell samples.
+    /// Takes the samples of a whole block by their bytes, and returns whether it did: `residuals_of_bytes` tells where it does not.
     #[inline(always)]
     fn take_block<const SIZE: usize>(
         &mut self,
         bytes: &[u8],
-        row: &mut [u32; 64],
         sink: &mut SegmentSink,
         meter: &mut Meter,
     ) -> bool
@@ -267,12 +266,14 @@ impl BlockCoder {
             Some(before) => before,
             None => return false,
         };
-        match residuals_of_bytes::<SIZE>(&self.setting, bytes, before.level, &mut row[..size]) {
+        let setting = self.setting;
+        let row = &mut self.part[..size];
+        match residuals_of_bytes::<SIZE>(&setting, bytes, before.level, row) {
             Some(last) => {
                 meter.tick(size as u64);
                 self.reference = before.reference;
                 self.previous = last;
-                self.put_block::<SIZE>(&row[..size], sink, meter);
+                self.put_block::<SIZE>(sink, meter);
                 true
             }
             None => false,
@@ -311,35 +312,32 @@ impl BlockCoder {
         self.held == 0 && self.blocks == 0 && self.start == 0
     }
 
-    /// Codes the block that has these residuals: a zero block is pending then, the code of any other is appended.
+    /// Codes the block of which all residuals are held: a zero block is pending then, the code of any other is appended.
     #[inline(always)]
-    fn put_block<const SIZE: usize>(
-        &mut self,
-        residuals: &[u32],
-        sink: &mut SegmentSink,
-        meter: &mut Meter,
-    )
-        requires size { 0 < SIZE → SIZE ≡ length residuals.now }
-        requires room { HasRoomForBlock self.old sink.old meter.old residuals.now }
+    fn put_block<const SIZE: usize>(&mut self, sink: &mut SegmentSink, meter: &mut Meter)
+        requires size { 0 < SIZE → SIZE ≡ self.old.setting.block }
+        requires room { HasRoomForBlock self.old sink.old meter.old }
         ensures value { self.new ≡ record self.old {
           blocks = self.old.blocks + 1;
           run = self.new.run;
           bits_ahead = self.new.bits_ahead;
           steps_ahead = self.new.steps_ahead;
         } }
-        ensures ahead { (h : HasRoomForBlock self.old sink.old meter.old residuals.now) →
+        ensures ahead { (h : HasRoomForBlock self.old sink.old meter.old) →
             IsAhead self.old.setting self.old.start self.old.reference
             self.new.run self.new.bits_ahead self.new.steps_ahead
             (h.blocks ++ block_with (reference_at self.old.reference (length h.blocks))
-            residuals.now ∷ []) sink.new h.from }
-        ensures meter { (h : HasRoomForBlock self.old sink.old meter.old residuals.now) →
+            (whole_part self.old) ∷ []) sink.new h.from }
+        ensures meter { (h : HasRoomForBlock self.old sink.old meter.old) →
             meter.new ≡ h.meter_from + self.new.steps_ahead }
     {
         let from = sink.len() - self.bits_ahead;
         let meter_from = meter.steps() - self.steps_ahead;
         let blocks = self.blocks as usize;
         let reference = self.reference;
-        let block = HeldBlock::new(reference_of(reference, blocks), Block::of(residuals));
+        let size = known_or::<SIZE>(self.setting.block() as usize);
+        let residuals = Block::of(&self.part[..size]);
+        let block = HeldBlock::new(reference_of(reference, blocks), residuals);
         let first = blocks - self.run as usize;
         self.run = code_next_or_add_to_run::<SIZE>(
             &self.setting,
@@ -423,9 +421,7 @@ impl BlockCoder {
             StandsAfter self.old sink.old meter.old m xs → HasRoomAt m →
             StandsAfter self.new sink.new meter.new m xs }
     {
-        let size = self.setting.block() as usize;
-        let part = self.part;
-        self.put_block::<0>(&part[..size], sink, meter);
+        self.put_block::<0>(sink, meter);
         self.held = 0;
     }
 

@@ -1,47 +1,20 @@
 //! The residuals of samples, straight from their bytes.
-ghost use Rattle.std.specs.Prelude.{◌≡◌, ◌-◌, ◌*◌, ◌<◌, ◌≤◌, All, IfNone, IfSome, get_or, length};
+ghost use Rattle.std.specs.Prelude.{◌≡◌, ◌-◌, ◌*◌, ◌<◌, ◌≤◌, IfSome, get_or, length};
 ghost use Rattle.std.specs.Simd.Lanes.{Each1};
 ghost use Rattle.rice_samples.specs.Parameters.{value_at, value_count, values_at, width as width_of};
 ghost use Rattle.rice_code.specs.encode.OpenSegment.{later_residuals};
 ghost use Rattle.rice_fast.specs.BlocksAhead.{HasBits};
-ghost use Rattle.rice_fast.specs.encode.Standing.{HasResidualsOf, MeetsNoSample};
+ghost use Rattle.rice_fast.specs.encode.Standing.{HasResidualsOf};
 
 use crate::encode::level_lanes::LevelLanes;
 use rice_code::known_or;
-use rice_samples::{
-    Bytes, Halves, Lanes, Setting, Words, patterns_of_levels, ranks, read_legal_levels,
-    replace_by_patterns, replace_by_residuals,
-};
+use rice_samples::{Bytes, Halves, Lanes, Setting, Words, patterns_of_levels, ranks};
 
 /// Writes the residuals of the samples that the bytes spell: of the first one after the sample at level `before`, and of each other after
-/// the one before it. Without preprocessing these are their patterns. Returns the level of the last sample, or `None` if some bytes spell
-/// no sample.
+/// the one before it. Without preprocessing these are their patterns. Returns the level of the last sample, or `None` if they are no
+/// multiple of eight, or if some bytes spell no sample.
 #[inline(always)]
 pub fn residuals_of_bytes<const SIZE: usize>(
-    setting: &Setting,
-    bytes: &[u8],
-    before: u32,
-    residuals: &mut [u32],
-) -> Option<u32>
-    requires before { before < value_count setting.now }
-    requires size { 0 < SIZE → SIZE ≡ length residuals.old }
-    requires range { (2 ≤ length residuals.old) × (length residuals.old ≤ 64) }
-    requires len { length bytes.now ≡ width_of setting.now * length residuals.old }
-    ensures some { IfSome result
-        (λ last. HasResidualsOf setting.now bytes.now before residuals.new last) }
-    ensures none { IfNone result (MeetsNoSample setting.now bytes.now (length bytes.now)) }
-    ensures len { length residuals.new ≡ length residuals.old }
-{
-    match residuals_in_any_lanes::<SIZE>(setting, bytes, before, residuals) {
-        Some(last) => Some(last),
-        None => residuals_one_by_one(setting, bytes, before, residuals),
-    }
-}
-
-/// Does what `residuals_of_bytes` does in the lanes of vectors, or returns `None`: if samples fill no such vectors, or if some bytes spell
-/// no sample.
-#[inline(always)]
-fn residuals_in_any_lanes<const SIZE: usize>(
     setting: &Setting,
     bytes: &[u8],
     before: u32,
@@ -128,45 +101,4 @@ fn residuals_of_row<L: Lanes>(setting: &Setting, earlier: L, levels: L) -> L
     }
     let greatest = (setting.number_of_values() - 1) as u32;
     ranks(greatest, levels.before(earlier), levels)
-}
-
-/// Does what `residuals_of_bytes` does, for any number of samples, one by one.
-#[inline(never)]
-fn residuals_one_by_one(
-    setting: &Setting,
-    bytes: &[u8],
-    before: u32,
-    residuals: &mut [u32],
-) -> Option<u32>
-    requires before { before < value_count setting.now }
-    requires some { 0 < length residuals.old }
-    requires len { length bytes.now ≡ width_of setting.now * length residuals.old }
-    ensures some { IfSome result
-        (λ last. HasResidualsOf setting.now bytes.now before residuals.new last) }
-    ensures none { IfNone result (MeetsNoSample setting.now bytes.now (length bytes.now)) }
-    ensures len { length residuals.new ≡ length residuals.old }
-{
-    let read = read_legal_levels(setting, bytes, residuals);
-    if read < residuals.len() {
-        return None;
-    }
-    let last = residuals[residuals.len() - 1];
-    replace_levels(setting, before, residuals);
-    Some(last)
-}
-
-/// Replaces the levels of samples by their residuals: of the first one after the sample at level `before`, and of each other after the one
-/// before it.
-fn replace_levels(setting: &Setting, before: u32, levels: &mut [u32])
-    requires before { before < value_count setting.now }
-    requires legal { All (λ l. l < value_count setting.now) levels.old }
-    ensures value { levels.new ≡ later_residuals setting.now
-        (value_at setting.now before) (values_at setting.now levels.old) }
-    ensures len { length levels.new ≡ length levels.old }
-{
-    if setting.preprocess() {
-        replace_by_residuals(setting, before, levels);
-    } else {
-        replace_by_patterns(setting, levels);
-    }
 }

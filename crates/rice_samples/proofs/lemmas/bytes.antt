@@ -3,7 +3,6 @@ pub mod LevelsSpelledInByteLanes
 pub mod ReadSamples
 pub mod LevelPatterns
 pub mod LevelsInLanes
-pub mod ReadLevels
 pub mod SamplesInTurn
 pub mod UnusedBits
 pub mod SpellingLemmas

@@ -1,5 +1,4 @@
 -- Residuals and patterns, and back.
-pub mod NumbersReplacedByRanks
 pub mod HalfLanes
 pub mod InverseRanksAndPatterns
 pub mod NearVectors

@@ -1,5 +1,5 @@
 -- How samples stand in bytes (own rules): unsigned numbers as they are, signed ones in two's complement over the whole width.
-use Rattle.std.specs.Prelude.{◌≡◌, ◌≢◌, ℕ, Bool, ◌*◌, ◌<◌, ◌≤◌, ◌++◌, List, [], length, take, drop, All, flat_map, if◌then◌else◌, ℤ}
+use Rattle.std.specs.Prelude.{◌≡◌, ◌≢◌, ℕ, Bool, ◌*◌, ◌<◌, ◌≤◌, ◌++◌, List, [], length, take, All, flat_map, if◌then◌else◌, ℤ}
 use Rattle.std.specs.Int.{bytes_high_first, bytes_low_first}
 use Rattle.rice_samples.specs.Parameters.{Parameters, width, IsSample}
 use Rattle.rice_samples.specs.predict.Residuals.{twos_complement}
@@ -41,9 +41,3 @@ pub record Spells (s : Parameters) (bytes : List ℕ) (samples : List ℤ) (stop
 pub record Reads (s : Parameters) (bytes : List ℕ) (samples : List ℤ) (rest : List ℕ) : Type 0 where
   pub split : bytes ≡ spellings s samples ++ rest
   pub legal : All (IsSample s) samples
-
--- The first `count` of some numbers are the samples that bytes spell, up to the first bytes that spell none.
-pub record ReadsSamples (s : Parameters) (bytes : List ℕ) (numbers : List ℤ) (count : ℕ) : Type 0 where
-  pub legal : All (IsSample s) (take count numbers)
-  pub spelled : take (width s * count) bytes ≡ spellings s (take count numbers)
-  pub stop : count < length numbers → IsNoSpelling s (drop (width s * count) bytes)

@@ -4,11 +4,11 @@ use Rattle.std.specs.Prelude.{bit_or, replicate, slice_range}
 use Rattle.std.specs.Simd.Lanes.{Each1, put_chunk, zip2}
 use Rattle.std.proofs.Math.Nat.{mul-le-mul_left}
 use Rattle.std.proofs.Math.Seq.{take-add}
-use Rattle.std.proofs.lemmas.List.{get_or-replicate, length-drop, length-take-le, map-append, take-append-drop, take_all}
+use Rattle.std.proofs.lemmas.List.{get_or-replicate, map-append, take_all}
 use Rattle.std.proofs.lemmas.Simd.{Each1-get_or, Each1-weaker, take_more_put_chunk}
 use Rattle.rice_samples.specs.Parameters.{Parameters, value_at, value_count, values_at, width}
 use Rattle.rice_samples.specs.predict.Residuals.{last_number, last_of, rank_below, ranks_below}
-use Rattle.rice_samples.specs.bytes.Spelling.{ReadsSamples, spellings}
+use Rattle.rice_samples.specs.bytes.Spelling.{spellings}
 use Rattle.rice_samples.proofs.lemmas.blocks.EightsInLanes.{parts_below}
 use Rattle.rice_samples.proofs.lemmas.bytes.LevelsInLanes.{Each1-append}
 use Rattle.rice_samples.proofs.lemmas.bytes.SpellingLengths.{spellings-append}
@@ -16,27 +16,10 @@ use Rattle.rice_samples.proofs.lemmas.lanes.RankedLanes.{each_taken, ranked_take
 use Rattle.rice_samples.proofs.lemmas.predict.LaneRanks.{last_of_row, row_long}
 use Rattle.rice_samples.proofs.lemmas.predict.NearVectors.{none_above}
 use Rattle.rice_samples.proofs.lemmas.predict.NumbersThatFit16Bits.{each_of_all}
-use Rattle.rice_samples.proofs.lemmas.setting.ValuesAtLevels.{last_value, legal_values, length-values, ranks_of_values, value_at_last}
+use Rattle.rice_samples.proofs.lemmas.setting.ValuesAtLevels.{legal_values, ranks_of_values, value_at_last}
 use Rattle.rice_code.specs.encode.OpenSegment.{later_residuals}
 use Rattle.rice_code.proofs.lemmas.encode.SeveralSamplesHeld.{later_ranks}
-use Rattle.rice_fast.specs.encode.Standing.{HasResidualsOf, MeetsNoSample}
-
--- where fewer samples are read than bytes have room for, the next bytes spell none
-pub no_sample_met : {s : Parameters} (bytes levels : List ℕ) (n : ℕ) → length bytes ≡ width s * length levels → n < length levels → ReadsSamples s bytes (values_at s levels) n
-    → MeetsNoSample s bytes (length bytes)
-no_sample_met {s} bytes levels n len few read =
-    let w = width s in
-    let many = length-values s levels in
-    let more : w * (n + 1) ≤ w * length levels = mul-le-mul_left w (omega (arith, few)) in
-    let room : w ≤ length (drop (w * n) bytes) = omega (arith, more, len, length-drop (w * n) bytes) in
-    let taken = length-take-le n (values_at s levels) (omega (arith, few, many)) in
-    record {
-      samples = take n (values_at s levels);
-      rest = drop (w * n) bytes;
-      reads = record { split = sym (take-append-drop (w * n) bytes) ∙ ap (λ v. v ++ drop (w * n) bytes) read.spelled; legal = read.legal };
-      none = (room, read.stop (omega (arith, few, many)));
-      within = subst (λ m. w * (m + 1) ≤ length bytes) (sym taken) (omega (arith, more, len));
-    }
+use Rattle.rice_fast.specs.encode.Standing.{HasResidualsOf}
 
 -- bytes of which each spells a sample at its level, with the residuals of these
 pub residuals_spelled : (s : Parameters) (before last : ℕ) (bytes levels residuals : List ℕ) → All (λ l. l < value_count s) levels → bytes ≡ spellings s (values_at s levels)
@@ -49,21 +32,6 @@ residuals_spelled s before last bytes levels residuals legal spelled coded below
   residuals_are = coded;
   last_is = last_is;
 }
-
--- where all samples are read that bytes have room for
-pub residuals_read : (s : Parameters) (before last n : ℕ) (bytes levels residuals : List ℕ) → length bytes ≡ width s * length levels → 0 < length levels → length levels ≤ n
-    → All (λ l. l < value_count s) (take n levels) → ReadsSamples s bytes (values_at s levels) n → residuals ≡ later_residuals s (value_at s before) (values_at s levels)
-    → last ≡ get_or levels (length levels - 1) 0 → HasResidualsOf s bytes before residuals last
-residuals_read s before last n bytes levels residuals len some all legal read coded is =
-    let w = width s in
-    let many = length-values s levels in
-    let most : w * length levels ≤ w * n = mul-le-mul_left w all in
-    let each : All (λ l. l < value_count s) levels = subst (All (λ l. l < value_count s)) (take_all n levels all) legal in
-    let spelled = sym (take_all (w * n) bytes (omega (arith, len, most))) ∙ (read.spelled ∙ ap (spellings s) (take_all n (values_at s levels) (omega (arith, all, many)))) in
-    residuals_spelled s before last bytes levels residuals each spelled coded (rw is (each (length levels - 1) 0 (omega (arith, some))))
-    (ap (value_at s) is ∙ last_value s (value_at s before) levels some)
-
--- in lanes
 
 -- the residuals of samples, and of others after the last of these
 later-append : (s : Parameters) (p : ℤ) (xs ys : List ℤ) → later_residuals s p (xs ++ ys) ≡ later_residuals s p xs ++ later_residuals s (last_of p xs) ys

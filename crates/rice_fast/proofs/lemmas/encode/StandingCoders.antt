@@ -17,7 +17,7 @@ use Rattle.rice_code.proofs.lemmas.encode.PendingRuns.{held_len}
 use Rattle.rice_code.proofs.lemmas.encode.PushedCode.{open_between, short_of, steps_of_segment}
 use Rattle.rice_code.proofs.lemmas.encode.PushedSamples.{HoldsMore, open_pushes, is_coder_after}
 use Rattle.rice_code.proofs.lemmas.encode.SeveralSamplesHeld.{length-state_after_all, state_after_all-none}
-use Rattle.rice_fast.specs.encode.OpenBlocks.{HasRoomForBlock, HoldsOpen, IsAhead, PushesOpen, StandsAfter, StandsFor, StandsWith, coder_between, coder_with}
+use Rattle.rice_fast.specs.encode.OpenBlocks.{HasRoomForBlock, HoldsOpen, IsAhead, PushesOpen, StandsAfter, StandsFor, StandsWith, coder_between, coder_with, whole_part}
 use Rattle.rice_fast.specs.encode.Standing.{HasRoomAt, Standing}
 use Rattle.rice_fast.specs.declared.encode.coder.BlockCoder.{BlockCoder}
 use Rattle.rice_fast.proofs.lemmas.encode.CodeAhead.{ahead_with, none_ahead, nothing_ahead, other_reference, steps_are_few}
@@ -110,10 +110,10 @@ next_block {c} {row} {ds = ds} h whole =
     (sym (held_more s c.reference c.blocks front row (omega (arith, len))) ∙ ap (held_blocks s c.reference c.blocks) (sym parts)))
 
 -- such a row can be put,
-unfoldable pub row_has_room : {c : BlockCoder} {row : List ℕ} {sink : List Bool} {meter : ℕ} {m : Standing} {xs : List ℤ} → StandsWith c row sink meter m xs → HasRoomAt m
-    → length row ≡ c.setting.block → c.blocks < c.end
-    → HasRoomForBlock c sink meter row
-row_has_room {c} {row} {sink} {meter} {m} {xs} h room whole less =
+unfoldable pub part_has_room : {c : BlockCoder} {sink : List Bool} {meter : ℕ} {m : Standing} {xs : List ℤ} → StandsWith c (whole_part c) sink meter m xs → HasRoomAt m
+    → length (whole_part c) ≡ c.setting.block → c.blocks < c.end
+    → HasRoomForBlock c sink meter
+part_has_room {c} {sink} {meter} {m} {xs} h room whole less =
     let s = c.setting in
     let holds = h.holds in
     let count = held_len s c.reference c.blocks h.residuals in
@@ -128,7 +128,7 @@ row_has_room {c} {row} {sink} {meter} {m} {xs} h room whole less =
       fits = holds.opens.reference;
       ahead = holds.ahead;
       sound = subst (AreSoundBlocks s c.start)
-          (next_block holds whole ∙ ap (λ n. held_blocks s c.reference c.blocks h.residuals ++ block_with (reference_at c.reference n) row ∷ []) (sym count)) sound;
+          (next_block holds whole ∙ ap (λ n. held_blocks s c.reference c.blocks h.residuals ++ block_with (reference_at c.reference n) (whole_part c) ∷ []) (sym count)) sound;
       below = omega (arith, count, less, holds.ends);
       steps_ahead = holds.steps_ahead;
       room = room.room;
@@ -145,12 +145,12 @@ with_block c run bits steps = record c {
 }
 
 -- what is put of it is ahead then
-pub row_is_put : {c : BlockCoder} {row : List ℕ} {sink sink_new : List Bool} {meter meter_new : ℕ} {m : Standing} {xs : List ℤ} (run bits steps : ℕ) → (h : StandsWith c row sink meter m xs)
-    → length row ≡ c.setting.block → c.blocks < c.end
+pub part_is_put : {c : BlockCoder} {sink sink_new : List Bool} {meter meter_new : ℕ} {m : Standing} {xs : List ℤ} (run bits steps : ℕ) → (h : StandsWith c (whole_part c) sink meter m xs)
+    → length (whole_part c) ≡ c.setting.block → c.blocks < c.end
     → IsAhead c.setting c.start c.reference run bits steps
-    (held_blocks c.setting c.reference c.blocks h.residuals ++ block_with (reference_at c.reference (length (held_blocks c.setting c.reference c.blocks h.residuals))) row ∷ []) sink_new m.sink
+    (held_blocks c.setting c.reference c.blocks h.residuals ++ block_with (reference_at c.reference (length (held_blocks c.setting c.reference c.blocks h.residuals))) (whole_part c) ∷ []) sink_new m.sink
     → meter_new ≡ m.meter + length xs + steps → StandsWith (with_block c run bits steps) [] sink_new meter_new m xs
-row_is_put {c} {row} {sink} {sink_new} {meter} {meter_new} {m} {xs} run bits steps h whole less ahead ticks =
+part_is_put {c} {sink} {sink_new} {meter} {meter_new} {m} {xs} run bits steps h whole less ahead ticks =
     let s = c.setting in
     let holds = h.holds in
     let count = held_len s c.reference c.blocks h.residuals in
@@ -169,7 +169,7 @@ row_is_put {c} {row} {sink} {sink_new} {meter} {meter_new} {m} {xs} run bits ste
         part = drop_whole (s.block * (c.blocks + 1)) h.residuals (omega (arith, number));
         steps_ahead = ticks;
         ahead = subst (λ cs. IsAhead s c.start c.reference run bits steps cs sink_new m.sink)
-            (ap (λ n. held_blocks s c.reference c.blocks h.residuals ++ block_with (reference_at c.reference n) row ∷ []) count ∙ sym (next_block holds whole)) ahead;
+            (ap (λ n. held_blocks s c.reference c.blocks h.residuals ++ block_with (reference_at c.reference n) (whole_part c) ∷ []) count ∙ sym (next_block holds whole)) ahead;
       };
     }
   where
@@ -203,6 +203,12 @@ none_held {c} {sink} {meter} {m} {xs} h none room = record {
   held = omega (arith, none);
   stands = subst (λ n. StandsWith c (take n c.part) sink meter m xs) (sym none) h;
 }
+
+-- and the part may be any other
+pub none_held_in : {c : BlockCoder} {sink : List Bool} {meter : ℕ} {m : Standing} {xs : List ℤ} (part : List ℕ) → StandsAfter c sink meter m xs → c.held ≡ 0 → length part ≡ 64
+    → StandsAfter (record c { part = part }) sink meter m xs
+none_held_in {c} {sink} {meter} {m} {xs} part h none room =
+    none_held (other_part part c.held (subst (λ n. StandsWith c (take n c.part) sink meter m xs) none h.stands)) none room
 
 -- A reference is noted before the first block only.
 pub noted_reference : {s : Parameters} {start : ℕ} {r : Option ℕ} (q : Option ℕ) {run bits steps : ℕ} {sink from : List Bool} (n : ℕ) (ds es : List ℕ) → s.block * n ≤ length ds

@@ -1,11 +1,11 @@
 -- Samples that bytes spell, one piece after another.
-use Rattle.std.proofs.Common.{◌≡◌, ℕ, ◌+◌, ◌*◌, ◌^◌, ◌<◌, ◌≤◌, List, [], ◌∷◌, ◌++◌, length, take, drop, ℤ}
+use Rattle.std.proofs.Common.{◌≡◌, ◌≢◌, ℕ, ◌+◌, ◌-◌, ◌*◌, ◌^◌, ◌<◌, ◌≤◌, List, [], ◌∷◌, ◌++◌, length, take, drop, ℤ}
 use Rattle.std.proofs.Common.{refl, ap, arith, sym, ◌∙◌, subst, append_assoc, append-nil}
 use Rattle.std.proofs.lemmas.Bool.Decides.{nat_tests}
 use Rattle.std.proofs.lemmas.List.{take-append-drop, take_at, drop-drop}
 use Rattle.std.proofs.lemmas.List.Elements.{All-append, All-from_recursion, recursion_from_All}
 use Rattle.rice_samples.specs.Parameters.{Parameters, IsLegal, IsSample, width}
-use Rattle.rice_samples.specs.bytes.Spelling.{Reads, ordered_bytes, spelling, spellings}
+use Rattle.rice_samples.specs.bytes.Spelling.{IsNoSpelling, Reads, ordered_bytes, spelling, spellings}
 use Rattle.rice_samples.specs.bytes.ValueRange.{IsValue}
 use Rattle.rice_samples.specs.predict.Residuals.{twos_complement}
 use Rattle.rice_samples.proofs.lemmas.bytes.SpellingLemmas.{level_spelled, wider_value}
@@ -86,3 +86,10 @@ first_of_samples s bytes x (y ∷ ys) legal sample e read some =
     let front : take (width s) bytes ≡ spelling s y =
     ap (take (width s)) (read.split ∙ append_assoc (spelling s y) (spellings s ys) []) ∙ take_at (spelling s y) (spellings s ys ++ []) (width s) (length-spelling s y) in
     (ys, ap (λ v. v ∷ ys) (one_sample s y x legal own.0 sample (sym front ∙ e)))
+
+-- bytes that are those of no sample spell none
+pub no_spelling : (s : Parameters) (w i : ℕ) (bytes : List ℕ) → w ≡ width s
+    → ((x : ℤ) → IsSample s x → take (w * i + w - w * i) (drop (w * i) bytes) ≢ spelling s x) → IsNoSpelling s (drop (width s * i) bytes)
+no_spelling s w i bytes e h = λ x sample spells.
+    let m : w * i + w - w * i ≡ width s = omega (arith, e) in
+    h x sample ((λ j. take (m j) (drop (e j * i) bytes)) ∙ spells)

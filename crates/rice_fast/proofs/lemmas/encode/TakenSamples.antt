@@ -19,7 +19,7 @@ use Rattle.rice_fast.specs.encode.OpenBlocks.{HoldsOpen, IsBefore, StandsAfter, 
 use Rattle.rice_fast.specs.encode.Standing.{HasResidualsOf, Standing}
 use Rattle.rice_fast.specs.declared.encode.coder.BlockCoder.{BlockCoder}
 use Rattle.rice_fast.proofs.lemmas.encode.HeldResiduals.{is_empty-by_counts, state_after_all-append}
-use Rattle.rice_fast.proofs.lemmas.encode.StandingCoders.{noted_reference}
+use Rattle.rice_fast.proofs.lemmas.encode.StandingCoders.{noted_reference, other_part}
 use Rattle.rice_fast.proofs.lemmas.encode.TakenBytes.{first_of_samples, samples_counted}
 
 -- a list with one element written behind its front
@@ -291,21 +291,18 @@ block_held {c} {sink} {meter} {m} {xs} {bytes} {reference} {before} {es} {last} 
         let R : List ℕ → Type 0 = λ v. HoldsOpen (with_last c reference last) v sink n (stood.stands.residuals ++ es) m.sink a in
         subst P f (subst Q g (subst R e k))
 
--- The row may be given otherwise, and so may the meter.
-pub block_in_row : {c : BlockCoder} {sink : List Bool} {meter : ℕ} {m : Standing} {xs : List ℤ} {bytes : List ℕ} {reference : Option ℕ} {before : ℕ} {es : List ℕ} {last : ℕ} (rest : List ℕ)
-    (size now : ℕ)
+-- The residuals may lie in the part, and the meter may be given otherwise.
+pub block_in_part : {c : BlockCoder} {sink : List Bool} {meter : ℕ} {m : Standing} {xs : List ℤ} {bytes : List ℕ} {reference : Option ℕ} {before : ℕ} {es : List ℕ} {last : ℕ} (rest : List ℕ)
+    (now : ℕ)
     → StandsAfter c sink meter m xs → c.held ≡ 0 → c.blocks < c.end → length bytes ≡ width c.setting * c.setting.block → IsBefore c bytes reference before
     → (h : HasResidualsOf c.setting bytes before es last)
-    → size ≡ c.setting.block → now ≡ meter + size
-    → (length h.samples ≡ c.setting.block) × (length (take size (es ++ rest)) ≡ c.setting.block) × StandsWith (with_last c reference last) (take size (es ++ rest)) sink now m (xs ++ h.samples)
-block_in_row {c} {sink} {meter} {m} {xs} {es = es} {last = last} rest size now stood none less len is h whole ticks =
+    → now ≡ meter + c.setting.block
+    → (length h.samples ≡ c.setting.block) × (length (take c.setting.block (es ++ rest)) ≡ c.setting.block)
+    × StandsWith (record c { reference = reference; previous = last; part = es ++ rest }) (take c.setting.block (es ++ rest)) sink now m (xs ++ h.samples)
+block_in_part {c} {sink} {meter} {m} {xs} {reference = reference} {es = es} {last = last} rest now stood none less len is h ticks =
     let held = block_held stood none less len is h in
-    let row : take size (es ++ rest) ≡ es = take_at es rest size (held.1 ∙ sym whole) in
-    let steps : now ≡ meter + c.setting.block = ticks ∙ ap (λ n. meter + n) whole in
-    (held.0, ap length row ∙ held.1, at row steps held.2)
-  where
-    at : {k : BlockCoder} {row new : List ℕ} {n to : ℕ} {ys : List ℤ} → new ≡ row → to ≡ n → StandsWith k row sink n m ys → StandsWith k new sink to m ys
-    at {k} {row} {new} {n} {to} {ys} e f w =
-        let P : List ℕ → Type 0 = λ v. StandsWith k v sink to m ys in
-        let Q : ℕ → Type 0 = λ v. StandsWith k row sink v m ys in
-        subst P (sym e) (subst Q (sym f) w)
+    let row : take c.setting.block (es ++ rest) ≡ es = take_at es rest c.setting.block held.1 in
+    let k = record c { reference = reference; previous = last; part = es ++ rest } in
+    let P : List ℕ → Type 0 = λ v. StandsWith k v sink now m (xs ++ h.samples) in
+    let Q : ℕ → Type 0 = λ v. StandsWith k es sink v m (xs ++ h.samples) in
+    (held.0, ap length row ∙ held.1, subst P (sym row) (subst Q (sym ticks) (other_part (es ++ rest) c.held held.2)))

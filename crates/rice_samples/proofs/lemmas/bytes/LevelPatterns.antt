@@ -1,9 +1,8 @@
 -- Levels, and the patterns and words of the values at these.
 use Rattle.std.proofs.Common.{◌≡◌, ℕ, ◌+◌, ◌-◌, ◌*◌, ◌%◌, ◌^◌, ◌<◌, ◌≤◌, zero, suc, inl, inr, mod-eq_of_lt, Bool, true, false, cond}
-use Rattle.std.proofs.Common.{refl, ap, arith, sym, ◌∙◌, List, [], ◌∷◌, ◌++◌, length, take, map, get_or, slice_set, pos, negsuc, neg_ℤ, ◌+ℤ◌}
+use Rattle.std.proofs.Common.{refl, ap, arith, sym, ◌∙◌, List, [], ◌∷◌, map, pos, negsuc, neg_ℤ, ◌+ℤ◌}
 use Rattle.std.specs.Prelude.{bit_and}
 use Rattle.std.proofs.lemmas.Int.{ints}
-use Rattle.std.proofs.lemmas.List.{map-append, map_more, take_more_set}
 use Rattle.std.proofs.lemmas.Nat.{and_mask, mod-mul-add, mod_below, pow-add, pow_pos}
 use Rattle.std.proofs.Math.Nat.{mod-add-mod, mul-le-mul_right}
 use Rattle.std.proofs.Math.Pow.{mod-mod-pow, pow_mono}
@@ -44,14 +43,6 @@ unsigned_patterns s (l ∷ levels) e = λ j. one s.signed e j ∷ unsigned_patte
     one : (signed : Bool) → signed ≡ false → twos_complement s.bits (cond signed (neg_ℤ (pos (2 ^ (s.bits - 1)))) (pos 0) +ℤ pos l) ≡ l
     one true e = absurd (let f : true ≡ false = e in cc)
     one false e = ap (twos_complement s.bits) (let z : pos 0 +ℤ pos l ≡ pos l = omega (arith, ints) in z)
-
--- one more pattern
-pub one_pattern : (s : Parameters) (v i : ℕ) (now levels : List ℕ) → i < length now → i < length levels
-    → take i now ≡ map (pattern s) (values_at s (take i levels)) → v ≡ pattern s (value_at s (get_or levels i 0)) →
-    take (i + 1) (slice_set now i v) ≡ map (pattern s) (values_at s (take (i + 1) levels))
-one_pattern s v i now levels h k e r =
-    let values : values_at s (take (i + 1) levels) ≡ values_at s (take i levels) ++ value_at s (get_or levels i 0) ∷ [] = map_more (value_at s) levels i 0 k in
-    take_more_set now i v h ∙ ((λ j. e j ++ r j ∷ []) ∙ sym (ap (map (pattern s)) values ∙ map-append (pattern s) (values_at s (take i levels)) (value_at s (get_or levels i 0) ∷ [])))
 
 -- back to a level
 level_again : (wide l o more : ℕ) → more ≤ wide → l < 2 ^ more → o ≤ 2 ^ more → ((l + (2 ^ wide - o)) % 2 ^ wide % 2 ^ more + o) % 2 ^ more ≡ l

@@ -2,12 +2,11 @@
 use Rattle.std.proofs.Common.{◌≡◌, ℕ, ◌+◌, ◌-◌, ◌*◌, ◌<◌, ◌≤◌, List, [], ◌∷◌, ◌++◌, length, take, drop, All, ap, sym, subst, arith, ◌∙◌, append-nil, length-drop, slice_set, get_or, map, ℤ}
 use Rattle.std.specs.Prelude.{flat_map}
 use Rattle.std.proofs.lemmas.Grind.{flat_map-append}
-use Rattle.std.proofs.lemmas.List.{map-append, map_more, take_more_set, length-take-le}
+use Rattle.std.proofs.lemmas.List.{map_more, take_more_set, length-take-le}
 use Rattle.std.proofs.lemmas.Slice.{take-put_mid}
 use borrow.Rule.Slice.PartMut.{put_mid}
 use Rattle.std.proofs.Math.Nat.{mul-le-mul_left}
 use Rattle.std.proofs.lemmas.List.Elements.{All-push}
-use Rattle.std.proofs.Math.Seq.{take-add}
 
 -- the bytes of one
 pub one_len : (w i n : ℕ) (bytes : List ℕ) → i < n → length bytes ≡ w * n → length (take (w * i + w - w * i) (drop (w * i) bytes)) ≡ w
@@ -19,19 +18,6 @@ one_len w i n bytes h e =
 -- one element more adds what is made of it behind what was made of those before it
 pub flat_map-push : {X A : Type 0} (f : X → List A) (xs : List X) (x : X) → flat_map f (xs ++ x ∷ []) ≡ flat_map f xs ++ f x
 flat_map-push f xs x = flat_map-append f xs (x ∷ []) ∙ ap (λ v. flat_map f xs ++ v) (append-nil (f x))
-
--- one more is read, by the level of its value
-pub one_read : (f : ℤ → List ℕ) (value : ℕ → ℤ) (w : ℕ) {i : ℕ} (bytes levels : List ℕ) (l : ℕ) → i < length levels → take (w * i) bytes ≡ flat_map f (map value (take i levels)) →
-    take (w * i + w - w * i) (drop (w * i) bytes) ≡ f (value l) → take (w * (i + 1)) bytes ≡ flat_map f (map value (take (i + 1) (slice_set levels i l)))
-one_read f value w {i} bytes levels l h e g =
-    let n : w * (i + 1) ≡ w * i + w = omega arith in
-    let m : w * i + w - w * i ≡ w = omega arith in
-    let last : take w (drop (w * i) bytes) ≡ f (value l) = ap (λ v. take v (drop (w * i) bytes)) (sym m) ∙ g in
-    let values : map value (take (i + 1) (slice_set levels i l)) ≡ map value (take i levels) ++ value l ∷ [] = ap (map value) (take_more_set levels i l h)
-    ∙ map-append value (take i levels) (l ∷ []) in
-    let all : flat_map f (map value (take (i + 1) (slice_set levels i l))) ≡ flat_map f (map value (take i levels)) ++ f (value l) = ap (flat_map f) values
-    ∙ flat_map-push f (map value (take i levels)) (value l) in
-    ap (λ v. take v bytes) n ∙ (take-add (w * i) w bytes ∙ ((λ j. e j ++ last j) ∙ sym all))
 
 -- one sample more is legal
 pub one_legal : {X : Type 0} (P : X → Type 0) (i : ℕ) (xs : List X) (x : X) → i < length xs → All P (take i xs) → P x → All P (take (i + 1) (slice_set xs i x))

@@ -2,11 +2,10 @@ use Rattle.std.proofs.Common.{◌≡◌, ◌+◌, ◌-◌, ◌*◌, ◌<◌, ◌
 use Rattle.std.proofs.lemmas.Int.{to_z-of_z}
 use Rattle.rice_samples.specs.Parameters.{Parameters, IsSample, width}
 use Rattle.rice_samples.specs.bytes.Spelling.{Reads, spelling}
-use Rattle.rice_samples.proofs.lemmas.bytes.ReadLevels.{no_spelling}
 use Rattle.rice_fast.specs.encode.OpenBlocks.{StandsAfter}
 use Rattle.rice_fast.proofs.lemmas.encode.EndedSegments.{spelled_are_taken}
 use Rattle.rice_fast.proofs.lemmas.encode.StandingCoders.{after_none, for_open, pushes_nothing, step_for_one}
-use Rattle.rice_fast.proofs.lemmas.encode.TakenBytes.{reads_more, reads_none, reads_one}
+use Rattle.rice_fast.proofs.lemmas.encode.TakenBytes.{no_spelling, reads_more, reads_none, reads_one}
 use Rattle.rice_fast.proofs.encode.coder.BlockCoder.hold_some.Goals as goal
 
 pub loop-i-init : goal.loop-i-init

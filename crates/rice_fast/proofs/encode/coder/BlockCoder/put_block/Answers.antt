@@ -1,4 +1,4 @@
-use Rattle.std.proofs.Common.{arith, ◌≡◌, ◌+◌, ◌-◌, ◌*◌, ◌≤◌, ℕ, Bool, List, true, false, length, refl, ap, sym, ◌∙◌, subst, inl, inr}
+use Rattle.std.proofs.Common.{arith, ◌≡◌, ◌+◌, ◌-◌, ◌*◌, ◌≤◌, ℕ, Bool, List, true, false, length, take, refl, ap, sym, ◌∙◌, subst, inl, inr}
 use Rattle.std.proofs.Math.Nat.{mul-le-mul_left}
 use Rattle.rice_samples.specs.Parameters.{Parameters, IsBlockSize, k_max}
 use Rattle.rice_code.specs.code.Blocks.{BlockData, is_zero_block}
@@ -10,18 +10,18 @@ use Rattle.rice_code.specs.encode.HeldBlocks.{EndsRun, JoinsRun, pending_bits, r
 use Rattle.rice_code.proofs.lemmas.encode.SegmentBlocksInTurn.{sound_of}
 use Rattle.rice_code.proofs.lemmas.meaning.CoveredBlocks.{bool_cases}
 use Rattle.rice_fast.specs.declared.encode.coder.BlockCoder.{BlockCoder}
-use Rattle.rice_fast.specs.encode.OpenBlocks.{HasRoomForBlock}
+use Rattle.rice_fast.specs.encode.OpenBlocks.{HasRoomForBlock, whole_part}
 use Rattle.rice_fast.proofs.lemmas.encode.CodeAhead.{IsNext, ahead_of_other, ahead_of_zero, last_sound, room_for_other, room_to_look}
 use Rattle.rice_fast.proofs.encode.coder.BlockCoder.put_block.Goals as goal
 
--- the block with these residuals
-abbrev next_of : {c : BlockCoder} {sink : List Bool} {meter : ℕ} {residuals : List ℕ} → HasRoomForBlock c sink meter residuals → BlockData
-next_of {c} {residuals = residuals} h = block_with (reference_at c.reference (length h.blocks)) residuals
+-- the block that the part is
+abbrev next_of : {c : BlockCoder} {sink : List Bool} {meter : ℕ} → HasRoomForBlock c sink meter → BlockData
+next_of {c} h = block_with (reference_at c.reference (length h.blocks)) (whole_part c)
 
-is_next : {c : BlockCoder} {sink : List Bool} {meter : ℕ} {residuals : List ℕ} (h : HasRoomForBlock c sink meter residuals) → IsNext c.setting c.start c.reference h.blocks (next_of h)
+is_next : {c : BlockCoder} {sink : List Bool} {meter : ℕ} (h : HasRoomForBlock c sink meter) → IsNext c.setting c.start c.reference h.blocks (next_of h)
 is_next h = record { legal = h.legal; below = h.below; reference = refl; sound = h.sound }
 
-sound_next : {c : BlockCoder} {sink : List Bool} {meter : ℕ} {residuals : List ℕ} (h : HasRoomForBlock c sink meter residuals) → IsSoundData c.setting (next_of h)
+sound_next : {c : BlockCoder} {sink : List Bool} {meter : ℕ} (h : HasRoomForBlock c sink meter) → IsSoundData c.setting (next_of h)
 sound_next {c} h = sound_of c.setting (c.start + length h.blocks) (next_of h) (last_sound c.setting c.start h.blocks (next_of h) h.sound)
 
 -- neither bits nor steps get fewer
@@ -36,8 +36,11 @@ grows s run result w b sink sink_new m m_new one joins ends = elim (bool_cases (
 some_block : (s : Parameters) → IsBlockSize s.block → 1 ≤ s.block
 some_block s h = omega (arith, h.0)
 
-pub of-requires : goal.of-requires
-of-requires g c = let h = c.requires.room in subst IsBlockSize (sym (sound_next h).len) h.legal.block
+pub of-residuals-requires : goal.of-residuals-requires
+of-residuals-requires g c =
+    let h = c.requires.room in
+    let known = c.known_or-size.ensures ∙ c.block.ensures.value in
+    subst (λ n. IsBlockSize (length (take n c.args.self.now.part))) (sym known) (subst IsBlockSize (sym (sound_next h).len) h.legal.block)
 
 pub code_next_or_add_to_run-self-requires-clause-fits : goal.code_next_or_add_to_run-self-requires-clause-fits
 code_next_or_add_to_run-self-requires-clause-fits g c = c.requires.room.fits
@@ -46,7 +49,7 @@ pub code_next_or_add_to_run-self-requires-clause-sound : goal.code_next_or_add_t
 code_next_or_add_to_run-self-requires-clause-sound g c =
     let h = c.requires.room in
     let r = c.args.self.now.reference in
-    let e : c.new-block.result ≡ next_of h = c.new-block.ensures ∙ (λ j. block_with ((c.reference_of.ensures ∙ ap (reference_at r) (sym h.number)) j) (c.of.ensures j)) in
+    let e : c.new-block.result ≡ next_of h = c.new-block.ensures ∙ (λ j. block_with ((c.reference_of.ensures ∙ ap (reference_at r) (sym h.number)) j) ((c.of-residuals.ensures ∙ ap (λ n. take n c.args.self.now.part) (c.known_or-size.ensures ∙ c.block.ensures.value)) j)) in
     subst (IsSoundData c.args.self.now.setting) (sym e) (sound_next h)
 
 pub code_next_or_add_to_run-self-requires-clause-look : goal.code_next_or_add_to_run-self-requires-clause-look
@@ -58,7 +61,7 @@ code_next_or_add_to_run-self-requires-clause-room g c =
     let s = c.args.self.now.setting in
     let r = c.args.self.now.reference in
     let run = c.args.self.now.run in
-    let e : c.new-block.result ≡ next_of h = c.new-block.ensures ∙ (λ j. block_with ((c.reference_of.ensures ∙ ap (reference_at r) (sym h.number)) j) (c.of.ensures j)) in
+    let e : c.new-block.result ≡ next_of h = c.new-block.ensures ∙ (λ j. block_with ((c.reference_of.ensures ∙ ap (reference_at r) (sym h.number)) j) ((c.of-residuals.ensures ∙ ap (λ n. take n c.args.self.now.part) (c.known_or-size.ensures ∙ c.block.ensures.value)) j)) in
     let Room : ℕ → ℕ → BlockData → Type 0 = λ n m b. HasRoomFor (length (pending_bits s false (reference_at r (n - run)) run) + cost s (shortest s b))
     (length (pending_bits s false (reference_at r (n - run)) run) + cost s (shortest s b) + s.block * (k_max s + 5)) (length c.args.sink.now) m in
     subst (λ b. is_zero_block b ≡ false → Room c.args.self.now.blocks c.args.meter.now b) (sym e)
@@ -85,7 +88,7 @@ returns-clause-ahead g c h =
     let r = c.args.self.now.reference in
     let run = c.args.self.now.run in
     let call = c.code_next_or_add_to_run-self in
-    let e : c.new-block.result ≡ next_of h = c.new-block.ensures ∙ (λ j. block_with ((c.reference_of.ensures ∙ ap (reference_at r) (sym h.number)) j) (c.of.ensures j)) in
+    let e : c.new-block.result ≡ next_of h = c.new-block.ensures ∙ (λ j. block_with ((c.reference_of.ensures ∙ ap (reference_at r) (sym h.number)) j) ((c.of-residuals.ensures ∙ ap (λ n. take n c.args.self.now.part) (c.known_or-size.ensures ∙ c.block.ensures.value)) j)) in
     let put = grows c.args.self.now.setting _ _ _ _ _ _ _ _ (some_block c.args.self.now.setting h.legal.block) call.ensures.joins call.ensures.ends in
     elim (bool_cases (is_zero_block c.new-block.result)) [
       | inl z ↦ ahead_of_zero h.ahead (is_next h) (sym (ap is_zero_block e) ∙ z) (call.ensures.joins z) (omega (arith, put.0, c.len.ensures.value, c.len-2.ensures.value, h.ahead.len))
