@@ -12,6 +12,7 @@ mod level_lanes;
 mod low_parts;
 mod options;
 mod pairs;
+mod repeats;
 mod residuals_of_bytes;
 mod sequences_by_products;
 mod stops;

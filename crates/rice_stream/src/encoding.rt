@@ -94,6 +94,7 @@ impl<C: TakesBytes> Encoding<C> {
 
     /// Takes samples from the front of the bytes, writes the bytes of code that they complete, and returns their number: 0 only if the
     /// first bytes spell no sample.
+    #[inline(always)]
     fn push_some<O: Outlet>(
         &mut self,
         setting: &Setting,

@@ -7,7 +7,9 @@ pub mod HighParts
 pub mod JoinedSequences
 pub mod JoinedWords
 pub mod LowParts
+pub mod Repeats
 pub mod ResidualsOfBytes
+pub mod RunsGoOn
 pub mod StandingCoders
 pub mod Stops
 pub mod TakenBytes

@@ -1,10 +1,10 @@
 -- The open segment of the fast coder, whose blocks are coded as soon as they are whole.
-use Rattle.std.specs.Prelude.{◌≡◌, ℕ, ◌+◌, ◌-◌, ◌*◌, ◌<◌, ◌≤◌, ◌==◌, ◌&&◌, Bool, true, false, List, [], ◌∷◌, ◌++◌, length, take, drop, sum_by, Option, Some, None, IfSome, ℤ}
+use Rattle.std.specs.Prelude.{◌≡◌, ℕ, ◌+◌, ◌-◌, ◌*◌, ◌<◌, ◌≤◌, ◌==◌, ◌&&◌, Bool, true, false, List, [], ◌∷◌, ◌++◌, length, replicate, take, drop, sum_by, Option, Some, None, IfSome, ℤ}
 use Rattle.std.specs.List.{AllByRecursion}
 use Rattle.rice_bits.specs.Limits.{step_limit}
 use Rattle.rice_samples.specs.Parameters.{Parameters, IsLegal, IsSample, width, value_at, value_count}
 use Rattle.rice_samples.specs.Places.{blocks_left}
-use Rattle.rice_samples.specs.bytes.Spelling.{spelling}
+use Rattle.rice_samples.specs.bytes.Spelling.{spelling, spellings}
 use Rattle.rice_samples.specs.predict.Residuals.{pattern}
 use Rattle.rice_code.specs.CoderSteps.{least_looks, most_looks, coding_steps}
 use Rattle.rice_code.specs.code.Blocks.{BlockData}
@@ -114,6 +114,12 @@ pub record IsBefore (c : BlockCoder) (bytes : List ℕ) (reference : Option ℕ)
   pub later : (c.setting.preprocess && is_at_first c) ≡ false → (reference ≡ c.reference) × (level ≡ c.previous)
   pub first : (c.setting.preprocess && is_at_first c) ≡ true → (x : ℤ) × IsSample c.setting x × (take (width c.setting) bytes ≡ spelling c.setting x) × (value_at c.setting level ≡ x)
       × (reference ≡ Some (pattern c.setting x))
+
+-- Zero blocks are pending, and the bytes of a block spell the sample before again and again, which is predicted.
+pub record GoesOn (c : BlockCoder) (bytes : List ℕ) : Type 0 where
+  pub pending : 0 < c.run
+  pub predicted : c.setting.preprocess ≡ true
+  pub spelled : bytes ≡ spellings c.setting (replicate c.setting.block (value_at c.setting c.previous))
 
 -- The samples are pushed. Only where they make the segment whole are bits put.
 pub record PushesOpen (m m_new : Standing) (samples : List ℤ) (bits : ℕ) : Type 0 where

@@ -10,10 +10,11 @@ ghost use Rattle.rice_code.specs.code.SoundBlocks.{block_with};
 ghost use Rattle.rice_code.specs.encode.Coder.{AddsCode, HasTaken};
 ghost use Rattle.rice_code.specs.encode.HeldBlocks.{reference_at};
 ghost use Rattle.rice_code.specs.encode.OpenSegment.{CodesHeld, IsOpen, empty_state, next_start, state_after_all, state_between};
-ghost use Rattle.rice_fast.specs.encode.OpenBlocks.{HasRoomForBlock, IsAhead, IsBefore, PushesOpen, StandsAfter, StandsFor, coder_between, coder_with, is_at_first, whole_part};
+ghost use Rattle.rice_fast.specs.encode.OpenBlocks.{GoesOn, HasRoomForBlock, IsAhead, IsBefore, PushesOpen, StandsAfter, StandsFor, coder_between, coder_with, is_at_first, whole_part};
 ghost use Rattle.rice_fast.specs.encode.Standing.{HasRoomAt, Standing, TakesSpelled};
 
 use crate::encode::blocks::code_next_or_add_to_run;
+use crate::encode::repeats::repeat_sample;
 use crate::encode::residuals_of_bytes::residuals_of_bytes;
 use rice_bits::Meter;
 use rice_code::encode::blocks::{put_pending_run, reference_of};
@@ -168,6 +169,9 @@ impl BlockCoder {
 
     /// Takes whole blocks from the front of the bytes, up to the one that completes a segment, or up to one in which bytes spell no sample;
     /// none if blocks are no multiple of eight samples.
+    ///
+    /// It is inlined where the coder, its sink and its meter are known to lie apart, so that residuals stay in registers.
+    #[inline(always)]
     fn push_blocks(&mut self, bytes: &[u8], sink: &mut SegmentSink, meter: &mut Meter) -> Pushed
         requires between { self.old.held ≡ 0 }
         requires stands { (m : Standing) × StandsFor self.old sink.old meter.old m × HasRoomAt m }
@@ -191,6 +195,7 @@ impl BlockCoder {
     }
 
     /// Does what `push_blocks` does with blocks of `SIZE` samples, or of any number if `SIZE` is 0.
+    #[inline(always)]
     fn push_blocks_of_size<const SIZE: usize>(
         &mut self,
         bytes: &[u8],
@@ -262,6 +267,15 @@ impl BlockCoder {
         ensures same { result ≡ false → self.new.blocks ≡ self.old.blocks }
     {
         let size = known_or::<SIZE>(self.setting.block() as usize);
+        if self.goes_on_with_run::<SIZE>(bytes) {
+            // A step for each sample, and one for each look.
+            meter.tick(size as u64);
+            meter.tick(size as u64);
+            self.blocks += 1;
+            self.run += 1;
+            self.steps_ahead += size as u64;
+            return true;
+        }
         let before = match self.before_next(bytes) {
             Some(before) => before,
             None => return false,
@@ -278,6 +292,22 @@ impl BlockCoder {
             }
             None => false,
         }
+    }
+
+    /// Returns true only if the bytes of a whole block spell the sample before again and again, where that makes a zero block, and such are
+    /// pending.
+    #[inline(always)]
+    fn goes_on_with_run<const SIZE: usize>(&self, bytes: &[u8]) -> bool
+        requires size { 0 < SIZE → SIZE ≡ self.now.setting.block }
+        requires len { length bytes.now ≡ width_of self.now.setting * self.now.setting.block }
+        requires below { self.now.previous < value_count self.now.setting }
+        ensures { result ≡ true → GoesOn self.now bytes.now }
+    {
+        let size = self.setting.block() as usize;
+        if self.run == 0 || !self.setting.preprocess() {
+            return false;
+        }
+        repeat_sample::<SIZE>(&self.setting, bytes, size, self.previous)
     }
 
     /// Returns what stands before the sample that the bytes spell first, or `None` if they spell none.

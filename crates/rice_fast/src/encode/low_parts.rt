@@ -66,7 +66,7 @@ pub fn put_low<const SIZE: usize, const REFERENCE: bool, const OF_SPLIT: bool>(
     }
 }
 
-/// Adds those of eight residuals, joined to numbers of 56 digits or less.
+/// Adds the `width` lowest digits of each of eight residuals from number `from`, 0 or 1, on, joined to numbers of 56 digits or less.
 #[inline(always)]
 fn put_eight(
     eight: &[u32],

@@ -1,7 +1,8 @@
 -- What the fast coder stands for, from call to call.
 use Rattle.std.proofs.Common.{◌≡◌, ℕ, zero, suc, ◌+◌, ◌*◌, ◌^◌, ◌<◌, ◌≤◌, Bool, List, [], ◌∷◌, ◌++◌, length, take, drop}
 use Rattle.std.proofs.Common.{refl, ap, arith, sym, ◌∙◌, subst, inl, inr, append-nil, Option, None, ℤ}
-use Rattle.std.specs.Prelude.{◌⊎◌}
+use Rattle.std.specs.Prelude.{◌⊎◌, ◌==◌, true}
+use Rattle.std.specs.List.{list_all}
 use Rattle.std.proofs.lemmas.Bool.{cases_lt}
 use Rattle.std.proofs.lemmas.List.{length-take-le, take-append-drop, drop_at}
 use Rattle.std.proofs.Math.Nat.{mul-le-mul_left}
@@ -11,7 +12,7 @@ use Rattle.rice_samples.proofs.lemmas.setting.PlaceLemmas.{some_left}
 use Rattle.rice_code.specs.CoderSteps.{coding_steps, segment_steps}
 use Rattle.rice_code.specs.code.SoundBlocks.{AreSoundBlocks, block_with}
 use Rattle.rice_code.specs.encode.Coder.{HasTaken, IsCoder}
-use Rattle.rice_code.specs.encode.HeldBlocks.{held_blocks, reference_at}
+use Rattle.rice_code.specs.encode.HeldBlocks.{JoinsRun, held_blocks, reference_at}
 use Rattle.rice_code.specs.encode.OpenSegment.{CoderState, IsOpen, HoldsSoundBlocks, IsWhole, state_after_all, state_between}
 use Rattle.rice_code.proofs.lemmas.encode.PendingRuns.{held_len}
 use Rattle.rice_code.proofs.lemmas.encode.PushedCode.{open_between, short_of, steps_of_segment}
@@ -20,7 +21,7 @@ use Rattle.rice_code.proofs.lemmas.encode.SeveralSamplesHeld.{length-state_after
 use Rattle.rice_fast.specs.encode.OpenBlocks.{HasRoomForBlock, HoldsOpen, IsAhead, PushesOpen, StandsAfter, StandsFor, StandsWith, coder_between, coder_with, whole_part}
 use Rattle.rice_fast.specs.encode.Standing.{HasRoomAt, Standing}
 use Rattle.rice_fast.specs.declared.encode.coder.BlockCoder.{BlockCoder}
-use Rattle.rice_fast.proofs.lemmas.encode.CodeAhead.{ahead_with, none_ahead, nothing_ahead, other_reference, steps_are_few}
+use Rattle.rice_fast.proofs.lemmas.encode.CodeAhead.{IsNext, ahead_of_zero, ahead_with, none_ahead, nothing_ahead, other_reference, room_to_look, steps_are_few}
 use Rattle.rice_fast.proofs.lemmas.encode.HeldResiduals.{held_more, held_next, sound_after, blocks_are_sound}
 
 -- a coder between two calls has taken no sample in the next
@@ -109,30 +110,55 @@ next_block {c} {row} {ds = ds} h whole =
     ∙ ap (λ v. v ++ block_with (reference_at c.reference c.blocks) row ∷ [])
     (sym (held_more s c.reference c.blocks front row (omega (arith, len))) ∙ ap (held_blocks s c.reference c.blocks) (sym parts)))
 
--- such a row can be put,
-unfoldable pub part_has_room : {c : BlockCoder} {sink : List Bool} {meter : ℕ} {m : Standing} {xs : List ℤ} → StandsWith c (whole_part c) sink meter m xs → HasRoomAt m
-    → length (whole_part c) ≡ c.setting.block → c.blocks < c.end
-    → HasRoomForBlock c sink meter
-part_has_room {c} {sink} {meter} {m} {xs} h room whole less =
+-- which is sound,
+pub next_is : {c : BlockCoder} {row : List ℕ} {sink : List Bool} {meter : ℕ} {m : Standing} {xs : List ℤ} (h : StandsWith c row sink meter m xs) → length row ≡ c.setting.block → c.blocks < c.end
+    → let blocks = held_blocks c.setting c.reference c.blocks h.residuals in IsNext c.setting c.start c.reference blocks (block_with (reference_at c.reference (length blocks)) row)
+next_is {c} {row} h whole less =
     let s = c.setting in
     let holds = h.holds in
     let count = held_len s c.reference c.blocks h.residuals in
     let more : s.block * (c.blocks + 1) ≤ s.block * c.end = mul-le-mul_left s.block (omega (arith, less)) in
     let sound = blocks_sound (c.blocks + 1) h (omega (arith, less)) (omega (arith, holds.number, whole)) in
     record {
+      legal = holds.opens.legal;
+      below = omega (arith, count, less, holds.ends);
+      reference = refl;
+      sound = subst (AreSoundBlocks s c.start)
+          (next_block holds whole ∙ ap (λ n. held_blocks s c.reference c.blocks h.residuals ++ block_with (reference_at c.reference n) row ∷ []) (sym count)) sound;
+    }
+
+-- has room,
+pub steps_behind : {c : BlockCoder} {row : List ℕ} {sink : List Bool} {meter : ℕ} {m : Standing} {xs : List ℤ} → StandsWith c row sink meter m xs → HasRoomAt m
+    → m.meter + length xs + coding_steps c.setting < 2 ^ 62
+steps_behind h room = let all = meter_behind 0 h room (omega (arith, blocks_inside h.holds)) in omega (arith, all)
+
+pub room_for_look : {c : BlockCoder} {row : List ℕ} {sink : List Bool} {meter : ℕ} {m : Standing} {xs : List ℤ} → StandsWith c row sink meter m xs → HasRoomAt m → length row ≡ c.setting.block
+    → c.blocks < c.end → meter + c.setting.block < 2 ^ 62
+room_for_look {m = m} {xs} h room whole less =
+    let next = next_is h whole less in
+    omega (arith, h.holds.steps_ahead, room_to_look (m.meter + length xs) h.holds.ahead next.legal next.below (steps_behind h room))
+
+-- can be put,
+unfoldable pub part_has_room : {c : BlockCoder} {sink : List Bool} {meter : ℕ} {m : Standing} {xs : List ℤ} → StandsWith c (whole_part c) sink meter m xs → HasRoomAt m
+    → length (whole_part c) ≡ c.setting.block → c.blocks < c.end
+    → HasRoomForBlock c sink meter
+part_has_room {c} {sink} {meter} {m} {xs} h room whole less =
+    let s = c.setting in
+    let holds = h.holds in
+    let next = next_is h whole less in
+    record {
       blocks = held_blocks s c.reference c.blocks h.residuals;
       from = m.sink;
       meter_from = m.meter + length xs;
-      number = count;
+      number = held_len s c.reference c.blocks h.residuals;
       legal = holds.opens.legal;
       fits = holds.opens.reference;
       ahead = holds.ahead;
-      sound = subst (AreSoundBlocks s c.start)
-          (next_block holds whole ∙ ap (λ n. held_blocks s c.reference c.blocks h.residuals ++ block_with (reference_at c.reference n) (whole_part c) ∷ []) (sym count)) sound;
-      below = omega (arith, count, less, holds.ends);
+      sound = next.sound;
+      below = next.below;
       steps_ahead = holds.steps_ahead;
       room = room.room;
-      steps = let all = meter_behind 0 h room (omega (arith, blocks_inside holds)) in omega (arith, all);
+      steps = steps_behind h room;
     }
 
 -- and then it is coded
@@ -145,12 +171,12 @@ with_block c run bits steps = record c {
 }
 
 -- what is put of it is ahead then
-pub part_is_put : {c : BlockCoder} {sink sink_new : List Bool} {meter meter_new : ℕ} {m : Standing} {xs : List ℤ} (run bits steps : ℕ) → (h : StandsWith c (whole_part c) sink meter m xs)
-    → length (whole_part c) ≡ c.setting.block → c.blocks < c.end
+pub row_is_put : {c : BlockCoder} {row : List ℕ} {sink sink_new : List Bool} {meter meter_new : ℕ} {m : Standing} {xs : List ℤ} (run bits steps : ℕ) → (h : StandsWith c row sink meter m xs)
+    → length row ≡ c.setting.block → c.blocks < c.end
     → IsAhead c.setting c.start c.reference run bits steps
-    (held_blocks c.setting c.reference c.blocks h.residuals ++ block_with (reference_at c.reference (length (held_blocks c.setting c.reference c.blocks h.residuals))) (whole_part c) ∷ []) sink_new m.sink
+    (held_blocks c.setting c.reference c.blocks h.residuals ++ block_with (reference_at c.reference (length (held_blocks c.setting c.reference c.blocks h.residuals))) row ∷ []) sink_new m.sink
     → meter_new ≡ m.meter + length xs + steps → StandsWith (with_block c run bits steps) [] sink_new meter_new m xs
-part_is_put {c} {sink} {sink_new} {meter} {meter_new} {m} {xs} run bits steps h whole less ahead ticks =
+row_is_put {c} {row} {sink} {sink_new} {meter} {meter_new} {m} {xs} run bits steps h whole less ahead ticks =
     let s = c.setting in
     let holds = h.holds in
     let count = held_len s c.reference c.blocks h.residuals in
@@ -169,12 +195,21 @@ part_is_put {c} {sink} {sink_new} {meter} {meter_new} {m} {xs} run bits steps h 
         part = drop_whole (s.block * (c.blocks + 1)) h.residuals (omega (arith, number));
         steps_ahead = ticks;
         ahead = subst (λ cs. IsAhead s c.start c.reference run bits steps cs sink_new m.sink)
-            (ap (λ n. held_blocks s c.reference c.blocks h.residuals ++ block_with (reference_at c.reference n) (whole_part c) ∷ []) count ∙ sym (next_block holds whole)) ahead;
+            (ap (λ n. held_blocks s c.reference c.blocks h.residuals ++ block_with (reference_at c.reference n) row ∷ []) count ∙ sym (next_block holds whole)) ahead;
       };
     }
   where
     drop_whole : (n : ℕ) (ds : List ℕ) → length ds ≡ n → drop n ds ≡ []
     drop_whole n ds e = ap (λ v. drop n v) (sym (append-nil ds)) ∙ drop_at ds [] n e
+
+-- Of a row of zeros nothing is put: it is looked at, and pending.
+pub zeros_are_put : {c : BlockCoder} {row : List ℕ} {sink : List Bool} {meter : ℕ} {m : Standing} {xs : List ℤ} → StandsWith c row sink meter m xs → length row ≡ c.setting.block → c.blocks < c.end
+    → list_all (λ d. d == 0) row ≡ true
+    → StandsWith (with_block c (c.run + 1) c.bits_ahead (c.steps_ahead + c.setting.block)) [] sink (meter + c.setting.block) m xs
+zeros_are_put {c} {row} {sink} {meter} h whole less none =
+    let joins : JoinsRun c.setting c.run (c.run + 1) sink sink meter (meter + c.setting.block) = record { run_is = refl; bits = refl; steps = refl } in
+    row_is_put (c.run + 1) c.bits_ahead (c.steps_ahead + c.setting.block) h whole less
+    (ahead_of_zero h.holds.ahead (next_is h whole less) none joins h.holds.ahead.len (omega arith)) (omega (arith, h.holds.steps_ahead))
 
 -- What is held of a block counts as a row, whichever the part of the coder is.
 pub other_part : {c : BlockCoder} {row : List ℕ} {sink : List Bool} {meter : ℕ} {m : Standing} {xs : List ℤ} (part : List ℕ) (held : ℕ) → StandsWith c row sink meter m xs

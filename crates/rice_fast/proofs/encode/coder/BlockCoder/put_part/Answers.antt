@@ -1,7 +1,7 @@
 use Rattle.std.proofs.Common.{◌≡◌, ◌∙◌, length, take, refl, subst, sym}
 use Rattle.rice_fast.specs.encode.OpenBlocks.{StandsAfter, whole_part}
 use Rattle.rice_fast.specs.declared.encode.coder.BlockCoder.{BlockCoder}
-use Rattle.rice_fast.proofs.lemmas.encode.StandingCoders.{none_held, other_part, part_as_row, part_counted, part_has_room, part_is_put}
+use Rattle.rice_fast.proofs.lemmas.encode.StandingCoders.{none_held, other_part, part_as_row, part_counted, part_has_room, row_is_put}
 use Rattle.rice_fast.proofs.encode.coder.BlockCoder.put_part.Goals as goal
 
 pub put_block-requires-clause-room : goal.put_block-requires-clause-room
@@ -20,6 +20,6 @@ returns-clause-stands c m xs h room =
     let fit = part_has_room stands room row c.requires.inside in
     let did = c.put_block.ensures in
     let new = c.put_block.new.self in
-    let put = part_is_put new.run new.bits_ahead new.steps_ahead stands row c.requires.inside (did.ahead fit) (did.meter fit) in
+    let put = row_is_put new.run new.bits_ahead new.steps_ahead stands row c.requires.inside (did.ahead fit) (did.meter fit) in
     let P : BlockCoder → Type 0 = λ v. StandsAfter (record v { held = 0 }) c.put_block.new.sink c.put_block.new.meter m xs in
     subst P (sym did.value) (none_held (other_part self.part 0 put) refl h.room)
