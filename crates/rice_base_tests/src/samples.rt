@@ -7,7 +7,7 @@ use crate::cases::Cases;
 use rice_bits::Meter;
 use rice_samples::{
     Segment, Setting, SettingFault, bytes_of as bytes_of_sample, from_pattern, level_of_pattern,
-    pattern, pattern_of_level, residual, restore, sample_of,
+    pattern, residual, restore, sample_of,
 };
 use std::alloc::Global;
 use std::test::Fail;
@@ -259,7 +259,6 @@ fn sample_has_level(cases: &mut Cases<'_>, setting: &Setting, x: i64, word: u32,
     cases.check(level_of_pattern(setting, word) == level);
     cases.check(setting.level(x) == level as u64);
     cases.check(setting.value_at(level as u64) == x);
-    cases.check(pattern_of_level(setting, level) == word);
 }
 
 /// The options, the sample before, a sample, and its residual.

@@ -4,4 +4,3 @@ pub(crate) mod bits;
 pub mod lanes;
 mod reader;
 mod sink;
-mod window;

@@ -3,4 +3,3 @@
 pub mod fault;
 pub mod reader;
 pub(crate) mod window;
-pub(crate) mod words;

@@ -2,5 +2,4 @@
 pub mod LevelsOfParts
 pub mod NearNumbers
 pub mod Residuals
-pub mod RestoredLevels
 pub mod RunningSums

@@ -1,9 +1,7 @@
-//! Calls for the fast coder and decoder: rows of levels, rows of residuals, and samples restored several at a time.
+//! Calls for the fast coder and decoder: levels, residuals and samples, several at a time.
 
-pub mod block;
 pub mod lanes;
 pub mod level_lanes;
-pub mod pattern_lanes;
-pub(crate) mod residuals_of_levels;
+pub(crate) mod ranks;
 pub mod restoring;
 pub mod spelling_lanes;

@@ -20,18 +20,16 @@ pub use fast::lanes::bytes::Bytes;
 pub use fast::lanes::halves::Halves;
 pub use fast::lanes::words::Words;
 pub use fast::level_lanes::{
-    levels_in_bytes, levels_in_halves, levels_in_words, levels_of_bytes_in_halves,
-    levels_of_threes_in_words, patterns_of_levels,
+    level_of_pattern, levels_in_bytes, levels_in_halves, levels_in_words,
+    levels_of_bytes_in_halves, levels_of_threes_in_words, patterns_of_levels,
 };
-pub use fast::pattern_lanes::bytes_of_patterns;
-pub use fast::residuals_of_levels::from_levels::pattern_of_level;
-pub use fast::residuals_of_levels::ranks::ranks;
-pub use fast::restoring::levels::level_of_pattern;
+pub use fast::ranks::ranks;
 pub use fast::restoring::near::running_sums;
 pub use fast::restoring::parts::{join_parts, near_levels_of_parts};
 pub use fast::restoring::turns::{bytes_in_turn, halves_in_turn, words_in_turn};
 pub use fast::spelling_lanes::{
-    spelled_in_four_bytes, spelled_in_one_byte, spelled_in_three_bytes, spelled_in_two_bytes,
+    bytes_of_patterns, spelled_in_four_bytes, spelled_in_one_byte, spelled_in_three_bytes,
+    spelled_in_two_bytes,
 };
 pub use predict::preprocessor::{from_pattern, pattern, residual, restore};
 pub use setting::{Setting, SettingFault};

@@ -1,5 +1,3 @@
 -- Fundamental sequences and words in the lanes of a vector.
 pub mod Ends
 pub mod Sequences
-pub mod WordPlaces
-pub mod WideWordPlaces

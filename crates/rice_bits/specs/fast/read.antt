@@ -1,3 +1,2 @@
 -- Words and fundamental sequences that are taken many at a time.
-pub mod EightWordPlaces
 pub mod EndsAndGaps

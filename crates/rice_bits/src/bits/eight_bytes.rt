@@ -4,6 +4,7 @@ ghost use Rattle.std.specs.Int.{to_be_bytes, to_le_bytes, w64};
 ghost use Rattle.std.specs.List.{slice_index};
 ghost use Rattle.rice_bits.specs.Bits.{bits_of, word};
 
+use crate::bits::digits::digits_behind;
 use std::simd::prelude::*;
 
 /// Returns the first `count` bytes.
@@ -159,4 +160,15 @@ pub fn at_least_57_bits_from(bytes: &[u8], at: usize) -> u64
         ≡ take (64 - at % 8) (drop at (bits_of bytes.now)) ++ replicate (at % 8) false }
 {
     load(bytes, at / 8) << (at % 8)
+}
+
+/// Returns the number of the `width` bits from bit `at` on.
+#[inline]
+pub fn number_from(bytes: &[u8], at: usize, width: u32) -> u64
+    requires width { width ≤ 32 }
+    requires room { at / 8 + 8 ≤ length bytes.now }
+    ensures below { result < 2 ^ width }
+    ensures bits { word width result ≡ take width (drop at (bits_of bytes.now)) }
+{
+    digits_behind(load(bytes, at / 8), (at % 8) as u32, width)
 }

@@ -1,4 +1,3 @@
 //! Joins digits of words, several words at a time, and writes them as bytes.
 
-pub(crate) mod eight_bytes;
 pub(crate) mod whole_words;

@@ -4,8 +4,12 @@ ghost use Rattle.rice_bits.specs.Limits.{step_limit, most_bits_read};
 ghost use Rattle.rice_bits.specs.Bits.{word};
 ghost use Rattle.rice_bits.specs.fast.lanes.Sequences.{BeginWithSequences};
 
+use crate::bits::digits::front_digits;
+use crate::bits::eight_bytes::{at_least_57_bits_from, number_from};
 use crate::device::Intake;
-use crate::fast::lanes::sequences::Sequences;
+use crate::fast::lanes::sequences::{Sequences, first_sequences};
+use crate::fast::lanes::wide_words::wide_words_from;
+use crate::fast::lanes::words::{eight_words_from, sixteen_words_from};
 use crate::meter::Meter;
 use crate::read::reader::BitReader;
 use std::simd::prelude::*;
@@ -29,7 +33,7 @@ impl<I: Intake> BitReader<I> {
         ensures below { result < 2 ^ width }
         ensures bits { word width result ≡ take width (drop skip self.now.waiting) }
     {
-        self.window.number_ahead(skip, width)
+        number_from(&self.window.buffer, self.window.at + skip, width) as u32
     }
 
     /// Returns the number of the first `width` buffered bits, of which there are at least 57. It takes none.
@@ -40,7 +44,7 @@ impl<I: Intake> BitReader<I> {
         ensures below { result < 2 ^ width }
         ensures bits { word width result ≡ take width self.now.waiting }
     {
-        self.window.first_number_ahead(width)
+        front_digits(self.window.first_bits_ahead(), width) as u32
     }
 
     /// Returns the first `count` fundamental sequences after the first `skip` buffered bits, if it finds them in `bytes` bytes. It takes
@@ -53,7 +57,8 @@ impl<I: Intake> BitReader<I> {
         ensures { IfSome result (λ s.
             BeginWithSequences (drop skip self.now.waiting) count s.numbers s.len) }
     {
-        self.window.sequences_ahead(skip, bytes, count)
+        let front = at_least_57_bits_from(&self.window.buffer, self.window.at + skip);
+        first_sequences(front, bytes, count)
     }
 
     /// Returns the sixteen words of `width` bits after the first `skip` buffered bits. It takes none.
@@ -66,7 +71,7 @@ impl<I: Intake> BitReader<I> {
         ensures bits { flat_map (word width) result
             ≡ take (16 * width) (drop skip self.now.waiting) }
     {
-        self.window.words_ahead(skip, width)
+        sixteen_words_from(&self.window.buffer, self.window.at + skip, width)
     }
 
     /// Returns the eight words of `width` bits after the first `skip` buffered bits. It takes none.
@@ -79,7 +84,7 @@ impl<I: Intake> BitReader<I> {
         ensures bits { flat_map (word width) result
             ≡ take (8 * width) (drop skip self.now.waiting) }
     {
-        self.window.eight_words_ahead(skip, width)
+        eight_words_from(&self.window.buffer, self.window.at + skip, width)
     }
 
     /// Returns the eight words of `width` bits after the first `skip` buffered bits. It takes none.
@@ -92,7 +97,7 @@ impl<I: Intake> BitReader<I> {
         ensures bits { flat_map (word width) result
             ≡ take (8 * width) (drop skip self.now.waiting) }
     {
-        self.window.wide_words_ahead(skip, width)
+        wide_words_from(&self.window.buffer, self.window.at + skip, width)
     }
 
     /// Takes the next `count` buffered bits, and ticks once for each.

@@ -82,43 +82,6 @@ fn ask_intake<I: Intake>(
     Ok(count)
 }
 
-/// Refills the window from the intake when no bit is buffered.
-fn draw_bytes<I: Intake>(
-    intake: &mut I,
-    window: &mut Window,
-    blank_before: &mut bool,
-) -> Result<(), BitFault>
-    requires window { IsWindow window.old }
-    requires empty { window.old.at ≡ window.old.end }
-    requires countable { I.failed intake.old + 1 < 2 ^ 64 }
-    ensures window { IsWindow window.new }
-    ensures some { OnOk result (0 < length (window_bits window.new)) }
-    ensures ok { OnOk result (Supplies (I.left intake.old) (I.left intake.new)
-        (window_bits window.old) (window_bits window.new)) }
-    ensures blank { (blank_before.new && is_blank (window_passed window.new))
-        ≡ (blank_before.old && is_blank (window_passed window.old)) }
-    ensures taken { window_taken window.new ≡ window_taken window.old }
-    ensures failures { OnOk result (I.failed intake.new ≡ I.failed intake.old) }
-    ensures err { IfErr result (λ f. (window_bits window.old ≡ []) × (window_bits window.new ≡ []) ×
-        Refuses f (I.left intake.old) (I.left intake.new) (I.failed intake.old)
-        (I.failed intake.new) (window_taken window.old)
-        (blank_before.old && is_blank (window_passed window.old))) }
-{
-    // Other bytes may take the place of the bits that were taken.
-    *blank_before = window.is_blank(*blank_before);
-    match ask_intake(intake, &mut window.buffer, window.given, *blank_before) {
-        Ok(count) => {
-            window.hold_new_bytes(count);
-            Ok(())
-        }
-        Err(fault) => {
-            // The intake may have left anything in the buffer.
-            window.hold_new_bytes(0);
-            Err(fault)
-        }
-    }
-}
-
 /// Draws bytes from the intake if no bit waits.
 fn draw_if_empty<I: Intake>(
     intake: &mut I,
@@ -144,7 +107,19 @@ fn draw_if_empty<I: Intake>(
     if window.waiting() > 0 {
         return Ok(());
     }
-    draw_bytes(intake, window, blank_before)
+    // Other bytes may take the place of the bits that were taken.
+    *blank_before = window.is_blank(*blank_before);
+    match ask_intake(intake, &mut window.buffer, window.given, *blank_before) {
+        Ok(count) => {
+            window.hold_new_bytes(count);
+            Ok(())
+        }
+        Err(fault) => {
+            // The intake may have left anything in the buffer.
+            window.hold_new_bytes(0);
+            Err(fault)
+        }
+    }
 }
 
 impl<I: Intake> BitReader<I> {
@@ -169,13 +144,7 @@ impl<I: Intake> BitReader<I> {
         ensures left { I.left result ≡ self.left }
         ensures failed { I.failed result ≡ self.failed }
     {
-        let BitReader {
-            intake,
-            window: _,
-            blank_before: _,
-            refusal: _,
-        } = self;
-        intake
+        self.intake
     }
 
     /// Returns the number of bits taken, at most 2^52.

@@ -6,8 +6,7 @@ ghost use Rattle.rice_bits.specs.read.Reader.{is_blank};
 ghost use Rattle.rice_bits.specs.read.Window.{buffer_len, most_waiting};
 
 use crate::bits::digits::front_digits;
-use crate::bits::eight_bytes::{at_least_57_bits_from, store_zeros};
-use crate::read::words::number_from;
+use crate::bits::eight_bytes::{at_least_57_bits_from, number_from, store_zeros};
 
 /// The greatest number of bytes requested at a time.
 pub const PIECE: usize = 4096;

@@ -1,4 +1,5 @@
 -- Spelling, and reading samples from bytes.
+pub mod BytesOfWords
 pub mod LevelsSpelledInByteLanes
 pub mod ReadSamples
 pub mod LevelPatterns
@@ -8,4 +9,3 @@ pub mod UnusedBits
 pub mod SpellingLemmas
 pub mod SpellingLengths
 pub mod LanesOfWholeBytes
-pub mod WordsSpelled

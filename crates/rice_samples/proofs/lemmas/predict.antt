@@ -4,7 +4,6 @@ pub mod InverseRanksAndPatterns
 pub mod NearVectors
 pub mod JoinedPartsInLanes
 pub mod LaneRanks
-pub mod ByteRanks
 pub mod NumbersThatFit16Bits
 pub mod NearEights
 pub mod DistinctPatternsAndResiduals
@@ -12,5 +11,3 @@ pub mod RankLaws
 pub mod Ranks
 pub mod ResidualLemmas
 pub mod RestoredLevels
-pub mod RanksPreparedForTurns
-pub mod WordLanes

@@ -1,5 +1,4 @@
 -- Settings: the values of samples, and the places of blocks.
-pub mod ValueCounts
 pub mod CutLemmas
 pub mod ValuesAboveLeast
 pub mod LevelsOfSamples

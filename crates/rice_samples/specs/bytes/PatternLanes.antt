@@ -1,23 +1,17 @@
 -- Words of whole bytes, in bytes that stand one after another.
-use Rattle.std.specs.Prelude.{◌≡◌, ℕ, ◌*◌, ◌^◌, ◌<◌, Bool, true, false, List, [], ◌∷◌, length, All, flat_map}
+use Rattle.std.specs.Prelude.{◌≡◌, ℕ, zero, suc, ◌*◌, ◌^◌, ◌<◌, Bool, List, [], ◌++◌, length, take, drop, reverse, replicate, All, flat_map, if◌then◌else◌}
 use Rattle.rice_bits.specs.Bits.{word}
 use Rattle.rice_samples.specs.bytes.Spelling.{ordered_bytes}
 
--- the bytes of each pair in the other order
-abbrev pub swapped : List ℕ → List ℕ
-swapped (a ∷ b ∷ xs) = b ∷ a ∷ swapped xs
-swapped _ = []
+-- the bytes of a word in the opposite order, or as they are
+abbrev pub in_order : Bool → List ℕ → List ℕ
+in_order turned bytes = if turned then reverse bytes else bytes
 
--- the bytes of each four in the opposite order
-abbrev pub turned_in_fours : List ℕ → List ℕ
-turned_in_fours (a ∷ b ∷ c ∷ d ∷ xs) = d ∷ c ∷ b ∷ a ∷ turned_in_fours xs
-turned_in_fours _ = []
-
--- the bytes of each three with a 0 behind them, and in the opposite order where the most significant comes first
-abbrev pub threes_widened : Bool → List ℕ → List ℕ
-threes_widened true (a ∷ b ∷ c ∷ xs) = c ∷ b ∷ a ∷ 0 ∷ threes_widened true xs
-threes_widened false (a ∷ b ∷ c ∷ xs) = a ∷ b ∷ c ∷ 0 ∷ threes_widened false xs
-threes_widened _ _ = []
+-- the bytes of the first `count` words of `width` bytes each in that order, each word with `more` zeros behind it
+abbrev pub words_in_order : Bool → (width more count : ℕ) → List ℕ → List ℕ
+words_in_order turned width more zero bytes = []
+words_in_order turned width more (suc count) bytes =
+    in_order turned (take width bytes) ++ (replicate more 0 ++ words_in_order turned width more count (drop width bytes))
 
 -- Bytes are those of words of `width` bytes, each with its most significant byte first, and `ordered` are the bytes of the same words
 -- in the given order.

@@ -6,7 +6,9 @@ ghost use Rattle.rice_samples.specs.blocks.Pairs.{pair_codes};
 ghost use Rattle.rice_samples.specs.Parameters.{IsBlockSize};
 
 use crate::blocks::pair_codeword_lengths::pair_sum;
-use crate::blocks::tests_and_sums::{all_zero, sum_shifted};
+use crate::blocks::tests_and_sums::{
+    each_is_zero, each_is_zero_in_turn, sum_shifted_in_lanes_of_64, sum_shifted_in_turn,
+};
 use rice_bits::Meter;
 use std::marker::Model;
 
@@ -39,6 +41,25 @@ impl<'a> Block<'a> {
     {
         Block { items }
     }
+
+    /// Returns the residuals. The caller counts each look at them as a step.
+    #[inline(always)]
+    pub fn items(&self) -> &'a [u32]
+        ensures value { result.now ≡ self.now }
+        ensures size { IsBlockSize (length result.now) }
+    {
+        self.items
+    }
+
+    /// Returns the same block. Where the compiler knows `size`, it then knows the length.
+    #[inline(always)]
+    pub fn sized(&self, size: usize) -> Block<'a>
+        requires { length self.now ≡ size }
+        ensures { result ≡ self.now }
+    {
+        let items = self.items;
+        Block::of(&items[..size])
+    }
 }
 
 impl Block<'_> {
@@ -59,7 +80,11 @@ impl Block<'_> {
         ensures value { result ≡ list_all (λ d. d == 0) self.now }
         ensures steps { meter.new ≡ meter.old + length self.now }
     {
-        all_zero(self.look(meter))
+        let items = self.look(meter);
+        if items.len() % 8 != 0 {
+            return each_is_zero_in_turn(items);
+        }
+        each_is_zero(items)
     }
 
     /// Returns the sum of the residuals without their `k` lowest binary digits, for `k` up to 29.
@@ -71,7 +96,11 @@ impl Block<'_> {
         ensures limit { result ≤ 2 ^ 38 }
         ensures steps { meter.new ≡ meter.old + length self.now }
     {
-        sum_shifted(self.look(meter), k)
+        let residuals = self.look(meter);
+        if residuals.len() % 8 != 0 {
+            return sum_shifted_in_turn(residuals, k);
+        }
+        sum_shifted_in_lanes_of_64(residuals, k)
     }
 
     /// Returns the number of bits of the second-extension codewords of the pairs of residuals.

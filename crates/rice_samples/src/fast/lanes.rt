@@ -110,8 +110,12 @@ pub trait Lanes: Copy {
             ≡ take COUNT (get_or (numbers earlier) (COUNT - 1) 0 ∷ numbers self) };
 
     /// Returns a 0, and all but the last number.
+    #[inline(always)]
     fn moved_by_one(self) -> Self
-        ensures { numbers result ≡ take COUNT (replicate 1 0 ++ numbers self) };
+        ensures { numbers result ≡ take COUNT (replicate 1 0 ++ numbers self) }
+    {
+        self.before(Self::splat(0))
+    }
 
     /// Returns two zeros, and all but the last two numbers.
     fn moved_by_two(self) -> Self

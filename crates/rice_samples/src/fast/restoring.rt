@@ -1,7 +1,6 @@
 //! From residuals to levels of samples: `near` and `parts` restore several near samples at once, `turns` restores one after another, near or
 //! far.
 
-pub mod levels;
 pub mod near;
 pub mod parts;
 pub mod turns;

@@ -1,8 +1,8 @@
-//! The bytes of samples, in lanes.
-ghost use Rattle.std.specs.Prelude.{◌≡◌, ◌<◌, ◌≤◌, All, length, take};
+//! The bytes of samples in lanes, from their levels, and from patterns that use all their bits.
+ghost use Rattle.std.specs.Prelude.{◌≡◌, ◌⊎◌, ◌^◌, ◌<◌, ◌≤◌, All, length, take};
 ghost use Rattle.rice_samples.specs.Parameters.{value_count, values_at, width as width_of};
 ghost use Rattle.rice_samples.specs.bytes.Spelling.{spellings};
-ghost use Rattle.rice_samples.specs.bytes.PatternLanes.{swapped};
+ghost use Rattle.rice_samples.specs.bytes.PatternLanes.{OrdersWords, words_in_order};
 
 use crate::Setting;
 use crate::fast::lanes::bytes::Bytes;
@@ -30,11 +30,8 @@ pub fn spelled_in_two_bytes(setting: &Setting, levels: Halves) -> u8x16
     ensures value { result ≡ spellings setting.now (values_at setting.now levels.lanes) }
     ensures len { length result ≡ 16 }
 {
-    let least_byte_first = (levels.lanes - u16x8::splat(setting.offset() as u16)).to_le_bytes();
-    if setting.msb() {
-        return byte_pairs_swapped(least_byte_first);
-    }
-    least_byte_first
+    let words = levels.lanes - u16x8::splat(setting.offset() as u16);
+    byte_pairs(words.to_le_bytes(), setting.msb())
 }
 
 /// Returns the bytes of the eight samples of three bytes with these levels, in the first lanes.
@@ -45,7 +42,6 @@ pub fn spelled_in_three_bytes(setting: &Setting, levels: Words) -> u8x32
     ensures value { take 24 result ≡ spellings setting.now (values_at setting.now levels.lanes) }
     ensures len { length result ≡ 32 }
 {
-    let _width = setting.width();
     let words = (levels.lanes - u32x8::splat(setting.offset() as u32)).to_le_bytes();
     if setting.msb() {
         return words.shuffle(
@@ -73,28 +69,64 @@ pub fn spelled_in_four_bytes(setting: &Setting, levels: Words) -> u8x32
     ensures value { result ≡ spellings setting.now (values_at setting.now levels.lanes) }
     ensures len { length result ≡ 32 }
 {
-    let _width = setting.width();
-    let words = (levels.lanes - u32x8::splat(setting.offset() as u32)).to_le_bytes();
+    let words = levels.lanes - u32x8::splat(setting.offset() as u32);
+    byte_fours(words.to_le_bytes(), setting.msb())
+}
+
+/// Returns the bytes of samples of `WIDTH` bytes that use all bits of these. `patterns` has their patterns in sixteen bytes, each with its
+/// most significant byte first.
+#[inline(always)]
+pub fn bytes_of_patterns<const WIDTH: usize>(setting: &Setting, patterns: u8x16) -> u8x16
+    requires width { (WIDTH ≡ 1) ⊎ ((WIDTH ≡ 2) ⊎ (WIDTH ≡ 4)) }
+    requires lanes { length patterns ≡ 16 }
+    requires fit { All (λ v. v < 2 ^ 8) patterns }
+    ensures words { OrdersWords setting.now.msb WIDTH patterns result }
+    ensures len { length result ≡ 16 }
+{
     if setting.msb() {
-        return words.shuffle(
-            words,
+        return patterns;
+    }
+    if WIDTH == 1 {
+        return patterns;
+    }
+    if WIDTH == 2 {
+        return byte_pairs(patterns, true);
+    }
+    patterns.shuffle(
+        patterns,
+        [3, 2, 1, 0, 7, 6, 5, 4, 11, 10, 9, 8, 15, 14, 13, 12],
+    )
+}
+
+/// Returns the bytes of words of two bytes, or those of each in the opposite order.
+#[inline(always)]
+pub(crate) fn byte_pairs(bytes: u8x16, turned: bool) -> u8x16
+    requires { length bytes ≡ 16 }
+    ensures { result ≡ words_in_order turned 2 0 8 bytes }
+{
+    if turned {
+        return bytes.shuffle(
+            bytes,
+            [1, 0, 3, 2, 5, 4, 7, 6, 9, 8, 11, 10, 13, 12, 15, 14],
+        );
+    }
+    bytes
+}
+
+/// Returns the bytes of words of four bytes, or those of each in the opposite order.
+#[inline(always)]
+pub(crate) fn byte_fours(bytes: u8x32, turned: bool) -> u8x32
+    requires { length bytes ≡ 32 }
+    ensures { result ≡ words_in_order turned 4 0 8 bytes }
+{
+    if turned {
+        return bytes.shuffle(
+            bytes,
             [
                 3, 2, 1, 0, 7, 6, 5, 4, 11, 10, 9, 8, 15, 14, 13, 12, 19, 18, 17, 16, 23, 22, 21,
                 20, 27, 26, 25, 24, 31, 30, 29, 28,
             ],
         );
     }
-    words
-}
-
-/// Returns the bytes of each pair in the other order.
-#[inline(always)]
-pub(crate) fn byte_pairs_swapped(bytes: u8x16) -> u8x16
-    requires { length bytes ≡ 16 }
-    ensures { result ≡ swapped bytes }
-{
-    bytes.shuffle(
-        bytes,
-        [1, 0, 3, 2, 5, 4, 7, 6, 9, 8, 11, 10, 13, 12, 15, 14],
-    )
+    bytes
 }

@@ -14,7 +14,8 @@ use Rattle.rice_bits.proofs.lemmas.bits.BytesAndBits.{bits_of-append, each_byte,
 pub word-mod : (k b n : ℕ) → k ≤ b → word k (n % 2 ^ b) ≡ word k n
 word-mod k b n h = sym (word-low k b (n / 2 ^ b) (n % 2 ^ b) h) ∙ ap (word k) (shr_split n b)
 
-pow_bytes : (k : ℕ) → 256 ^ k ≡ 2 ^ (8 * k)
+-- powers of 256
+pub pow_bytes : (k : ℕ) → 256 ^ k ≡ 2 ^ (8 * k)
 pow_bytes zero = refl
 pow_bytes (suc k) =
     let e : 8 * suc k ≡ 8 + 8 * k = omega arith in
@@ -25,7 +26,8 @@ byte_digits : (k n : ℕ) → word 8 (byte_at k n) ≡ word 8 (n / 2 ^ (8 * k))
 byte_digits zero n = let e : n / 1 ≡ n = omega arith in word-mod 8 8 n (omega arith) ∙ ap (word 8) (sym e)
 byte_digits (suc k) n = word-mod 8 8 (n / 256 ^ suc k) (omega arith) ∙ ap (λ p. word 8 (n / p)) (pow_bytes (suc k))
 
-bits_of-high_first : (k n : ℕ) → bits_of (bytes_high_first k n) ≡ word (8 * k) n
+-- bytes of a number, the highest first, have its digits
+pub bits_of-high_first : (k n : ℕ) → bits_of (bytes_high_first k n) ≡ word (8 * k) n
 unfolding bits_of
 bits_of-high_first zero n = sym (word-nil n)
 bits_of-high_first (suc k) n =

@@ -2,6 +2,5 @@
 pub mod EndsInLanes
 pub mod GapsInLanes
 pub mod WordsInTwoBytes
-pub mod WordsInFourBytes
+pub mod WordsInBytes
 pub mod SequencesAhead
-pub mod SixteenLanes

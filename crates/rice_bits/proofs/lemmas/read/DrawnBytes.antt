@@ -1,18 +1,12 @@
 -- Bytes that are drawn from an intake, and the bits taken of them.
-use Rattle.std.proofs.Common.{◌+◌, ◌-◌, ◌*◌, inl, inr, ◌≡◌, ℕ, ◌<◌, ◌≤◌, length-append, Bool, List, [], ◌∷◌, ◌++◌, length, take, get_or, refl, sym, ◌∙◌, ap, arith, append_assoc, Option, Some, None}
-use Rattle.std.specs.Io.KnownBytes.{Consumes, Keeps}
+use Rattle.std.proofs.Common.{◌+◌, ◌-◌, ◌*◌, inl, inr, ◌≡◌, ℕ, ◌<◌, length-append, Bool, List, [], ◌++◌, length, refl, sym, ◌∙◌, ap, arith, append_assoc, Option, Some, None}
+use Rattle.std.specs.Io.KnownBytes.{Consumes}
 use Rattle.std.proofs.lemmas.List.{append-nil}
 use Rattle.rice_bits.specs.Limits.{most_at_once}
 use Rattle.rice_bits.specs.Bits.{bits_of}
 use Rattle.std.proofs.lemmas.Bool.{cases_lt}
 use Rattle.rice_bits.specs.read.Reader.{Draws, Supplies}
 use Rattle.rice_bits.proofs.lemmas.bits.BytesAndBits.{bits_of-nil, bits_of-append, length-bits_of}
-
--- nothing is drawn where the known bytes stay
-pub consumes-none : (old new : Option (List ℕ)) → Keeps old new → Consumes old new []
-consumes-none None new h = h
-consumes-none (Some xs) None h = h
-consumes-none (Some xs) (Some ys) h = sym h
 
 -- so nothing is drawn where what is known of the bytes is the same before and after
 pub consumes-nil : (a : Option (List ℕ)) → Consumes a a []
@@ -58,11 +52,6 @@ draws-append {a} {b} {c} {old} {mid} {new} {xs} {ys} p q =
             q.split,
           ) (sym (append_assoc xs ys new));
     }
-
--- one number from the front of a list that has one is its first
-pub take-one : (xs : List ℕ) (n : ℕ) → n ≡ 1 → n ≤ length xs → take n xs ≡ get_or xs 0 0 ∷ []
-take-one [] n e h = absurd (omega arith)
-take-one (x ∷ xs) n e h = rw e refl
 
 -- nothing is supplied
 pub supplies-none : (a : Option (List ℕ)) (old : List Bool) → Supplies a a old old

@@ -12,7 +12,7 @@ use Rattle.std.proofs.lemmas.Bool.Decides.{nat_tests}
 use Rattle.std.proofs.lemmas.List.{drop-drop, drop-take, length-drop, length-replicate, length-take-le}
 use Rattle.std.proofs.lemmas.List.{replicate-append-replicate, take-append-drop, take-append-le, take-replicate, take_at}
 use Rattle.rice_bits.specs.Bits.{fundamental_sequence, word, bits_of}
-use Rattle.rice_bits.specs.read.Window.{IsWindow, Passes, bits_near, window_bits, window_passed}
+use Rattle.rice_bits.specs.read.Window.{IsWindow, Passes, bits_near, most_waiting, window_bits, window_passed}
 use Rattle.rice_bits.specs.declared.read.window.Window.{Window}
 use Rattle.rice_bits.proofs.lemmas.bits.BytesAndBits.{bits_of-append, bits_of-zeros, length-bits_of}
 use Rattle.rice_bits.proofs.lemmas.bits.EightBytes.{bits_of-eight}
@@ -40,7 +40,8 @@ take-bits_of n xs h =
     let both : bits_of xs ≡ front ++ bits_of (drop n xs) = ap bits_of (sym (take-append-drop n xs)) ∙ bits_of-append (take n xs) (drop n xs) in
     ap (take (8 * n)) both ∙ (ap (λ k. take k (front ++ bits_of (drop n xs))) (sym len) ∙ take-append_seam front (bits_of (drop n xs)))
 
-drop-bits_of : (n : ℕ) (xs : List ℕ) → n ≤ length xs → drop (8 * n) (bits_of xs) ≡ bits_of (drop n xs)
+-- and the bits behind those of the first bytes are those of the others
+pub drop-bits_of : (n : ℕ) (xs : List ℕ) → n ≤ length xs → drop (8 * n) (bits_of xs) ≡ bits_of (drop n xs)
 drop-bits_of n xs h =
     let front = bits_of (take n xs) in
     let len : length front ≡ 8 * n = length-bits_of (take n xs) ∙ ap (λ k. 8 * k) (length-take-le n xs h) in
@@ -75,6 +76,10 @@ pub length-window : (w : Window) → IsWindow w → length (window_bits w) ≡ w
 unfolding window_bits
 length-window w h =
     length-take-le (w.end - w.at) (drop w.at (bits_of w.buffer)) (omega (arith, length-drop w.at (bits_of w.buffer), length-bits_of w.buffer, h.size, h.fits))
+
+-- so bits that wait behind others stand before its end, which its buffer holds
+pub place_ahead : {w : Window} {waiting : List Bool} (skip n : ℕ) → IsWindow w → window_bits w ≡ waiting → skip + n ≤ length waiting → (w.at + skip + n ≤ w.end) × (w.end ≤ most_waiting)
+place_ahead {w} skip n h waits there = (omega (arith, ap length waits, there, length-window w h, h.ordered), h.fits)
 
 -- a window of which bits were taken
 pub window-moved : (w : Window) (at : ℕ) → IsWindow w → w.at ≤ at → at ≤ w.end → IsWindow (record w { at = at })
@@ -264,12 +269,6 @@ blank-ahead bits s n r v few fits ahead e =
     let digits : word n v ≡ slice_range bits s (s + n) =
     ap (word n) e ∙ (first-ahead (drop s bits) n (64 - s % 8) (s % 8) r (omega (arith, few)) (omega arith) ahead ∙ ap (λ k. take k (drop s bits)) (sym size)) in
     ap is_blank (sym digits) ∙ blank-word n v (rw e (front_below 64 n r (omega (arith, few)) fits))
-
--- an empty stretch of bits has no 1
-pub blank-start : (bits : List Bool) (a : ℕ) → is_blank (slice_range bits a a) ≡ true
-blank-start bits a =
-    let none : a - a ≡ 0 = omega arith in
-    rw none refl
 
 -- a stretch without a 1 and the next n bits, where these spell 0, are a stretch without a 1
 pub blank-more : (bits : List Bool) {a s n : ℕ} (r : ℕ) {v : ℕ} → a ≤ s → n ≤ 57 → r < 2 ^ 64 → word 64 r ≡ take (64 - s % 8) (drop s bits) ++ replicate (s % 8) false

@@ -4,8 +4,7 @@ ghost use Rattle.rice_bits.specs.Bits.{word, IsBitSink, Joins};
 ghost use Rattle.rice_bits.specs.fast.bits.WholeWords.{IsWholeWidth, JoinsAllBut};
 
 use crate::bits::digits::{join, low_digits};
-use crate::bits::eight_bytes::join_bytes;
-use crate::fast::bits::eight_bytes::store_word;
+use crate::bits::eight_bytes::{join_bytes, store_least_byte_first};
 use std::simd::prelude::*;
 
 /// Joins the `count` digits of `value`, and then those of the words, to the first `bits` bits. It omits the last `bits % 8 + count` digits,
@@ -145,7 +144,7 @@ fn join_64_digits_to_whole_bytes(bytes: &mut [u8], bits: u64, digits: u64) -> u6
     ensures joins { Joins (word 64 digits) 64 bits result bytes.old bytes.new }
     ensures whole { result % 8 ≡ 0 }
 {
-    store_word(bytes, (bits / 8) as usize, digits);
+    store_least_byte_first(bytes, (bits / 8) as usize, digits.swap_bytes());
     bits + 64
 }
 

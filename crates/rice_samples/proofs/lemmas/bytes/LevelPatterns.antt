@@ -1,12 +1,12 @@
 -- Levels, and the patterns and words of the values at these.
 use Rattle.std.proofs.Common.{◌≡◌, ℕ, ◌+◌, ◌-◌, ◌*◌, ◌%◌, ◌^◌, ◌<◌, ◌≤◌, zero, suc, inl, inr, mod-eq_of_lt, Bool, true, false, cond}
-use Rattle.std.proofs.Common.{refl, ap, arith, sym, ◌∙◌, List, [], ◌∷◌, map, pos, negsuc, neg_ℤ, ◌+ℤ◌}
+use Rattle.std.proofs.Common.{refl, ap, arith, sym, ◌∙◌, pos, negsuc, neg_ℤ, ◌+ℤ◌}
 use Rattle.std.specs.Prelude.{bit_and}
 use Rattle.std.proofs.lemmas.Int.{ints}
 use Rattle.std.proofs.lemmas.Nat.{and_mask, mod-mul-add, mod_below, pow-add, pow_pos}
 use Rattle.std.proofs.Math.Nat.{mod-add-mod, mul-le-mul_right}
 use Rattle.std.proofs.Math.Pow.{mod-mod-pow, pow_mono}
-use Rattle.rice_samples.specs.Parameters.{Parameters, least, level, value_at, value_count, values_at}
+use Rattle.rice_samples.specs.Parameters.{Parameters, least, level, value_at, value_count}
 use Rattle.rice_samples.specs.predict.Residuals.{pattern, twos_complement}
 use Rattle.rice_samples.specs.bytes.ValueRange.{offset, IsValue}
 use Rattle.rice_samples.proofs.lemmas.bytes.SpellingLemmas.{level_from_pattern, mod_once, offset_limit, same_offset, wider_value}
@@ -34,15 +34,6 @@ pub level_of_pattern : (s : Parameters) (v o greatest : ℕ) → 1 ≤ s.bits �
 level_of_pattern s v o greatest h k lt e g =
     let l : bit_and ((v + o) % 2 ^ 32) greatest ≡ (v + offset s) % 2 ^ s.bits = ap (λ m. bit_and ((v + o) % 2 ^ 32) m) g ∙ (low_sum s.bits (v + o) k ∙ ap (λ m. (v + m) % 2 ^ s.bits) e) in
     ap (λ m. pattern s (value_at s m)) l ∙ pattern_of_level s v h lt
-
--- where samples are unsigned, levels are patterns
-pub unsigned_patterns : (s : Parameters) (levels : List ℕ) → s.signed ≡ false → map (pattern s) (values_at s levels) ≡ levels
-unsigned_patterns s [] e = refl
-unsigned_patterns s (l ∷ levels) e = λ j. one s.signed e j ∷ unsigned_patterns s levels e j
-  where
-    one : (signed : Bool) → signed ≡ false → twos_complement s.bits (cond signed (neg_ℤ (pos (2 ^ (s.bits - 1)))) (pos 0) +ℤ pos l) ≡ l
-    one true e = absurd (let f : true ≡ false = e in cc)
-    one false e = ap (twos_complement s.bits) (let z : pos 0 +ℤ pos l ≡ pos l = omega (arith, ints) in z)
 
 -- back to a level
 level_again : (wide l o more : ℕ) → more ≤ wide → l < 2 ^ more → o ≤ 2 ^ more → ((l + (2 ^ wide - o)) % 2 ^ wide % 2 ^ more + o) % 2 ^ more ≡ l
@@ -80,12 +71,6 @@ word_in_lane s wide more l o h le few e lt =
 pub word_of_level : (s : Parameters) (more l o : ℕ) → 1 ≤ s.bits → s.bits ≤ more → more ≤ 32 → o ≡ offset s → l < value_count s
     → (l + (2 ^ 32 - o)) % 2 ^ 32 % 2 ^ more ≡ twos_complement more (value_at s l)
 word_of_level s more l o h le few e lt = word_in_lane s 32 more l o h le few e lt
-
--- the pattern of the sample at a level
-pub pattern_at_level : (s : Parameters) (l o greatest : ℕ) → 1 ≤ s.bits → s.bits ≤ 32 → l < value_count s → o ≡ offset s → greatest ≡ value_count s - 1
-    → bit_and ((l + (2 ^ 32 - o)) % 2 ^ 32) greatest ≡ pattern s (value_at s l)
-pattern_at_level s l o greatest h k lt e g =
-    ap (λ m. bit_and ((l + (2 ^ 32 - o)) % 2 ^ 32) m) g ∙ (and_mask ((l + (2 ^ 32 - o)) % 2 ^ 32) s.bits ∙ word_of_level s s.bits l o h (omega arith) k e lt)
 
 -- the level that is read from a word tells the word, also where it is not legal
 pub level_of_word : (s : Parameters) (more word o : ℕ) → 1 ≤ s.bits → s.bits ≤ more → more ≤ 32 → o ≡ offset s → word < 2 ^ more

@@ -1,23 +1,21 @@
 -- Levels in lanes: of the values that words spell, and to their patterns.
-use Rattle.std.proofs.Common.{◌≡◌, ℕ, zero, suc, ◌+◌, ◌-◌, ◌*◌, ◌/◌, ◌%◌, ◌^◌, ◌<◌, ◌≤◌, Bool, true, false, cond}
+use Rattle.std.proofs.Common.{◌≡◌, ℕ, zero, suc, ◌+◌, ◌-◌, ◌*◌, ◌%◌, ◌^◌, ◌<◌, ◌≤◌, Bool, true, false, cond}
 use Rattle.std.proofs.Common.{List, [], ◌∷◌, ◌++◌, get_or, length, map, replicate, drop, take, refl, sym, subst, ◌∙◌, ap, arith}
-use Rattle.std.specs.Prelude.{bit_and, flat_map}
-use Rattle.std.specs.Int.{bytes_high_first, bytes_low_first}
-use Rattle.std.specs.Simd.Lanes.{Each1, digits_l, number_l, pick_l, zip2}
+use Rattle.std.specs.Prelude.{All, bit_and, flat_map}
+use Rattle.std.specs.Simd.Lanes.{Each1, digits_l, number_l, zip2}
 use Rattle.std.proofs.lemmas.Grind.{flat_map-append}
-use Rattle.std.proofs.lemmas.List.{drop-drop, get_or-drop, length-drop, length-take-le, take-append-drop, take-take, take_all}
+use Rattle.std.proofs.lemmas.List.{drop-drop, length-drop, length-take-le, take-append-drop, take-take, take_all}
+use Rattle.std.proofs.lemmas.List.Elements.{All-drop, All-from_get_or, All-take}
 use Rattle.std.proofs.lemmas.Nat.{and_mask, pow_pos}
-use Rattle.std.proofs.lemmas.Simd.{Each1-chunk, Each1-from_get_or}
 use Rattle.std.proofs.Math.Pow.{mod-mod-pow, pow_mono}
 use Rattle.rice_samples.specs.Parameters.{Parameters, value_at, value_count, values_at, width}
 use Rattle.rice_samples.specs.predict.Residuals.{pattern, twos_complement}
-use Rattle.rice_samples.specs.bytes.PatternLanes.{swapped, threes_widened, turned_in_fours}
+use Rattle.rice_samples.specs.bytes.PatternLanes.{words_in_order}
 use Rattle.rice_samples.specs.bytes.Spelling.{ordered_bytes, spelling, spellings}
 use Rattle.rice_samples.specs.bytes.ValueRange.{offset}
+use Rattle.rice_samples.proofs.lemmas.bytes.BytesOfWords.{AreWords, words_read}
 use Rattle.rice_samples.proofs.lemmas.bytes.LevelPatterns.{level_of_word, word_in_lane}
-use Rattle.rice_samples.proofs.lemmas.predict.JoinedPartsInLanes.{twice}
 use Rattle.rice_samples.proofs.lemmas.setting.LevelsOfSamples.{half_pow}
-use Rattle.rice_bits.proofs.lemmas.fast.lanes.SixteenLanes.{sixteen_lanes}
 
 -- the number of values below 0 fits lanes that have room for samples
 pub offset_fits : (s : Parameters) (k : ℕ) → 1 ≤ s.bits → s.bits ≤ k → offset s < 2 ^ k
@@ -85,120 +83,11 @@ patterns_in_lanes s k (suc n) o greatest (l ∷ ls) some room e g len legal =
 -- words of one byte are these bytes
 pub single_bytes : (msb : Bool) (vs : List ℕ) → ((i : ℕ) → get_or vs i 0 < 2 ^ 8) → flat_map (ordered_bytes msb 1) vs ≡ vs
 single_bytes msb [] fit = refl
-single_bytes msb (v ∷ vs) fit =
-    let rest = single_bytes msb vs (λ i. fit (suc i)) in
-    λ j. one msb j ++ rest j
+single_bytes msb (v ∷ vs) fit = (let e : v % 256 ≡ v = omega (arith, fit 0) in λ j. (one msb v ∙ ap (λ b. b ∷ []) e) j ++ single_bytes msb vs (λ i. fit (suc i)) j)
   where
-    one : (msb : Bool) → cond msb (bytes_high_first 1 v) (bytes_low_first 0 1 v) ≡ v ∷ []
-    one true = (let e : v % 256 ≡ v = omega (arith, fit 0) in ap (λ b. b ∷ []) e)
-    one false = (let e : v % 256 ≡ v = omega (arith, fit 0) in ap (λ b. b ∷ []) e)
-
--- the three lowest bytes of four of which the highest is 0, and what is above these four
-three_of : (a b c rest : ℕ) → a < 256 → b < 256 → c < 256 →
-    let all = a + 256 * (b + 256 * (c + 256 * (0 + 256 * rest))) in
-    (all % 4294967296 % 256 ≡ a) × (all % 4294967296 / 256 % 256 ≡ b) × (all % 4294967296 / 65536 % 256 ≡ c) × (all / 4294967296 ≡ rest) × (all % 4294967296 < 2 ^ 24)
-three_of a b c rest la lb lc = (omega arith, omega arith, omega arith, omega arith, omega arith)
-
--- words of two bytes, the least significant first
-pub low_pairs : (n : ℕ) (xs : List ℕ) → length xs ≡ twice n → ((i : ℕ) → get_or xs i 0 < 2 ^ 8) → flat_map (ordered_bytes false 2) (digits_l 65536 n (number_l 256 xs)) ≡ xs
-low_pairs zero [] e fit = refl
-low_pairs zero (a ∷ xs) e fit = absurd (omega arith)
-low_pairs (suc n) [] e fit = absurd (omega arith)
-low_pairs (suc n) (a ∷ []) e fit = absurd (omega arith)
-low_pairs (suc n) (a ∷ b ∷ xs) e fit =
-    let rest = number_l 256 xs in
-    let all = a + 256 * (b + 256 * rest) in
-    let la : a < 256 = fit 0 in
-    let lb : b < 256 = fit 1 in
-    let low : all % 65536 % 256 ≡ a = omega arith in
-    let high : all % 65536 / 256 % 256 ≡ b = omega arith in
-    let behind : all / 65536 ≡ rest = omega arith in
-    let more = ap (λ m. flat_map (ordered_bytes false 2) (digits_l 65536 n m)) behind ∙ low_pairs n xs (omega arith) (λ i. fit (suc (suc i))) in
-    λ j. low j ∷ high j ∷ more j
-
--- and with the bytes of each pair swapped, the most significant first
-pub high_pairs : (n : ℕ) (xs : List ℕ) → length xs ≡ twice n → ((i : ℕ) → get_or xs i 0 < 2 ^ 8) → flat_map (ordered_bytes true 2) (digits_l 65536 n (number_l 256 (swapped xs))) ≡ xs
-high_pairs zero [] e fit = refl
-high_pairs zero (a ∷ xs) e fit = absurd (omega arith)
-high_pairs (suc n) [] e fit = absurd (omega arith)
-high_pairs (suc n) (a ∷ []) e fit = absurd (omega arith)
-high_pairs (suc n) (a ∷ b ∷ xs) e fit =
-    let rest = number_l 256 (swapped xs) in
-    let all = b + 256 * (a + 256 * rest) in
-    let la : a < 256 = fit 0 in
-    let lb : b < 256 = fit 1 in
-    let low : all % 65536 % 256 ≡ b = omega arith in
-    let high : all % 65536 / 256 % 256 ≡ a = omega arith in
-    let behind : all / 65536 ≡ rest = omega arith in
-    let more = ap (λ m. flat_map (ordered_bytes true 2) (digits_l 65536 n m)) behind ∙ high_pairs n xs (omega arith) (λ i. fit (suc (suc i))) in
-    λ j. high j ∷ low j ∷ more j
-
--- threes of bytes
-abbrev pub three_times : ℕ → ℕ
-three_times zero = zero
-three_times (suc n) = suc (suc (suc (three_times n)))
-
--- words of three bytes that are widened to four, in either order
-pub threes_read : (msb : Bool) (n : ℕ) (xs : List ℕ) → length xs ≡ three_times n → ((i : ℕ) → get_or xs i 0 < 2 ^ 8)
-    → flat_map (ordered_bytes msb 3) (digits_l 4294967296 n (number_l 256 (threes_widened msb xs))) ≡ xs
-threes_read true zero [] e fit = refl
-threes_read true zero (a ∷ xs) e fit = absurd (omega arith)
-threes_read true (suc n) [] e fit = absurd (omega arith)
-threes_read true (suc n) (a ∷ []) e fit = absurd (omega arith)
-threes_read true (suc n) (a ∷ b ∷ []) e fit = absurd (omega arith)
-threes_read true (suc n) (a ∷ b ∷ c ∷ xs) e fit =
-    let one = three_of c b a (number_l 256 (threes_widened true xs)) (fit 2) (fit 1) (fit 0) in
-    let more = ap (λ m. flat_map (ordered_bytes true 3) (digits_l 4294967296 n m)) one.3 ∙ threes_read true n xs (omega arith) (λ i. fit (suc (suc (suc i)))) in
-    λ j. one.2 j ∷ one.1 j ∷ one.0 j ∷ more j
-threes_read false zero [] e fit = refl
-threes_read false zero (a ∷ xs) e fit = absurd (omega arith)
-threes_read false (suc n) [] e fit = absurd (omega arith)
-threes_read false (suc n) (a ∷ []) e fit = absurd (omega arith)
-threes_read false (suc n) (a ∷ b ∷ []) e fit = absurd (omega arith)
-threes_read false (suc n) (a ∷ b ∷ c ∷ xs) e fit =
-    let one = three_of a b c (number_l 256 (threes_widened false xs)) (fit 0) (fit 1) (fit 2) in
-    let more = ap (λ m. flat_map (ordered_bytes false 3) (digits_l 4294967296 n m)) one.3 ∙ threes_read false n xs (omega arith) (λ i. fit (suc (suc (suc i)))) in
-    λ j. one.0 j ∷ one.1 j ∷ one.2 j ∷ more j
-
--- and each of these fits 24 bits
-pub threes_fit : (msb : Bool) (n : ℕ) (xs : List ℕ) → length xs ≡ three_times n → ((i : ℕ) → get_or xs i 0 < 2 ^ 8)
-    → Each1 (λ v. v < 2 ^ 24) (digits_l 4294967296 n (number_l 256 (threes_widened msb xs)))
-threes_fit msb zero xs e fit = tt
-threes_fit true (suc n) [] e fit = absurd (omega arith)
-threes_fit true (suc n) (a ∷ []) e fit = absurd (omega arith)
-threes_fit true (suc n) (a ∷ b ∷ []) e fit = absurd (omega arith)
-threes_fit true (suc n) (a ∷ b ∷ c ∷ xs) e fit =
-    let one = three_of c b a (number_l 256 (threes_widened true xs)) (fit 2) (fit 1) (fit 0) in
-    (one.4, subst (λ m. Each1 (λ v. v < 2 ^ 24) (digits_l 4294967296 n m)) (sym one.3) (threes_fit true n xs (omega arith) (λ i. fit (suc (suc (suc i))))))
-threes_fit false (suc n) [] e fit = absurd (omega arith)
-threes_fit false (suc n) (a ∷ []) e fit = absurd (omega arith)
-threes_fit false (suc n) (a ∷ b ∷ []) e fit = absurd (omega arith)
-threes_fit false (suc n) (a ∷ b ∷ c ∷ xs) e fit =
-    let one = three_of a b c (number_l 256 (threes_widened false xs)) (fit 0) (fit 1) (fit 2) in
-    (one.4, subst (λ m. Each1 (λ v. v < 2 ^ 24) (digits_l 4294967296 n m)) (sym one.3) (threes_fit false n xs (omega arith) (λ i. fit (suc (suc (suc i))))))
-
--- the first twelve bytes of a vector, widened
-pub first_threes_widened : (msb : Bool) (xs : List ℕ) → length xs ≡ 16
-    → pick_l 0 (xs ++ replicate 16 0) (cond msb (2 ∷ 1 ∷ 0 ∷ 16 ∷ 5 ∷ 4 ∷ 3 ∷ 16 ∷ 8 ∷ 7 ∷ 6 ∷ 16 ∷ 11 ∷ 10 ∷ 9 ∷ 16 ∷ []) (0 ∷ 1 ∷ 2 ∷ 16 ∷ 3 ∷ 4 ∷ 5 ∷ 16 ∷ 6 ∷ 7 ∷ 8 ∷ 16 ∷ 9 ∷ 10 ∷ 11 ∷ 16 ∷ []))
-    ≡ threes_widened msb (take 12 xs)
-first_threes_widened true xs n =
-    sixteen_lanes (λ xs. pick_l 0 (xs ++ replicate 16 0) (2 ∷ 1 ∷ 0 ∷ 16 ∷ 5 ∷ 4 ∷ 3 ∷ 16 ∷ 8 ∷ 7 ∷ 6 ∷ 16 ∷ 11 ∷ 10 ∷ 9 ∷ 16 ∷ []) ≡ threes_widened true (take 12 xs))
-    (λ a0 a1 a2 a3 a4 a5 a6 a7 a8 a9 a10 a11 a12 a13 a14 a15. refl) xs n
-first_threes_widened false xs n =
-    sixteen_lanes (λ xs. pick_l 0 (xs ++ replicate 16 0) (0 ∷ 1 ∷ 2 ∷ 16 ∷ 3 ∷ 4 ∷ 5 ∷ 16 ∷ 6 ∷ 7 ∷ 8 ∷ 16 ∷ 9 ∷ 10 ∷ 11 ∷ 16 ∷ []) ≡ threes_widened false (take 12 xs))
-    (λ a0 a1 a2 a3 a4 a5 a6 a7 a8 a9 a10 a11 a12 a13 a14 a15. refl) xs n
-
--- and the last twelve
-pub last_threes_widened : (msb : Bool) (xs : List ℕ) → length xs ≡ 16
-    → pick_l 0 (xs ++ replicate 16 0) (cond msb (6 ∷ 5 ∷ 4 ∷ 16 ∷ 9 ∷ 8 ∷ 7 ∷ 16 ∷ 12 ∷ 11 ∷ 10 ∷ 16 ∷ 15 ∷ 14 ∷ 13 ∷ 16 ∷ [])
-    (4 ∷ 5 ∷ 6 ∷ 16 ∷ 7 ∷ 8 ∷ 9 ∷ 16 ∷ 10 ∷ 11 ∷ 12 ∷ 16 ∷ 13 ∷ 14 ∷ 15 ∷ 16 ∷ []))
-    ≡ threes_widened msb (drop 4 xs)
-last_threes_widened true xs n =
-    sixteen_lanes (λ xs. pick_l 0 (xs ++ replicate 16 0) (6 ∷ 5 ∷ 4 ∷ 16 ∷ 9 ∷ 8 ∷ 7 ∷ 16 ∷ 12 ∷ 11 ∷ 10 ∷ 16 ∷ 15 ∷ 14 ∷ 13 ∷ 16 ∷ []) ≡ threes_widened true (drop 4 xs))
-    (λ a0 a1 a2 a3 a4 a5 a6 a7 a8 a9 a10 a11 a12 a13 a14 a15. refl) xs n
-last_threes_widened false xs n =
-    sixteen_lanes (λ xs. pick_l 0 (xs ++ replicate 16 0) (4 ∷ 5 ∷ 6 ∷ 16 ∷ 7 ∷ 8 ∷ 9 ∷ 16 ∷ 10 ∷ 11 ∷ 12 ∷ 16 ∷ 13 ∷ 14 ∷ 15 ∷ 16 ∷ []) ≡ threes_widened false (drop 4 xs))
-    (λ a0 a1 a2 a3 a4 a5 a6 a7 a8 a9 a10 a11 a12 a13 a14 a15. refl) xs n
+    one : (msb : Bool) (v : ℕ) → ordered_bytes msb 1 v ≡ v % 256 ∷ []
+    one true v = refl
+    one false v = refl
 
 -- what holds of each of two lists holds of each of both
 pub Each1-append : (P : ℕ → Type 0) (xs ys : List ℕ) → Each1 P xs → Each1 P ys → Each1 P (xs ++ ys)
@@ -211,111 +100,52 @@ each_at m [] i some h = some
 each_at m (x ∷ xs) zero some h = h.0
 each_at m (x ∷ xs) (suc i) some h = each_at m xs i some h.1
 
+-- lanes that are read from the bytes of words, in the order of these words
+pub words_of_lanes : (msb turned : Bool) (w n k : ℕ) (bytes vs : List ℕ) → turned ≡ msb → length bytes ≡ n * w → length bytes ≡ k → ((i : ℕ) → get_or bytes i 0 < 2 ^ 8)
+    → vs ≡ digits_l (256 ^ w * 256 ^ 0) n (number_l 256 (words_in_order turned w 0 n (take k bytes))) → flat_map (ordered_bytes msb w) vs ≡ bytes
+words_of_lanes msb turned w n k bytes vs order len size fit is =
+    let all : take k bytes ≡ bytes = take_all k bytes (omega (arith, size)) in
+    ap (flat_map (ordered_bytes msb w)) (is ∙ (λ j. digits_l (256 ^ w * 256 ^ 0) n (number_l 256 (words_in_order (order j) w 0 n (all j)))))
+    ∙ ((words_read msb w 0 n bytes (omega (arith, len)) (All-from_get_or (λ b. b < 256) bytes 0 (λ i lt. fit i))).read ∙ take_all (n * w) bytes (omega (arith, len)))
+
+abbrev threes_of : Bool → List ℕ → List ℕ
+threes_of msb bytes = digits_l 4294967296 4 (number_l 256 (words_in_order msb 3 1 4 bytes))
+
 -- words of the first twelve of 24 bytes, and of the last twelve, one after the other
-pub record ThreesOfHalves (msb : Bool) (bytes low high words : List ℕ) : Type 0 where
-  pub low_is : low ≡ take 16 bytes
-  pub high_is : high ≡ take 16 (drop 8 bytes)
-  pub words_are : words ≡ digits_l 4294967296 4 (number_l 256 (threes_widened msb (take 12 low))) ++ digits_l 4294967296 4 (number_l 256 (threes_widened msb (drop 4 high)))
+pub record ThreesOfHalves (msb turned : Bool) (bytes low high words : List ℕ) : Type 0 where
+  pub order : turned ≡ msb
+  pub len : length bytes ≡ 24
+  pub fit : (i : ℕ) → get_or bytes i 0 < 2 ^ 8
+  pub low_is : low ≡ words_in_order turned 3 1 4 (take 16 bytes)
+  pub high_is : high ≡ words_in_order turned 3 1 4 (drop 4 (take 16 (drop 8 bytes)))
+  pub words_are : words ≡ digits_l 4294967296 4 (number_l 256 low) ++ digits_l 4294967296 4 (number_l 256 high)
 
-module _ (msb : Bool) (bytes low high words : List ℕ) (len : length bytes ≡ 24) (fit : (i : ℕ) → get_or bytes i 0 < 2 ^ 8) (h : ThreesOfHalves msb bytes low high words) where
-  halves : words ≡ digits_l 4294967296 4 (number_l 256 (threes_widened msb (take 12 bytes))) ++ digits_l 4294967296 4 (number_l 256 (threes_widened msb (drop 12 bytes)))
+module _ {msb turned : Bool} {bytes low_bytes high_bytes words : List ℕ} (h : ThreesOfHalves msb turned bytes low_bytes high_bytes words) where
+  last : drop 4 (take 16 (drop 8 bytes)) ≡ drop 12 bytes
+  last = ap (drop 4) (take_all 16 (drop 8 bytes) (omega (arith, h.len, length-drop 8 bytes))) ∙ drop-drop 4 8 bytes
+
+  whole : All (λ b. b < 256) bytes
+  whole = All-from_get_or (λ b. b < 256) bytes 0 (λ i lt. h.fit i)
+
+  low : AreWords msb 3 4 (take 16 bytes) (threes_of msb (take 16 bytes))
+  low = words_read msb 3 1 4 (take 16 bytes) (omega (arith, h.len, length-take-le 16 bytes (omega (arith, h.len)))) (All-take (λ b. b < 256) 16 bytes whole)
+
+  high : AreWords msb 3 4 (drop 12 bytes) (threes_of msb (drop 12 bytes))
+  high = words_read msb 3 1 4 (drop 12 bytes) (omega (arith, h.len, length-drop 12 bytes)) (All-drop (λ b. b < 256) 12 bytes whole)
+
+  halves : words ≡ threes_of msb (take 16 bytes) ++ threes_of msb (drop 12 bytes)
   halves =
-      let first : take 12 low ≡ take 12 bytes = ap (take 12) h.low_is ∙ take-take 12 16 bytes (omega arith) in
-      let last : drop 4 high ≡ drop 12 bytes = ap (drop 4) (h.high_is ∙ take_all 16 (drop 8 bytes) (omega (arith, len, length-drop 8 bytes))) ∙ drop-drop 4 8 bytes in
-      h.words_are ∙ (λ j. digits_l 4294967296 4 (number_l 256 (threes_widened msb (first j))) ++ digits_l 4294967296 4 (number_l 256 (threes_widened msb (last j))))
-
-  first_fit : (i : ℕ) → get_or (take 12 bytes) i 0 < 2 ^ 8
-  first_fit i = each_at (2 ^ 8) (take 12 bytes) i (omega arith) (Each1-chunk (λ x. x < 2 ^ 8) 0 12 bytes (Each1-from_get_or (λ x. x < 2 ^ 8) bytes 0 (λ i lt. fit i)))
-
-  last_fit : (i : ℕ) → get_or (drop 12 bytes) i 0 < 2 ^ 8
-  last_fit i = subst (λ (x : ℕ). x < 2 ^ 8) (sym (get_or-drop 12 bytes i 0)) (fit (12 + i))
+      h.words_are ∙ (λ j. digits_l 4294967296 4 (number_l 256 ((h.low_is ∙ ap (λ t. words_in_order t 3 1 4 (take 16 bytes)) h.order) j))
+      ++ digits_l 4294967296 4 (number_l 256 ((h.high_is ∙ (λ j. words_in_order (h.order j) 3 1 4 (last j))) j)))
 
   -- the words of both halves spell the bytes
   pub halves_read : flat_map (ordered_bytes msb 3) words ≡ bytes
   halves_read =
-      ap (flat_map (ordered_bytes msb 3)) halves
-      ∙ (flat_map-append (ordered_bytes msb 3) (digits_l 4294967296 4 (number_l 256 (threes_widened msb (take 12 bytes)))) (digits_l 4294967296 4 (number_l 256 (threes_widened msb (drop 12 bytes))))
-      ∙ ((λ j. threes_read msb 4 (take 12 bytes) (length-take-le 12 bytes (omega (arith, len))) first_fit j ++ threes_read msb 4 (drop 12 bytes) (omega (arith, len, length-drop 12 bytes)) last_fit j)
-      ∙ take-append-drop 12 bytes))
+      ap (flat_map (ordered_bytes msb 3)) halves ∙ (flat_map-append (ordered_bytes msb 3) (threes_of msb (take 16 bytes)) (threes_of msb (drop 12 bytes))
+      ∙ ((λ j. (low.read ∙ take-take 12 16 bytes (omega arith)) j ++ (high.read ∙ take_all 12 (drop 12 bytes) (omega (arith, h.len, length-drop 12 bytes))) j) ∙ take-append-drop 12 bytes))
 
   -- and have three bytes each
   pub halves_fit : (i : ℕ) → get_or words i 0 < 2 ^ 24
   halves_fit i =
-      let first = digits_l 4294967296 4 (number_l 256 (threes_widened msb (take 12 bytes))) in
-      let last = digits_l 4294967296 4 (number_l 256 (threes_widened msb (drop 12 bytes))) in
-      each_at (2 ^ 24) words i (omega arith) (subst (Each1 (λ v. v < 2 ^ 24)) (sym halves) (Each1-append (λ v. v < 2 ^ 24) first last
-      (threes_fit msb 4 (take 12 bytes) (length-take-le 12 bytes (omega (arith, len))) first_fit) (threes_fit msb 4 (drop 12 bytes) (omega (arith, len, length-drop 12 bytes)) last_fit)))
-
--- fours of bytes
-abbrev pub four_times : ℕ → ℕ
-four_times zero = zero
-four_times (suc n) = suc (suc (suc (suc (four_times n))))
-
--- words of four bytes, the least significant first
-pub low_fours : (n : ℕ) (xs : List ℕ) → length xs ≡ four_times n → ((i : ℕ) → get_or xs i 0 < 2 ^ 8) → flat_map (ordered_bytes false 4) (digits_l 4294967296 n (number_l 256 xs)) ≡ xs
-low_fours zero [] e fit = refl
-low_fours zero (a ∷ xs) e fit = absurd (omega arith)
-low_fours (suc n) [] e fit = absurd (omega arith)
-low_fours (suc n) (a ∷ []) e fit = absurd (omega arith)
-low_fours (suc n) (a ∷ b ∷ []) e fit = absurd (omega arith)
-low_fours (suc n) (a ∷ b ∷ c ∷ []) e fit = absurd (omega arith)
-low_fours (suc n) (a ∷ b ∷ c ∷ d ∷ xs) e fit =
-    let rest = number_l 256 xs in
-    let all = a + 256 * (b + 256 * (c + 256 * (d + 256 * rest))) in
-    let la : a < 256 = fit 0 in
-    let lb : b < 256 = fit 1 in
-    let lc : c < 256 = fit 2 in
-    let ld : d < 256 = fit 3 in
-    let first : all % 4294967296 % 256 ≡ a = omega arith in
-    let second : all % 4294967296 / 256 % 256 ≡ b = omega arith in
-    let third : all % 4294967296 / 65536 % 256 ≡ c = omega arith in
-    let fourth : all % 4294967296 / 16777216 % 256 ≡ d = omega arith in
-    let behind : all / 4294967296 ≡ rest = omega arith in
-    let more = ap (λ m. flat_map (ordered_bytes false 4) (digits_l 4294967296 n m)) behind ∙ low_fours n xs (omega arith) (λ i. fit (suc (suc (suc (suc i))))) in
-    λ j. first j ∷ second j ∷ third j ∷ fourth j ∷ more j
-
--- and with those of each four turned around, the most significant first
-pub high_fours : (n : ℕ) (xs : List ℕ) → length xs ≡ four_times n → ((i : ℕ) → get_or xs i 0 < 2 ^ 8)
-    → flat_map (ordered_bytes true 4) (digits_l 4294967296 n (number_l 256 (turned_in_fours xs))) ≡ xs
-high_fours zero [] e fit = refl
-high_fours zero (a ∷ xs) e fit = absurd (omega arith)
-high_fours (suc n) [] e fit = absurd (omega arith)
-high_fours (suc n) (a ∷ []) e fit = absurd (omega arith)
-high_fours (suc n) (a ∷ b ∷ []) e fit = absurd (omega arith)
-high_fours (suc n) (a ∷ b ∷ c ∷ []) e fit = absurd (omega arith)
-high_fours (suc n) (a ∷ b ∷ c ∷ d ∷ xs) e fit =
-    let rest = number_l 256 (turned_in_fours xs) in
-    let all = d + 256 * (c + 256 * (b + 256 * (a + 256 * rest))) in
-    let la : a < 256 = fit 0 in
-    let lb : b < 256 = fit 1 in
-    let lc : c < 256 = fit 2 in
-    let ld : d < 256 = fit 3 in
-    let first : all % 4294967296 % 256 ≡ d = omega arith in
-    let second : all % 4294967296 / 256 % 256 ≡ c = omega arith in
-    let third : all % 4294967296 / 65536 % 256 ≡ b = omega arith in
-    let fourth : all % 4294967296 / 16777216 % 256 ≡ a = omega arith in
-    let behind : all / 4294967296 ≡ rest = omega arith in
-    let more = ap (λ m. flat_map (ordered_bytes true 4) (digits_l 4294967296 n m)) behind ∙ high_fours n xs (omega arith) (λ i. fit (suc (suc (suc (suc i))))) in
-    λ j. fourth j ∷ third j ∷ second j ∷ first j ∷ more j
-
--- what holds of any 32 numbers in a row holds of each list of 32
-thirty_two : (P : List ℕ → Type 0)
-    → ((a0 a1 a2 a3 a4 a5 a6 a7 a8 a9 a10 a11 a12 a13 a14 a15 b0 b1 b2 b3 b4 b5 b6 b7 b8 b9 b10 b11 b12 b13 b14 b15 : ℕ)
-    → P (a0 ∷ a1 ∷ a2 ∷ a3 ∷ a4 ∷ a5 ∷ a6 ∷ a7 ∷ a8 ∷ a9 ∷ a10 ∷ a11 ∷ a12 ∷ a13 ∷ a14 ∷ a15 ∷ b0 ∷ b1 ∷ b2 ∷ b3 ∷ b4 ∷ b5 ∷ b6 ∷ b7 ∷ b8 ∷ b9 ∷ b10 ∷ b11 ∷ b12 ∷ b13 ∷ b14 ∷ b15 ∷ []))
-    → (xs : List ℕ) → length xs ≡ 32 → P xs
-thirty_two P each xs n =
-    subst P (take-append-drop 16 xs)
-    (sixteen_lanes (λ first. P (first ++ drop 16 xs))
-    (λ a0 a1 a2 a3 a4 a5 a6 a7 a8 a9 a10 a11 a12 a13 a14 a15.
-    sixteen_lanes (λ last. P (a0 ∷ a1 ∷ a2 ∷ a3 ∷ a4 ∷ a5 ∷ a6 ∷ a7 ∷ a8 ∷ a9 ∷ a10 ∷ a11 ∷ a12 ∷ a13 ∷ a14 ∷ a15 ∷ last))
-    (each a0 a1 a2 a3 a4 a5 a6 a7 a8 a9 a10 a11 a12 a13 a14 a15) (drop 16 xs) (length-drop 16 xs ∙ omega arith))
-    (take 16 xs) (length-take-le 16 xs (omega arith)))
-
--- the bytes of a vector of 32, picked so, are turned in fours
-pub fours_are_turned : (xs : List ℕ) → length xs ≡ 32
-    → pick_l 0 (xs ++ xs) (3 ∷ 2 ∷ 1 ∷ 0 ∷ 7 ∷ 6 ∷ 5 ∷ 4 ∷ 11 ∷ 10 ∷ 9 ∷ 8 ∷ 15 ∷ 14 ∷ 13 ∷ 12 ∷ 19 ∷ 18 ∷ 17 ∷ 16 ∷ 23 ∷ 22 ∷ 21 ∷ 20 ∷ 27 ∷ 26 ∷ 25 ∷ 24 ∷ 31 ∷ 30 ∷ 29 ∷ 28 ∷ [])
-    ≡ turned_in_fours xs
-fours_are_turned xs n =
-    thirty_two (λ xs. pick_l 0 (xs ++ xs) (3 ∷ 2 ∷ 1 ∷ 0 ∷ 7 ∷ 6 ∷ 5 ∷ 4 ∷ 11 ∷ 10 ∷ 9 ∷ 8 ∷ 15 ∷ 14 ∷ 13 ∷ 12 ∷ 19 ∷ 18 ∷ 17 ∷ 16 ∷ 23 ∷ 22 ∷ 21 ∷ 20 ∷ 27 ∷ 26 ∷ 25 ∷ 24 ∷ 31 ∷ 30 ∷ 29 ∷ 28
-    ∷ []) ≡ turned_in_fours xs)
-    (λ a0 a1 a2 a3 a4 a5 a6 a7 a8 a9 a10 a11 a12 a13 a14 a15 b0 b1 b2 b3 b4 b5 b6 b7 b8 b9 b10 b11 b12 b13 b14 b15. refl) xs n
+      each_at (2 ^ 24) words i (omega arith) (subst (Each1 (λ v. v < 2 ^ 24)) (sym halves)
+      (Each1-append (λ v. v < 2 ^ 24) (threes_of msb (take 16 bytes)) (threes_of msb (drop 12 bytes)) low.fit high.fit))

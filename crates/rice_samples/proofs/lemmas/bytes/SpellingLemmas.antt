@@ -1,16 +1,20 @@
 -- Values, their patterns, and the bytes that spell these.
 use Rattle.std.proofs.Common.{◌≡◌, ℕ, zero, suc, ◌+◌, ◌-◌, ◌*◌, ◌/◌, ◌%◌, ◌^◌, ◌<◌, ◌≤◌, ◌⊎◌, inl, inr, cond, mod-eq_of_lt, Bool}
 use Rattle.std.proofs.Common.{true, false, ap, arith, sym, ◌∙◌, subst, refl, List, length, ℤ, pos, negsuc, neg_ℤ, ◌≤ℤ◌, ◌<ℤ◌, ◌-ℤ◌}
-use Rattle.std.specs.Int.{int_gap, bytes_low_first, bytes_high_first}
+use Rattle.std.specs.Int.{int_gap}
+use Rattle.std.specs.Simd.Lanes.{digits_l, number_l}
 use Rattle.std.proofs.lemmas.Int.{ints}
 use Rattle.std.proofs.lemmas.Bool.{cases_lt}
 use Rattle.std.proofs.lemmas.Nat.{pow_pos}
-use Rattle.std.proofs.Math.Nat.{mul-add-mod_self_left}
+use Rattle.std.proofs.Math.Nat.{mul-add-mod_self_left, pow-suc}
 use Rattle.std.proofs.Math.Pow.{pow_mono}
+use Rattle.rice_bits.proofs.lemmas.bits.EightBytes.{pow_bytes}
 use Rattle.rice_samples.specs.Parameters.{level, Parameters, IsLegal, IsSample, width}
 use Rattle.rice_samples.specs.predict.Residuals.{twos_complement}
+use Rattle.rice_samples.specs.bytes.PatternLanes.{in_order}
 use Rattle.rice_samples.specs.bytes.Spelling.{spelling, ordered_bytes}
 use Rattle.rice_samples.specs.bytes.ValueRange.{offset, IsValue}
+use Rattle.rice_samples.proofs.lemmas.bytes.BytesOfWords.{bytes_are_digits, in_order-twice}
 use Rattle.rice_samples.proofs.lemmas.setting.LevelsOfSamples.{half_pow, pattern_fits}
 
 not_below : (a b c : ℕ) → a ≡ c + b → pos a -ℤ pos b ≡ pos c
@@ -53,52 +57,18 @@ wider_value bits more true x h le k =
     halves (suc half) count (suc half') count' (negsuc v) e f some le k l = (omega (arith, ints), omega (arith, ints))
 wider_value bits more false x h le k = let e = pow_mono le in (k.0, omega arith)
 
--- the bytes of a word tell the word
-same_low : (k v w : ℕ) → 1 ≤ k → k ≤ 4 → v < 2 ^ (8 * k) → w < 2 ^ (8 * k) → bytes_low_first 0 k v ≡ bytes_low_first 0 k w → v ≡ w
-same_low zero v w h le hv hw e = absurd (omega arith)
-same_low (suc zero) v w h le hv hw e = let a : v % 256 ≡ w % 256 = cc in omega arith
-same_low (suc (suc zero)) v w h le hv hw e =
-    let a : v % 256 ≡ w % 256 = cc in
-    let b : v / 256 % 256 ≡ w / 256 % 256 = cc in
-    omega arith
-same_low (suc (suc (suc zero))) v w h le hv hw e =
-    let a : v % 256 ≡ w % 256 = cc in
-    let b : v / 256 % 256 ≡ w / 256 % 256 = cc in
-    let c : v / 65536 % 256 ≡ w / 65536 % 256 = cc in
-    omega arith
-same_low (suc (suc (suc (suc zero)))) v w h le hv hw e =
-    let a : v % 256 ≡ w % 256 = cc in
-    let b : v / 256 % 256 ≡ w / 256 % 256 = cc in
-    let c : v / 65536 % 256 ≡ w / 65536 % 256 = cc in
-    let d : v / 16777216 % 256 ≡ w / 16777216 % 256 = cc in
-    omega arith
-same_low (suc (suc (suc (suc (suc k))))) v w h le hv hw e = absurd (omega arith)
+number_of_digits : (k v : ℕ) → v < 256 ^ k → number_l 256 (digits_l 256 k v) ≡ v
+number_of_digits zero v lt = omega arith
+number_of_digits (suc k) v lt =
+    let rest = number_of_digits k (v / 256) (omega (arith, lt, pow-suc 256 k)) in
+    omega (arith, rest)
 
--- bytes, the most significant first, spell one number
-same_high : (k v w : ℕ) → 1 ≤ k → k ≤ 4 → v < 2 ^ (8 * k) → w < 2 ^ (8 * k) → bytes_high_first k v ≡ bytes_high_first k w → v ≡ w
-same_high zero v w h le hv hw e = absurd (omega arith)
-same_high (suc zero) v w h le hv hw e = let a : v % 256 ≡ w % 256 = cc in omega arith
-same_high (suc (suc zero)) v w h le hv hw e =
-    let a : v % 256 ≡ w % 256 = cc in
-    let b : v / 256 % 256 ≡ w / 256 % 256 = cc in
-    omega arith
-same_high (suc (suc (suc zero))) v w h le hv hw e =
-    let a : v % 256 ≡ w % 256 = cc in
-    let b : v / 256 % 256 ≡ w / 256 % 256 = cc in
-    let c : v / 65536 % 256 ≡ w / 65536 % 256 = cc in
-    omega arith
-same_high (suc (suc (suc (suc zero)))) v w h le hv hw e =
-    let a : v % 256 ≡ w % 256 = cc in
-    let b : v / 256 % 256 ≡ w / 256 % 256 = cc in
-    let c : v / 65536 % 256 ≡ w / 65536 % 256 = cc in
-    let d : v / 16777216 % 256 ≡ w / 16777216 % 256 = cc in
-    omega arith
-same_high (suc (suc (suc (suc (suc k))))) v w h le hv hw e = absurd (omega arith)
-
--- and so do bytes in either order
-same_word : (msb : Bool) (k v w : ℕ) → 1 ≤ k → k ≤ 4 → v < 2 ^ (8 * k) → w < 2 ^ (8 * k) → ordered_bytes msb k v ≡ ordered_bytes msb k w → v ≡ w
-same_word true k v w h le hv hw e = same_high k v w h le hv hw e
-same_word false k v w h le hv hw e = same_low k v w h le hv hw e
+-- the bytes of a word in either order tell the word
+same_word : (msb : Bool) (k v w : ℕ) → v < 2 ^ (8 * k) → w < 2 ^ (8 * k) → ordered_bytes msb k v ≡ ordered_bytes msb k w → v ≡ w
+same_word msb k v w hv hw e =
+    let ordered : in_order msb (digits_l 256 k v) ≡ in_order msb (digits_l 256 k w) = sym (bytes_are_digits msb k v) ∙ (e ∙ bytes_are_digits msb k w) in
+    let digits : digits_l 256 k v ≡ digits_l 256 k w = sym (in_order-twice msb (digits_l 256 k v)) ∙ (ap (in_order msb) ordered ∙ in_order-twice msb (digits_l 256 k w)) in
+    sym (number_of_digits k v (rw (pow_bytes k) hv)) ∙ (ap (number_l 256) digits ∙ number_of_digits k w (rw (pow_bytes k) hw))
 
 -- a value of so many bits lies between the powers of two
 pub value_limits : (signed : Bool) (bits more : ℕ) (x : ℤ) → 1 ≤ bits → bits ≤ more → IsValue bits signed x → (neg_ℤ (pos (2 ^ more)) ≤ℤ x) × (x <ℤ pos (2 ^ more))
@@ -206,5 +176,5 @@ level_spelled {s} {bytes} {msb} {k} word {o} y legal spells to hy e =
     ap (λ v. ordered_bytes v k word) (sym spells.order) ∙ (ap (λ v. ordered_bytes msb v word) (sym len)
     ∙ (sym spells.ordered ∙ (e ∙ ap (λ v. ordered_bytes s.msb v (twos_complement (8 * v) y)) (sym spells.width_is))))
     in
-    let same = same_word s.msb k word (twos_complement (8 * k) y) spells.some to fits below spelled in
+    let same = same_word s.msb k word (twos_complement (8 * k) y) fits below spelled in
     ap (λ v. (v + o) % 2 ^ (8 * k)) same ∙ (ap (λ v. (twos_complement (8 * k) y + v) % 2 ^ (8 * k)) spells.offset_is ∙ level_from_pattern s (8 * k) y legal.bits_from spells.enough hy)

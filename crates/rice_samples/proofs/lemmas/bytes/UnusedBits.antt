@@ -1,6 +1,6 @@
 -- Words that become the spellings of samples, one after another.
 use Rattle.std.proofs.Common.{◌≡◌, ℕ, ◌+◌, ◌*◌, ◌%◌, ◌^◌, ◌<◌, ◌≤◌, List, [], ◌∷◌, ◌++◌, length, take}
-use Rattle.std.proofs.Common.{drop, map, refl, ap, arith, sym, ◌∙◌, append_assoc, append-nil, length-append, length-drop, take-append-drop, ℤ}
+use Rattle.std.proofs.Common.{drop, map, refl, ap, arith, sym, ◌∙◌, append_assoc, append-nil, length-append, length-drop, ℤ}
 use Rattle.std.specs.Prelude.{All}
 use Rattle.std.proofs.Math.Seq.{take-add}
 use Rattle.std.proofs.lemmas.Grind.{flat_map-append}
@@ -8,7 +8,7 @@ use Rattle.std.proofs.lemmas.List.{drop-drop, drop_at, map-append, take_at}
 use Rattle.std.proofs.lemmas.List.Elements.{All-nil, All-push}
 use Rattle.rice_samples.specs.Parameters.{Parameters, IsSample, value_count, width}
 use Rattle.rice_samples.specs.predict.Residuals.{pattern}
-use Rattle.rice_samples.specs.bytes.UnusedBits.{SpellsOne, SpellsPatterns, bytes_of_words}
+use Rattle.rice_samples.specs.bytes.UnusedBits.{SpellsOne, bytes_of_words}
 use Rattle.rice_samples.specs.bytes.Spelling.{spelling, spellings, ordered_bytes}
 
 -- the words in the first `at` bytes have become spellings
@@ -58,17 +58,3 @@ one_more {s} {old} {now} w {at} h within len one_is d wrote =
       spelled = wrote ∙ (λ i. first i ++ (d.spelled i ++ rest i)) ∙ sym (append_assoc front (spelling s d.sample) (drop (at + w) old))
           ∙ ap (λ l. l ++ drop (at + w) old) (ap (λ l. front ++ l) (sym (append-nil (spelling s d.sample))) ∙ sym (flat_map-append (spelling s) h.samples (d.sample ∷ [])));
     }
-
--- where no whole sample is left, all are spelled
-pub all_spelled : (s : Parameters) (old new : List ℕ) (at : ℕ) → SpelledSoFar s old new at → at ≤ length old → length old < at + width s → SpellsPatterns s old new
-all_spelled s old new at h within few = record {
-  words = h.words;
-  samples = h.samples;
-  rest = drop at old;
-  carries = sym (take-append-drop at old) ∙ ap (λ l. l ++ drop at old) h.carries;
-  fit = h.fit;
-  short = omega (arith, length-drop at old);
-  legal = h.legal;
-  patterns = h.patterns;
-  spelled = h.spelled;
-}

@@ -4,7 +4,7 @@ use Rattle.std.proofs.Common.{◌++◌, ◌∙◌, ◌*◌, map, length, take, d
 use Rattle.std.specs.Prelude.{replicate, bit_and}
 use Rattle.std.specs.Simd.Lanes.{zip2}
 use Rattle.std.proofs.lemmas.Bool.Decides.{nat_tests}
-use Rattle.std.proofs.lemmas.List.{get_or-map, get_or-replicate, length-replicate, take-append-drop}
+use Rattle.std.proofs.lemmas.List.{length-map, get_or-map, get_or-replicate, length-replicate, take-append-drop}
 use Rattle.std.proofs.lemmas.Nat.{and_mask, pow-add}
 use Rattle.rice_samples.specs.predict.NearNumbers.{way}
 use Rattle.rice_samples.specs.predict.Residuals.{last_number, rank_below, ranks_below}
@@ -47,9 +47,13 @@ lanes_halved m (suc n) (d ∷ ds) some e fits =
 pub element : {X : Type 0} (f : X → ℕ) (xs : List X) (i : ℕ) (x : X) {v : ℕ} → i < length xs → x ≡ get_or xs i x → v ≡ f x → v ≡ get_or (map f xs) i 0
 element f xs i x h is e = e ∙ (ap f is ∙ sym (get_or-map f xs i x 0 h))
 
--- an element of a list that is made of another
-pub made : (f : ℕ → ℕ) (xs : List ℕ) {ys : List ℕ} (i : ℕ) {y x : ℕ} → i < length xs → ys ≡ map f xs → y ≡ get_or ys i 0 → x ≡ get_or xs i 0 → y ≡ f x
-made f xs i h e is from = is ∙ (ap (λ ys. get_or ys i 0) e ∙ (get_or-map f xs i 0 0 h ∙ ap f (sym from)))
+-- an element of a list whose numbers are made of those of another
+pub made : {X : Type 0} (f : X → ℕ) (g : ℕ → ℕ) (xs ys : List X) (i : ℕ) (x y : X) {d v : ℕ} → i < length xs → x ≡ get_or xs i x → d ≡ f x → y ≡ get_or ys i y → v ≡ f y
+    → map f ys ≡ map g (map f xs) → v ≡ g d
+made f g xs ys i x y h x_is d_is y_is v_is e =
+    let many : length ys ≡ length xs = sym (length-map ys f) ∙ (ap length e ∙ (length-map (map f xs) g ∙ length-map xs f)) in
+    let room : i < length (map f xs) = omega (arith, h, length-map xs f) in
+    element f ys i y (omega (arith, h, many)) y_is v_is ∙ (ap (λ l. get_or l i 0) e ∙ (get_or-map g (map f xs) i 0 0 room ∙ ap g (sym (element f xs i x h x_is d_is))))
 
 -- a way that wraps at 2 m is one that wraps at 2^32, with ones in front of it where its first digit is 1
 way_is : (m d : ℕ) → d < 2 * m → 2 * m ≤ 2 ^ 32 → (if nat_lt (way (2 * m) d) m then way (2 * m) d else way (2 * m) d + (2 ^ 32 - 2 * m)) ≡ way (2 ^ 32) d

@@ -5,18 +5,11 @@ use Rattle.std.specs.List.{range_with_len}
 use Rattle.std.specs.Simd.Lanes.{pick_l}
 use Rattle.std.proofs.lemmas.List.{length-append, length-drop, length-take-le}
 use Rattle.std.proofs.lemmas.Simd.{pick_l-range_with_len}
-use Rattle.std.proofs.Math.Seq.{take-add}
 use Rattle.rice_samples.specs.predict.Residuals.{ranks_below, last_number}
 
 last-append : (p : ℕ) (xs ys : List ℕ) → last_number p (xs ++ ys) ≡ last_number (last_number p xs) ys
 last-append p [] ys = refl
 last-append p (x ∷ xs) ys = last-append x xs ys
-
--- the levels up to the end of the next row of m
-pub next_row : (m at n : ℕ) (xs : List ℕ) → n ≡ at + m → take (at + m) xs ≡ take at xs ++ slice_range xs at n
-next_row m at n xs e =
-    let count : m ≡ n - at = omega (arith, e) in
-    take-add at m xs ∙ ap (λ k. take at xs ++ take k (drop at xs)) count
 
 last_number_of : (m p : ℕ) (ys : List ℕ) → length ys ≡ suc m → get_or ys m 0 ≡ last_number p ys
 last_number_of m p [] len = absurd (omega arith)

@@ -11,19 +11,6 @@ use Rattle.rice_samples.specs.predict.Residuals.{rank_below, ranks_below}
 use Rattle.rice_samples.specs.predict.NearNumbers.{way, near_numbers, reach, bound}
 use Rattle.rice_samples.proofs.lemmas.predict.Ranks.{rank_above, rank_under}
 
--- a vector of eight lanes
-pub eight_lanes : (P : List ℕ → Type 0) → ((a b c d e f g h : ℕ) → P (a ∷ b ∷ c ∷ d ∷ e ∷ f ∷ g ∷ h ∷ [])) → (xs : List ℕ) → length xs ≡ 8 → P xs
-eight_lanes P each [] n = absurd (omega arith)
-eight_lanes P each (a ∷ []) n = absurd (omega arith)
-eight_lanes P each (a ∷ b ∷ []) n = absurd (omega arith)
-eight_lanes P each (a ∷ b ∷ c ∷ []) n = absurd (omega arith)
-eight_lanes P each (a ∷ b ∷ c ∷ d ∷ []) n = absurd (omega arith)
-eight_lanes P each (a ∷ b ∷ c ∷ d ∷ e ∷ []) n = absurd (omega arith)
-eight_lanes P each (a ∷ b ∷ c ∷ d ∷ e ∷ f ∷ []) n = absurd (omega arith)
-eight_lanes P each (a ∷ b ∷ c ∷ d ∷ e ∷ f ∷ g ∷ []) n = absurd (omega arith)
-eight_lanes P each (a ∷ b ∷ c ∷ d ∷ e ∷ f ∷ g ∷ h ∷ []) n = each a b c d e f g h
-eight_lanes P each (a ∷ b ∷ c ∷ d ∷ e ∷ f ∷ g ∷ h ∷ i ∷ xs) n = absurd (omega arith)
-
 -- ways
 
 -- half of a rank, with each of its k digits turned over where the rank is odd, is the way of this rank

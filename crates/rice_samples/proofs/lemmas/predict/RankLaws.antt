@@ -1,5 +1,5 @@
 -- The rank of a sample, which goes by levels, as a count over all samples and as the standard's fold.
-use Rattle.std.proofs.Common.{◌≡◌, ℕ, zero, suc, ◌+◌, ◌-◌, ◌*◌, ◌<◌, ◌≤◌, cond, nat_lt, min, map, refl, ap, subst, sym, arith, ◌∙◌, ◌⊎◌, inl, inr, ℤ, pos, negsuc, ◌≤ℤ◌, ◌<ℤ◌, ◌+ℤ◌, ◌-ℤ◌}
+use Rattle.std.proofs.Common.{◌≡◌, ℕ, zero, suc, ◌+◌, ◌-◌, ◌*◌, ◌<◌, ◌≤◌, cond, nat_lt, map, refl, ap, subst, sym, arith, ◌∙◌, ◌⊎◌, inl, inr, ℤ, pos, negsuc, ◌≤ℤ◌, ◌+ℤ◌, ◌-ℤ◌}
 use Rattle.std.specs.Prelude.{count_by}
 use Rattle.std.specs.List.{range_with_len}
 use Rattle.std.specs.Int.{int_gap, abs_diff}
@@ -9,8 +9,8 @@ use Rattle.std.proofs.lemmas.Int.{ints}
 use Rattle.std.proofs.lemmas.List.Sums.{sum_by-cons}
 use Rattle.rice_samples.specs.Parameters.{Parameters, IsSample, least, level, value_count}
 use Rattle.rice_samples.specs.predict.Residuals.{nearer, rank, rank_below}
-use Rattle.rice_samples.specs.Laws.{distance, greatest, nearer_count, IsSecondOfTwo}
-use Rattle.rice_samples.proofs.lemmas.predict.Ranks.{nearer_is_count, rank_above, rank_under, rank_far}
+use Rattle.rice_samples.specs.Laws.{distance, nearer_count, IsSecondOfTwo}
+use Rattle.rice_samples.proofs.lemmas.predict.Ranks.{nearer_is_count}
 
 -- a value is the least one and its level
 pub gap_is : (z x : ℤ) → z ≤ℤ x → x ≡ z +ℤ pos (int_gap z x)
@@ -101,34 +101,3 @@ rank_of_other s p x hp hx h = without_tie (value_count s) (level s p) (level s x
         | inr le ↦ absurd (h (second_of_levels s p x hp hx lt le))
       ]
     ]
-
--- how far both sides of a sample reach
-reach_by_level : (s : Parameters) (p : ℤ) → IsSample s p → min (int_gap (least s) p) (int_gap p (greatest s)) ≡ min (level s p) (value_count s - 1 - level s p)
-reach_by_level s p hp =
-    let z = least s in
-    let up : int_gap p (greatest s) ≡ value_count s - 1 - level s p = upper z p (value_count s) hp.0 hp.1 in
-    ap (λ n. min (level s p) n) up
-  where
-    upper : (z p : ℤ) (count : ℕ) → z ≤ℤ p → int_gap z p < count → int_gap p (z +ℤ pos (count - 1)) ≡ count - 1 - int_gap z p
-    upper z p count h lt =
-        let e = gap_is z p h in
-        let same : z +ℤ pos (count - 1) ≡ p +ℤ pos (count - 1 - int_gap z p) = omega (arith, ints) in
-        ap (λ y. int_gap p y) same ∙ gap_above p (count - 1 - int_gap z p)
-
--- The rank is the standard's fold: twice the distance within reach of both sides, one less for samples below p, and beyond it the reach and the distance.
-pub rank_folds : (s : Parameters) (p x : ℤ) → IsSample s p → IsSample s x →
-    let θ = min (int_gap (least s) p) (int_gap p (greatest s)) in
-    let Δ = distance p x in
-    (p ≤ℤ x → Δ ≤ θ → rank s p x ≡ 2 * Δ) × (x <ℤ p → Δ ≤ θ → rank s p x ≡ 2 * Δ - 1) × (θ < Δ → rank s p x ≡ θ + Δ)
-rank_folds s p x hp hx =
-    let n = value_count s in
-    let l = level s p in
-    let m = level s x in
-    let reach = reach_by_level s p hp in
-    let far = distance_levels (least s) p x hp.0 hx.0 in
-    let e = gap_is (least s) p hp.0 in
-    let f = gap_is (least s) x hx.0 in (
-      (λ above near. let le : l ≤ m = omega (arith, ints) in let r = rank_above n l m hp.1 hx.1 le (omega arith) in omega arith),
-      (λ below near. let lt : m < l = omega (arith, ints) in let r = rank_under n l m hp.1 hx.1 lt (omega arith) in omega arith),
-      λ beyond. let r = rank_far n l m hp.1 hx.1 (omega arith) in omega arith,
-    )

@@ -23,10 +23,6 @@ rank_above count p x hp hx le near = grind (arith, nat_tests)
 pub rank_under : (count p x : ℕ) → p < count → x < count → x < p → p - x ≤ min p (count - 1 - p) → suc (rank_below count p x) ≡ 2 * (p - x)
 rank_under count p x hp hx lt near = grind (arith, nat_tests)
 
--- and farther away, on either side, the distance and this reach
-pub rank_far : (count p x : ℕ) → p < count → x < count → min p (count - 1 - p) < abs_diff p x → rank_below count p x ≡ min p (count - 1 - p) + abs_diff p x
-rank_far count p x hp hx far = grind (arith, nat_tests)
-
 -- the number with that rank
 unfoldable pub number_with : ℕ → ℕ → ℕ → ℕ
 number_with count p d =

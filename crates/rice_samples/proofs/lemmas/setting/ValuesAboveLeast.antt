@@ -1,29 +1,8 @@
 -- The least value of a sample, and the values above it by their levels.
-use Rattle.std.proofs.Common.{◌≡◌, ℕ, ◌-◌, ◌^◌, ◌<◌, ◌≤◌, Bool, true, false, cond, arith, ℤ, pos, negsuc, neg_ℤ, ◌≤ℤ◌, ◌+ℤ◌, ◌-ℤ◌}
+use Rattle.std.proofs.Common.{◌≡◌, ℕ, ◌<◌, arith, ℤ, pos, negsuc, ◌≤ℤ◌, ◌+ℤ◌, ◌-ℤ◌}
 use Rattle.std.specs.Int.{int_gap}
 use Rattle.std.proofs.lemmas.Int.{ints}
-use Rattle.std.proofs.Math.Pow.{pow_mono}
-use Rattle.rice_samples.specs.Parameters.{Parameters, IsLegal, IsSample, least, value_count}
-
--- the least value is no less than -2^31
-pub least_low : (s : Parameters) → IsLegal s → neg_ℤ (pos (2 ^ 31)) ≤ℤ least s
-least_low s h = by_sign s.signed (2 ^ (s.bits - 1)) (let e : s.bits - 1 ≤ 31 = omega (arith, h.bits_to) in pow_mono e)
-  where
-    by_sign : (b : Bool) (half : ℕ) → half ≤ 2 ^ 31 → neg_ℤ (pos (2 ^ 31)) ≤ℤ cond b (neg_ℤ (pos half)) (pos 0)
-    by_sign true half h = omega (arith, ints)
-    by_sign false half h = omega (arith, ints)
-
--- and no greater than 0
-pub least_high : (s : Parameters) → least s ≤ℤ pos 0
-least_high s = by_sign s.signed (2 ^ (s.bits - 1))
-  where
-    by_sign : (b : Bool) (half : ℕ) → cond b (neg_ℤ (pos half)) (pos 0) ≤ℤ pos 0
-    by_sign true half = omega (arith, ints)
-    by_sign false half = omega (arith, ints)
-
--- there are at most 2^32 legal values
-pub count_limit : (s : Parameters) → IsLegal s → value_count s ≤ 2 ^ 32
-count_limit s h = pow_mono h.bits_to
+use Rattle.rice_samples.specs.Parameters.{Parameters, IsSample, least, value_count}
 
 -- the gap is the difference
 pub gap_is : (l x : ℤ) → l ≤ℤ x → pos (int_gap l x) ≡ x -ℤ l

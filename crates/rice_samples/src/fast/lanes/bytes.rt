@@ -140,6 +140,7 @@ impl Lanes for Bytes {
         self.lanes.to_array()[15] as u32
     }
 
+    #[tactic(auto, using(crate::proofs::lemmas::predict::LaneRanks::last_and_others))]
     #[inline(always)]
     fn before(self, earlier: Self) -> Self {
         Bytes::of(
@@ -150,16 +151,6 @@ impl Lanes for Bytes {
                 ],
             ),
         )
-    }
-
-    #[inline(always)]
-    fn moved_by_one(self) -> Self {
-        Bytes::of(u8x16::splat(0).shuffle(
-            self.lanes,
-            [
-                15, 16, 17, 18, 19, 20, 21, 22, 23, 24, 25, 26, 27, 28, 29, 30,
-            ],
-        ))
     }
 
     #[inline(always)]

@@ -139,6 +139,7 @@ impl Lanes for Words {
         self.lanes.to_array()[7]
     }
 
+    #[tactic(auto, using(crate::proofs::lemmas::predict::LaneRanks::last_and_others))]
     #[inline(always)]
     fn before(self, earlier: Self) -> Self {
         Words::of(
@@ -146,11 +147,6 @@ impl Lanes for Words {
                 .lanes
                 .shuffle(self.lanes, [7, 8, 9, 10, 11, 12, 13, 14]),
         )
-    }
-
-    #[inline(always)]
-    fn moved_by_one(self) -> Self {
-        Words::of(u32x8::splat(0).shuffle(self.lanes, [7, 8, 9, 10, 11, 12, 13, 14]))
     }
 
     #[inline(always)]

@@ -1,8 +1,11 @@
-use Rattle.std.proofs.Common.{◌≡◌, ℕ, zero, suc, ◌+◌, ◌-◌, ◌*◌, ◌/◌, ◌%◌, ◌^◌, ◌<◌, ◌≤◌, arith, ap, sym, ◌∙◌}
-use Rattle.std.specs.Prelude.{bit_or}
+use Rattle.std.proofs.Common.{get_or, refl, ◌≡◌, ℕ, zero, suc, ◌+◌, ◌-◌, ◌*◌, ◌/◌, ◌%◌, ◌^◌, ◌<◌, ◌≤◌, arith, ap, sym, ◌∙◌}
+use Rattle.std.specs.Prelude.{bit_and, bit_or, map}
+use Rattle.std.specs.List.{range_with_len}
+use Rattle.std.proofs.lemmas.List.FromFn.{get_or-map-range_with_len}
+use Rattle.rice_bits.specs.declared.bits.digits.TheConstants.{GREATEST}
 use Rattle.std.specs.Int.Bits.{or_zero_l}
 use Rattle.std.proofs.Math.Nat.{mod-one}
-use Rattle.std.proofs.lemmas.Nat.{mod-mul-add, or_mod, pow-add, pow_pos}
+use Rattle.std.proofs.lemmas.Nat.{and_mask, mod-mul-add, or_mod, pow-add, pow_pos}
 use Rattle.rice_bits.proofs.lemmas.bits.FrontsOfWords.{moved_up}
 use Rattle.rice_bits.proofs.bits.digits.digits_behind.Goals as goal
 
@@ -29,5 +32,13 @@ turned v (suc k) width h few =
     rw (count, rest) (or_mod (v * 2 ^ suc k % 2 ^ 64) low width
     ∙ (ap (λ z. bit_or z (low % 2 ^ width)) (none-low v (suc k) width h few (omega arith)) ∙ or_zero_l (low % 2 ^ width)))
 
+greatest : (width : ℕ) → width ≤ 32 → get_or GREATEST width 0 ≡ 2 ^ width - 1
+greatest width h =
+    let all : map (λ i. 2 ^ i - 1) (range_with_len 0 33) ≡ GREATEST = refl in
+    ap (λ xs. get_or xs width 0) (sym all) ∙ get_or-map-range_with_len (λ i. 2 ^ i - 1) 0 33 width width 0 (omega arith) (omega arith)
+
 pub returns : goal.returns
-returns c = c.last_digits.ensures ∙ (ap (λ z. z % 2 ^ c.args.width) c.rotate_left.ensures ∙ turned c.args.value (c.args.before + c.args.width) c.args.width (omega arith) c.requires.there)
+returns c =
+    ap (bit_and c.rotate_left.result) (greatest c.args.width c.requires.width) ∙
+    (and_mask c.rotate_left.result c.args.width ∙ (ap (λ z. z % 2 ^ c.args.width) c.rotate_left.ensures ∙ turned c.args.value (c.args.before + c.args.width) c.args.width (omega arith)
+    c.requires.there))

@@ -1,12 +1,14 @@
 -- Words of 8, 16 or 32 digits, and the 64 digits that some of them have.
 use Rattle.std.proofs.Common.{◌≡◌, ℕ, zero, suc, ◌+◌, ◌-◌, ◌*◌, ◌/◌, ◌%◌, ◌^◌, ◌<◌, ◌≤◌, inl, inr, Bool, false, List, []}
 use Rattle.std.proofs.Common.{◌∷◌, ◌++◌, length, take, drop, map, get_or, replicate, refl, sym, ◌∙◌, ap, arith, append_assoc, append-nil, length-append, bit_and, bit_or}
-use Rattle.std.specs.Prelude.{flat_map}
-use Rattle.std.specs.Int.{swap_bytes, to_be_bytes, to_le_bytes, w8, w64}
+use Rattle.std.specs.Prelude.{All, flat_map}
+use Rattle.std.specs.Int.{from_le_bytes, swap_bytes, to_be_bytes, to_le_bytes, w8, w64}
 use Rattle.std.specs.List.{slice_index}
 use Rattle.std.specs.Simd.Lanes.{Each1, number_l, zip2}
 use Rattle.std.proofs.lemmas.Grind.{flat_map-append}
-use Rattle.std.proofs.lemmas.List.{drop_more, length-drop, length-take-le, take_all}
+use Rattle.std.proofs.lemmas.List.{drop_more, length-drop, length-map, length-take-le, take_all}
+use Rattle.std.proofs.lemmas.List.Elements.{All-cons, All-nil}
+use Rattle.std.proofs.lemmas.Simd.{pick_l_whole}
 use Rattle.std.proofs.lemmas.Nat.{and_mask, be_bytes_8, div-mul-add, le_bytes_8, mod-pow-add, mod_below, one_shl, or_shifted, pow_pos, shr_below}
 use mir.Val.{Fits}
 use Rattle.rice_bits.specs.fast.bits.WholeWords.{IsWholeWidth, JoinsAllBut}
@@ -77,65 +79,29 @@ lowest_bytes_by_mask [] n h = refl
 lowest_bytes_by_mask (w ∷ ws) zero h = absurd (omega (arith, h))
 lowest_bytes_by_mask (w ∷ ws) (suc n) h = λ i. and_mask w 8 i ∷ lowest_bytes_by_mask ws n (omega (arith, h)) i
 
--- eight bytes
-record AreBytes (b0 b1 b2 b3 b4 b5 b6 b7 : ℕ) : Type 0 where
-  first : b0 < 256
-  second : b1 < 256
-  third : b2 < 256
-  fourth : b3 < 256
-  fifth : b4 < 256
-  sixth : b5 < 256
-  seventh : b6 < 256
-  eighth : b7 < 256
-
 -- the number of eight bytes
-eight_bytes : {b0 b1 b2 b3 b4 b5 b6 b7 n r : ℕ}
-    → AreBytes b0 b1 b2 b3 b4 b5 b6 b7
-    → n ≡ number_l 256 (b0 ∷ b1 ∷ b2 ∷ b3 ∷ b4 ∷ b5 ∷ b6 ∷ b7 ∷ []) % 18446744073709551616 → r ≡ swap_bytes w64 n
-    → to_be_bytes w64 r ≡ b0 ∷ b1 ∷ b2 ∷ b3 ∷ b4 ∷ b5 ∷ b6 ∷ b7 ∷ []
-eight_bytes {b0} {b1} {b2} {b3} {b4} {b5} {b6} {b7} {n} {r} are e f =
-    be_bytes_8 (to_le_bytes w64 n) r refl (each_byte (to_le_bytes w64 n) (eight-fit n)) f
-    ∙ le_bytes_8 (b0 ∷ b1 ∷ b2 ∷ b3 ∷ b4 ∷ b5 ∷ b6 ∷ b7 ∷ []) n refl each (omega (arith, e, are.first, are.second, are.third, are.fourth, are.fifth, are.sixth, are.seventh, are.eighth))
-  where
-    each : (i : ℕ) → get_or (b0 ∷ b1 ∷ b2 ∷ b3 ∷ b4 ∷ b5 ∷ b6 ∷ b7 ∷ []) i 0 < 256
-    each zero = are.first
-    each (suc zero) = are.second
-    each (suc (suc zero)) = are.third
-    each (suc (suc (suc zero))) = are.fourth
-    each (suc (suc (suc (suc zero)))) = are.fifth
-    each (suc (suc (suc (suc (suc zero))))) = are.sixth
-    each (suc (suc (suc (suc (suc (suc zero)))))) = are.seventh
-    each (suc (suc (suc (suc (suc (suc (suc zero))))))) = are.eighth
-    each (suc (suc (suc (suc (suc (suc (suc (suc i)))))))) = omega arith
+number_of_eight : (bytes : List ℕ) → length bytes ≡ 8 → ((i : ℕ) → get_or bytes i 0 < 256) → number_l 256 bytes % 18446744073709551616 ≡ from_le_bytes w64 bytes
+number_of_eight bytes h fit =
+    rw (← pick_l_whole 0 bytes 8 h) (omega (arith, fit 0, fit 1, fit 2, fit 3, fit 4, fit 5, fit 6, fit 7))
 
--- so they spell the lowest bytes of numbers
+low_words : (xs : List ℕ) → flat_map (word 8) (map (λ d. d % 2 ^ 8) xs) ≡ flat_map (word 8) xs
+low_words [] = refl
+low_words (x ∷ xs) = λ i. word-mod 8 8 x (omega arith) i ++ low_words xs i
+
+low_bytes : (xs : List ℕ) → All (λ b. b < 256) (map (λ d. d % 2 ^ 8) xs)
+low_bytes [] = All-nil (λ b. b < 256)
+low_bytes (x ∷ xs) = All-cons (λ b. b < 256) (x % 2 ^ 8) (map (λ d. d % 2 ^ 8) xs) (omega arith) (low_bytes xs)
+
+-- the number of the lowest bytes of eight numbers, with its bytes swapped, spells these
 eight_spelled : (xs bytes : List ℕ) (n r : ℕ) → length xs ≡ 8 → bytes ≡ map (λ d. d % 2 ^ 8) xs → n ≡ number_l 256 bytes % 18446744073709551616 → r ≡ swap_bytes w64 n
     → word 64 r ≡ flat_map (word 8) xs
 unfolding bits_of
-eight_spelled (x0 ∷ x1 ∷ x2 ∷ x3 ∷ x4 ∷ x5 ∷ x6 ∷ x7 ∷ []) bytes n r h e f g =
-    let bytes_are : to_be_bytes w64 r ≡ map (λ d. d % 2 ^ 8) (x0 ∷ x1 ∷ x2 ∷ x3 ∷ x4 ∷ x5 ∷ x6 ∷ x7 ∷ []) =
-    eight_bytes (record {
-      first = omega arith;
-      second = omega arith;
-      third = omega arith;
-      fourth = omega arith;
-      fifth = omega arith;
-      sixth = omega arith;
-      seventh = omega arith;
-      eighth = omega arith;
-    }) (f ∙ ap (λ b. number_l 256 b % 18446744073709551616) e) g in
-    sym (bits_of-eight r) ∙ (ap (flat_map (word 8)) bytes_are
-    ∙ (λ i. word-mod 8 8 x0 (omega arith) i ++ (word-mod 8 8 x1 (omega arith) i ++ (word-mod 8 8 x2 (omega arith) i ++ (word-mod 8 8 x3 (omega arith)
-    i ++ (word-mod 8 8 x4 (omega arith) i ++ (word-mod 8 8 x5 (omega arith) i ++ (word-mod 8 8 x6 (omega arith) i ++ (word-mod 8 8 x7 (omega arith) i ++ [])))))))))
-eight_spelled [] bytes n r h e f g = absurd (omega (arith, h))
-eight_spelled (x0 ∷ []) bytes n r h e f g = absurd (omega (arith, h))
-eight_spelled (x0 ∷ x1 ∷ []) bytes n r h e f g = absurd (omega (arith, h))
-eight_spelled (x0 ∷ x1 ∷ x2 ∷ []) bytes n r h e f g = absurd (omega (arith, h))
-eight_spelled (x0 ∷ x1 ∷ x2 ∷ x3 ∷ []) bytes n r h e f g = absurd (omega (arith, h))
-eight_spelled (x0 ∷ x1 ∷ x2 ∷ x3 ∷ x4 ∷ []) bytes n r h e f g = absurd (omega (arith, h))
-eight_spelled (x0 ∷ x1 ∷ x2 ∷ x3 ∷ x4 ∷ x5 ∷ []) bytes n r h e f g = absurd (omega (arith, h))
-eight_spelled (x0 ∷ x1 ∷ x2 ∷ x3 ∷ x4 ∷ x5 ∷ x6 ∷ []) bytes n r h e f g = absurd (omega (arith, h))
-eight_spelled (x0 ∷ x1 ∷ x2 ∷ x3 ∷ x4 ∷ x5 ∷ x6 ∷ x7 ∷ x ∷ xs) bytes n r h e f g = absurd (omega (arith, h))
+eight_spelled xs bytes n r h e f g =
+    let size : length bytes ≡ 8 = ap length e ∙ (length-map xs (λ d. d % 2 ^ 8) ∙ h) in
+    let fit : (i : ℕ) → get_or bytes i 0 < 256 = each_byte bytes (rw e (low_bytes xs)) in
+    let bytes_are : to_be_bytes w64 r ≡ bytes = be_bytes_8 (to_le_bytes w64 n) r refl (each_byte (to_le_bytes w64 n) (eight-fit n)) g ∙ le_bytes_8 bytes n size fit
+    (f ∙ number_of_eight bytes size fit) in
+    sym (bits_of-eight r) ∙ (ap (flat_map (word 8)) (bytes_are ∙ e) ∙ low_words xs)
 
 -- eight words of 8 digits: the number of their lowest bytes, with its bytes swapped, spells them
 pub eight_words : (ws : List ℕ) (at : ℕ) (bytes : List ℕ) (n r : ℕ) → at + 8 ≤ length ws → bytes ≡ map (λ d. d % 2 ^ 8) (take 8 (drop at ws))

@@ -23,6 +23,7 @@ use Rattle.rice_bits.specs.fast.read.EndsAndGaps.{ends_after}
 use Rattle.rice_bits.proofs.lemmas.bits.EightBytes.{bits_of-eight, word-mod}
 use Rattle.rice_bits.proofs.lemmas.bits.FrontsOfWords.{front_below, take-front}
 use Rattle.rice_bits.proofs.lemmas.bits.WordsAndNumbers.{length-word}
+use Rattle.rice_bits.proofs.lemmas.fast.lanes.WordsInBytes.{byte_at, table_row}
 use Rattle.rice_bits.proofs.lemmas.fast.read.EndsAndGapsLemmas.{ends-append, ends-count, few-ends}
 use Rattle.rice_bits.specs.fast.lanes.Ends.{in_lanes, places_behind, row_of_place}
 use Rattle.rice_bits.specs.declared.fast.lanes.ends.TheConstants.{SLIDE}
@@ -33,11 +34,7 @@ use Rattle.rice_bits.specs.declared.fast.lanes.tables_of_ends.TheConstants.{ROWS
 -- the row of the tables for a byte at a place below seven has the ends of its ones, and zeros up to eight numbers
 pub row_of : (place byte : ℕ) → place < 7 → byte < 256 → get_or (get_or ROWS place []) byte [] ≡ row_of_place place byte
 unfolding word
-row_of place byte h k =
-    let all : map (λ p. map (row_of_place p) (range_with_len 0 256)) (range_with_len 0 7) ≡ ROWS = refl in
-    ap (λ t. get_or (get_or t place []) byte []) (sym all)
-    ∙ (ap (λ t. get_or t byte []) (get_or-map-range_with_len (λ p. map (row_of_place p) (range_with_len 0 256)) 0 7 place place [] h (omega arith))
-    ∙ get_or-map-range_with_len (row_of_place place) 0 256 byte byte [] k (omega arith))
+row_of place byte h k = table_row row_of_place 7 256 ROWS refl place byte h k
 
 abbrev from_slide : ℕ → List ℕ
 from_slide n = take 16 (drop (48 - n) SLIDE)
@@ -238,14 +235,6 @@ pub zeros-of : (front n : ℕ) → n ≤ 64 → front < 2 ^ 64 → ones ((2 ^ 64
 zeros-of front n h fits =
     let other = ap ones (front-other front n h fits) in
     omega (arith, other, ones-of front n h fits, ones_of_complement n (front / 2 ^ (64 - n)) (front_below 64 n front h fits))
-
-byte_at : (q : ℕ) (bytes : List ℕ) → q < length bytes → take 8 (drop (8 * q) (bits_of bytes)) ≡ word 8 (get_or bytes q 0)
-unfolding word bits_of
-byte_at q [] h = absurd (omega (arith, h))
-byte_at zero (a ∷ bytes) h = refl
-byte_at (suc q) (a ∷ bytes) h =
-    let e : 8 * suc q ≡ suc (suc (suc (suc (suc (suc (suc (suc (8 * q)))))))) = omega arith in
-    ap (λ n. take 8 (drop n (bits_of (a ∷ bytes)))) e ∙ byte_at q bytes (omega (arith, h))
 
 -- the byte at a place among the eight bytes of a number has the eight digits there
 pub byte-of : (front place : ℕ) (bytes : List ℕ) → place < 8 → bytes ≡ to_be_bytes w64 front → word 8 (get_or bytes place 0) ≡ take 8 (drop (8 * place) (word 64 front))

@@ -1,28 +1,12 @@
 -- Fundamental sequences from their ends, in lanes.
-use Rattle.std.proofs.Common.{◌≡◌, ℕ, zero, suc, ◌+◌, ◌-◌, ◌*◌, ◌<◌, ◌≤◌, Bool, true, false, List, [], ◌∷◌, ◌++◌, length, take, get_or, replicate, sym, ◌∙◌, ap, arith, take-take}
+use Rattle.std.proofs.Common.{◌≡◌, ℕ, zero, suc, ◌+◌, ◌-◌, ◌*◌, ◌≤◌, Bool, true, false, List, [], ◌∷◌, ◌++◌, length, take, get_or, replicate, sym, ◌∙◌, ap, arith, take-take}
 use Rattle.std.specs.Prelude.{flat_map}
-use Rattle.std.specs.List.{range_with_len}
-use Rattle.std.specs.Simd.Lanes.{zip2, pick_l}
-use Rattle.std.proofs.lemmas.List.{get_or-take, length-take-le, take_all, take-append-le}
-use Rattle.std.proofs.lemmas.Simd.{pick_l-range_with_len}
+use Rattle.std.proofs.lemmas.List.{get_or-take, length-take-le, take-append-le}
 use Rattle.rice_bits.specs.Bits.{fundamental_sequence, word}
 use Rattle.rice_bits.specs.fast.read.EndsAndGaps.{ends_after, gaps}
 use Rattle.rice_bits.proofs.lemmas.bits.WordsAndNumbers.{length-word}
-use Rattle.rice_bits.proofs.lemmas.fast.read.EndsAndGapsLemmas.{gaps-at, gaps-spell, length-gaps, take-gaps}
+use Rattle.rice_bits.proofs.lemmas.fast.read.EndsAndGapsLemmas.{gaps-spell, take-gaps}
 use Rattle.rice_bits.specs.fast.lanes.Ends.{in_lanes}
-
--- a 0 and the first fifteen of sixteen lanes are all lanes behind a 0, as far as sixteen reach
-pub behind-zero : (xs : List ℕ) → length xs ≡ 16 → 0 ∷ pick_l 0 xs (range_with_len 0 15) ≡ take 16 (0 ∷ xs)
-behind-zero xs n = ap (λ z. 0 ∷ z) (pick_l-range_with_len 0 xs 0 15 (omega (arith, n)))
-
--- each end less the one before it, with 0 before the first, and less one is the gap between them
-pub gaps-of-lanes : (ends behind : List ℕ) → length ends ≡ 16 → behind ≡ take 16 (0 ∷ ends) → zip2 (λ x y. x - y) (zip2 (λ x y. x - y) ends behind) (replicate 16 1) ≡ gaps (0 ∷ ends)
-gaps-of-lanes ends behind n e =
-    let whole : take 16 ends ≡ ends = take_all 16 ends (omega (arith, n)) in
-    let room : 0 + 16 < length (0 ∷ ends) = omega (arith, n) in
-    let many : length (gaps (0 ∷ ends)) ≤ 16 = omega (arith, n, length-gaps (0 ∷ ends) (omega arith)) in
-    (λ i. zip2 (λ x y. x - y) (zip2 (λ x y. x - y) (sym whole i) (e i)) (replicate 16 1))
-    ∙ (gaps-at 16 (0 ∷ ends) 0 room ∙ take_all 16 (gaps (0 ∷ ends)) many)
 
 -- the first lanes are the first numbers
 lanes-first : (t : ℕ) (es : List ℕ) → t ≤ 16 → t ≤ length es → take t (in_lanes es) ≡ take t es

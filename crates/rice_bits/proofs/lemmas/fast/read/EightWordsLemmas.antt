@@ -5,7 +5,8 @@ use Rattle.std.specs.Prelude.{All, slice_index}
 use Rattle.std.specs.Simd.Lanes.{Each1}
 use Rattle.std.proofs.lemmas.Simd.{get_or-swz_l_below, SwzOk, SwzOk-from_below, swz_l}
 
-each-of : (P : ℕ → Type 0) (xs : List ℕ) → All P xs → Each1 P xs
+-- what holds of the number at each place holds of each number
+pub each-of : (P : ℕ → Type 0) (xs : List ℕ) → All P xs → Each1 P xs
 each-of P [] h = tt
 each-of P (x ∷ xs) h = (h 0 0 (omega arith), each-of P xs (λ k d lt. h (suc k) d (omega (arith, lt))))
 

@@ -1,10 +1,9 @@
 -- The places of the ones among bits.
 use Rattle.std.proofs.Common.{◌≡◌, ℕ, zero, suc, ◌+◌, ◌-◌, ◌%◌, ◌<◌, ◌≤◌, Bool, true, false, cond, nat_lt, List, [], ◌∷◌}
-use Rattle.std.proofs.Common.{◌++◌, length, take, drop, get_or, replicate, refl, sym, ◌∙◌, ap, arith, append_assoc, Fits, w8}
+use Rattle.std.proofs.Common.{◌++◌, length, take, get_or, replicate, refl, sym, ◌∙◌, ap, arith, append_assoc, Fits, w8}
 use Rattle.std.specs.Prelude.{flat_map}
 use Rattle.std.specs.Simd.Lanes.{zip2, sel_l, Each1}
 use Rattle.std.proofs.lemmas.Bool.Decides.{nat_tests}
-use Rattle.std.proofs.lemmas.List.{drop-drop, length-drop}
 use Rattle.std.proofs.Math.Seq.{take-append-add}
 use Rattle.rice_bits.specs.Bits.{fundamental_sequence}
 use Rattle.rice_bits.specs.fast.read.EndsAndGaps.{ends_after, gaps}
@@ -44,34 +43,6 @@ pub lanes_above_or_zero : (xs ys : List ℕ) → Each1 (Fits w8) xs → Each1 (F
 lanes_above_or_zero [] ys h k = refl
 lanes_above_or_zero (x ∷ xs) [] h k = refl
 lanes_above_or_zero (x ∷ xs) (y ∷ ys) h k = λ i. one_above_or_zero x y h.0.fits k.0.fits i ∷ lanes_above_or_zero xs ys h.1 k.1 i
-
-gaps-lanes : (n : ℕ) (told : List ℕ) → n < length told
-    → zip2 (λ x y. x - y) (zip2 (λ x y. x - y) (take n (drop 1 told)) (take n told)) (replicate n 1) ≡ take n (gaps told)
-gaps-lanes zero told h = refl
-gaps-lanes (suc n) [] h = absurd (omega arith)
-gaps-lanes (suc n) (a ∷ []) h = absurd (omega arith)
-gaps-lanes (suc n) (a ∷ b ∷ told) h = ap (λ z. (b - a - 1) ∷ z) (gaps-lanes n (b ∷ told) (omega (arith, h)))
-
-drop-gaps : (i : ℕ) (told : List ℕ) → i < length told → drop i (gaps told) ≡ gaps (drop i told)
-drop-gaps zero told h = refl
-drop-gaps (suc i) [] h = absurd (omega arith)
-drop-gaps (suc i) (a ∷ []) h = absurd (omega arith)
-drop-gaps (suc i) (a ∷ b ∷ told) h = drop-gaps i (b ∷ told) (omega (arith, h))
-
--- there is a gap fewer than there are numbers
-pub length-gaps : (told : List ℕ) → 0 < length told → length (gaps told) + 1 ≡ length told
-length-gaps [] h = absurd (omega arith)
-length-gaps (a ∷ []) h = refl
-length-gaps (a ∷ b ∷ told) h = omega (arith, length-gaps (b ∷ told) (omega arith))
-
--- some gaps in a row
-pub gaps-at : (n : ℕ) (told : List ℕ) (at : ℕ) → at + n < length told
-    → zip2 (λ x y. x - y) (zip2 (λ x y. x - y) (take n (drop (at + 1) told)) (take n (drop at told))) (replicate n 1) ≡ take n (drop at (gaps told))
-gaps-at n told at h =
-    let behind : drop (at + 1) told ≡ drop 1 (drop at told) = sym (drop-drop 1 at told) in
-    let room : n < length (drop at told) = omega (arith, h, length-drop at told) in
-    ap (λ z. zip2 (λ x y. x - y) (zip2 (λ x y. x - y) (take n z) (take n (drop at told))) (replicate n 1)) behind
-    ∙ (gaps-lanes n (drop at told) room ∙ ap (take n) (sym (drop-gaps at told (omega (arith, h)))))
 
 -- an end is not before those bits that stand before all
 ends-from : (p q : ℕ) (bits : List Bool) (t : ℕ) → p ≤ q → t ≤ length (ends_after q bits) → p ≤ get_or (p ∷ ends_after q bits) t 0

@@ -1,7 +1,7 @@
-use Rattle.std.proofs.Common.{◌≡◌, ℕ, ◌+◌, ◌-◌, ◌*◌, ◌/◌, ◌<◌, ◌≤◌, ◌++◌, length, take, drop, refl, ap, subst, arith, ◌∙◌}
-use Rattle.std.proofs.Math.Nat.{div-add-mod, mod-lt, mul-le-mul_left}
+use Rattle.std.proofs.Common.{◌≡◌, ℕ, ◌+◌, ◌-◌, ◌*◌, ◌/◌, ◌≤◌, ◌++◌, length, take, drop, refl, ap, subst, arith, ◌∙◌}
+use Rattle.std.proofs.Math.Nat.{div-add-mod, mul-le-mul_left}
 use borrow.Rule.Slice.PartMut.{Post-is, same_len_mid}
-use Rattle.rice_samples.proofs.lemmas.bytes.UnusedBits.{SpelledSoFar, all_spelled, none_so_far, one_more}
+use Rattle.rice_samples.proofs.lemmas.bytes.UnusedBits.{SpelledSoFar, none_so_far, one_more}
 use Rattle.rice_samples.proofs.bytes.unused_bits.set_unused_bits.Goals as goal
 
 -- a word that is whole ends inside
@@ -30,15 +30,3 @@ loop-i-preserved c =
           (one_more w c.loop-i.invariant.so_far inside len (ap (λ n. take n (drop at bytes)) count) c.set_unused_bits_of_one.ensures
           (ap (λ l. take at bytes ++ (one ++ l)) (Post-is at (at + w) bytes (omega arith))));
     }
-
-pub returns : goal.returns
-returns c =
-    let w = c.width-width.result in
-    let n = length c.args.bytes.now in
-    let i = c.loop-i.i in
-    let some : 0 < w = omega (arith, c.width-width.ensures.range) in
-    let end : i ≡ n / w = omega arith in
-    let at : w * i ≡ w * (n / w) = ap (λ k. w * k) end in
-    let parts = div-add-mod n w in
-    let rest = mod-lt n some in
-    all_spelled c.args.setting.now c.args.bytes.now c.loop-i.bytes (w * i) c.loop-i.invariant.so_far (omega (arith, at, parts)) (omega (arith, at, parts, rest, c.width-width.ensures.value))

@@ -1,10 +1,9 @@
-use Rattle.std.proofs.Common.{true, false, ◌∙◌, ap, sym, take}
-use Rattle.rice_samples.specs.bytes.PatternLanes.{threes_widened}
-use Rattle.rice_samples.proofs.lemmas.bytes.LevelsInLanes.{first_threes_widened}
+use Rattle.std.proofs.Common.{refl}
+use Rattle.std.proofs.lemmas.Simd.{pick_l_whole}
 use Rattle.rice_samples.proofs.fast.level_lanes.first_threes.Goals as goal
 
 pub returns-then-msb : goal.returns-then-msb
-returns-then-msb c = first_threes_widened true c.args.bytes c.requires ∙ ap (λ msb. threes_widened msb (take 12 c.args.bytes)) (sym c.if-msb.true)
+returns-then-msb c = rw (c.if-msb.true, ← pick_l_whole 0 c.args.bytes 16 c.requires) refl
 
 pub returns : goal.returns
-returns c = first_threes_widened false c.args.bytes c.requires ∙ ap (λ msb. threes_widened msb (take 12 c.args.bytes)) (sym c.if-msb.false)
+returns c = rw (c.if-msb.false, ← pick_l_whole 0 c.args.bytes 16 c.requires) refl

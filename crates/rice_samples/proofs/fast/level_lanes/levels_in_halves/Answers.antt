@@ -1,14 +1,10 @@
-use Rattle.std.proofs.Common.{◌∙◌, ap, arith, sym}
-use Rattle.std.specs.Prelude.{flat_map}
-use Rattle.rice_samples.specs.bytes.Spelling.{ordered_bytes}
-use Rattle.rice_samples.proofs.lemmas.predict.HalfLanes.{two_bytes}
+use Rattle.std.proofs.Common.{◌∙◌, ap, sym}
+use Rattle.std.specs.Simd.Lanes.{digits_l, number_l}
+use Rattle.rice_samples.proofs.lemmas.bytes.LevelsInLanes.{words_of_lanes}
 use Rattle.rice_samples.proofs.fast.level_lanes.levels_in_halves.Goals as goal
-
-pub levels_of_words-requires : goal.levels_of_words-requires
-levels_of_words-requires c =
-    record { width = sym (two_bytes c.args.setting.now c.requires.wide c.requires.narrow); room = omega arith; fit = c.words_of_two_bytes-words.result.fits }
 
 pub returns : goal.returns
 returns c =
-    let words = c.words_of_two_bytes-words in
-    sym (c.levels_of_words.ensures ∙ (ap (λ msb. flat_map (ordered_bytes msb 2) words.result.lanes) (sym c.msb.ensures) ∙ words.ensures))
+    sym (c.levels_of_words.ensures ∙ words_of_lanes c.args.setting.now.msb c.msb.result 2 8 16 c.args.bytes.now c.of.result.lanes c.msb.ensures c.requires.len c.requires.len
+    (λ i. (c.type_inv.bytes i).fits)
+    (c.of.ensures ∙ ap (λ xs. digits_l 65536 8 (number_l 256 xs)) c.byte_pairs-pairs.ensures))

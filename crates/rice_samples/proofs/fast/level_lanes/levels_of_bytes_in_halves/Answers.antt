@@ -1,12 +1,10 @@
-use Rattle.std.proofs.Common.{◌∙◌, arith, sym}
+use Rattle.std.proofs.Common.{◌∙◌, ◌<◌, ◌^◌, ℕ, List, arith, get_or, subst, sym}
+use Rattle.std.proofs.lemmas.List.{take_all}
+use Rattle.rice_samples.proofs.lemmas.blocks.EightsInLanes.{map_same}
 use Rattle.rice_samples.proofs.lemmas.bytes.LevelsInLanes.{single_bytes}
-use Rattle.rice_samples.proofs.lemmas.bytes.LevelsSpelledInByteLanes.{one_byte}
 use Rattle.rice_samples.proofs.fast.level_lanes.levels_of_bytes_in_halves.Goals as goal
-
-pub levels_of_words-requires : goal.levels_of_words-requires
-levels_of_words-requires c = record { width = sym (one_byte c.args.setting.now c.requires.narrow); room = omega arith; fit = c.eight_bytes_in_halves-words.ensures.fit }
 
 pub returns : goal.returns
 returns c =
-    let words = c.eight_bytes_in_halves-words in
-    sym (c.levels_of_words.ensures ∙ (single_bytes c.args.setting.now.msb words.result.lanes words.ensures.fit ∙ words.ensures.value))
+    let all = c.of-words.ensures ∙ (map_same _ ∙ take_all 8 c.args.bytes.now (omega (arith, c.requires.len))) in
+    sym (c.levels_of_words.ensures ∙ (single_bytes c.args.setting.now.msb c.of-words.result.lanes (λ i. subst (λ (xs : List ℕ). get_or xs i 0 < 2 ^ 8) (sym all) (c.type_inv.bytes i).fits) ∙ all))

@@ -1,13 +1,13 @@
 use Rattle.std.proofs.Common.{◌+◌, ◌-◌, ◌%◌, ◌∙◌, replicate}
 use Rattle.std.proofs.lemmas.Simd.{length-zip2}
-use Rattle.rice_samples.proofs.lemmas.bytes.LevelsSpelledInByteLanes.{bytes-spelled}
+use Rattle.rice_samples.proofs.lemmas.bytes.LevelsSpelledInByteLanes.{bytes-spelled, one_byte}
 use Rattle.rice_samples.proofs.fast.spelling_lanes.spelled_in_one_byte.Goals as goal
 
 pub returns-clause-value : goal.returns-clause-value
 returns-clause-value c =
-    let offset = c.offset.ensures in
-    let levels = c.args.levels in
-    bytes-spelled c.args.setting.now 16 c.offset.result levels.lanes offset.legal.bits_from c.requires.narrow offset.value levels.len c.requires.legal
+    let s = c.args.setting.now in
+    bytes-spelled s 16 c.offset.result c.args.levels.lanes
+    (record { legal = c.offset.ensures.legal; wide = one_byte s c.requires.narrow; offset_is = c.offset.ensures.value; len = c.args.levels.len; levels_are = c.requires.legal })
 
 pub returns-clause-len : goal.returns-clause-len
 returns-clause-len c =

@@ -1,13 +1,14 @@
-use Rattle.std.proofs.Common.{◌∙◌, sym}
-use Rattle.rice_samples.proofs.lemmas.bytes.WordsSpelled.{high_first, low_first}
+use Rattle.std.proofs.Common.{true, false, sym, ◌∙◌}
+use Rattle.rice_samples.proofs.lemmas.bytes.LevelsSpelledInByteLanes.{threes-spelled}
 use Rattle.rice_samples.proofs.fast.spelling_lanes.spelled_in_three_bytes.Goals as goal
 
 pub returns-then-msb-clause-value : goal.returns-then-msb-clause-value
 returns-then-msb-clause-value c =
-    let offset = c.offset.ensures in
-    high_first c.args.setting.now c.offset.result c.args.levels.lanes offset.legal.bits_from c.requires.three (sym c.msb.ensures ∙ c.if-msb.true) offset.value c.args.levels.len c.requires.legal
+    threes-spelled c.args.setting.now true c.offset.result c.args.levels.lanes
+    (record { legal = c.offset.ensures.legal; wide = c.requires.three; offset_is = c.offset.ensures.value; len = c.args.levels.len; levels_are = c.requires.legal }) (sym c.if-msb.true ∙ c.msb.ensures)
 
 pub returns-clause-value : goal.returns-clause-value
 returns-clause-value c =
-    let offset = c.offset.ensures in
-    low_first c.args.setting.now c.offset.result c.args.levels.lanes offset.legal.bits_from c.requires.three (sym c.msb.ensures ∙ c.if-msb.false) offset.value c.args.levels.len c.requires.legal
+    threes-spelled c.args.setting.now false c.offset.result c.args.levels.lanes
+    (record { legal = c.offset.ensures.legal; wide = c.requires.three; offset_is = c.offset.ensures.value; len = c.args.levels.len; levels_are = c.requires.legal })
+    (sym c.if-msb.false ∙ c.msb.ensures)

@@ -20,9 +20,3 @@ returns-clause-only c = λ x sample e.
     let fits : FitsSigned w64 y = search rules in
     rw (to_z-of_z w64 y fits)
     (same_level s y x c.value_at.ensures.sample sample (rank_injective (value_count s) (level s p) (level s y) (level s x) c.requires.before.1 c.value_at.ensures.sample.1 sample.1 same))
-
-pub returns-clause-sample : goal.returns-clause-sample
-returns-clause-sample c = search rules
-
-pub returns-clause-rank : goal.returns-clause-rank
-returns-clause-rank c = search rules

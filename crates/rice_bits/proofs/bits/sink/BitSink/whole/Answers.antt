@@ -4,9 +4,6 @@ use Rattle.rice_bits.proofs.lemmas.bits.BytesAndBits.{each_byte}
 use Rattle.rice_bits.proofs.lemmas.bits.SinkBytes.{gathered-whole}
 use Rattle.rice_bits.proofs.bits.sink.BitSink.whole.Goals as goal
 
-pub front-requires : goal.front-requires
-front-requires g c = omega (arith, c.self.invariant.room, c.self.told)
-
 pub returns : goal.returns
 returns g c =
     c.front.ensures.bytes

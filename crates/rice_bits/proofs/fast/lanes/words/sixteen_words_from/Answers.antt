@@ -1,20 +1,27 @@
-use Rattle.std.proofs.Common.{◌∙◌, ap}
-use Rattle.std.specs.Prelude.{flat_map}
+use Rattle.std.proofs.Common.{◌^◌, ◌<◌, ◌∙◌, ap, refl, subst, sym}
+use Rattle.std.specs.Prelude.{All, flat_map}
+use Rattle.std.proofs.lemmas.List.Elements.{All-append}
 use Rattle.rice_bits.specs.Bits.{bits_of, word}
-use Rattle.rice_bits.proofs.lemmas.fast.lanes.WordsInTwoBytes.{below-256, sixteen-words, fit-both}
+use Rattle.rice_bits.proofs.lemmas.fast.lanes.WordsInTwoBytes.{narrow-fits, narrow-is}
+use Rattle.rice_bits.proofs.lemmas.read.WindowLemmas.{words-joined}
 use Rattle.rice_bits.proofs.fast.lanes.words.sixteen_words_from.Goals as goal
 
-pub joined_in_narrow_lanes-requires-clause-first : goal.joined_in_narrow_lanes-requires-clause-first
-joined_in_narrow_lanes-requires-clause-first c = below-256 c.args.width c.eight_words_from-first.result c.requires.width c.eight_words_from-first.ensures.fit
-
-pub joined_in_narrow_lanes-requires-clause-second : goal.joined_in_narrow_lanes-requires-clause-second
-joined_in_narrow_lanes-requires-clause-second c = below-256 c.args.width c.eight_words_from.result c.requires.width c.eight_words_from.ensures.fit
+pub overflow_cast-result : goal.overflow_cast-result
+overflow_cast-result c =
+    let first = c.eight_words_from-first in
+    let second = c.eight_words_from-second in
+    narrow-fits c.args.width first.result second.result c.requires.width first.ensures.len second.ensures.len first.ensures.fit second.ensures.fit
 
 pub returns-clause-fit : goal.returns-clause-fit
-returns-clause-fit c = rw c.joined_in_narrow_lanes.ensures (fit-both c.args.width c.eight_words_from-first.result c.eight_words_from.result c.eight_words_from-first.ensures.fit
-    c.eight_words_from.ensures.fit)
+returns-clause-fit c =
+    let first = c.eight_words_from-first in
+    let second = c.eight_words_from-second in
+    subst (All (λ v. v < 2 ^ c.args.width)) (sym (narrow-is first.result second.result first.ensures.len second.ensures.len))
+    (All-append (λ v. v < 2 ^ c.args.width) first.result second.result first.ensures.fit second.ensures.fit)
 
 pub returns-clause-bits : goal.returns-clause-bits
 returns-clause-bits c =
-    ap (flat_map (word c.args.width)) c.joined_in_narrow_lanes.ensures
-    ∙ sixteen-words c.args.width c.args.at (bits_of c.args.bytes.now) c.eight_words_from-first.result c.eight_words_from.result c.eight_words_from-first.ensures.bits c.eight_words_from.ensures.bits
+    let first = c.eight_words_from-first in
+    let second = c.eight_words_from-second in
+    ap (flat_map (word c.args.width)) (narrow-is first.result second.result first.ensures.len second.ensures.len)
+    ∙ words-joined c.args.width (bits_of c.args.bytes.now) c.args.at 8 8 first.result second.result (record { place = refl; front = first.ensures.bits; behind = second.ensures.bits })

@@ -1,5 +1,4 @@
-use Rattle.std.proofs.lemmas.Grind.{common_steps}
-use Rattle.std.proofs.Common.{arith, ◌≡◌, ap, ◌∙◌, refl, None}
+use Rattle.std.proofs.Common.{◌≡◌, ap, ◌∙◌, refl, None}
 use Rattle.rice_bits.proofs.lemmas.read.DrawnBytes.{draws-waiting}
 use Rattle.rice_bits.proofs.lemmas.read.ReaderLemmas.{takes_passed}
 use Rattle.rice_bits.proofs.read.reader.BitReader.pass.Goals as goal
@@ -9,12 +8,3 @@ returns-clause-takes g c =
     let none : c.self.inside.refusal ≡ None = ap (λ r. r.refusal) c.self.view_is ∙ c.requires.going in
     let passes = c.pass.ensures.passes in
     rw (← c.self.view_is) (takes_passed _ _ (draws-waiting _ _ _ _ passes.split) refl refl none refl passes)
-
-pub returns-clause-idle : goal.returns-clause-idle
-returns-clause-idle g c = grind (arith, common_steps)
-
-pub returns-clause-left : goal.returns-clause-left
-returns-clause-left g c = grind (arith, common_steps)
-
-pub returns-clause-steps : goal.returns-clause-steps
-returns-clause-steps g c = grind (arith, common_steps)

@@ -1,4 +1,4 @@
-use Rattle.std.proofs.Common.{ap, sym, ◌∙◌, refl, arith}
+use Rattle.std.proofs.Common.{ap, refl, arith}
 use Rattle.rice_bits.proofs.lemmas.bits.WordsAndNumbers.{length-word}
 use Rattle.rice_bits.proofs.lemmas.read.DrawnBytes.{draws-waiting}
 use Rattle.rice_bits.proofs.lemmas.read.ReaderLemmas.{not_refused, takes_passed}
@@ -11,10 +11,6 @@ returns-clause-some g c =
       some.0,
       rw (← c.self.view_is) (takes_passed _ _ (draws-waiting _ _ _ _ some.1.split) refl refl none refl some.1),
     )
-
-pub returns-clause-going : goal.returns-clause-going
-returns-clause-going g c _ =
-    ap (λ r. r.refusal) (sym c.self.view_is) ∙ not_refused _ _ c.in_ok-number.ensures.some.2 c.self.invariant.stopped
 
 pub returns-clause-steps : goal.returns-clause-steps
 returns-clause-steps g c =

@@ -3,15 +3,8 @@ use Rattle.std.specs.Prelude.{slice_range}
 use Rattle.rice_bits.specs.Bits.{bits_of}
 use Rattle.rice_bits.specs.read.Reader.{is_blank}
 use Rattle.rice_bits.specs.read.Window.{window_passed}
-use Rattle.rice_bits.proofs.lemmas.read.WindowLemmas.{blank-more, blank-not, blank-start}
+use Rattle.rice_bits.proofs.lemmas.read.WindowLemmas.{blank-more, blank-not}
 use Rattle.rice_bits.proofs.read.window.Window.has_passed_zeros_alone.Goals as goal
-
-pub loop-seen-init : goal.loop-seen-init
-loop-seen-init c = record {
-  from = omega arith;
-  within = c.requires.marked;
-  blank = blank-start (bits_of c.args.self.now.buffer) c.args.self.now.marked;
-}
 
 pub loop-seen-preserved : goal.loop-seen-preserved
 loop-seen-preserved c = record {

@@ -1,9 +1,6 @@
 use Rattle.rice_samples.proofs.lemmas.lanes.NearLanes.{lanes_of_ways}
 use Rattle.rice_samples.proofs.fast.restoring.near.near_ways.Goals as goal
 
-pub splat-requires-2 : goal.splat-requires-2
-splat-requires-2 g c = g.met.L.Lanes.two_values
-
 pub returns : goal.returns
 returns g c =
     rw (c.xor.ensures, c.half.ensures, c.minus.ensures, c.splat.ensures, c.and.ensures, c.splat-2.ensures)

@@ -2,9 +2,6 @@ use Rattle.std.proofs.Common.{◌^◌}
 use Rattle.rice_samples.proofs.lemmas.lanes.SumsInLanes.{sums_are}
 use Rattle.rice_samples.proofs.fast.restoring.near.running_sums.Goals as goal
 
-pub splat-requires : goal.splat-requires
-splat-requires g c = c.requires
-
 pub returns : goal.returns
 returns g c =
     rw (

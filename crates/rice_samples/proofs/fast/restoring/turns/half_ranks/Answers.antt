@@ -2,9 +2,6 @@ use Rattle.std.proofs.Common.{◌^◌}
 use Rattle.rice_samples.proofs.lemmas.lanes.RanksForTurns.{lanes_halved}
 use Rattle.rice_samples.proofs.fast.restoring.turns.half_ranks.Goals as goal
 
-pub splat-requires : goal.splat-requires
-splat-requires g c = g.met.L.Lanes.two_values
-
 pub returns : goal.returns
 returns g c =
     rw (c.plus.ensures, c.half.ensures, c.and.ensures, c.splat.ensures)

@@ -1,4 +1,4 @@
-use Rattle.std.proofs.Common.{◌≡◌, ◌+◌, ◌-◌, ◌/◌, ◌^◌, ◌<◌, ◌∙◌, ap, arith, length-set, if◌then◌else◌, length, map, nat_lt, refl, subst, sym}
+use Rattle.std.proofs.Common.{◌+◌, ◌-◌, ◌/◌, ◌^◌, ◌<◌, ◌∙◌, ap, arith, length-set, if◌then◌else◌, length, map, nat_lt, refl, subst, sym}
 use Rattle.std.specs.Prelude.{slice_set}
 use Rattle.std.proofs.lemmas.List.{length-map, map-set}
 use Rattle.rice_samples.specs.predict.NearNumbers.{way}
@@ -10,45 +10,29 @@ pub selected-number-requires-clause-way : goal.selected-number-requires-clause-w
 selected-number-requires-clause-way g c =
     let f = g.L.Lanes.number in
     let bits = g.L.Lanes.bits in
-    let i = c.loop-i.i in
-    let ds = map f c.args.ranks.now in
-    let w = c.index-ways-i.result in
-    let inside : i < length c.args.ranks.now = omega (arith, c.loop-i-test.true, c.requires.count) in
-    let room : i < length ds = omega (arith, inside, length-map c.args.ranks.now f) in
-    let here = element f c.args.ranks.now i c.index-ranks-i.result inside c.index-ranks-i.is c.value.ensures in
-    let many : length c.args.ways.now ≡ length ds = sym (length-map c.args.ways.now f) ∙ (ap length c.requires.ways ∙ length-map ds (way (2 ^ bits))) in
-    let there = element f c.args.ways.now i w {v = f w} (omega (arith, many, room)) c.index-ways-i.is refl in
-    let is = made (way (2 ^ bits)) ds i room c.requires.ways there here in
-    let most = c.requires.ranks i 0 room in
+    let ranks = c.args.ranks.now in
+    let inside : c.loop-i.i < length ranks = omega (arith, c.loop-i-test.true, c.requires.count) in
+    let is = made f (way (2 ^ bits)) ranks c.args.ways.now c.loop-i.i c.index-ranks-i.result c.index-ways-i.result inside c.index-ranks-i.is c.value.ensures c.index-ways-i.is refl c.requires.ways in
+    let here = element f ranks c.loop-i.i c.index-ranks-i.result inside c.index-ranks-i.is c.value.ensures in
+    let most = c.requires.ranks c.loop-i.i 0 (omega (arith, inside, length-map ranks f)) in
     c.widened_way.ensures
     ∙ (ap (λ w. if nat_lt w (2 ^ (bits - 1)) then w else w + (2 ^ 32 - 2 ^ bits)) is
     ∙ way_widened bits c.value.result g.met.L.Lanes.two_values g.met.L.Lanes.most_bits (omega (arith, here, most, c.requires.greatest)))
 
 pub selected-number-requires-clause-half : goal.selected-number-requires-clause-half
 selected-number-requires-clause-half g c =
-    let f = g.L.Lanes.number in
-    let i = c.loop-i.i in
-    let ds = map f c.args.ranks.now in
-    let inside : i < length c.args.ranks.now = omega (arith, c.loop-i-test.true, c.requires.count) in
-    let room : i < length ds = omega (arith, inside, length-map c.args.ranks.now f) in
-    let here = element f c.args.ranks.now i c.index-ranks-i.result inside c.index-ranks-i.is c.value.ensures in
-    let many : length c.args.half_ranks.now ≡ length ds = sym (length-map c.args.half_ranks.now f) ∙ (ap length c.requires.half_ranks ∙ length-map ds (λ d. (d + 1) / 2)) in
-    let there = element f c.args.half_ranks.now i c.index-half_ranks-i.result (omega (arith, many, room)) c.index-half_ranks-i.is c.value-in-loop-i.ensures in
-    made (λ d. (d + 1) / 2) ds i room c.requires.half_ranks there here
+    made g.L.Lanes.number (λ d. (d + 1) / 2) c.args.ranks.now c.args.half_ranks.now c.loop-i.i c.index-ranks-i.result c.index-half_ranks-i.result
+    (omega (arith, c.loop-i-test.true, c.requires.count)) c.index-ranks-i.is c.value.ensures c.index-half_ranks-i.is c.value-in-loop-i.ensures c.requires.half_ranks
 
 pub selected-number-requires-clause-high : goal.selected-number-requires-clause-high
 selected-number-requires-clause-high g c =
     let f = g.L.Lanes.number in
-    let i = c.loop-i.i in
-    let ds = map f c.args.ranks.now in
-    let inside : i < length c.args.ranks.now = omega (arith, c.loop-i-test.true, c.requires.count) in
-    let room : i < length ds = omega (arith, inside, length-map c.args.ranks.now f) in
-    let here = element f c.args.ranks.now i c.index-ranks-i.result inside c.index-ranks-i.is c.value.ensures in
-    let many : length c.args.highs.now ≡ length ds = sym (length-map c.args.highs.now f) ∙ (ap length c.requires.highs ∙ length-map ds (λ d. c.args.greatest - d)) in
-    let there = element f c.args.highs.now i c.index-highs-i.result (omega (arith, many, room)) c.index-highs-i.is c.value-in-loop-i-2.ensures in
-    let is = made (λ d. c.args.greatest - d) ds i room c.requires.highs there here in
-    let most = c.requires.ranks i 0 room in
-    omega (arith, is, here, most)
+    let ranks = c.args.ranks.now in
+    let inside : c.loop-i.i < length ranks = omega (arith, c.loop-i-test.true, c.requires.count) in
+    let is = made f (λ d. c.args.greatest - d) ranks c.args.highs.now c.loop-i.i c.index-ranks-i.result c.index-highs-i.result inside c.index-ranks-i.is c.value.ensures c.index-highs-i.is
+    c.value-in-loop-i-2.ensures c.requires.highs in
+    let here = element f ranks c.loop-i.i c.index-ranks-i.result inside c.index-ranks-i.is c.value.ensures in
+    omega (arith, is, here, c.requires.ranks c.loop-i.i 0 (omega (arith, inside, length-map ranks f)))
 
 pub loop-i-preserved : goal.loop-i-preserved
 loop-i-preserved g c =

@@ -1,5 +1,0 @@
-use Rattle.rice_bits.proofs.lemmas.fast.lanes.WordsInTwoBytes.{places_are}
-use Rattle.rice_bits.proofs.fast.lanes.words.byte_places_of.Goals as goal
-
-pub returns : goal.returns
-returns c = places_are c.args.width c.args.before c.requires.width c.requires.before

@@ -1,1 +1,0 @@
--- Ranks in the lanes of vectors of bytes.

@@ -1,1 +1,0 @@
--- What is computed of ranks in lanes before their numbers are found one after another.

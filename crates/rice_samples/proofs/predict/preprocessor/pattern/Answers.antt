@@ -1,9 +1,0 @@
-use Rattle.std.proofs.lemmas.Grind.{common_steps}
-use Rattle.std.proofs.Common.{arith}
-use Rattle.rice_samples.proofs.predict.preprocessor.pattern.Goals as goal
-
-pub returns-clause-value : goal.returns-clause-value
-returns-clause-value c = grind (arith, common_steps)
-
-pub returns-clause-fits : goal.returns-clause-fits
-returns-clause-fits c = grind (arith, common_steps)

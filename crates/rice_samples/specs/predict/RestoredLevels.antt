@@ -1,1 +1,0 @@
--- Levels of samples that are restored from their residuals.
