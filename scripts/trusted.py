@@ -14,7 +14,7 @@ PAGE = "docs/TRUSTED.md"
 PROMISES = [("encode", "rice_stream", "src/encoding.rt"), ("decode", "rice_stream", "src/decoding.rt")]
 HEAD = re.compile(r"( *)(?:(?:pub|abbrev|unfoldable|opaque|data|record) )*([^\s:(){}]+)(?: .*)? : ")
 KEYWORD = re.compile(r" *(use|module|where|--|\)|\|)")
-USE = re.compile(r"(?m)^(?:ghost )?(?:pub )?use (Rattle\.\w+\.specs\.[\w.]+)\.\{(.*?)\}", re.S)
+USE = re.compile(r"(?m)^(?:ghost )?(?:pub )?use (Rattle\.\w+\.specs(?:\.[\w.]+)?)\.\{(.*?)\}", re.S)
 WORD = re.compile(r"[^\s(){}\[\],;.]+")
 TOP = """# What a reader trusts
 
@@ -40,8 +40,13 @@ def module_file(module):
 
 
 def imports(text):
-    """The module of each name that a text takes from another."""
-    return {name.split(" as ")[-1].strip(): module for module, names in USE.findall(text) for name in names.split(",")}
+    """The module of each name that a text takes from another. Names of several modules may share a line."""
+    found = {}
+    for module, names in USE.findall(text):
+        for name in names.split(","):
+            *inner, word = name.split(" as ")[-1].strip().split(".")
+            found[word] = ".".join([module, *inner])
+    return found
 
 
 def definitions(text):

@@ -21,7 +21,7 @@ def clauses(text):
 
 def is_used(name, text):
     """Whether a text has all parts of a name, of which an operator has several."""
-    word = name.split(" as ")[-1].strip()
+    word = name.split(" as ")[-1].strip().split(".")[-1]
     return all(re.search(rf"(?<![\w'-]){re.escape(part)}(?![\w'])" if re.match(r"\w", part) else re.escape(part), text)
                for part in word.split("◌") if part)
 

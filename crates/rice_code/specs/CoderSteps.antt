@@ -1,10 +1,7 @@
 -- What the coder looks at in order to code blocks. A look at a residual is a step.
 use Rattle.std.specs.Prelude.{ℕ, ◌+◌, ◌-◌, ◌*◌, min, if◌then◌else◌, List, sum_by, ℤ, pos}
 use Rattle.rice_samples.specs.Parameters.{Parameters, k_max}
-use Rattle.rice_code.specs.Bounds.{block_bound}
-use Rattle.rice_code.specs.code.Blocks.{BlockData, blocks_of, is_zero_block}
-use Rattle.rice_code.specs.code.Choice.{best_split}
-use Rattle.rice_code.specs.code.Code.{code_bits}
+use Rattle.rice_code.specs.{Bounds.block_bound, code.Choice.best_split, code.Code.code_bits, code.Blocks.BlockData, code.Blocks.blocks_of, code.Blocks.is_zero_block}
 
 -- the least and the most looks at residuals that coding a block takes
 abbrev pub least_looks : Parameters → BlockData → ℕ

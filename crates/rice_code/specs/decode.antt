@@ -3,4 +3,3 @@ pub mod Decoder
 pub mod DecoderState
 pub mod RowsOfFields
 pub mod ReadSets
-pub mod Restoring

@@ -1,24 +1,25 @@
 -- What decoding does: each way in which it ends.
-use Rattle.std.specs.Prelude.{◌≡◌, ◌≢◌, ℕ, ◌+◌, ◌-◌, ◌*◌, ◌/◌, ◌≤◌, ◌⊎◌, Bool, List, [], ◌++◌, length, sum_by, take, min, Option, Some, None, IfSome, IsSome, ℤ}
 use Rattle.std.specs.Io.KnownBytes.{IsAtEnd}
-use Rattle.rice_bits.specs.Limits.{most_bits_read, most_bytes_read, most_at_once}
+use Rattle.std.specs.Prelude.{◌≡◌, ◌≢◌, ℕ, ◌+◌, ◌-◌, ◌*◌, ◌/◌, ◌≤◌, ◌⊎◌, Bool, List, [], ◌++◌, length, sum_by, take, min, Option, Some, None, IfSome, IsSome, ℤ}
+use Rattle.rice_bits.specs.Limits.{most_bits_read}
+use Rattle.rice_bits.specs.Limits.{most_bytes_read, most_at_once}
 use Rattle.rice_bits.specs.device.OutletRoom.{Room}
-use Rattle.rice_bits.specs.Bits.{bits_of}
-use Rattle.rice_bits.specs.read.Window.{most_waiting}
 use Rattle.rice_bits.specs.read.Reader.{Reader}
+use Rattle.rice_bits.specs.read.Window.{most_waiting}
+use Rattle.rice_code.specs.Bounds.{decoder_step_bound}
+use Rattle.rice_code.specs.Limits.{most_samples_of_bit}
+use Rattle.rice_code.specs.code.Decoded.{Decoded, AreTaken, BeginsUnsound}
 use Rattle.rice_samples.specs.Parameters.{Parameters}
 use Rattle.rice_samples.specs.bytes.Spelling.{spellings}
-use Rattle.rice_code.specs.Limits.{most_samples_of_bit}
-use Rattle.rice_code.specs.Bounds.{decoder_step_bound}
-use Rattle.rice_code.specs.code.Decoded.{Decoded, AreTaken, BeginsUnsound, EndsWith, Ending, Reached, Ended, CutOff, Past, Large}
+use Rattle.rice_bits.specs.Bits.{bits_of}
 use Rattle.rice_code.specs.code.CodedDataSets.{CodedDataSet, turns}
+use Rattle.rice_code.specs.code.Decoded.{EndsWith, Ending, Reached, Ended, CutOff, Past, Large}
 use Rattle.rice_code.specs.code.Forms.{RunIsSound, ResidualsAreSound, blocks_in_all}
 use Rattle.rice_code.specs.code.Layout.{Lies}
-use Rattle.rice_stream.specs.DevicesInCalls.{Call, Happens, WritesAndReports, StopsBetween, PassesLimit}
-use Rattle.rice_stream.specs.declared.outcome.Report.{Report}
-use Rattle.rice_stream.specs.declared.outcome.Fault.{Fault}
-use Rattle.rice_stream.specs.declared.outcome.Fault.TheVariants.{Read, Write, TooLong, CodeEnds, RunPastSegment, ResidualTooLarge}
 use Rattle.rice_code.specs.declared.decode.call_results.CodeFault.{CodeFault}
+use Rattle.rice_stream.specs.DevicesInCalls.{Call, Happens, WritesAndReports, StopsBetween, PassesLimit}
+use Rattle.rice_stream.specs.{declared.outcome.Report.Report, declared.outcome.Fault.Fault}
+use Rattle.rice_stream.specs.declared.outcome.Fault.TheVariants.{Read, Write, TooLong, CodeEnds, RunPastSegment, ResidualTooLarge}
 use Rattle.rice_code.specs.declared.decode.call_results.CodeFault.TheVariants as codes
 
 -- the bytes decode so, and these samples and bits are what the call left
@@ -34,8 +35,7 @@ abbrev pub at_most : Option ℕ → ℕ → ℕ
 at_most None n = n
 at_most (Some m) n = min m n
 
--- The outlet failed in the block after the first `r.samples` samples: all before it is written, and not all of it.
--- The bits are those of the coded data sets up to the one that holds the block.
+-- The outlet failed in the block after the first `r.samples` samples: all before it is written, and not all of it. The bits are those of the coded data sets up to the one that holds the block.
 pub record FailsInBlock (s : Parameters) (asked : Option ℕ) (c : Call) (r : Report) (ys : List ℤ) : Type 0 where
   pub block : ℕ
   pub samples : r.samples ≡ s.block * block

@@ -1,22 +1,32 @@
--- A decoder at work: how far it has come, and what is written of its samples.
-use Rattle.std.specs.Prelude.{◌≡◌, ℕ, ◌+◌, ◌*◌, ◌<◌, ◌≤◌, Bool, List, ◌++◌, length, sum_by, replicate, All, Option, None, Some, IfSome, ℤ, pos}
+-- A decoder at work: how far it has come, what is written of its samples, and what the next block or the blocks of a run bring.
 use Rattle.std.specs.Io.KnownBytes.{Consumes}
+use Rattle.std.specs.Prelude.{◌≡◌, ℕ, ◌+◌, ◌*◌, ◌<◌, ◌≤◌, Bool, List, ◌++◌, length, sum_by, replicate, All, Option, None, Some, IfSome, ℤ, pos}
 use Rattle.rice_bits.specs.Limits.{most_bits_read}
 use Rattle.rice_bits.specs.device.OutletRoom.{Room, Appends}
-use Rattle.rice_bits.specs.Bits.{bits_of}
-use Rattle.rice_bits.specs.read.Reader.{Reader, Draws}
-use Rattle.rice_samples.specs.Parameters.{Parameters, IsSample}
-use Rattle.rice_samples.specs.Places.{place}
-use Rattle.rice_samples.specs.predict.Residuals.{last_of}
-use Rattle.rice_samples.specs.bytes.Spelling.{spellings}
+use Rattle.rice_bits.specs.read.Reader.{Reader}
+use Rattle.rice_bits.specs.read.Reader.{Draws}
 use Rattle.rice_code.specs.Limits.{most_samples_of_bit}
 use Rattle.rice_code.specs.code.Blocks.{blocks_from, zero_block}
 use Rattle.rice_code.specs.code.Decoded.{AreTaken, Decoded, DecodedFrom, Ending, IsWanted, cut_to}
+use Rattle.rice_samples.specs.Parameters.{Parameters, IsSample}
+use Rattle.rice_samples.specs.Places.{place}
+use Rattle.rice_samples.specs.bytes.Spelling.{spellings}
+use Rattle.rice_samples.specs.predict.Residuals.{last_of}
+use Rattle.std.specs.Prelude.{zero, suc, [], ◌-◌, take, Result, Ok}
 use Rattle.rice_code.specs.code.CodedDataSets.{CodedDataSet, turns}
 use Rattle.rice_code.specs.code.Forms.{blocks_in_all}
 use Rattle.rice_code.specs.code.Layout.{Lies}
-use Rattle.rice_code.specs.decode.DecoderState.{DecoderState}
 use Rattle.rice_code.specs.code.SoundBlocks.{AreSoundBlocks}
+use Rattle.rice_code.specs.declared.decode.call_results.CodeFault.{CodeFault}
+use Rattle.rice_code.specs.declared.decode.call_results.Step.{Step}
+use Rattle.rice_code.specs.declared.decode.call_results.Step.TheVariants.{Block}
+use Rattle.rice_code.specs.decode.Decoder.{RepeatsBlocks, Answers}
+use Rattle.rice_code.specs.decode.DecoderState.{DecoderState}
+use Rattle.rice_samples.specs.Parameters.{width}
+use Rattle.rice_code.specs.decode.Decoder.{GivesFromRun, with_mark}
+use Rattle.rice_code.specs.decode.RowsOfFields.{AreCounted}
+use Rattle.rice_bits.specs.Bits.{bits_of}
+use Rattle.rice_stream.specs.{DevicesInCalls.TakesPart}
 
 -- The samples of `run` zero blocks from this block on, after sample p.
 pub record AreOfRun (s : Parameters) (block : ℕ) (p : ℤ) (run : ℕ) (samples : List ℤ) : Type 0 where
@@ -32,8 +42,7 @@ pub record MayFollow (s : Parameters) (position begun blocks run : ℕ) (given :
   pub next : DecodedFrom s (blocks + run) position (last_of (pos 0) (given ++ more)) rest wanted ys ending used
 
 -- The bits so far are coded data sets that begin before block `begun`. The samples of `blocks` blocks were given, and
--- `run` blocks of a run are still to come: whatever follows these bits, and however many samples are wanted, decoding
--- gives these samples first, then those of the run, and then goes on.
+-- `run` blocks of a run are still to come: whatever follows these bits, and however many samples are wanted, decoding gives these samples first, then those of the run, and then goes on.
 pub record DecodedSoFar (s : Parameters) (front : List Bool) (begun blocks run : ℕ) (given : List ℤ) : Type 0 where
   pub len : length given ≡ s.block * blocks
   pub legal : All (IsSample s) given
@@ -107,3 +116,48 @@ pub record DecodingProgress {I : Type 0} (s : Parameters) (asked : Option ℕ) (
   pub decoded : DecodedSoFar s front begun blocks p.run given
   pub has_written : HasWritten s asked out_old out blocks given written
   pub has_steps : HasSteps steps r.taken written (p.run * s.block) (sum_by turns sets)
+
+-- bytes that follow one another again and again
+abbrev pub repeated : ℕ → List ℕ → List ℕ
+repeated zero xs = []
+repeated (suc n) xs = xs ++ repeated n xs
+
+-- A decoder went past blocks of a run, and their samples, `count` together, were written. All of them are wanted.
+pub record WritesRun (s : Parameters) (asked : Option ℕ) (written : ℕ) (p q : DecoderState) (old new : Option Room) (count : ℕ) : Type 0 where
+  pub blocks : ℕ
+  pub some : 1 ≤ blocks
+  pub count_is : count ≡ s.block * blocks
+  pub wanted : IfSome asked (λ n. written + count ≤ n)
+  pub passes : RepeatsBlocks blocks p q
+  pub run : q.run + blocks ≡ p.run
+  pub put : Appends old new (spellings s (replicate count p.before))
+
+-- The outlet failed behind `count` samples, those of whole blocks of a run, in the block after them. All of these are wanted.
+pub record FailsInRun (s : Parameters) (asked : Option ℕ) (written : ℕ) (p : DecoderState) (old new : Option Room) (count : ℕ) : Type 0 where
+  pub blocks : ℕ
+  pub count_is : count ≡ s.block * blocks
+  pub within : blocks < p.run
+  pub wanted : IfSome asked (λ n. written + count + s.block ≤ n)
+  -- the decoder before and behind that block
+  pub middle : DecoderState
+  pub last : DecoderState
+  pub passes : RepeatsBlocks blocks p middle
+  pub next : RepeatsBlocks 1 middle last
+  pub room : Option Room
+  pub put : Appends old room (spellings s (replicate count p.before))
+  pub part : TakesPart room new (spellings s (replicate s.block p.before))
+
+-- what it answers inside a run and elsewhere
+pub record Advances {I : Type 0} (old new : Reader I) (steps steps_new : ℕ) (p q : DecoderState) (samples : List ℤ) (answer : Result Step CodeFault) : Type 0 where
+  pub in_run : p.stopped ≡ None → 0 < p.run → (answer ≡ Ok Block) × GivesFromRun p q samples × (new ≡ old) × (steps_new ≡ steps)
+  pub reads : p.stopped ≡ None → p.run ≡ 0 → Answers (with_mark old) new steps steps_new p q samples answer
+
+-- It answers, and where it gives a block, the bytes begin with the spellings of its samples.
+pub record AnswersBytes {I : Type 0} (old new : Reader I) (steps steps_new : ℕ) (p q : DecoderState) (bytes : List ℕ) (answer : Result Step CodeFault) : Type 0 where
+  pub samples : List ℤ
+  pub advances : Advances old new steps steps_new p q samples answer
+  pub spelled : answer ≡ Ok Block → take (width p.setting * length samples) bytes ≡ spellings p.setting samples
+  pub setting : q.setting ≡ p.setting
+  pub counted : AreCounted steps steps_new old.taken new.taken
+  -- the samples that are given and those that then wait are bounded by the bits
+  pub by_bits : length samples + q.run * q.setting.block ≤ p.run * p.setting.block + most_samples_of_bit * (new.taken - old.taken)

@@ -1,9 +1,8 @@
 -- What passes between an engine and its devices in one call, and what the engine says of it.
-use Rattle.std.specs.Prelude.{◌≡◌, ◌≢◌, ℕ, ◌+◌, ◌≤◌, List, [], ◌∷◌, ◌++◌, length, Option, Some, ⊤}
 use Rattle.std.specs.Io.KnownBytes.{Consumes}
+use Rattle.std.specs.Prelude.{◌≡◌, ◌≢◌, ℕ, ◌+◌, ◌≤◌, List, [], ◌∷◌, ◌++◌, length, Option, Some, ⊤}
 use Rattle.rice_bits.specs.device.OutletRoom.{Room, Appends}
-use Rattle.rice_stream.specs.declared.outcome.Report.{Report}
-use Rattle.rice_stream.specs.declared.outcome.Fault.{Fault}
+use Rattle.rice_stream.specs.{declared.outcome.Report.Report, declared.outcome.Fault.Fault}
 use Rattle.rice_stream.specs.declared.outcome.Fault.TheVariants.{Read, Write, TooLong}
 
 -- One call: the bytes that the intake gave, those that it has left, and the bytes that the outlet took.
@@ -48,3 +47,11 @@ pub record PassesLimit (limit : ℕ) (given front : List ℕ) : Type 0 where
 abbrev pub IsWithinLimit : ℕ → Option Fault → List ℕ → Type 0
 IsWithinLimit limit (Some TooLong) given = ⊤
 IsWithinLimit limit _ given = length given ≤ limit
+
+-- a part of the bytes was taken, and not all of them
+pub record TakesPart (old new : Option Room) (bytes : List ℕ) : Type 0 where
+  pub front : List ℕ
+  pub missing : List ℕ
+  pub split : bytes ≡ front ++ missing
+  pub short : missing ≢ []
+  pub took : Appends old new front

@@ -1,18 +1,18 @@
 -- What encoding does: each way in which it ends.
-use Rattle.std.specs.Prelude.{◌≡◌, ◌≢◌, ℕ, ◌+◌, ◌-◌, ◌*◌, ◌<◌, ◌≤◌, ◌⊎◌, List, ◌++◌, length, take, All, Option, Some, None, ℤ}
 use Rattle.std.specs.Io.KnownBytes.{IsAtEnd}
+use Rattle.std.specs.Prelude.{◌≡◌, ◌≢◌, ℕ, ◌+◌, ◌-◌, ◌*◌, ◌<◌, ◌≤◌, ◌⊎◌, List, ◌++◌, length, take, All, Option, Some, None, ℤ}
 use Rattle.rice_bits.specs.Limits.{most_at_once}
 use Rattle.rice_bits.specs.device.OutletRoom.{Room}
 use Rattle.rice_samples.specs.Limits.{most_input}
-use Rattle.rice_samples.specs.Parameters.{Parameters, IsSample, width}
-use Rattle.rice_samples.specs.bytes.Spelling.{Spells, spellings, SpellingEnd, AtEnd, NoSpelling, TooFew}
+use Rattle.rice_samples.specs.Parameters.{Parameters, IsSample}
 use Rattle.rice_code.specs.Bounds.{bit_bound, step_bound, amortised_step_bound}
 use Rattle.rice_code.specs.code.Code.{code_bits, output, early_output, complete_samples}
+use Rattle.rice_samples.specs.Parameters.{width}
+use Rattle.rice_samples.specs.bytes.Spelling.{Spells, spellings, SpellingEnd, AtEnd, NoSpelling, TooFew}
 use Rattle.rice_code.specs.CoderSteps.{least_steps, most_steps}
 use Rattle.rice_code.specs.code.Blocks.{fill_count_of}
+use Rattle.rice_stream.specs.{declared.outcome.Report.Report, declared.outcome.Fault.Fault}
 use Rattle.rice_stream.specs.DevicesInCalls.{Call, Happens, StopsBetween, PassesLimit, IsWithinLimit}
-use Rattle.rice_stream.specs.declared.outcome.Report.{Report}
-use Rattle.rice_stream.specs.declared.outcome.Fault.{Fault}
 use Rattle.rice_stream.specs.declared.outcome.Fault.TheVariants.{Read, Write, TooLong, SampleOutOfRange, SampleCut}
 
 -- the bytes begin with the spellings of these samples
@@ -67,15 +67,11 @@ module _ (s : Parameters) where
   -- The outcome for the samples xs. Without a fault these are all that were given, and their code is written.
   abbrev pub EndsEncoding : Option Fault → Call → Report → List ℤ → Type 0
   EndsEncoding None c r xs = Spells s c.given xs AtEnd × IsAtEnd c.left × LeavesAll c r xs
-  EndsEncoding (Some (SampleOutOfRange index)) c r xs =
-      Spells s c.given xs NoSpelling × (index ≡ length xs) × LeavesEarly c r xs
-  EndsEncoding (Some (SampleCut index)) c r xs =
-      Spells s c.given xs TooFew × IsAtEnd c.left × (index ≡ length xs) × LeavesEarly c r xs
+  EndsEncoding (Some (SampleOutOfRange index)) c r xs = Spells s c.given xs NoSpelling × (index ≡ length xs) × LeavesEarly c r xs
+  EndsEncoding (Some (SampleCut index)) c r xs = Spells s c.given xs TooFew × IsAtEnd c.left × (index ≡ length xs) × LeavesEarly c r xs
   EndsEncoding (Some Read) c r xs = SpellsSoFar c.given xs × LeavesEarly c r xs
-  EndsEncoding (Some TooLong) c r xs =
-      ((front : List ℕ) × PassesLimit most_input c.given front × SpellsSoFar front xs) × LeavesEarly c r xs
-  EndsEncoding (Some Write) c r xs =
-      (length c.given < r.samples * width s + most_at_once) × (FailsBehind c r xs ⊎ FailsAtEnd c r xs)
+  EndsEncoding (Some TooLong) c r xs = ((front : List ℕ) × PassesLimit most_input c.given front × SpellsSoFar front xs) × LeavesEarly c r xs
+  EndsEncoding (Some Write) c r xs = (length c.given < r.samples * width s + most_at_once) × (FailsBehind c r xs ⊎ FailsAtEnd c r xs)
   EndsEncoding (Some _) c r xs = ⊥
 
   -- What the call did, for each outcome.

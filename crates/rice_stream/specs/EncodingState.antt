@@ -1,21 +1,18 @@
 -- A coder at work: which samples it has taken, and what is written of their code.
-use Rattle.std.specs.Prelude.{◌≡◌, ℕ, ◌+◌, ◌*◌, ◌<◌, ◌≤◌, Bool, List, [], ◌∷◌, ◌++◌, length, take, drop, Option, Some, None, Result, Ok, Err, ℤ}
 use Rattle.std.specs.Io.KnownBytes.{Consumes}
-use Rattle.rice_bits.specs.device.OutletRoom.{Room, Appends}
+use Rattle.std.specs.Prelude.{◌≡◌, ℕ, ◌+◌, ◌*◌, ◌<◌, ◌≤◌, Bool, List, [], ◌∷◌, ◌++◌, length, take, drop, Option, Some, None, Result, Ok, Err, ℤ}
 use Rattle.rice_bits.specs.Bits.{bits_in_bytes}
-use Rattle.rice_samples.specs.Limits.{most_input}
-use Rattle.rice_samples.specs.Parameters.{Parameters, width}
-use Rattle.rice_stream.specs.WaitingBytes.{WaitingBytes}
-use Rattle.rice_samples.specs.bytes.Spelling.{Reads, EndsSpelling, IsNoSpelling, NoSpelling}
-use Rattle.rice_stream.specs.DevicesInCalls.{StopsBetween}
+use Rattle.rice_bits.specs.device.OutletRoom.{Room, Appends}
 use Rattle.rice_code.specs.code.Code.{code_bits, output, early_output, complete_samples}
 use Rattle.rice_code.specs.encode.Coder.{HasTaken, complete_code}
+use Rattle.rice_samples.specs.Limits.{most_input}
+use Rattle.rice_samples.specs.Parameters.{Parameters, width}
+use Rattle.rice_samples.specs.bytes.Spelling.{Reads, EndsSpelling, IsNoSpelling, NoSpelling}
 use Rattle.rice_code.specs.CoderSteps.{least_steps, most_steps}
 use Rattle.rice_code.specs.encode.OpenSegment.{CoderState}
 use Rattle.rice_fast.specs.encode.Standing.{Standing}
-use Rattle.rice_stream.specs.declared.encoding.Encoding.{Encoding}
-use Rattle.rice_stream.specs.declared.outcome.Fault.{Fault}
-use Rattle.rice_stream.specs.declared.outcome.Fault.TheVariants.{Write, SampleOutOfRange}
+use Rattle.rice_stream.specs.{WaitingBytes.WaitingBytes, DevicesInCalls.StopsBetween, declared.encoding.Encoding.Encoding}
+use Rattle.rice_stream.specs.{declared.outcome.Fault.Fault, declared.outcome.Fault.TheVariants.Write, declared.outcome.Fault.TheVariants.SampleOutOfRange}
 
 -- An encoding whose coder puts the code of a segment only when it is whole.
 pub record EncodingValue : Type 0 where
@@ -77,12 +74,6 @@ pub record TakesSamples (s : Parameters) (e : EncodingValue) (xs ys more : List 
   pub bits : List Bool
   pub goes_on : complete_code s (ys ++ more) ≡ complete_code s ys ++ bits
   pub before_last : (m : ℕ) → m < length more → complete_samples s (ys ++ take m more) ≡ complete_samples s ys
-
--- an outlet has taken bytes up to a place between the ends of two texts
-pub record TakesBetween (old new : Option Room) (from to : List ℕ) : Type 0 where
-  pub written : List ℕ
-  pub stops : StopsBetween from to written
-  pub took : Appends old new written
 
 -- what an outlet takes that stops between two lists of bytes, of which some were written before
 pub record FollowsBetween (old : Beginning) (new : Option Room) (from to : List ℕ) : Type 0 where

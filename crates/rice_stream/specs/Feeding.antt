@@ -1,33 +1,27 @@
 -- Encoding piece by piece: where the code stands between two calls, and what each call writes.
 use Rattle.std.specs.Prelude.{◌≡◌, ℕ, ◌+◌, ◌*◌, ◌/◌, ◌^◌, ◌<◌, ◌≤◌, ◌⊎◌, Bool, List, [], ◌∷◌, ◌++◌, length, drop, All, Option, Some, None, Result, Ok, Err, ℤ}
-use Rattle.rice_bits.specs.device.OutletRoom.{Room}
 use Rattle.rice_bits.specs.Bits.{bits_in_bytes, word}
+use Rattle.rice_bits.specs.device.OutletRoom.{Room}
+use Rattle.rice_code.specs.code.Code.{output, early_output}
+use Rattle.rice_code.specs.encode.Coder.{complete_code}
+use Rattle.rice_code.specs.encode.OpenSegment.{state_between}
 use Rattle.rice_samples.specs.Limits.{most_input}
 use Rattle.rice_samples.specs.Parameters.{Parameters, IsSample, width}
 use Rattle.rice_samples.specs.Places.{cut}
-use Rattle.rice_samples.specs.bytes.Spelling.{Reads, spellings, EndsSpelling, NoSpelling, TooFew}
-use Rattle.rice_code.specs.code.Code.{code_bits, output, early_output, complete_samples}
-use Rattle.rice_code.specs.encode.Coder.{HasTaken, complete_code}
-use Rattle.rice_code.specs.encode.OpenSegment.{state_between}
-use Rattle.rice_code.specs.CoderSteps.{least_steps, most_steps}
+use Rattle.rice_samples.specs.bytes.Spelling.{Reads, spellings, SpellingEnd, EndsSpelling, NoSpelling, TooFew}
+use Rattle.rice_stream.specs.{declared.encoding.Encoding.Encoding, TakenBytes.standing_between, Encodes.ReportsTaken, Encodes.ReportsAll, declared.outcome.Fault.Fault, declared.outcome.Report.Report}
 use Rattle.rice_fast.specs.encode.Standing.{Standing}
-use Rattle.rice_stream.specs.declared.encoding.Encoding.{Encoding}
-use Rattle.rice_stream.specs.TakenBytes.{standing_between}
-use Rattle.rice_stream.specs.Encodes.{ReportsTaken, ReportsAll}
-use Rattle.rice_stream.specs.EncodingState.{Beginning, Follows, FollowsBetween}
-use Rattle.rice_stream.specs.declared.outcome.Fault.{Fault}
+use Rattle.rice_stream.specs.{declared.seam.Seam.Seam}
+use Rattle.rice_stream.specs.EncodingState.{EncodingValue, CountsSamples, Beginning, Follows, FollowsBetween}
 use Rattle.rice_stream.specs.declared.outcome.Fault.TheVariants.{Write, TooLong, SampleOutOfRange, SampleCut}
-use Rattle.rice_stream.specs.declared.outcome.Report.{Report}
-use Rattle.rice_stream.specs.EncodingState.{EncodingValue}
-use Rattle.rice_stream.specs.declared.seam.Seam.{Seam}
+
+-- the encoding that goes on at a seam
+abbrev pub encoding_at : Parameters → Seam → EncodingValue
+encoding_at s seam = record { coder = state_between s seam.start seam.previous; sink = word seam.waiting_bits seam.waiting; meter = seam.steps; samples = seam.samples; bits = seam.bits }
 
 -- The samples make whole segments, and the seam stands after their code: it counts them, and holds the bits of the byte that is not whole.
 pub record IsSeam (s : Parameters) (seam : Seam) (xs : List ℤ) : Type 0 where
-  pub taken : HasTaken (state_between s seam.start seam.previous) xs
-  pub samples : seam.samples ≡ length xs
-  pub bits : seam.bits ≡ code_bits s (complete_samples s xs)
-  pub least : length xs + least_steps s (complete_samples s xs) ≤ seam.steps
-  pub most : seam.steps ≤ length xs + most_steps s (complete_samples s xs)
+  pub counts : CountsSamples s (encoding_at s seam) xs
   pub waiting : word seam.waiting_bits seam.waiting ≡ drop (bits_in_bytes (length (complete_code s xs))) (complete_code s xs)
   pub few : seam.waiting_bits < 8
   pub fits : seam.waiting < 2 ^ seam.waiting_bits
@@ -37,17 +31,13 @@ pub record IsSeam (s : Parameters) (seam : Seam) (xs : List ℤ) : Type 0 where
 abbrev pub IsSomeSeam : Parameters → Seam → Type 0
 IsSomeSeam s seam = (xs : List ℤ) × IsSeam s seam xs
 
--- an encoding stands there, but for these bits
+-- an encoding stands there, but for the bits that wait
 pub record StandsAt {C : Type 0} (stands : C → List Bool → ℕ → Standing → Type 0) (s : Parameters) (seam : Seam) (e : Encoding C) : Type 0 where
   pub coder : (bits : List Bool) (steps : ℕ) → stands e.coder bits steps (standing_between s seam.start seam.previous bits steps)
   pub sink : e.sink ≡ []
   pub steps : e.meter ≡ seam.steps
   pub samples : e.samples ≡ seam.samples
   pub bits : e.bits ≡ seam.bits
-
--- and with them
-abbrev pub encoding_at : Parameters → Seam → EncodingValue
-encoding_at s seam = record { coder = state_between s seam.start seam.previous; sink = word seam.waiting_bits seam.waiting; meter = seam.steps; samples = seam.samples; bits = seam.bits }
 
 -- an outlet takes what follows the whole bytes of the code of these samples
 abbrev pub behind : Parameters → List ℤ → Option Room → Beginning
@@ -73,12 +63,12 @@ module _ (s : Parameters) (xs : List ℤ) (bytes : List ℕ) (old new : Option R
     pub stands : IsSeam s seam (xs ++ more)
     pub writes : Follows (behind s xs old) new (early_output s (xs ++ more))
 
-  -- the bytes spell these samples, and then none; the code of the complete segments is written
-  pub record MeetsNone (more : List ℤ) (index : ℕ) : Type 0 where
+  -- The bytes spell these samples, and then they end so. The code of the complete segments is written.
+  pub record MeetsEnd (end : SpellingEnd) (more : List ℤ) (index : ℕ) : Type 0 where
     pub limit : bytes_in_all s xs bytes ≤ most_input
     pub rest : List ℕ
     pub reads : Reads s bytes more rest
-    pub none : EndsSpelling s rest NoSpelling
+    pub ends : EndsSpelling s rest end
     pub index_is : index ≡ length (xs ++ more)
     pub writes : Follows (behind s xs old) new (early_output s (xs ++ more))
 
@@ -97,7 +87,7 @@ module _ (s : Parameters) (xs : List ℤ) (bytes : List ℕ) (old new : Option R
   -- What becomes of a piece of the samples. None but those to take is looked at.
   abbrev pub EncodesMore : Result Seam Fault → Type 0
   EncodesMore (Ok seam) = TakesPiece seam
-  EncodesMore (Err (SampleOutOfRange index)) = (more : List ℤ) × MeetsNone more index × (index < samples_to_take s xs bytes)
+  EncodesMore (Err (SampleOutOfRange index)) = (more : List ℤ) × MeetsEnd NoSpelling more index × (index < samples_to_take s xs bytes)
   EncodesMore (Err Write) = (more : List ℤ) × (last : ℤ) × WantsRoom more last
   EncodesMore (Err TooLong) = PassesAll
   EncodesMore (Err _) = ⊥
@@ -108,20 +98,11 @@ module _ (s : Parameters) (xs : List ℤ) (bytes : List ℕ) (old new : Option R
     pub spelled : bytes ≡ spellings s more
     pub legal : All (IsSample s) more
 
-  -- these samples are cut off
-  pub record MeetsCut (more : List ℤ) (index : ℕ) : Type 0 where
-    pub limit : bytes_in_all s xs bytes ≤ most_input
-    pub rest : List ℕ
-    pub reads : Reads s bytes more rest
-    pub cut_off : EndsSpelling s rest TooFew
-    pub index_is : index ≡ length (xs ++ more)
-    pub writes : Follows (behind s xs old) new (early_output s (xs ++ more))
-
   -- what becomes of the last piece
   abbrev pub EncodesRest : Report → Option Fault → Type 0
   EncodesRest r None = (more : List ℤ) × AreAll more × ReportsAll s r (xs ++ more) × Follows (behind s xs old) new (output s (xs ++ more))
-  EncodesRest r (Some (SampleOutOfRange index)) = (more : List ℤ) × MeetsNone more index × ReportsTaken s r (xs ++ more)
-  EncodesRest r (Some (SampleCut index)) = (more : List ℤ) × MeetsCut more index × ReportsTaken s r (xs ++ more)
+  EncodesRest r (Some (SampleOutOfRange index)) = (more : List ℤ) × MeetsEnd NoSpelling more index × ReportsTaken s r (xs ++ more)
+  EncodesRest r (Some (SampleCut index)) = (more : List ℤ) × MeetsEnd TooFew more index × ReportsTaken s r (xs ++ more)
   EncodesRest r (Some Write) =
       ((more : List ℤ) × (last : ℤ) × WantsRoom more last × ReportsTaken s r ((xs ++ more) ++ last ∷ []))
       ⊎ ((more : List ℤ) × AreAll more × ReportsAll s r (xs ++ more) × FollowsBetween (behind s xs old) new (early_output s (xs ++ more)) (output s (xs ++ more)))

@@ -1,28 +1,19 @@
 -- What joins encoding and decoding, and each with the same piece by piece.
-use Rattle.std.specs.Prelude.{◌≡◌, ℕ, ◌+◌, ◌*◌, ◌/◌, ◌<◌, ◌≤◌, ◌⊎◌, List, [], ◌∷◌, ◌++◌, length, take, drop, Option, Some, None, Ok, ℤ, ⊤}
 use Rattle.std.specs.Io.KnownBytes.{Consumes}
-use Rattle.rice_bits.specs.Bits.{bits_of}
+use Rattle.std.specs.Prelude.{◌≡◌, ℕ, ◌+◌, ◌*◌, ◌/◌, ◌<◌, ◌≤◌, ◌⊎◌, List, [], ◌∷◌, ◌++◌, length, take, drop, Option, Some, None, Ok, ℤ, ⊤}
 use Rattle.rice_bits.specs.device.OutletRoom.{Room, Appends}
 use Rattle.rice_samples.specs.Parameters.{Parameters, IsLegal, width}
-use Rattle.rice_samples.specs.bytes.Spelling.{spellings}
+use Rattle.rice_bits.specs.Bits.{bits_of}
 use Rattle.rice_code.specs.Laws.{BeginsInterval}
 use Rattle.rice_code.specs.code.Code.{output}
 use Rattle.rice_code.specs.code.Decoded.{Decoded, Ending, Reached, Ended, CutOff, Past, Large}
-use Rattle.rice_stream.specs.DevicesInCalls.{Call}
-use Rattle.rice_stream.specs.Encodes.{Encodes}
-use Rattle.rice_stream.specs.Decodes.{Decodes}
-use Rattle.rice_stream.specs.Feeding.{IsSeam, EncodesOn, EncodesToEnd}
-use Rattle.rice_stream.specs.Pulling.{Origin, IsStand, DecodesOn, at_front}
-use Rattle.rice_stream.specs.declared.outcome.Report.{Report}
-use Rattle.rice_stream.specs.declared.outcome.Fault.{Fault}
-use Rattle.rice_stream.specs.declared.outcome.Fault.TheVariants.{Read, Write}
-use Rattle.rice_stream.specs.declared.seam.Seam.{Seam}
-use Rattle.rice_stream.specs.declared.stand.Pause.{Pause}
+use Rattle.rice_samples.specs.bytes.Spelling.{spellings}
+use Rattle.rice_stream.specs.{DevicesInCalls.Call, Encodes.Encodes, Decodes.Decodes, declared.outcome.Report.Report, declared.outcome.Fault.Fault, declared.outcome.Fault.TheVariants.Read}
+use Rattle.rice_stream.specs.{declared.outcome.Fault.TheVariants.Write, declared.seam.Seam.Seam, declared.stand.Pause.Pause, declared.stand.Stand.Stand, Feeding.IsSeam, Feeding.EncodesOn}
+use Rattle.rice_stream.specs.{Feeding.EncodesToEnd, Pulling.Origin, Pulling.IsStand, Pulling.DecodesOn, Pulling.at_front}
 use Rattle.rice_stream.specs.declared.stand.Pause.TheVariants as pauses
-use Rattle.rice_stream.specs.declared.stand.Stand.{Stand}
 
--- A call that decodes is given what a call that encoded without a fault has written, and the number of its samples.
--- Then it writes the bytes that were encoded, unless a device fails.
+-- A call that decodes is given what a call that encoded without a fault has written, and the number of its samples. Then it writes the bytes that were encoded, unless a device fails.
 abbrev pub ReturnsBytes : Type 0
 ReturnsBytes = (s : Parameters) → IsLegal s → (encoding decoding : Call) (encoded decoded : Report) (fault : Option Fault) →
     Encodes s encoding encoded None → Consumes (Some encoding.written) decoding.left decoding.given → Decodes s (Some encoded.samples) decoding decoded fault →
@@ -77,9 +68,7 @@ pub record Pull : Type 0 where
 
 -- What a call of `decode_more` says of a piece that begins with the byte of the code in which the stand's next bit is.
 abbrev pub IsPulled : Parameters → List ℕ → Stand → Pull → List ℕ → Type 0
-IsPulled s code stand p behind =
-    (drop (stand.bits / 8) code ≡ p.piece ++ behind) ×
-    DecodesOn s stand p.piece p.old p.new p.stand p.pause
+IsPulled s code stand p behind = (drop (stand.bits / 8) code ≡ p.piece ++ behind) × DecodesOn s stand p.piece p.old p.new p.stand p.pause
 
 -- Pieces of a code were pulled one after the other. Each ends anywhere, and has any room.
 abbrev pub ArePulled : Parameters → List ℕ → Stand → List Pull → Type 0
@@ -91,8 +80,7 @@ abbrev pub last_stand : Stand → List Pull → Stand
 last_stand stand [] = stand
 last_stand stand (p ∷ ps) = last_stand p.stand ps
 
--- The calls wrote the bytes of these samples to the front of the caller's memory, a part each, by which the stand's count has grown, and no
--- byte behind them.
+-- The calls wrote the bytes of these samples to the front of the caller's memory, a part each, by which the stand's count has grown, and no byte behind them.
 abbrev pub GiveInParts : Parameters → Stand → List Pull → List ℤ → Type 0
 GiveInParts s stand [] xs = xs ≡ []
 GiveInParts s stand (p ∷ ps) xs =
@@ -101,22 +89,19 @@ GiveInParts s stand (p ∷ ps) xs =
 
 -- how a code ends where the pull of a piece pauses that has these bytes behind it
 abbrev pub EndsCode : Pause → List ℕ → Ending → Type 0
-EndsCode pauses.Full behind ending = ⊥
 EndsCode pauses.Blank behind ending = (behind ≡ []) × (ending ≡ Ended)
 EndsCode pauses.Cut behind ending = (behind ≡ []) × (ending ≡ CutOff)
 EndsCode pauses.RunPastSegment behind ending = ending ≡ Past
 EndsCode pauses.ResidualTooLarge behind ending = ending ≡ Large
-EndsCode pauses.TooLong behind ending = ⊥
+EndsCode _ behind ending = ⊥
 
--- Pieces were pulled from the front of a code, and the last of them to where the code ends. Then the samples of all calls, one after
--- the other, are those that the code decodes to, and it ends so.
+-- Pieces were pulled from the front of a code, and the last of them to where the code ends. Then the samples of all calls, one after the other, are those that the code decodes to, and it ends so.
 abbrev pub PullsAreDecoding : Type 0
 PullsAreDecoding = (s : Parameters) (code : List ℕ) (first : Stand) (pulls : List Pull) (last : Pull) (behind : List ℕ) (ending : Ending) →
     IsStand s at_front first [] [] → ArePulled s code first pulls → IsPulled s code (last_stand first pulls) last behind → EndsCode last.pause behind ending →
     (xs : List ℤ) × (used : ℕ) × GiveInParts s first (pulls ++ last ∷ []) xs × Decoded s (bits_of code) None xs ending used
 
--- Pieces were pulled from the front of a code until there were n samples, and no block more. Then the first n are those that the code
--- decodes to with the count n, which is reached.
+-- Pieces were pulled from the front of a code until there were n samples, and no block more. Then the first n are those that the code decodes to with the count n, which is reached.
 abbrev pub EnoughIsDecoding : Type 0
 EnoughIsDecoding = (s : Parameters) (code : List ℕ) (first : Stand) (pulls : List Pull) (n : ℕ) →
     IsStand s at_front first [] [] → ArePulled s code first pulls → n ≤ (last_stand first pulls).samples → (last_stand first pulls).samples < n + s.block →

@@ -1,5 +1,4 @@
 -- What contracts of this crate cite: what `encode` and `decode` do, at once and in pieces, and their states between.
-pub mod BlockBytes
 pub mod DevicesInCalls
 pub mod Decodes
 pub mod DecodingState
@@ -8,7 +7,5 @@ pub mod EncodingState
 pub mod Feeding
 pub mod Laws
 pub mod Pulling
-pub mod RunsOfBlocks
-pub mod FailedWrites
 pub mod TakenBytes
 pub mod WaitingBytes

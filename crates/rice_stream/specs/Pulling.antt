@@ -1,22 +1,22 @@
 -- Decoding piece by piece: where decoding stands between two calls, and what each call gives.
 use Rattle.std.specs.Prelude.{◌≡◌, ◌≢◌, ℕ, ◌+◌, ◌*◌, ◌%◌, ◌<◌, ◌≤◌, Bool, true, List, [], ◌++◌, length, drop, take, sum_by, Option, Some, None, IfOk, IfSome, IsSome, Result, Ok, Err, ℤ, pos}
 use Rattle.rice_bits.specs.Limits.{most_bits_read}
-use Rattle.rice_bits.specs.Bits.{bits_of}
 use Rattle.rice_bits.specs.read.Reader.{Reader}
+use Rattle.rice_code.specs.code.CodedDataSets.{CodedDataSet, turns}
+use Rattle.rice_code.specs.code.Decoded.{Ended, CutOff, Past, Large, EndsWith}
+use Rattle.rice_code.specs.decode.DecoderState.{DecoderState}
 use Rattle.rice_samples.specs.Limits.{most_samples_counted}
 use Rattle.rice_samples.specs.Parameters.{Parameters, width}
 use Rattle.rice_samples.specs.Places.{place}
-use Rattle.rice_samples.specs.predict.Residuals.{last_of}
 use Rattle.rice_samples.specs.bytes.Spelling.{spellings}
-use Rattle.rice_code.specs.code.CodedDataSets.{CodedDataSet, turns}
-use Rattle.rice_code.specs.code.Decoded.{Ended, CutOff, Past, Large, EndsWith}
-use Rattle.rice_code.specs.decode.DecoderState.{DecoderState, IsDecoderState}
+use Rattle.rice_samples.specs.predict.Residuals.{last_of}
+use Rattle.rice_code.specs.decode.DecoderState.{IsDecoderState}
 use Rattle.rice_code.specs.declared.decode.call_results.CodeFault.{CodeFault}
-use Rattle.rice_code.specs.declared.decode.call_results.CodeFault.TheVariants as faults
+use Rattle.rice_bits.specs.Bits.{bits_of}
+use Rattle.rice_stream.specs.{declared.stand.Pause.Pause, declared.stand.Stand.Stand}
 use Rattle.rice_stream.specs.DecodingState.{DecodedSoFar, HasSets, HasSteps}
-use Rattle.rice_stream.specs.declared.stand.Pause.{Pause}
+use Rattle.rice_code.specs.declared.decode.call_results.CodeFault.TheVariants as faults
 use Rattle.rice_stream.specs.declared.stand.Pause.TheVariants as pauses
-use Rattle.rice_stream.specs.declared.stand.Stand.{Stand}
 
 -- Where decoding began: after so many bits of a code, and so many samples.
 pub record Origin : Type 0 where
@@ -68,8 +68,7 @@ pub record PieceIsRefused (old new : Stand) (piece : List ℕ) (count : ℕ) : T
   pub stays : new ≡ old
   pub none : count ≡ 0
 
--- Where a call ends, and how: for want of room for another block, or as decoding of the bits that are left ends there. `count` samples
--- were written to `room` bytes.
+-- Where a call ends, and how: for want of room for another block, or as decoding of the bits that are left ends there. `count` samples were written to `room` bytes.
 abbrev pub PausesAt : Parameters → Stand → List ℕ → ℕ → Stand → List Bool → ℕ → Pause → Type 0
 PausesAt s old piece room new rest count pauses.Full = (width s * count ≤ room) × (room < width s * count + width s * s.block)
 PausesAt s old piece room new rest count pauses.Blank = HasRoomForBlock s count room × (new.run ≡ 0) × EndsWith s None new.block rest Ended (length rest)
@@ -91,8 +90,7 @@ pub record DecodesMore (s : Parameters) (o : Origin) (front : List Bool) (given 
 
 -- and so wherever decoding began, and whatever samples were given
 abbrev pub DecodesOn : Parameters → Stand → List ℕ → List ℕ → List ℕ → Stand → Pause → Type 0
-DecodesOn s old piece out_old out new pause = (o : Origin) (front : List Bool) (given : List ℤ) → IsStand s o old front given →
-    DecodesMore s o front given piece old out_old out new pause
+DecodesOn s old piece out_old out new pause = (o : Origin) (front : List Bool) (given : List ℤ) → IsStand s o old front given → DecodesMore s o front given piece old out_old out new pause
 
 -- the state of a decoder that goes on there
 abbrev pub state_of : Parameters → Stand → DecoderState
@@ -164,14 +162,11 @@ pub record WritesRunAt {I : Type 0} (s : Parameters) (stand next : Stand) (q : D
 -- What comes of the next block where decoding stands. If it is given, the bytes begin with the spellings of its samples.
 pub record GivesAtStand {I : Type 0} (s : Parameters) (stand : Stand) (q : DecoderState) (old new : Reader I) (bytes : List ℕ) (answer : Result (Option Stand) CodeFault) : Type 0 where
   pub samples : List ℤ
-  pub goes_on : IfOk answer (λ next. IfSome next (λ next. GoesOnAt s stand next q old new × (length samples ≡ s.block)
-      × (take (width s * s.block) bytes ≡ spellings s samples)))
+  pub goes_on : IfOk answer (λ next. IfSome next (λ next. GoesOnAt s stand next q old new × (length samples ≡ s.block) × (take (width s * s.block) bytes ≡ spellings s samples)))
   pub takes : (o : Origin) (front : List Bool) (given : List ℤ) → IsStand s o stand front given → TakesNext s o front given stand old new samples answer
 
 -- how decoding pauses where the decoder refuses
 abbrev pub pause_for : CodeFault → Pause
-pause_for faults.CodeEnds = pauses.Cut
 pause_for faults.RunPastSegment = pauses.RunPastSegment
 pause_for faults.ResidualTooLarge = pauses.ResidualTooLarge
-pause_for faults.Read = pauses.Cut
-pause_for faults.TooLong = pauses.Cut
+pause_for _ = pauses.Cut

@@ -1,9 +1,8 @@
 -- The bytes that wait for a coder, and what a read adds to them.
-use Rattle.std.specs.Prelude.{◌≡◌, ℕ, ◌+◌, ◌-◌, List, [], ◌∷◌, ◌++◌, length, take, drop, Option, Result, Err}
 use Rattle.std.specs.Io.KnownBytes.{Consumes}
+use Rattle.std.specs.Prelude.{◌≡◌, ℕ, ◌+◌, ◌-◌, List, [], ◌∷◌, ◌++◌, length, take, drop, Option, Result, Err}
 use Rattle.rice_samples.specs.Limits.{most_input}
-use Rattle.rice_stream.specs.declared.outcome.Fault.{Fault}
-use Rattle.rice_stream.specs.declared.outcome.Fault.TheVariants.{Read, TooLong}
+use Rattle.rice_stream.specs.{declared.outcome.Fault.Fault, declared.outcome.Fault.TheVariants.Read, declared.outcome.Fault.TheVariants.TooLong}
 
 -- the bytes that wait, and how many were given in all
 pub record WaitingBytes : Type 0 where

@@ -1,9 +1,9 @@
 //! What the engines of decoding try before the decoder reads a block.
 ghost use Rattle.std.specs.Prelude.{◌≡◌, ◌+◌, ◌-◌, ◌*◌, ◌<◌, None, Ok, true, false};
 ghost use Rattle.rice_bits.specs.Limits.{step_limit, most_bits_read};
-ghost use Rattle.rice_samples.specs.Parameters.{width as width_of};
 ghost use Rattle.rice_code.specs.declared.decode.call_results.Step.TheVariants.{Block};
-ghost use Rattle.rice_stream.specs.BlockBytes.{AnswersBytes};
+ghost use Rattle.rice_samples.specs.Parameters.{width as width_of};
+ghost use Rattle.rice_stream.specs.DecodingState.{AnswersBytes};
 
 use rice_bits::{BitReader, Intake, Meter};
 use rice_code::Decoder;

@@ -2,9 +2,8 @@
 ghost use Rattle.std.specs.Prelude.{◌≡◌, ◌+◌, ◌-◌, ◌*◌, ◌^◌, ◌<◌, ◌≤◌, Ok, Option, None, Some, true, false};
 ghost use Rattle.rice_bits.specs.Limits.{step_limit, most_bits_read};
 ghost use Rattle.rice_code.specs.declared.decode.call_results.Step.TheVariants.{Block};
-ghost use Rattle.rice_stream.specs.BlockBytes.{AnswersBytes};
 ghost use Rattle.rice_samples.specs.Parameters.{width as width_of};
-ghost use Rattle.rice_stream.specs.DevicesInCalls.{Fails};
+ghost use Rattle.rice_stream.specs.{DecodingState.AnswersBytes, DevicesInCalls.Fails};
 ghost use Rattle.rice_stream.specs.Decodes.{DecodesBetween, DecodesWithin, Reports, wanted_of, ended_fault, refusal_fault};
 
 use crate::block_bytes::bytes_of_next;

@@ -1,27 +1,29 @@
 //! Encoding and decoding, whole and piece by piece, by one coder and one decoder.
 ghost use Rattle.std.specs.Prelude.{◌≡◌, ◌+◌, ◌^◌, ◌<◌, Some};
-ghost use Rattle.rice_stream.specs.DevicesInCalls.{Fails};
-ghost use Rattle.rice_stream.specs.Encodes.{EncodesBetween, EncodesWithin};
-ghost use Rattle.rice_stream.specs.EncodingState.{PushFails};
-ghost use Rattle.rice_stream.specs.Decodes.{DecodesBetween, DecodesWithin};
-ghost use Rattle.rice_stream.specs.Feeding.{IsSomeSeam, EncodesOn, EncodesToEnd};
+ghost use Rattle.rice_stream.specs.{DevicesInCalls.Fails, Encodes.EncodesBetween, Encodes.EncodesWithin, EncodingState.PushFails, Decodes.DecodesBetween, Decodes.DecodesWithin};
 ghost use Rattle.rice_stream.specs.Pulling.{IsSomeStand, DecodesOn};
+ghost use Rattle.rice_stream.specs.Feeding.{IsSomeSeam, EncodesOn, EncodesToEnd};
 
 use crate::block_pass::NoPass;
 use crate::decoding::{decode, decode_blocks};
-use crate::encoding::{encode, encode_by};
-use crate::feeding::{encode_more, encode_more_by, encode_rest, encode_rest_by};
+use crate::encoding::encode_by;
+use crate::feeding::{encode_more_by, encode_rest_by};
 use crate::outcome::{Fault, Outcome};
 use crate::pulling::{decode_more, decode_more_by_one_loop};
 use crate::seam::Seam;
 use crate::stand::{Pause, Stand};
-use crate::takes::OneByOne;
+use crate::takes::{OneByOne, TakesBytes};
 use rice_bits::{Intake, Outlet};
+use rice_fast::BlockCoder;
 use rice_samples::Setting;
 
 /// The calls that encode and decode, whole and piece by piece. All implementations write the same code and the same samples.
 pub trait Engines {
+    /// The coder that encodes.
+    type Coder: TakesBytes;
+
     /// Encodes the samples whose bytes the intake gives, and writes their code to the outlet.
+    #[inline(always)]
     fn encode<I: Intake, O: Outlet>(setting: &Setting, intake: &mut I, outlet: &mut O) -> Outcome
         requires reads { I.failed intake.old + 1 < 2 ^ 64 }
         requires writes { O.failed outlet.old + 1 < 2 ^ 64 }
@@ -29,9 +31,13 @@ pub trait Engines {
             (O.taken outlet.old) (O.taken outlet.new) result.report result.fault }
         ensures failures { Fails result.fault (I.failed intake.old) (I.failed intake.new)
             (O.failed outlet.old) (O.failed outlet.new) }
-        ensures bounds { EncodesWithin setting.now result.report };
+        ensures bounds { EncodesWithin setting.now result.report }
+    {
+        encode_by::<Self::Coder, I, O>(setting, intake, outlet)
+    }
 
     /// Encodes the next samples, whose bytes are `bytes`, and returns the end of their code.
+    #[inline(always)]
     fn encode_more<O: Outlet>(
         setting: &Setting,
         seam: &Seam,
@@ -42,9 +48,13 @@ pub trait Engines {
         requires writes { O.failed outlet.old + 1 < 2 ^ 64 }
         ensures did { EncodesOn setting.now seam.now bytes.now
             (O.taken outlet.old) (O.taken outlet.new) result }
-        ensures failures { PushFails (O.failed outlet.old) (O.failed outlet.new) result };
+        ensures failures { PushFails (O.failed outlet.old) (O.failed outlet.new) result }
+    {
+        encode_more_by::<Self::Coder, O>(setting, seam, bytes, outlet)
+    }
 
     /// Encodes the last samples, whose bytes are `bytes`, and writes the remainder of the code. The report counts all samples.
+    #[inline(always)]
     fn encode_rest<O: Outlet>(
         setting: &Setting,
         seam: &Seam,
@@ -56,7 +66,10 @@ pub trait Engines {
         ensures did { EncodesToEnd setting.now seam.now bytes.now
             (O.taken outlet.old) (O.taken outlet.new) result.report result.fault }
         ensures failures { Fails result.fault 0 0 (O.failed outlet.old) (O.failed outlet.new) }
-        ensures bounds { EncodesWithin setting.now result.report };
+        ensures bounds { EncodesWithin setting.now result.report }
+    {
+        encode_rest_by::<Self::Coder, O>(setting, seam, bytes, outlet)
+    }
 
     /// Decodes the code from `intake`, and writes its samples to `outlet`: `asked` of them, or all. Returns the outcome and the intake.
     fn decode<I: Intake, O: Outlet>(
@@ -94,30 +107,7 @@ pub struct Fast;
 pub struct Plain;
 
 impl Engines for Fast {
-    #[inline(always)]
-    fn encode<I: Intake, O: Outlet>(setting: &Setting, intake: &mut I, outlet: &mut O) -> Outcome {
-        encode(setting, intake, outlet)
-    }
-
-    #[inline(always)]
-    fn encode_more<O: Outlet>(
-        setting: &Setting,
-        seam: &Seam,
-        bytes: &[u8],
-        outlet: &mut O,
-    ) -> Result<Seam, Fault> {
-        encode_more(setting, seam, bytes, outlet)
-    }
-
-    #[inline(always)]
-    fn encode_rest<O: Outlet>(
-        setting: &Setting,
-        seam: &Seam,
-        bytes: &[u8],
-        outlet: &mut O,
-    ) -> Outcome {
-        encode_rest(setting, seam, bytes, outlet)
-    }
+    type Coder = BlockCoder;
 
     #[inline(always)]
     fn decode<I: Intake, O: Outlet>(
@@ -141,27 +131,7 @@ impl Engines for Fast {
 }
 
 impl Engines for Plain {
-    fn encode<I: Intake, O: Outlet>(setting: &Setting, intake: &mut I, outlet: &mut O) -> Outcome {
-        encode_by::<OneByOne, I, O>(setting, intake, outlet)
-    }
-
-    fn encode_more<O: Outlet>(
-        setting: &Setting,
-        seam: &Seam,
-        bytes: &[u8],
-        outlet: &mut O,
-    ) -> Result<Seam, Fault> {
-        encode_more_by::<OneByOne, O>(setting, seam, bytes, outlet)
-    }
-
-    fn encode_rest<O: Outlet>(
-        setting: &Setting,
-        seam: &Seam,
-        bytes: &[u8],
-        outlet: &mut O,
-    ) -> Outcome {
-        encode_rest_by::<OneByOne, O>(setting, seam, bytes, outlet)
-    }
+    type Coder = OneByOne;
 
     fn decode<I: Intake, O: Outlet>(
         setting: &Setting,

@@ -2,9 +2,7 @@
 ghost use Rattle.std.specs.Prelude.{◌≡◌, ◌+◌, ◌-◌, ◌*◌, ◌^◌, ◌<◌, ◌≤◌};
 ghost use Rattle.rice_samples.specs.Limits.{most_input};
 ghost use Rattle.rice_samples.specs.Places.{cut};
-ghost use Rattle.rice_stream.specs.DevicesInCalls.{Fails};
-ghost use Rattle.rice_stream.specs.Encodes.{EncodesWithin};
-ghost use Rattle.rice_stream.specs.EncodingState.{PushFails};
+ghost use Rattle.rice_stream.specs.{DevicesInCalls.Fails, Encodes.EncodesWithin, EncodingState.PushFails};
 ghost use Rattle.rice_stream.specs.Feeding.{IsSomeSeam, EncodesOn, EncodesToEnd};
 
 use crate::encoding::Encoding;

@@ -1,8 +1,7 @@
 //! Blocks of a run in a piece, for a caller that keeps a `Stand`.
-ghost use Rattle.std.specs.Prelude.{◌≡◌, ◌+◌, ◌-◌, ◌*◌, ◌^◌, ◌<◌, ◌≤◌, true, ◌++◌, drop, length, replicate, take};
-ghost use Rattle.rice_samples.specs.Parameters.{IsSample, width as width_of};
-ghost use Rattle.rice_samples.specs.bytes.Spelling.{spellings};
+ghost use Rattle.std.specs.Prelude.{◌≡◌, ◌+◌, ◌-◌, ◌*◌, ◌^◌, ◌<◌, ◌≤◌, true, length};
 ghost use Rattle.rice_code.specs.decode.DecoderState.{IsDecoderState};
+ghost use Rattle.rice_samples.specs.Parameters.{width as width_of};
 ghost use Rattle.rice_stream.specs.Pulling.{HasComeTo, WritesRunAt, stand_at};
 
 use crate::runs::{blocks_at_once, spell_copies_of_sample};
@@ -42,21 +41,6 @@ pub(crate) fn stand_behind(
     }
 }
 
-/// Writes the spellings of `count` samples that are all `sample` at this place.
-#[inline(always)]
-fn spell_copies_at(setting: &Setting, sample: i64, count: usize, at: usize, samples: &mut [u8])
-    requires sample { IsSample setting.now sample }
-    requires count { 1 ≤ count }
-    requires few { count ≤ 2 ^ 32 }
-    requires room { at + width_of setting.now * count ≤ length samples.old }
-    ensures { samples.new ≡ take at samples.old
-        ++ (spellings setting.now (replicate count sample)
-        ++ drop (at + width_of setting.now * count) samples.old) }
-{
-    let len = setting.width() as usize * count;
-    spell_copies_of_sample(setting, sample, count, &mut samples[at..at + len]);
-}
-
 /// Writes the samples of blocks of a run at this place. Returns where decoding stands after them, and the number of their bytes.
 #[inline(never)]
 pub(crate) fn write_next_of_run(
@@ -88,6 +72,6 @@ pub(crate) fn write_next_of_run(
     let count = block * blocks as u64;
     let stand = stand_behind(stand, count, reader.taken(), decoder, reader, &meter);
     let len = width * count as usize;
-    spell_copies_at(setting, sample, count as usize, at, samples);
+    spell_copies_of_sample(setting, sample, count as usize, &mut samples[at..at + len]);
     (stand, len)
 }

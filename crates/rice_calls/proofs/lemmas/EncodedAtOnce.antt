@@ -6,13 +6,13 @@ use Rattle.std.proofs.lemmas.List.{length-take-le}
 use Rattle.rice_bits.specs.device.OutletRoom.{Room, begun}
 use Rattle.rice_samples.specs.Limits.{most_input}
 use Rattle.rice_samples.specs.Parameters.{Parameters, IsLegal, width}
-use Rattle.rice_samples.specs.bytes.Spelling.{AtEnd, Spells, spellings}
+use Rattle.rice_samples.specs.bytes.Spelling.{AtEnd, Spells, spellings, NoSpelling}
 use Rattle.rice_samples.proofs.lemmas.bytes.SpellingLengths.{length-spellings, narrow_width}
 use Rattle.rice_code.specs.code.Code.{early_output}
 use Rattle.rice_stream.specs.DevicesInCalls.{Call, StopsBetween}
 use Rattle.rice_stream.specs.Encodes.{Encodes, ReportsTaken}
 use Rattle.rice_stream.specs.EncodingState.{Follows, FollowsBetween}
-use Rattle.rice_stream.specs.Feeding.{behind, AreAll, EncodesRest, MeetsNone}
+use Rattle.rice_stream.specs.Feeding.{behind, AreAll, EncodesRest, MeetsEnd}
 use Rattle.rice_stream.proofs.lemmas.FedPieces.{nothing_early}
 use Rattle.rice_stream.specs.declared.outcome.Fault.{Fault}
 use Rattle.rice_stream.specs.declared.outcome.Fault.TheVariants.{Read, Write, TooLong, SampleOutOfRange, SampleCut, CodeEnds, RunPastSegment, ResidualTooLarge}
@@ -54,13 +54,13 @@ module _ (s : Parameters) (legal : IsLegal s) (input : List ℕ) (few : length i
   bytes_of_samples xs bytes is count = omega (arith, ap length is, length-spellings s xs, ap (λ n. width s * n) count)
 
   -- a sample that is refused is the last that is given
-  refused : (more : List ℤ) (index : ℕ) → MeetsNone s [] input (Some (begun name old)) (Some room) more index → ReportsTaken s r more
+  refused : (more : List ℤ) (index : ℕ) → MeetsEnd s [] input (Some (begun name old)) (Some room) NoSpelling more index → ReportsTaken s r more
       → EncodedBy s input room.bytes r (Some (SampleOutOfRange index))
   refused more index meets rep =
       let w = width s in
       let front = spellings s more in
       let one = take w meets.rest in
-      let size = length-take-le w meets.rest meets.none.0 in
+      let size = length-take-le w meets.rest meets.ends.0 in
       let split : input ≡ (front ++ one) ++ drop w meets.rest = meets.reads.split ∙ ap (λ l. front ++ l) (sym (take-append-drop w meets.rest)) ∙ sym (append_assoc front one (drop w meets.rest)) in
       let long = length-append front one in
       let samples = bytes_of_samples more front refl rep.samples in
@@ -70,7 +70,7 @@ module _ (s : Parameters) (legal : IsLegal s) (input : List ℕ) (few : length i
         encodes = record {
           samples = more;
           ends = (
-            record { rest = one; whole = refl; legal = meets.reads.legal; stops = (omega (arith, size), λ x is e. meets.none.1 x is (sym (take-take w w meets.rest (omega arith)) ∙ e)) },
+            record { rest = one; whole = refl; legal = meets.reads.legal; stops = (omega (arith, size), λ x is e. meets.ends.1 x is (sym (take-take w w meets.rest (omega arith)) ∙ e)) },
             meets.index_is,
             record { written = all_written meets.writes; reports = rep },
           );
@@ -100,7 +100,7 @@ module _ (s : Parameters) (legal : IsLegal s) (input : List ℕ) (few : length i
     encodes = record {
       samples = more;
       ends = (
-        record { rest = meets.rest; whole = meets.reads.split; legal = meets.reads.legal; stops = meets.cut_off },
+        record { rest = meets.rest; whole = meets.reads.split; legal = meets.reads.legal; stops = meets.ends },
         refl,
         meets.index_is,
         record { written = all_written meets.writes; reports = rep },
@@ -111,7 +111,7 @@ module _ (s : Parameters) (legal : IsLegal s) (input : List ℕ) (few : length i
         ap length meets.reads.split,
         length-append (spellings s more) meets.rest,
         bytes_of_samples more (spellings s more) refl rep.samples,
-        meets.cut_off.1,
+        meets.ends.1,
         narrow_width s,
       );
     };

@@ -38,7 +38,7 @@ pushes_on s input feed p ps written h are_fed =
         → p.report.written ≡ length room.bytes → fault_of r ≡ None → HasPushed s input p.feed (written + p.report.written)
     by_outcome (Err fault) name room e feeds count none = absurd cc
     by_outcome (Ok seam) name room e feeds count none =
-        let size : length (spellings s xs) ≡ width s * feed.seam.samples = length-spellings s xs ∙ ap (λ n. width s * n) (sym h.stands.samples) in
+        let size : length (spellings s xs) ≡ width s * feed.seam.samples = length-spellings s xs ∙ ap (λ n. width s * n) (sym h.stands.counts.samples) in
         let left : drop (width s * feed.seam.samples) input ≡ h.rest = ap (drop (width s * feed.seam.samples)) h.split ∙ drop_at (spellings s xs) h.rest (width s * feed.seam.samples) size in
         let rest : h.rest ≡ spellings s e.more ++ (e.rest ++ are_fed.0.0) = sym left ∙ are_fed.0.1 ∙ ap (λ l. l ++ are_fed.0.0) e.reads.split ∙ append_assoc (spellings s e.more) e.rest are_fed.0.0 in
         record {
@@ -63,7 +63,7 @@ pushes_all s input feed (p ∷ ps) written h are_fed =
 pub feeds_tell_places : FeedsTellPlaces
 feeds_tell_places s input setting first begun pushes begins are_fed at_start =
     let none = begins.none in
-    let start : HasPushed s input first 0 = record { samples = []; rest = input; split = refl; stands = none; count = ap length (sym (nothing_early s none.taken.holds.legal)) } in
+    let start : HasPushed s input first 0 = record { samples = []; rest = input; split = refl; stands = none; count = ap length (sym (nothing_early s none.counts.stands.holds.legal)) } in
     let h = pushes_all s input first pushes 0 start are_fed in
     let count : written_by pushes ≡ length (early_output s h.samples) = omega (arith, h.count) in
     (h.samples, h.rest, h.split, λ ys. place_of_seam s (last_feed first pushes).seam h.samples ys (written_by pushes) h.stands at_start count)

@@ -188,7 +188,7 @@ never_full {s} {code} {xs} {ending} {used} {report} legal whole early d room ful
     let there = never_reached s (bits_of code) (length ys) xs ending used fewer whole in
     let bits : bits_of d.call.given ++ bits_of d.takes.left ≡ bits_of code = sym (bits_of-append d.call.given d.takes.left) ∙ ap bits_of (sym d.takes.gave) in
     let here = subst (λ (l : List Bool). Decoded s l (Some (length ys)) ys Reached (report_of report).bits) bits
-    (decoded_before s (Some (length ys)) (bits_of d.call.given) (bits_of d.takes.left) ys Reached (report_of report).bits (inl refl) f.decoded) in
+    (decoded_before s (Some (length ys)) (bits_of d.call.given) (bits_of d.takes.left) ys Reached (report_of report).bits tt f.decoded) in
     early (decoded_is_one legal (zero_is_sample s legal.bits_from) there here).1
   where
     some : (l : List ℕ) → l ≢ [] → 0 < length l

@@ -29,13 +29,13 @@ use Rattle.rice_calls.proofs.lemmas.RoomOfCallSuffices.{bound_le, few_samples, f
 
 -- the samples of a feed are legal
 fed_legal : (s : Parameters) (seam : Seam) (xs : List ℤ) → IsSeam s seam xs → All (IsSample s) xs
-fed_legal s seam xs h = subst (All (IsSample s)) (sym h.taken.parts) (All-from_recursion (IsSample s) (h.taken.coded ++ h.taken.held) h.taken.holds.samples)
+fed_legal s seam xs h = subst (All (IsSample s)) (sym h.counts.stands.parts) (All-from_recursion (IsSample s) (h.counts.stands.coded ++ h.counts.stands.held) h.counts.stands.holds.samples)
 
 module _ (s : Parameters) (legal : IsLegal s) (seam : Seam) (xs : List ℤ) (h : IsSeam s seam xs) where
   -- the code of other samples adds to it
   adds : (ys : List ℤ) (n : ℕ) → All (IsSample s) ys → length ys ≤ n → length (code s (xs ++ ys)) ≤ length (code s xs) + added_bound s n
   adds ys n k few =
-      omega (arith, added_code_is_bounded s legal xs ys (fed_legal s seam xs h) k (between_all s seam.start seam.previous xs h.taken), bound_le s (length ys) n legal few)
+      omega (arith, added_code_is_bounded s legal xs ys (fed_legal s seam xs h) k (between_all s seam.start seam.previous xs h.counts.stands), bound_le s (length ys) n legal few)
 
   adds_early : (ys : List ℤ) (n : ℕ) → All (IsSample s) ys → length ys ≤ n → 8 * length (early_output s (xs ++ ys)) ≤ length (code s xs) + added_bound s n
   adds_early ys n k few =

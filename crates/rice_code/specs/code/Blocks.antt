@@ -1,6 +1,6 @@
 -- The blocks that samples make. (CCSDS 121.0-B-3, section 3: blocks of J samples.)
-use Rattle.std.specs.Prelude.{ℕ, zero, suc, ◌+◌, ◌-◌, ◌*◌, ◌%◌, ◌==◌, Bool, if◌then◌else◌, List, [], ◌∷◌, take, drop, length, replicate, slice_index_or, Option, Some, None, ℤ}
 use Rattle.std.specs.List.{list_all}
+use Rattle.std.specs.Prelude.{ℕ, zero, suc, ◌+◌, ◌-◌, ◌*◌, ◌%◌, ◌==◌, Bool, if◌then◌else◌, List, [], ◌∷◌, take, drop, length, replicate, slice_index_or, Option, Some, None, ℤ}
 use Rattle.rice_samples.specs.Parameters.{Parameters}
 use Rattle.rice_samples.specs.Places.{is_reference, block_count}
 use Rattle.rice_samples.specs.predict.Residuals.{pattern, residuals, last_of, filled_samples}
@@ -12,10 +12,7 @@ pub record BlockData : Type 0 where
 
 -- what block b says where it has these samples, after p
 abbrev pub block_data : Parameters → ℕ → ℤ → List ℤ → BlockData
-block_data s b p xs = record {
-  reference = if is_reference s b then Some (pattern s (slice_index_or xs 0 p)) else None;
-  residuals = residuals s (s.block * b) p xs;
-}
+block_data s b p xs = record { reference = if is_reference s b then Some (pattern s (slice_index_or xs 0 p)) else None; residuals = residuals s (s.block * b) p xs }
 
 -- the blocks that samples make, so many from block b on, after p
 abbrev pub blocks_from : Parameters → ℕ → ℤ → ℕ → List ℤ → List BlockData

@@ -1,19 +1,14 @@
 -- The code of samples.
 use Rattle.std.specs.Prelude.{ℕ, ◌+◌, ◌&&◌, not, Bool, false, if◌then◌else◌, List, [], ◌∷◌, ◌++◌, take, length, sum_by, ℤ, pos}
-use Rattle.rice_bits.specs.Bits.{padded_bits, whole_bytes}
 use Rattle.rice_samples.specs.Parameters.{Parameters}
 use Rattle.rice_samples.specs.Places.{begins_segment, block_count, cut}
+use Rattle.rice_bits.specs.Bits.{padded_bits, whole_bytes}
 use Rattle.rice_code.specs.code.Blocks.{BlockData, blocks_of, is_zero_block}
-use Rattle.rice_code.specs.code.Choice.{shortest}
-use Rattle.rice_code.specs.code.CodedDataSets.{CodedDataSet, bits_of_set}
-use Rattle.rice_code.specs.code.Layout.{layout}
-use Rattle.rice_code.specs.code.Runs.{zero_run}
+use Rattle.rice_code.specs.{code.Choice.shortest, code.CodedDataSets.CodedDataSet, code.CodedDataSets.bits_of_set, code.Layout.layout, code.Runs.zero_run}
 
--- What is sent at block b: a run where one starts, nothing inside it, and else the shortest option.
--- A zero block goes into a run and nowhere else (own rule).
+-- What is sent at block b: a run where one starts, nothing inside it, and else the shortest option. A zero block goes into a run and nowhere else (own rule).
 abbrev pub data_set_at : Parameters → ℕ → Bool → BlockData → List BlockData → List CodedDataSet
-data_set_at s b behind_zero c cs =
-    if is_zero_block c then (if behind_zero && not (begins_segment s b) then [] else zero_run s b c.reference (c ∷ cs) ∷ []) else shortest s c ∷ []
+data_set_at s b behind_zero c cs = if is_zero_block c then (if behind_zero && not (begins_segment s b) then [] else zero_run s b c.reference (c ∷ cs) ∷ []) else shortest s c ∷ []
 
 -- the coded data sets of blocks, from block b on; `behind_zero`: the block before is one of zeros
 abbrev pub data_sets : Parameters → ℕ → Bool → List BlockData → List CodedDataSet

@@ -1,12 +1,12 @@
 -- The coded data sets: what each says, its text, and how long that is. (CCSDS 121.0-B-3, section 3: the options; section 5: their identifiers and formats.)
 use Rattle.std.specs.Prelude.{ℕ, ◌+◌, ◌-◌, ◌*◌, ◌/◌, ◌^◌, Bool, true, false, if◌then◌else◌, nat_lt, List, [], ◌∷◌, ◌++◌, length, drop, sum, sum_by, flat_map, ◌==◌, Option, Some, None}
-use Rattle.rice_bits.specs.Bits.{word, fundamental_sequence}
-use Rattle.rice_samples.specs.Parameters.{Parameters, id_len}
+use Rattle.rice_samples.specs.Parameters.{Parameters}
+use Rattle.rice_samples.specs.Parameters.{id_len}
 use Rattle.rice_samples.specs.blocks.Pairs.{pair_codes}
-use Rattle.rice_code.specs.code.Blocks.{BlockData}
+use Rattle.rice_bits.specs.Bits.{word, fundamental_sequence}
+use Rattle.rice_code.specs.{code.Blocks.BlockData}
 
--- One block by one of the options, so many blocks of zeros, or all blocks of zeros that are left in the segment.
--- A run's first block may have a reference.
+-- One block by one of the options, so many blocks of zeros, or all blocks of zeros that are left in the segment. A run's first block may have a reference.
 pub data CodedDataSet : Type 0 where
   NoCompression : BlockData → CodedDataSet
   SecondExtension : BlockData → CodedDataSet
@@ -69,11 +69,8 @@ cost s (RemainderOfSegment reference) = id_len s + 1 + reference_len s reference
 
 -- the turns of a search for the sums of its pairs that counts up from 0
 abbrev pub turns : CodedDataSet → ℕ
-turns (NoCompression c) = 0
 turns (SecondExtension c) = sum c.residuals
-turns (Split k c) = 0
-turns (ZeroBlocks reference z) = 0
-turns (RemainderOfSegment reference) = 0
+turns _ = 0
 
 -- the run whose codeword has so many zeros
 abbrev pub run_with_zeros : Option ℕ → ℕ → CodedDataSet

@@ -1,13 +1,10 @@
 -- What bits stand for: a relation between bits and samples, with no word on how they are read (own rules on how decoding ends).
 use Rattle.std.specs.Prelude.{◌≡◌, ◌≢◌, ℕ, ◌+◌, ◌-◌, ◌*◌, ◌<◌, ◌≤◌, Bool, true, false, List, [], ◌∷◌, ◌++◌, length, take, All, Contains, Option, Some, None, IfSome, IsSomeAnd, ℤ, pos, ⊤}
 use Rattle.rice_samples.specs.Parameters.{Parameters, IsSample}
-use Rattle.rice_code.specs.code.Blocks.{blocks_from}
-use Rattle.rice_code.specs.code.CodedDataSets.{CodedDataSet, bits_of_set}
+use Rattle.rice_code.specs.{code.Blocks.blocks_from, code.CodedDataSets.CodedDataSet, code.CodedDataSets.bits_of_set, code.Layout.block_after, code.Layout.Lies}
 use Rattle.rice_code.specs.code.Forms.{IsForm, RunIsSound, ResidualsAreSound, blocks_in_all}
-use Rattle.rice_code.specs.code.Layout.{block_after, Lies}
 
--- How decoding ends: with the asked samples, with the code, inside a coded data set,
--- before a run that passes its segment, or before a block with a residual that is too large.
+-- How decoding ends: with the asked samples, with the code, inside a coded data set, before a run that passes its segment, or before a block with a residual that is too large.
 pub data Ending : Type 0 where
   Reached : Ending
   Ended : Ending
@@ -46,8 +43,7 @@ abbrev pub cut_to : Parameters → Option ℕ → ℕ → List ℤ → List ℤ
 cut_to s None b xs = xs
 cut_to s (Some n) b xs = take (n - s.block * b) xs
 
--- The bits, decoded from block b on, after `position` bits and the sample p:
--- sound coded data sets with their padding as far as they go, and what the rest is.
+-- The bits, decoded from block b on, after `position` bits and the sample p: sound coded data sets with their padding as far as they go, and what the rest is.
 -- The samples are those that make the blocks of these coded data sets.
 pub record DecodedFrom (s : Parameters) (b position : ℕ) (p : ℤ) (bits : List Bool) (asked : Option ℕ) (samples : List ℤ) (ending : Ending) (used : ℕ) : Type 0 where
   pub sets : List CodedDataSet

@@ -2,7 +2,7 @@
 use Rattle.std.specs.Prelude.{◌≡◌, ℕ, ◌+◌, ◌-◌, ◌<◌, ◌≤◌, List, [], ◌∷◌, ◌++◌, length, replicate, All, slice_index, Option, None, IfSome, OnSome, is_some, ⊤}
 use Rattle.rice_samples.specs.Parameters.{Parameters, k_max, value_count}
 use Rattle.rice_samples.specs.Places.{is_reference, blocks_left}
-use Rattle.rice_code.specs.code.Blocks.{BlockData, zero_block}
+use Rattle.rice_code.specs.{code.Blocks.BlockData, code.Blocks.zero_block}
 use Rattle.rice_code.specs.code.CodedDataSets.{CodedDataSet, NoCompression, SecondExtension, Split, ZeroBlocks, RemainderOfSegment}
 
 -- a reference where block b has one, and a word of n bits
@@ -31,19 +31,14 @@ IsForm s b (RemainderOfSegment reference) = IsReference s b reference
 
 -- the run stays in the segment, with a codeword of at most 63 zeros
 abbrev pub RunIsSound : Parameters → ℕ → CodedDataSet → Type 0
-RunIsSound s b (NoCompression c) = ⊤
-RunIsSound s b (SecondExtension c) = ⊤
-RunIsSound s b (Split k c) = ⊤
 RunIsSound s b (ZeroBlocks reference z) = (z ≤ blocks_left s b) × (z ≤ 63)
-RunIsSound s b (RemainderOfSegment reference) = ⊤
+RunIsSound s b _ = ⊤
 
 -- each residual is one, and 0 at the reference place
 abbrev pub ResidualsAreSound : Parameters → CodedDataSet → Type 0
-ResidualsAreSound s (NoCompression c) = ⊤
 ResidualsAreSound s (SecondExtension c) = IsZeroAtReference c × AllFit s c
 ResidualsAreSound s (Split k c) = AllFit s c
-ResidualsAreSound s (ZeroBlocks reference z) = ⊤
-ResidualsAreSound s (RemainderOfSegment reference) = ⊤
+ResidualsAreSound s _ = ⊤
 
 -- so many blocks of zeros, of which the first may have a reference
 abbrev pub zero_blocks : Parameters → Option ℕ → ℕ → List BlockData

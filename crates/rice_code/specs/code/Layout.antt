@@ -3,8 +3,7 @@ use Rattle.std.specs.Prelude.{◌≡◌, ℕ, ◌+◌, Bool, false, if◌then◌
 use Rattle.rice_bits.specs.Bits.{bits_to_byte}
 use Rattle.rice_samples.specs.Parameters.{Parameters}
 use Rattle.rice_samples.specs.Places.{is_padded}
-use Rattle.rice_code.specs.code.CodedDataSets.{CodedDataSet, bits_of_set}
-use Rattle.rice_code.specs.code.Forms.{blocks_in}
+use Rattle.rice_code.specs.{code.CodedDataSets.CodedDataSet, code.CodedDataSets.bits_of_set, code.Forms.blocks_in}
 
 -- the block after a coded data set at block b
 abbrev pub block_after : Parameters → ℕ → CodedDataSet → ℕ

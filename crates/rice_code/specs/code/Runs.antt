@@ -1,10 +1,9 @@
 -- Runs of zero blocks.
-use Rattle.std.specs.Prelude.{ℕ, Bool, ◌==◌, ◌&&◌, ◌||◌, if◌then◌else◌, nat_le, List, take, length, Option}
 use Rattle.std.specs.List.{prefix_len}
+use Rattle.std.specs.Prelude.{ℕ, Bool, ◌==◌, ◌&&◌, ◌||◌, if◌then◌else◌, nat_le, List, take, length, Option}
 use Rattle.rice_samples.specs.Parameters.{Parameters}
 use Rattle.rice_samples.specs.Places.{blocks_left}
-use Rattle.rice_code.specs.code.Blocks.{BlockData, is_zero_block}
-use Rattle.rice_code.specs.code.CodedDataSets.{CodedDataSet, ZeroBlocks, RemainderOfSegment}
+use Rattle.rice_code.specs.{code.Blocks.BlockData, code.Blocks.is_zero_block, code.CodedDataSets.CodedDataSet, code.CodedDataSets.ZeroBlocks, code.CodedDataSets.RemainderOfSegment}
 
 -- the zero blocks from the front on, inside the segment of block b
 abbrev pub run_len : Parameters → ℕ → List BlockData → ℕ

@@ -1,8 +1,7 @@
 -- Blocks that a coded data set can carry.
 use Rattle.std.specs.Prelude.{◌≡◌, ℕ, ◌+◌, ◌<◌, List, [], ◌∷◌, length, Option, IfSome}
 use Rattle.rice_samples.specs.Parameters.{Parameters, value_count}
-use Rattle.rice_code.specs.code.Blocks.{BlockData}
-use Rattle.rice_code.specs.code.Forms.{IsBlock, IsZeroAtReference, AllFit}
+use Rattle.rice_code.specs.{code.Blocks.BlockData, code.Forms.IsBlock, code.Forms.IsZeroAtReference, code.Forms.AllFit}
 
 -- a block with this reference, if there is one, and these residuals
 abbrev pub block_with : Option ℕ → List ℕ → BlockData

@@ -1,19 +1,15 @@
 -- What a contract sees of a decoder, and what a call of it says.
 use Rattle.std.specs.Prelude.{◌≡◌, ℕ, zero, suc, ◌+◌, Bool, true, false, List, [], ◌∷◌, ◌++◌, length, replicate, All, Some, None, Result, Ok, Err, ℤ}
-use Rattle.rice_bits.specs.read.Reader.{Reader, Takes, is_blank}
 use Rattle.rice_bits.specs.declared.read.fault.BitFault.{BitFault}
+use Rattle.rice_bits.specs.read.Reader.{Reader, Takes, is_blank}
+use Rattle.rice_samples.specs.Parameters.{Parameters}
+use Rattle.rice_samples.specs.Parameters.{IsSample}
+use Rattle.rice_code.specs.{code.Blocks.BlockData, code.Blocks.block_data, code.Blocks.zero_block, code.CodedDataSets.CodedDataSet, code.CodedDataSets.bits_of_set}
+use Rattle.rice_code.specs.{code.CodedDataSets.turns, code.Forms.IsForm, code.Forms.RunIsSound, code.Forms.ResidualsAreSound, code.Forms.blocks_in, code.Layout.block_after, code.Layout.padding}
+use Rattle.rice_code.specs.{decode.ReadSets.SetCut, declared.decode.call_results.Step.Step, declared.decode.call_results.Step.TheVariants.Block, declared.decode.call_results.Step.TheVariants.Done}
+use Rattle.rice_code.specs.{declared.decode.call_results.CodeFault.CodeFault, decode.DecoderState.DecoderState, decode.DecoderState.state_after_block}
 use Rattle.rice_bits.specs.declared.read.fault.BitFault.TheVariants as bit_faults
-use Rattle.rice_samples.specs.Parameters.{Parameters, IsSample}
-use Rattle.rice_code.specs.code.Blocks.{BlockData, block_data, zero_block}
-use Rattle.rice_code.specs.code.CodedDataSets.{CodedDataSet, bits_of_set, turns}
-use Rattle.rice_code.specs.code.Forms.{IsForm, RunIsSound, ResidualsAreSound, blocks_in}
-use Rattle.rice_code.specs.code.Layout.{block_after, padding}
-use Rattle.rice_code.specs.decode.ReadSets.{SetCut}
-use Rattle.rice_code.specs.declared.decode.call_results.Step.{Step}
-use Rattle.rice_code.specs.declared.decode.call_results.Step.TheVariants.{Block, Done}
-use Rattle.rice_code.specs.declared.decode.call_results.CodeFault.{CodeFault}
 use Rattle.rice_code.specs.declared.decode.call_results.CodeFault.TheVariants as faults
-use Rattle.rice_code.specs.decode.DecoderState.{DecoderState, state_after_block}
 
 -- These are the samples, after sample p, of the first of these blocks, which begin at block b; `run` zero blocks follow it.
 pub record GivesBlock (s : Parameters) (b : ℕ) (p : ℤ) (samples : List ℤ) (run : ℕ) (blocks : List BlockData) : Type 0 where
@@ -80,8 +76,7 @@ with_mark r = record r { blank = true }
 
 -- What a call says that reads a data set.
 abbrev pub Answers : {I : Type 0} → Reader I → Reader I → ℕ → ℕ → DecoderState → DecoderState → List ℤ → Result Step CodeFault → Type 0
-Answers old new old_steps new_steps p q samples (Ok Block) =
-    GivesSet old new old_steps new_steps p.setting p.block p.before samples q.run × (q ≡ state_after_block p samples q.run)
+Answers old new old_steps new_steps p q samples (Ok Block) = GivesSet old new old_steps new_steps p.setting p.block p.before samples q.run × (q ≡ state_after_block p samples q.run)
 Answers old new old_steps new_steps p q samples (Ok Done) = StopsBy old new old_steps new_steps p.setting p.block (Ok Done) × (q ≡ record p { stopped = Some (Ok Done) }) × (samples ≡ [])
 Answers old new old_steps new_steps p q samples (Err f) = StopsBy old new old_steps new_steps p.setting p.block (Err f) × (q ≡ record p { stopped = Some (Err f) }) × (samples ≡ [])
 

@@ -1,11 +1,9 @@
--- The state of a decoder: the place of the next block, the sample before it, and the run that it is in.
-use Rattle.std.specs.Prelude.{◌≡◌, ◌≢◌, ℕ, ◌+◌, ◌<◌, ◌≤◌, ◌==◌, if◌then◌else◌, false, List, Option, Some, Result, Ok, ℤ}
+-- The state of a decoder: the place of the next block, the sample before it, and the run that it is in; and samples that are restored one after another.
+use Rattle.std.specs.Prelude.{◌≡◌, ◌≢◌, ℕ, ◌+◌, ◌*◌, ◌<◌, ◌≤◌, ◌==◌, ◌&&◌, if◌then◌else◌, Bool, false, List, All, take, length, slice_index_or, Option, Some, IfSome, is_some, Result, Ok, ℤ}
 use Rattle.rice_samples.specs.Parameters.{Parameters, IsLegal, IsSample}
 use Rattle.rice_samples.specs.Places.{blocks_left, begins_segment}
-use Rattle.rice_samples.specs.predict.Residuals.{last_of}
-use Rattle.rice_code.specs.declared.decode.call_results.Step.{Step}
-use Rattle.rice_code.specs.declared.decode.call_results.Step.TheVariants.{Block}
-use Rattle.rice_code.specs.declared.decode.call_results.CodeFault.{CodeFault}
+use Rattle.rice_samples.specs.predict.Residuals.{last_of, rank, pattern, residuals}
+use Rattle.rice_code.specs.{declared.decode.call_results.Step.Step, declared.decode.call_results.Step.TheVariants.Block, declared.decode.call_results.CodeFault.CodeFault}
 
 -- The state of a decoder.
 pub record DecoderState : Type 0 where
@@ -39,3 +37,16 @@ place_after s b count = if b + count == s.interval then 0 else b + count
 -- the state after a block with these samples, which `run` zero blocks follow
 abbrev pub state_after_block : DecoderState → List ℤ → ℕ → DecoderState
 state_after_block p samples run = record p { block = next_block_place p.setting p.block; before = last_of p.before samples; run = run }
+
+-- the residual of a sample that is restored, by whether it is the first of a block with a reference
+abbrev pub residual_at : Parameters → Option ℕ → Bool → ℤ → ℤ → ℕ
+residual_at s reference first p x = if s.preprocess then (if first && is_some reference then 0 else rank s p x) else pattern s x
+
+-- the samples of the first i residuals of block b, after the sample p
+pub record IsRestored (s : Parameters) (b : ℕ) (p : ℤ) (reference : Option ℕ) (ds : List ℕ) (i : ℕ) (samples : List ℤ) (last : ℤ) : Type 0 where
+  pub same : residuals s (s.block * b) p samples ≡ take i ds
+  pub len : length samples ≡ i
+  pub legal : All (IsSample s) samples
+  pub last_is : last ≡ last_of p samples
+  pub sample : IsSample s last
+  pub first : 0 < i → IfSome reference (λ v. pattern s (slice_index_or samples 0 p) ≡ v)

@@ -1,16 +1,14 @@
 -- What a reader took of a coded data set.
 use Rattle.std.specs.Prelude.{◌≡◌, ℕ, ◌+◌, ◌/◌, ◌^◌, ◌<◌, ◌≤◌, Bool, true, false, List, [], ◌∷◌, ◌++◌, All, length, flat_map, Option, Some, None, ⊤}
-use Rattle.rice_bits.specs.Bits.{word, fundamental_sequence}
 use Rattle.rice_bits.specs.read.JoinedParts.{joined_parts}
 use Rattle.rice_bits.specs.read.Reader.{Reader, Takes, Stops, is_blank}
 use Rattle.rice_bits.specs.declared.read.fault.BitFault.{BitFault}
 use Rattle.rice_samples.specs.Parameters.{Parameters}
-use Rattle.rice_code.specs.code.Blocks.{BlockData}
-use Rattle.rice_code.specs.code.CodedDataSets.{CodedDataSet, NoCompression, SecondExtension, Split, ZeroBlocks, RemainderOfSegment, bits_of_set}
-use Rattle.rice_code.specs.code.CodedDataSets.{turns, run_with_zeros, run_number, no_compression_tail, second_extension_tail, split_tail, run_tail}
-use Rattle.rice_code.specs.declared.decode.options.BlockSummary.{BlockSummary}
-use Rattle.rice_code.specs.declared.decode.options.SetSummary.{SetSummary}
-use Rattle.rice_code.specs.declared.decode.options.SetSummary.TheVariants.{Residuals, Zeros}
+use Rattle.rice_bits.specs.Bits.{word, fundamental_sequence}
+use Rattle.rice_code.specs.{code.Blocks.BlockData, declared.decode.options.BlockSummary.BlockSummary}
+use Rattle.rice_code.specs.{declared.decode.options.SetSummary.SetSummary, declared.decode.options.SetSummary.TheVariants.Residuals, declared.decode.options.SetSummary.TheVariants.Zeros}
+use Rattle.rice_code.specs.code.CodedDataSets.{CodedDataSet, NoCompression, SecondExtension, Split, ZeroBlocks, RemainderOfSegment, bits_of_set, turns, run_with_zeros, run_number, no_compression_tail}
+use Rattle.rice_code.specs.code.CodedDataSets.{second_extension_tail, split_tail, run_tail}
 use Rattle.rice_code.specs.code.Forms.{IsForm, IsBlock, IsZeroAtReference, RunIsSound, ResidualsAreSound, AllFit, blocks_in}
 
 -- A reader took the fundamental sequences of the high parts of `count` residuals, and then their low parts, words of k bits.
@@ -45,10 +43,8 @@ set_tail s (Split k c) = split_tail s k c
 set_tail s (ZeroBlocks reference z) = run_tail s reference (run_number z)
 set_tail s (RemainderOfSegment reference) = run_tail s reference 4
 
--- A reader took what follows the identifier of a block that this option codes.
--- `head` has the reference, and says whether the residuals are sound: then they are these.
-pub record BlockRead {I : Type 0} (old new : Reader I) (old_steps new_steps : ℕ)
-    (s : Parameters) (b : ℕ) (option : BlockData → CodedDataSet) (head : BlockSummary) (residuals : List ℕ) : Type 0 where
+-- A reader took what follows the identifier of a block that this option codes. `head` has the reference, and says whether the residuals are sound: then they are these.
+pub record BlockRead {I : Type 0} (old new : Reader I) (old_steps new_steps : ℕ) (s : Parameters) (b : ℕ) (option : BlockData → CodedDataSet) (head : BlockSummary) (residuals : List ℕ) : Type 0 where
   pub contents : BlockData
   pub form : IsForm s b (option contents)
   pub reference_is : contents.reference ≡ head.reference
@@ -64,18 +60,18 @@ pub record BlockCut {I : Type 0} (old new : Reader I) (s : Parameters) (b : ℕ)
   pub none : (c : BlockData) (more : List Bool) → IsForm s b (option c) → bits ≡ set_tail s (option c) ++ more → ⊥
 
 -- A data set of one block has these residuals where they are sound.
-pub record DescribesBlock (s : Parameters) (b : ℕ) (reference : Option ℕ) (sound : Bool) (residuals : List ℕ) (set : CodedDataSet) : Type 0 where
+pub record DescribesBlock (s : Parameters) (b : ℕ) (head : BlockSummary) (residuals : List ℕ) (set : CodedDataSet) : Type 0 where
   pub contents : BlockData
   pub blocks : blocks_in s b set ≡ contents ∷ []
   pub block : IsBlock s b contents
-  pub reference_is : contents.reference ≡ reference
+  pub reference_is : contents.reference ≡ head.reference
   pub run : RunIsSound s b set
-  pub told : sound ≡ true → ResidualsAreSound s set × IsZeroAtReference contents × AllFit s contents × (contents.residuals ≡ residuals)
-  pub refused : sound ≡ false → ResidualsAreSound s set → ⊥
+  pub told : head.sound ≡ true → ResidualsAreSound s set × IsZeroAtReference contents × AllFit s contents × (contents.residuals ≡ residuals)
+  pub refused : head.sound ≡ false → ResidualsAreSound s set → ⊥
 
 -- what is known of a coded data set by its head and residuals
 abbrev pub DescribesSet : Parameters → ℕ → SetSummary → List ℕ → CodedDataSet → Type 0
-DescribesSet s b (Residuals reference sound) residuals set = DescribesBlock s b reference sound residuals set
+DescribesSet s b (Residuals head) residuals set = DescribesBlock s b head residuals set
 DescribesSet s b (Zeros reference zeros) residuals set = set ≡ run_with_zeros reference zeros
 
 -- A reader took a data set, sound or not.
@@ -97,19 +93,16 @@ pub record SetCut {I : Type 0} (old new : Reader I) (old_steps new_steps : ℕ) 
 
 -- what follows an identifier of 0, as each coded data set that has one spells it
 abbrev pub low_entropy_tail : Parameters → CodedDataSet → List Bool
-low_entropy_tail s (NoCompression c) = []
 low_entropy_tail s (SecondExtension c) = true ∷ second_extension_tail s c
-low_entropy_tail s (Split k c) = []
 low_entropy_tail s (ZeroBlocks reference z) = false ∷ run_tail s reference (run_number z)
 low_entropy_tail s (RemainderOfSegment reference) = false ∷ run_tail s reference 4
+low_entropy_tail s _ = []
 
 -- the identifier of the coded data set is 0
 abbrev pub IsLowEntropy : CodedDataSet → Type 0
 IsLowEntropy (NoCompression c) = ⊥
-IsLowEntropy (SecondExtension c) = ⊤
 IsLowEntropy (Split k c) = ⊥
-IsLowEntropy (ZeroBlocks reference z) = ⊤
-IsLowEntropy (RemainderOfSegment reference) = ⊤
+IsLowEntropy _ = ⊤
 
 pub record LowEntropyRead {I : Type 0} (old new : Reader I) (old_steps new_steps : ℕ) (s : Parameters) (b : ℕ) (taken : SetSummary) (residuals : List ℕ) : Type 0 where
   pub set : CodedDataSet

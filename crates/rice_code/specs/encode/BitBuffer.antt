@@ -1,7 +1,7 @@
 -- Bits that are gathered before they are put into a sink, and what a put does.
 use Rattle.std.specs.Prelude.{◌≡◌, ℕ, ◌+◌, ◌*◌, ◌^◌, ◌<◌, ◌≤◌, Bool, List, ◌++◌, length}
-use Rattle.rice_bits.specs.Limits.{step_limit}
 use Rattle.rice_bits.specs.Bits.{put_width}
+use Rattle.rice_bits.specs.Limits.{step_limit}
 use Rattle.rice_samples.specs.Parameters.{Parameters}
 use Rattle.rice_code.specs.code.CodedDataSets.{CodedDataSet, bits_of_set, cost}
 
@@ -19,8 +19,7 @@ pub record HasRoomFor (count ticks bits meter : ℕ) : Type 0 where
   pub room : bits + count ≤ sink_bits
   pub steps : meter + ticks < step_limit
 
--- These bits, `count` of them, are added after those of the sink and those that are gathered. A bit that is gathered still counts as a
--- step when it is put; `ticks` steps are counted in all.
+-- These bits, `count` of them, are added after those of the sink and those that are gathered. A bit that is gathered still counts as a step when it is put; `ticks` steps are counted in all.
 pub record AddsFields (more : List Bool) (count ticks : ℕ) (sink_old fields_old sink_new fields_new : List Bool) (meter_old meter_new : ℕ) : Type 0 where
   pub bits : sink_new ++ fields_new ≡ sink_old ++ fields_old ++ more
   pub len : length sink_new + length fields_new ≡ length sink_old + length fields_old + count

@@ -1,18 +1,11 @@
 -- What a coder holds of the segment that it fills: its residuals, and how each call changes it.
-use Rattle.std.specs.Prelude.{◌≡◌, ℕ, ◌+◌, ◌*◌, ◌/◌, ◌<◌, ◌≤◌, ◌⊎◌, Bool, true, false, ◌&&◌, ◌==◌, if◌then◌else◌}
-use Rattle.std.specs.Prelude.{List, [], ◌∷◌, ◌++◌, length, replicate, Option, Some, None, IfSome, sum_by, ℤ, pos}
+use Rattle.std.specs.Prelude.{◌≡◌, ℕ, ◌+◌, ◌*◌, ◌/◌, ◌<◌, ◌≤◌, ◌⊎◌, Bool, true, false, ◌&&◌, ◌==◌, if◌then◌else◌, List, [], ◌∷◌, ◌++◌, length, replicate, Option, Some, None, IfSome, sum_by, ℤ}
+use Rattle.std.specs.Prelude.{pos}
 use Rattle.rice_samples.specs.Parameters.{Parameters, IsLegal, IsSample, value_count}
 use Rattle.rice_samples.specs.Places.{place, begins_segment, blocks_left}
 use Rattle.rice_samples.specs.predict.Residuals.{pattern, rank, last_of}
-use Rattle.rice_code.specs.Bounds.{block_bound}
-use Rattle.rice_code.specs.code.Blocks.{BlockData}
-use Rattle.rice_code.specs.code.Code.{data_sets}
-use Rattle.rice_code.specs.code.CodedDataSets.{CodedDataSet, bits_of_set}
-use Rattle.rice_code.specs.encode.BitBuffer.{sink_bits}
-use Rattle.rice_code.specs.code.SoundBlocks.{AreSoundBlocks}
-use Rattle.rice_code.specs.CoderSteps.{least_looks, most_looks}
-use Rattle.rice_code.specs.encode.HeldBlocks.{held_blocks}
-use Rattle.rice_code.specs.code.Layout.{layout}
+use Rattle.rice_code.specs.{Bounds.block_bound, code.Blocks.BlockData, code.Code.data_sets, code.CodedDataSets.CodedDataSet, code.CodedDataSets.bits_of_set, encode.BitBuffer.sink_bits}
+use Rattle.rice_code.specs.{code.SoundBlocks.AreSoundBlocks, CoderSteps.least_looks, CoderSteps.most_looks, encode.HeldBlocks.held_blocks, code.Layout.layout}
 
 -- the residuals of the segment so far and its reference, the sample before the next, and the place at which the segment begins
 pub record CoderState : Type 0 where
@@ -68,7 +61,7 @@ abbrev pub next_reference : CoderState → ℤ → Option ℕ
 next_reference coder x = if coder.setting.preprocess && is_first coder then Some (pattern coder.setting x) else coder.reference
 
 abbrev pub state_after : CoderState → ℤ → CoderState
-state_after coder x = record { setting = coder.setting; residuals = coder.residuals ++ next_residual coder x ∷ []; reference = next_reference coder x; previous = x; start = coder.start }
+state_after coder x = record coder { residuals = coder.residuals ++ next_residual coder x ∷ []; reference = next_reference coder x; previous = x }
 
 -- and several: their residuals, of which only the first can be at a reference place, and the reference
 abbrev pub later_residuals : Parameters → ℤ → List ℤ → List ℕ
@@ -84,43 +77,22 @@ next_references coder [] = coder.reference
 next_references coder (x ∷ xs) = next_reference coder x
 
 abbrev pub state_after_all : CoderState → List ℤ → CoderState
-state_after_all coder xs = record {
-  setting = coder.setting;
-  residuals = coder.residuals ++ next_residuals coder xs;
-  reference = next_references coder xs;
-  previous = last_of coder.previous
-      xs;
-  start = coder.start;
-}
+state_after_all coder xs = record coder { residuals = coder.residuals ++ next_residuals coder xs; reference = next_references coder xs; previous = last_of coder.previous xs }
 
 -- and where the sample before the first of them is p, and none of them is a reference
 abbrev pub state_with_later : CoderState → ℤ → List ℤ → CoderState
-state_with_later coder p xs = record {
-  setting = coder.setting;
-  residuals = coder.residuals ++ later_residuals coder.setting p xs;
-  reference = coder.reference;
-  previous = last_of p xs;
-  start
-      = coder.start;
-}
+state_with_later coder p xs = record coder { residuals = coder.residuals ++ later_residuals coder.setting p xs; previous = last_of p xs }
 
 -- and when its last block is filled with n samples
 abbrev pub state_with_fill : CoderState → ℕ → CoderState
-state_with_fill coder n = record {
-  setting = coder.setting;
-  residuals = coder.residuals ++ replicate n (next_residual coder coder.previous);
-  reference = coder.reference;
-  previous
-      = coder.previous;
-  start = coder.start;
-}
+state_with_fill coder n = record coder { residuals = coder.residuals ++ replicate n (next_residual coder coder.previous) }
 
 -- what it holds after a whole segment
 abbrev pub next_start : CoderState → ℕ
 next_start coder = let next = coder.start + blocks_left coder.setting coder.start in if next == coder.setting.interval then 0 else next
 
 abbrev pub state_after_segment : CoderState → CoderState
-state_after_segment coder = record { setting = coder.setting; residuals = []; reference = None; previous = coder.previous; start = next_start coder }
+state_after_segment coder = record coder { residuals = []; reference = None; start = next_start coder }
 
 -- the blocks that it holds,
 abbrev pub blocks_held : CoderState → ℕ

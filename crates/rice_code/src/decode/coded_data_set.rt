@@ -32,10 +32,7 @@ fn read_low_entropy<I: Intake>(
         return Ok(SetSummary::Zeros { reference, zeros });
     }
     let head = read_second_extension(setting, block, reader, meter, residuals)?;
-    Ok(SetSummary::Residuals {
-        reference: head.reference,
-        sound: head.sound,
-    })
+    Ok(SetSummary::Residuals(head))
 }
 
 /// Reads all bits of one coded data set. It refuses no possible coded data set.
@@ -63,14 +60,8 @@ pub fn read_set<I: Intake>(
     }
     if id == (1 << width) - 1 {
         let head = read_no_compression(setting, block, reader, meter, residuals)?;
-        return Ok(SetSummary::Residuals {
-            reference: head.reference,
-            sound: head.sound,
-        });
+        return Ok(SetSummary::Residuals(head));
     }
     let head = read_split(setting, block, id - 1, reader, meter, residuals)?;
-    Ok(SetSummary::Residuals {
-        reference: head.reference,
-        sound: head.sound,
-    })
+    Ok(SetSummary::Residuals(head))
 }

@@ -3,13 +3,9 @@ ghost use Rattle.std.specs.Prelude.{◌≡◌, ◌≢◌, ℕ, ◌+◌, ◌-◌,
 ghost use Rattle.rice_bits.specs.Limits.{step_limit, most_bits_read};
 ghost use Rattle.rice_samples.specs.Parameters.{IsSample};
 ghost use Rattle.rice_samples.specs.Places.{blocks_left};
-ghost use Rattle.rice_code.specs.Limits.{most_samples_of_bit};
-ghost use Rattle.rice_code.specs.code.CodedDataSets.{run_with_zeros};
-ghost use Rattle.rice_code.specs.code.Forms.{RunIsSound, blocks_in, zero_blocks};
-ghost use Rattle.rice_code.specs.code.Layout.{padding};
-ghost use Rattle.rice_code.specs.decode.RowsOfFields.{AreCounted};
-ghost use Rattle.rice_code.specs.decode.Decoder.{Skips, answer_to};
+ghost use Rattle.rice_code.specs.{Limits.most_samples_of_bit, code.CodedDataSets.run_with_zeros, code.Layout.padding, decode.RowsOfFields.AreCounted, decode.Decoder.Skips, decode.Decoder.answer_to};
 ghost use Rattle.rice_code.specs.decode.DecoderState.{next_block_place, place_after};
+ghost use Rattle.rice_code.specs.code.Forms.{RunIsSound, blocks_in, zero_blocks};
 
 use crate::decode::call_results::{CodeFault, Step};
 use crate::decode::coded_data_set::read_set;
@@ -53,16 +49,6 @@ pub(crate) fn answer_of(fault: BitFault) -> Result<Step, CodeFault>
         BitFault::Read => Err(CodeFault::Read),
         BitFault::TooLong => Err(CodeFault::TooLong),
     }
-}
-
-/// Returns the place of the next block in its reference interval.
-pub(crate) fn next_place(setting: &Setting, block: u64) -> u64
-    requires { block < setting.now.interval }
-    ensures { result ≡ next_block_place setting.now block }
-{
-    let interval = setting.interval() as u64;
-    let next = block + 1;
-    if next == interval { 0 } else { next }
 }
 
 /// Returns the place of the block that stands `count` blocks behind block `block`, if none between them begins an interval.
@@ -119,9 +105,8 @@ impl Model for Decoder {
 }
 
 impl Decoder {
-    ghost use Rattle.rice_code.specs.decode.DecoderState.{IsDecoderState};
+    ghost use Rattle.rice_code.specs.{decode.DecoderState.IsDecoderState, declared.decode.call_results.Step.TheVariants.Block};
     ghost use Rattle.rice_code.specs.decode.Decoder.{Answers, GivesFromRun, RepeatsBlocks, with_mark};
-    ghost use Rattle.rice_code.specs.declared.decode.call_results.Step.TheVariants.{Block};
 
     /// Returns a decoder at the start of a code.
     pub fn new(setting: Setting) -> Self
@@ -129,13 +114,7 @@ impl Decoder {
             ≡ record { setting = setting; block = 0; before = pos 0; run = 0; stopped = None } }
     {
         let _bits = setting.bits();
-        Decoder {
-            setting,
-            block: 0,
-            before: 0,
-            run: 0,
-            stopped: None,
-        }
+        Decoder::at(setting, 0, 0, 0)
     }
 
     /// Returns a decoder that continues at block `block` of its interval, after the sample `before`, with `run` zero blocks of a run left.
@@ -245,7 +224,7 @@ impl Decoder {
         if self.run > 0 {
             self.before = restore_zero_block(&self.setting, self.block, self.before, None, samples);
             self.run -= 1;
-            self.block = next_place(&self.setting, self.block);
+            self.block = place_behind(&self.setting, self.block, 1);
             return Ok(Step::Block);
         }
         self.read_block(reader, meter, samples)
@@ -280,10 +259,12 @@ impl Decoder {
         let before = self.before;
         let residuals = &mut room[..setting.block() as usize];
         match read_set(setting, block, reader, meter, residuals) {
-            Ok(SetSummary::Residuals { reference, sound }) => {
+            Ok(SetSummary::Residuals(head)) => {
+                let sound = head.sound;
                 if !sound {
                     return self.stop(Err(CodeFault::ResidualTooLarge));
                 }
+                let reference = head.reference;
                 let last = restore_block(setting, block, before, reference, residuals, samples);
                 self.go_to_next_block(last, 0, reader, meter)
             }
@@ -328,7 +309,7 @@ impl Decoder {
         skip_padding(&self.setting, self.block + 1 + run as u64, reader, meter);
         self.run = run;
         self.before = last;
-        self.block = next_place(&self.setting, self.block);
+        self.block = place_behind(&self.setting, self.block, 1);
         Ok(Step::Block)
     }
 

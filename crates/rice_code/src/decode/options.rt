@@ -5,8 +5,7 @@ ghost use Rattle.rice_bits.specs.read.Reader.{Takes, Stops};
 ghost use Rattle.rice_samples.specs.Parameters.{k_max};
 ghost use Rattle.rice_samples.specs.Places.{is_reference};
 ghost use Rattle.rice_code.specs.code.CodedDataSets.{NoCompression, SecondExtension, Split, reference_bits, run_tail};
-ghost use Rattle.rice_code.specs.code.Forms.{IsReference};
-ghost use Rattle.rice_code.specs.decode.RowsOfFields.{HasRoom, AreCounted};
+ghost use Rattle.rice_code.specs.{code.Forms.IsReference, decode.RowsOfFields.HasRoom, decode.RowsOfFields.AreCounted};
 ghost use Rattle.rice_code.specs.decode.ReadSets.{BlockRead, BlockCut, PartsRead, PartsCut, reference_place};
 
 use crate::decode::high_and_low_parts::read_parts;
@@ -19,7 +18,7 @@ use rice_samples::Setting;
 /// What was read of a coded data set, besides residuals.
 #[derive(Clone, Copy)]
 pub enum SetSummary {
-    Residuals { reference: Option<u32>, sound: bool },
+    Residuals(BlockSummary),
     Zeros { reference: Option<u32>, zeros: u64 },
 }
 

@@ -2,10 +2,8 @@
 ghost use Rattle.std.specs.Prelude.{◌≡◌, ◌<◌, ◌&&◌, true, length, All, IfSome, is_some};
 ghost use Rattle.rice_samples.specs.Parameters.{IsSample, value_count};
 ghost use Rattle.rice_samples.specs.predict.Residuals.{pattern, last_of};
-ghost use Rattle.rice_code.specs.code.Blocks.{block_data, zero_block};
-ghost use Rattle.rice_code.specs.code.SoundBlocks.{block_with};
+ghost use Rattle.rice_code.specs.{code.Blocks.block_data, code.Blocks.zero_block, code.SoundBlocks.block_with, decode.DecoderState.residual_at};
 ghost use Rattle.rice_code.specs.code.Forms.{IsReference, IsBlock, IsZeroAtReference, AllFit};
-ghost use Rattle.rice_code.specs.decode.Restoring.{residual_at};
 
 use arrayvec::ArrayVec;
 use rice_samples::{Setting, from_pattern, restore};

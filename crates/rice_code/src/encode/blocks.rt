@@ -3,12 +3,8 @@ ghost use Rattle.std.specs.Prelude.{◌≡◌, ◌+◌, ◌-◌, ◌*◌, ◌<�
 ghost use Rattle.rice_bits.specs.Limits.{step_limit};
 ghost use Rattle.rice_samples.specs.Parameters.{k_max, value_count};
 ghost use Rattle.rice_samples.specs.Places.{begins_segment, blocks_left, place};
-ghost use Rattle.rice_code.specs.code.Blocks.{is_zero_block};
-ghost use Rattle.rice_code.specs.code.CodedDataSets.{cost};
-ghost use Rattle.rice_code.specs.code.Choice.{shortest};
-ghost use Rattle.rice_code.specs.encode.BitBuffer.{HasRoomFor};
+ghost use Rattle.rice_code.specs.{code.Blocks.is_zero_block, code.CodedDataSets.cost, code.Choice.shortest, encode.BitBuffer.HasRoomFor, code.SoundBlocks.IsSoundData, code.SoundBlocks.AreSoundBlocks};
 ghost use Rattle.rice_code.specs.encode.HeldBlocks.{held_blocks, reference_at, pending_bits, JoinsRun, EndsRun, HasRoomForBlocks, PutsBlocks, HasRoomForShortest, PutsShortest};
-ghost use Rattle.rice_code.specs.code.SoundBlocks.{IsSoundData, AreSoundBlocks};
 
 use crate::encode::SegmentSink;
 use crate::encode::choice::{Choice, choose};

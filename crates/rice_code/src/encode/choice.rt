@@ -2,10 +2,8 @@
 ghost use Rattle.std.specs.Prelude.{◌≡◌, ◌+◌, ◌*◌, ◌<◌, ◌≤◌, min};
 ghost use Rattle.rice_bits.specs.Limits.{step_limit};
 ghost use Rattle.rice_samples.specs.Parameters.{k_max};
-ghost use Rattle.rice_code.specs.code.CodedDataSets.{Split, cost};
+ghost use Rattle.rice_code.specs.{code.CodedDataSets.Split, code.CodedDataSets.cost, code.SoundBlocks.IsSoundData, encode.SetOfChoice.chosen_set, encode.SetOfChoice.IsSplitWithin};
 ghost use Rattle.rice_code.specs.code.Choice.{shortest, IsBestSplit, best_split};
-ghost use Rattle.rice_code.specs.code.SoundBlocks.{IsSoundData};
-ghost use Rattle.rice_code.specs.encode.SetOfChoice.{chosen_set, IsSplitWithin};
 
 use crate::encode::cost::{no_compression_cost, second_extension_cost, split_cost};
 use crate::encode::held_block::HeldBlock;

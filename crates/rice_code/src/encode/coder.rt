@@ -21,8 +21,7 @@ pub struct Coder {
 }
 
 impl Model for Coder {
-    ghost use Rattle.rice_code.specs.encode.Coder.{IsCoder};
-    ghost use Rattle.rice_code.specs.encode.OpenSegment.{CoderState};
+    ghost use Rattle.rice_code.specs.{encode.Coder.IsCoder, encode.OpenSegment.CoderState};
 
     ghost Value = { CoderState };
 
@@ -32,9 +31,7 @@ impl Model for Coder {
 }
 
 impl Coder {
-    ghost use Rattle.rice_code.specs.encode.OpenSegment.{state_between};
-    ghost use Rattle.rice_code.specs.code.Code.{complete_samples};
-    ghost use Rattle.rice_code.specs.code.Blocks.{fill_count_of};
+    ghost use Rattle.rice_code.specs.{encode.OpenSegment.state_between, code.Code.complete_samples, code.Blocks.fill_count_of};
     ghost use Rattle.rice_code.specs.encode.Coder.{HasTaken, AddsCode, PushesSamples};
 
     /// Returns a coder that has taken no samples.

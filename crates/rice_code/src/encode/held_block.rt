@@ -15,8 +15,7 @@ pub struct HeldBlock<'a> {
 }
 
 impl<'a> Model for HeldBlock<'a> {
-    ghost use Rattle.rice_code.specs.code.Blocks.{BlockData};
-    ghost use Rattle.rice_code.specs.code.SoundBlocks.{block_with};
+    ghost use Rattle.rice_code.specs.{code.Blocks.BlockData, code.SoundBlocks.block_with};
 
     ghost Value = { BlockData };
 

@@ -1,13 +1,12 @@
 //! The segment that a coder fills.
 ghost use Rattle.std.specs.Prelude.{◌≡◌, ◌+◌, ◌-◌, ◌*◌, ◌<◌, ◌≤◌, ◌↔◌, ◌++◌, length, replicate, if◌then◌else◌, ◌==◌, ◌&&◌, Some, false, IsTrue};
-ghost use Rattle.rice_bits.specs.Limits.{step_limit};
 ghost use Rattle.rice_bits.specs.Bits.{bits_to_byte};
+ghost use Rattle.rice_bits.specs.Limits.{step_limit};
 ghost use Rattle.rice_samples.specs.Limits.{longest_interval, longest_segment};
 ghost use Rattle.rice_samples.specs.Parameters.{IsLegal, IsSample};
 ghost use Rattle.rice_samples.specs.Places.{blocks_left};
 ghost use Rattle.rice_samples.specs.predict.Residuals.{pattern, rank};
-ghost use Rattle.rice_code.specs.CoderSteps.{coding_steps};
-ghost use Rattle.rice_code.specs.code.Blocks.{fill_count};
+ghost use Rattle.rice_code.specs.{CoderSteps.coding_steps, code.Blocks.fill_count};
 ghost use Rattle.rice_code.specs.encode.OpenSegment.{IsOpen, IsWhole, HasRoomForSegment, empty_state, state_between, state_after, state_with_fill, state_after_segment, HoldsSoundBlocks, CodesHeld, is_first};
 
 use crate::encode::SegmentSink;
@@ -48,15 +47,8 @@ impl OpenSegment {
     pub fn new(setting: Setting) -> Self
         ensures { result ≡ empty_state setting }
     {
-        let end = residuals_from(&setting, 0);
-        OpenSegment {
-            setting,
-            residuals: Segment::new(),
-            reference: None,
-            previous: 0,
-            start: 0,
-            end,
-        }
+        let _block = setting.block();
+        OpenSegment::resume(setting, 0, 0)
     }
 
     /// Returns the segment that begins at the place `start` of its interval, after the sample `previous`, without residuals.

@@ -1,12 +1,6 @@
 -- Bytes in the buffer of an input.
 use Rattle.std.proofs.Common.{◌≡◌, ℕ, ◌+◌, ◌-◌, ◌≤◌, List, ◌++◌, length, take, drop, ap, arith, sym, ◌∙◌, length-drop, Option, Result, Ok, Err}
-use Rattle.std.specs.Prelude.{IfOk}
-use Rattle.std.specs.Io.KnownBytes.{Consumes}
-use Rattle.std.specs.List.{copy_within}
-use Rattle.std.proofs.lemmas.List.{drop-take, length-take-le, take-append-le}
-use Rattle.std.proofs.lemmas.List.Edits.{take-paste}
-use Rattle.std.proofs.Math.Seq.{take-append-add}
-use Rattle.rice_stream.specs.WaitingBytes.{Refills}
+use Rattle.rice_stream.proofs.Words.{IfOk, Consumes, copy_within, drop-take, length-take-le, take-append-le, take-paste, take-append-add, Refills}
 use borrow.Rule.Slice.PartMut.{put_mid, post_of}
 
 -- behind the bytes that wait stand those that were read

@@ -1,11 +1,6 @@
 -- The whole bytes of bits that go on.
 use Rattle.std.proofs.Common.{arith, ◌≡◌, ◌+◌, ◌*◌, ◌/◌, ◌<◌, Bool, List, ◌++◌, length, drop, ap, sym, ◌∙◌, append-nil, length-append, length-drop, take-append-drop}
-use Rattle.std.proofs.Math.Seq.{drop-append-add}
-use Rattle.std.proofs.lemmas.List.{length-take-le}
-use Rattle.rice_bits.proofs.lemmas.bits.BytesAndBits.{whole_short}
-use Rattle.rice_bits.specs.Bits.{whole_bytes, bits_in_bytes}
-use Rattle.rice_code.proofs.lemmas.code.WholeBytes.{whole-append}
-use Rattle.rice_stream.specs.EncodingState.{whole_part}
+use Rattle.rice_stream.proofs.Words.{drop-append-add, length-take-le, whole_short, whole-append, whole_bytes, bits_in_bytes, whole_part}
 
 -- the part of whole bytes has eight bits for each byte that is full
 pub length-part : (a : List Bool) → length (whole_part a) ≡ 8 * (length a / 8)

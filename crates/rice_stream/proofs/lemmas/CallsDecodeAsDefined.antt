@@ -1,29 +1,11 @@
 -- A call that decodes a code does what the code decodes to.
 use Rattle.std.proofs.Common.{◌≡◌, ◌≢◌, ℕ, ◌+◌, ◌-◌, ◌*◌, ◌^◌, ◌<◌, ◌≤◌, Bool, false, true, List, [], ◌∷◌, ◌++◌, length, take, drop}
 use Rattle.std.proofs.Common.{refl, ap, arith, sym, ◌∙◌, ◌⊎◌, inl, inr, subst, append_assoc, append-nil, length-append, take-append-drop, Option, Some, None, ℤ}
-use Rattle.std.specs.Prelude.{IsSome}
-use Rattle.std.specs.Io.KnownBytes.{IsAtEnd}
-use Rattle.std.proofs.Math.Nat.{mul-le-mul_left}
-use Rattle.std.proofs.Math.Seq.{take-append_seam}
-use Rattle.std.proofs.lemmas.List.{take-append-le, take_all}
-use Rattle.rice_bits.specs.Bits.{bits_of}
-use Rattle.rice_bits.proofs.lemmas.bits.BytesAndBits.{bits_of-append, length-bits_of}
-use Rattle.rice_samples.specs.Parameters.{Parameters, IsLegal}
-use Rattle.rice_samples.specs.bytes.Spelling.{spellings}
-use Rattle.rice_samples.proofs.lemmas.setting.LevelsOfSamples.{zero_is_sample}
-use Rattle.rice_code.specs.code.CodedDataSets.{CodedDataSet, bits_of_set}
-use Rattle.rice_code.specs.code.Decoded.{AreTaken, BeginsUnsound, Decoded, Ending, EndsWith, Reached, Ended, CutOff, Past, Large}
-use Rattle.rice_code.specs.code.Forms.{blocks_in_all}
-use Rattle.rice_code.specs.code.Layout.{block_after}
-use Rattle.rice_code.proofs.lemmas.code.Layouts.{ends_inside}
-use Rattle.rice_code.proofs.lemmas.meaning.DecodingByPlacesAlone.{ends_there}
-use Rattle.rice_code.proofs.lemmas.meaning.DecodedInOneWay.{decoded_is_one}
-use Rattle.rice_stream.specs.DevicesInCalls.{Call}
-use Rattle.rice_stream.specs.Decodes.{DecodesBytes, EndsDecoding, RunsOut}
-use Rattle.rice_stream.specs.declared.outcome.Report.{Report}
-use Rattle.rice_stream.specs.declared.outcome.Fault.{Fault}
-use Rattle.rice_stream.specs.declared.outcome.Fault.TheVariants.{Read, Write, TooLong, SampleOutOfRange, SampleCut, CodeEnds, RunPastSegment, ResidualTooLarge}
-use Rattle.rice_stream.proofs.lemmas.ReturnedBytes.{EndsBefore, decoded_before}
+use Rattle.rice_stream.proofs.Words.{IsSome, IsAtEnd, mul-le-mul_left, take-append_seam, take-append-le, take_all, bits_of-append, length-bits_of, Parameters, IsLegal, spellings, zero_is_sample}
+use Rattle.rice_stream.proofs.Words.{CodedDataSet, bits_of_set, AreTaken, BeginsUnsound, Decoded, Ending, Reached, Ended, CutOff, Past, Large, blocks_in_all, block_after, ends_inside}
+use Rattle.rice_stream.proofs.Words.{ends_there, decoded_is_one, bits_of, Call, DecodesBytes, EndsDecoding, RunsOut, Report, Fault, Read, Write, TooLong, SampleOutOfRange, SampleCut, CodeEnds}
+use Rattle.rice_stream.proofs.Words.{RunPastSegment, ResidualTooLarge}
+use Rattle.rice_stream.proofs.lemmas.ReturnedBytes.{EndsBefore, decoded_before, with_rest}
 
 -- ---- the bits that decoding uses
 
@@ -48,43 +30,17 @@ unsound_front {s} bits more front P e u le =
       record { refused = u.refused; more = far; form = u.form; unsound = u.unsound; begins = refl; bits = u.bits },
     )
 
--- where decoding ends inside of the first bits, it is theirs
-module _ (s : Parameters) (asked : Option ℕ) (bits more : List Bool) (xs : List ℤ) (ending : Ending) (used : ℕ) (d : Decoded s (bits ++ more) asked xs ending used) where
-  with_rest : (left : List Bool) → bits ≡ d.front ++ left → EndsWith s asked (0 + length (blocks_in_all s 0 d.sets)) left ending d.last → Decoded s bits asked xs ending used
-  with_rest left parts ends = record {
-    sets = d.sets;
-    front = d.front;
-    rest = left;
-    parts = parts;
-    lie = d.lie;
-    taken = d.taken;
-    all = d.all;
-    legal = d.legal;
-    len = d.len;
-    blocks = d.blocks;
-    asked_for = d.asked_for;
-    last = d.last;
-    ends = ends;
-    bits_used = d.bits_used;
-  }
-
 -- decoding that ends in the front of a code ends so without the rest
 ends_in_front : {s : Parameters} {asked : Option ℕ} (bits more : List Bool) {xs : List ℤ} (ending : Ending) {used : ℕ} → EndsBefore ending
     → Decoded s (bits ++ more) asked xs ending used → used ≤ length bits → Decoded s bits asked xs ending used
-ends_in_front {s} {asked} bits more {xs} Reached {used} early d le =
-    with_rest s asked bits more xs Reached used d (drop (length d.front) bits) (front_of bits more d.front d.rest d.parts (omega (arith, d.bits_used, le))) d.ends
-ends_in_front {s} {asked} bits more {xs} Past {used} early d le =
+ends_in_front bits more Reached early d le = with_rest d (drop (length d.front) bits) (front_of bits more d.front d.rest d.parts (omega (arith, d.bits_used, le))) d.ends
+ends_in_front bits more Past early d le =
     let u = unsound_front bits more d.front _ d.parts d.ends.1 (omega (arith, d.bits_used, le)) in
-    with_rest s asked bits more xs Past used d u.0 u.1 (d.ends.0, u.2)
-ends_in_front {s} {asked} bits more {xs} Large {used} early d le =
+    with_rest d u.0 u.1 (d.ends.0, u.2)
+ends_in_front bits more Large early d le =
     let u = unsound_front bits more d.front _ d.parts d.ends.1 (omega (arith, d.bits_used, le)) in
-    with_rest s asked bits more xs Large used d u.0 u.1 (d.ends.0, u.2)
-ends_in_front bits more Ended (inl e) d le = absurd cc
-ends_in_front bits more Ended (inr (inl e)) d le = absurd cc
-ends_in_front bits more Ended (inr (inr e)) d le = absurd cc
-ends_in_front bits more CutOff (inl e) d le = absurd cc
-ends_in_front bits more CutOff (inr (inl e)) d le = absurd cc
-ends_in_front bits more CutOff (inr (inr e)) d le = absurd cc
+    with_rest d u.0 u.1 (d.ends.0, u.2)
+ends_in_front bits more _ early d le = absurd early
 
 -- ---- a count that is not reached
 
@@ -174,17 +130,7 @@ not_early {s} legal {asked} {code} front more {xs} {ys} {ending} {e} {used} {n} 
     let inside = ends_in_front (bits_of front) (bits_of more) ending early
     (subst (λ (l : List Bool). Decoded s l asked xs ending used) bits whole) (omega (arith, le, length-bits_of front)) in
     let same : e ≡ ending = (decoded_is_one legal (zero_is_sample s legal.bits_from) d inside).1 in
-    elim runs [ inl f ↦ no f same early | inr f ↦ not_cut f same early ]
-  where
-    no : e ≡ Ended → e ≡ ending → EndsBefore ending → ⊥
-    no f same (inl g) = absurd cc
-    no f same (inr (inl g)) = absurd cc
-    no f same (inr (inr g)) = absurd cc
-
-    not_cut : e ≡ CutOff → e ≡ ending → EndsBefore ending → ⊥
-    not_cut f same (inl g) = absurd cc
-    not_cut f same (inr (inl g)) = absurd cc
-    not_cut f same (inr (inr g)) = absurd cc
+    elim runs [ inl f ↦ subst EndsBefore (sym same ∙ f) early | inr f ↦ subst EndsBefore (sym same ∙ f) early ]
 
 -- a code whose front is as long as a call may take, and more
 record LongFront (code front more : List ℕ) : Type 0 where
@@ -196,15 +142,11 @@ record LongFront (code front more : List ℕ) : Type 0 where
 never_long : {s : Parameters} → IsLegal s → {asked : Option ℕ} {code : List ℕ} (front more : List ℕ) {xs ys : List ℤ} {ending e : Ending} {used n : ℕ}
     → Decoded s (bits_of code) asked xs ending used → used ≤ 2 ^ 52 → LongFront code front more
     → Decoded s (bits_of front) asked ys e n → RunsOut e → ⊥
-never_long {s} legal {asked} {code} front more {xs} {ys} {ending = Reached} {e} {used} {n} whole limit parts d runs = not_early legal front more whole parts.joined (omega arith) d runs (inl refl)
-never_long {s} legal {asked} {code} front more {xs} {ys} {ending = Past} {e} {used} {n} whole limit parts d runs = not_early legal front more
-    whole parts.joined (omega arith) d runs (inr (inl refl))
-never_long {s} legal {asked} {code} front more {xs} {ys} {ending = Large} {e} {used} {n} whole limit parts d runs = not_early legal front more
-    whole parts.joined (omega arith) d runs (inr (inr refl))
 never_long legal {code} front more {ending = Ended} whole limit parts d runs =
     omega (arith, whole.bits_used, whole.ends.2, ap length whole.parts, length-append whole.front whole.rest, length-bits_of code, ap length parts.joined, length-append front more)
 never_long legal {code} front more {ending = CutOff} whole limit parts d runs =
     omega (arith, whole.bits_used, whole.ends.3, ap length whole.parts, length-append whole.front whole.rest, length-bits_of code, ap length parts.joined, length-append front more)
+never_long legal front more whole limit parts d runs = not_early legal front more whole parts.joined (omega arith) d runs tt
 
 -- what a call took of the code, and what is left
 pub record GivenOfCode (code left : List ℕ) (c : Call) : Type 0 where
@@ -223,7 +165,7 @@ pub decodes_as : {s : Parameters} → IsLegal s
     → (asked ≡ None) ⊎ (ending ≡ Reached) → GivenOfCode code left c → EndsDecoding s asked fault c r ys e → NoDeviceFails fault → DecodesAs s xs ending used c r fault
 decodes_as {s} legal {asked} {code} {left} {c} {r} {fault = None} {xs} ys {ending} e {used} whole limit way given (d, inl reached) device =
     decodes_so s legal asked code left c r xs ys ending e used whole given.code_is None d
-    (as_before s legal asked code left c r xs ys ending e used whole given.code_is (inl reached) d) (subst (λ (v : Ending). FaultOf s ys v None) (sym reached) refl)
+    (as_before s legal asked code left c r xs ys ending e used whole given.code_is (rw reached tt) d) (subst (λ (v : Ending). FaultOf s ys v None) (sym reached) refl)
 decodes_as {s} legal {asked} {code} {left} {c} {r} {fault = None} {xs} ys {ending} e {used} whole limit way given (d, inr (ended, none, end)) device =
     decodes_so s legal asked code left c r xs ys ending e used whole given.code_is None d
     (as_all s legal asked code left c r xs ys ending e used whole given.code_is (is_at_end c.left left given.left_is end) d) (subst (λ (v : Ending). FaultOf s ys v None) (sym ended) refl)
@@ -236,11 +178,11 @@ decodes_as {s} legal {asked} {code} {left} {c} {r} {fault = Some (CodeEnds n)} {
     elim way [ inl none ↦ absurd (let no : false ≡ true = subst (λ (a : Option ℕ). IsSome a) none some in cc) | inr reached ↦ absurd cc ]
 decodes_as {s} legal {asked} {code} {left} {c} {r} {fault = Some (RunPastSegment b)} {xs} ys {ending} e {used} whole limit way given (d, past, count) device =
     decodes_so s legal asked code left c r xs ys ending e used whole given.code_is (Some (RunPastSegment b)) d
-    (as_before s legal asked code left c r xs ys ending e used whole given.code_is (inr (inl past)) d)
+    (as_before s legal asked code left c r xs ys ending e used whole given.code_is (rw past tt) d)
     (subst (λ (v : Ending). FaultOf s ys v (Some (RunPastSegment b))) (sym past) (b, count, refl))
 decodes_as {s} legal {asked} {code} {left} {c} {r} {fault = Some (ResidualTooLarge b)} {xs} ys {ending} e {used} whole limit way given (d, large, count) device =
     decodes_so s legal asked code left c r xs ys ending e used whole given.code_is (Some (ResidualTooLarge b)) d
-    (as_before s legal asked code left c r xs ys ending e used whole given.code_is (inr (inr large)) d)
+    (as_before s legal asked code left c r xs ys ending e used whole given.code_is (rw large tt) d)
     (subst (λ (v : Ending). FaultOf s ys v (Some (ResidualTooLarge b))) (sym large) (b, count, refl))
 decodes_as {s} legal {asked} {code} {left} {fault = Some TooLong} {xs} ys {ending} e {used} whole limit way given h device =
     let front = h.0.0 in

@@ -1,45 +1,19 @@
 -- What the bits so far decode to, whatever follows them.
-use Rattle.std.proofs.Common.{◌≡◌, ℕ, zero, suc, ◌+◌, ◌-◌, ◌*◌, ◌<◌, ◌≤◌, Bool, List, [], ◌∷◌, ◌++◌, length, take}
+use Rattle.std.proofs.Common.{◌≡◌, ℕ, suc, ◌+◌, ◌-◌, ◌*◌, ◌<◌, ◌≤◌, Bool, List, [], ◌∷◌, ◌++◌, length, take}
 use Rattle.std.proofs.Common.{replicate, refl, ap, arith, sym, ◌∙◌, subst, append_assoc, append-nil, length-append, Option, Some, None, ℤ, pos}
-use Rattle.std.proofs.lemmas.List.Elements.{recursion_from_All, All-from_recursion, All-append}
-use Rattle.std.proofs.Math.Nat.{mul-le-mul_left}
-use Rattle.std.proofs.Math.Seq.{take-length}
-use Rattle.std.proofs.lemmas.List.{length-replicate, take-append-le, take_all}
-use Rattle.rice_samples.specs.Parameters.{Parameters, IsLegal, IsSample}
-use Rattle.rice_samples.specs.predict.Residuals.{last_of}
-use Rattle.rice_samples.proofs.lemmas.setting.LevelsOfSamples.{zero_is_sample}
-use Rattle.rice_code.specs.code.Blocks.{BlockData, block_data, zero_block, blocks_from}
-use Rattle.rice_code.specs.code.CodedDataSets.{CodedDataSet, bits_of_set}
-use Rattle.rice_code.specs.code.Decoded.{Decoded, DecodedFrom, Ending, Reached, EndsWith, IsWanted, cut_to}
-use Rattle.rice_code.specs.decode.Decoder.{GivesBlock}
-use Rattle.rice_code.specs.code.Forms.{IsForm, RunIsSound, ResidualsAreSound, blocks_in}
-use Rattle.rice_code.specs.code.SoundBlocks.{AreSoundBlocks}
-use Rattle.rice_code.specs.code.Layout.{block_after, padding}
-use Rattle.rice_code.proofs.lemmas.meaning.DecodingGoesOn.{decoding_goes_on}
-use Rattle.rice_code.proofs.lemmas.code.RepeatedSamples.{last_append, blocks_append}
-use Rattle.rice_code.proofs.lemmas.code.SoundBlocks.{last_legal}
-use Rattle.rice_code.proofs.lemmas.meaning.AllBytesAreDecoded.{blocks_have_samples, blocks_are_sound}
-use Rattle.rice_stream.specs.DecodingState.{DecodedSoFar, AreOfRun}
-
-take_nothing : {X : Type 0} (n : ℕ) → take {A = X} n [] ≡ []
-take_nothing zero = refl
-take_nothing (suc n) = refl
+use Rattle.rice_stream.proofs.Words.{recursion_from_All, All-from_recursion, All-append, mul-le-mul_left, take-length, length-replicate, take-append-le, take_all, Parameters, IsLegal, IsSample}
+use Rattle.rice_stream.proofs.Words.{last_of, zero_is_sample, BlockData, block_data, zero_block, blocks_from, CodedDataSet, bits_of_set, Decoded, DecodedFrom, Ending, Reached, EndsWith, IsWanted}
+use Rattle.rice_stream.proofs.Words.{cut_to, GivesBlock, IsForm, RunIsSound, ResidualsAreSound, blocks_in, AreSoundBlocks, block_after, padding, decoding_goes_on, last_append, blocks_append, take-nil}
+use Rattle.rice_stream.proofs.Words.{last_legal, blocks_have_samples, blocks_are_sound, DecodedSoFar, AreOfRun, cut_parts}
 
 -- no samples, cut to those that are wanted, are none
 pub cut_nothing : (s : Parameters) (wanted : Option ℕ) (b : ℕ) → cut_to s wanted b [] ≡ []
 cut_nothing s None b = refl
-cut_nothing s (Some n) b = take_nothing (n - s.block * b)
-
--- a front of two lists is one of the first, and what is left of it of the second
-take_both : (n : ℕ) (xs ys : List ℤ) → take n (xs ++ ys) ≡ take n xs ++ take (n - length xs) ys
-take_both n [] ys = let e : n ≡ n - 0 = omega arith in ap (λ m. take m ys) e ∙ ap (λ l. l ++ take (n - 0) ys) (sym (take_nothing n))
-take_both zero (x ∷ xs) ys = let e : 0 ≡ 0 - suc (length xs) = omega arith in ap (λ m. take m ys) e
-take_both (suc n) (x ∷ xs) ys = let e : n - length xs ≡ suc n - suc (length xs) = omega arith in ap (λ l. x ∷ l) (take_both n xs ys ∙ ap (λ m. take n xs ++ take m ys) e)
+cut_nothing s (Some n) b = take-nil (n - s.block * b)
 
 -- the samples wanted of some blocks and of one more
 pub cut_more : (s : Parameters) (wanted : Option ℕ) (b : ℕ) (all xs : List ℤ) → length all ≡ s.block * b → cut_to s wanted 0 (all ++ xs) ≡ cut_to s wanted 0 all ++ cut_to s wanted b xs
-cut_more s None b all xs e = refl
-cut_more s (Some n) b all xs e = let m : n - s.block * 0 - length all ≡ n - s.block * b = omega arith in take_both (n - s.block * 0) all xs ∙ ap (λ k. take (n - s.block * 0) all ++ take k xs) m
+cut_more s wanted b all xs e = let here : 0 + b ≡ b = omega arith in sym (cut_parts s wanted 0 b all xs e) ∙ ap (λ m. cut_to s wanted 0 all ++ cut_to s wanted m xs) here
 
 -- where another block is wanted, none of the samples before it is cut off
 pub cut_none : (s : Parameters) (wanted : Option ℕ) (b : ℕ) (all : List ℤ) → length all ≡ s.block * b → IsWanted s wanted b → cut_to s wanted 0 all ≡ all

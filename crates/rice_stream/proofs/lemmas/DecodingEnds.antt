@@ -1,50 +1,17 @@
 -- How decoding ends.
 use Rattle.std.proofs.Common.{◌≡◌, ◌≢◌, ℕ, zero, suc, ◌+◌, ◌-◌, ◌*◌, ◌/◌, ◌%◌, ◌<◌, ◌≤◌, ◌==◌, ◌⊎◌, cond, min, Bool, true, false, List, []}
 use Rattle.std.proofs.Common.{◌∷◌, ◌++◌, length, take, refl, ap, arith, sym, ◌∙◌, subst, append_assoc, append-nil, length-append, Option, Some, None, ℤ, pos, inl, inr}
-use Rattle.std.specs.Prelude.{◌^◌, Err, sum_by, All, Contains, IfSome}
-use Rattle.std.specs.Io.KnownBytes.{Consumes, IsAtEnd}
-use Rattle.rice_bits.specs.Limits.{most_at_once}
-use Rattle.rice_bits.specs.device.OutletRoom.{Room, Appends}
-use Rattle.std.proofs.KnownBytes.{Consumes-nil, Consumes-trans}
-use Rattle.rice_bits.proofs.lemmas.device.OutletLemmas.{Appends-nil, Appends-trans}
-use Rattle.std.proofs.Math.Nat.{mod-lt, mod-eq_of_lt, mod_self, mul-div_cancel_left, mul-le-mul_left}
-use Rattle.std.proofs.lemmas.Bool.{cases_lt}
-use Rattle.std.proofs.lemmas.Bool.Decides.{nat_tests}
-use Rattle.std.proofs.Math.Seq.{take-length, take-append_seam}
-use Rattle.std.proofs.lemmas.List.{length-take-le, length-take}
-use Rattle.rice_stream.proofs.lemmas.EncodingLemmas.{part_between}
-use Rattle.rice_bits.specs.Bits.{bits_of}
-use Rattle.rice_bits.specs.read.Reader.{Reader, Draws, is_blank, new_reader}
-use Rattle.rice_bits.specs.read.Window.{most_waiting}
-use Rattle.rice_bits.specs.declared.read.fault.BitFault.{BitFault}
+use Rattle.rice_stream.proofs.Words.{◌^◌, Err, sum_by, All, Contains, IfSome, Consumes, IsAtEnd, most_at_once, Room, Appends, Consumes-nil, Consumes-trans, Appends-nil, Appends-trans, mod-lt, afresh}
+use Rattle.rice_stream.proofs.Words.{mod-eq_of_lt, mod_self, mul-div_cancel_left, mul-le-mul_left, cases_lt, nat_tests, take-length, take-append_seam, length-take-le, length-take, Reader, Draws}
+use Rattle.rice_stream.proofs.Words.{is_blank, new_reader, most_waiting, BitFault, bits_of-nil, bits_of-append, length-bits_of, Parameters, IsLegal, place, last_of, spellings, Decoded, Ending}
+use Rattle.rice_stream.proofs.Words.{EndsWith, Reached, Ended, CutOff, Past, Large, BeginsUnsound, IsWanted, cut_to, last_append, place_step, CodedDataSet, bits_of_set, turns, StopsBy, SetEnds}
+use Rattle.rice_stream.proofs.Words.{SetRefused, with_mark, DecoderState, state_after_block, next_block_place, IsForm, SetCut, CodeFault, AreCounted, spellings-append, bits_of, Call, StopsBetween}
+use Rattle.rice_stream.proofs.Words.{CountsSteps, DecodesBetween, EndsInTurns, Reports, EndsDecoding, DecodesBytes, RunsOut, at_most, wanted_of, ended_fault, refusal_fault, DecodedSoFar, Gains}
+use Rattle.rice_stream.proofs.Words.{DecodingProgress, HasRead, HasSets, TakesPart, Report, Fault, Read, Write, TooLong, CodeEnds, Follows, take-nil}
+use Rattle.rice_stream.proofs.lemmas.{EncodingLemmas.Follows-all, EncodingLemmas.part_follows, DecodingLemmas.still_asked, SetsRead.sets-none}
 use Rattle.rice_bits.specs.declared.read.fault.BitFault.TheVariants as bit_faults
-use Rattle.rice_bits.proofs.lemmas.bits.BytesAndBits.{bits_of-nil, bits_of-append, length-bits_of}
-use Rattle.rice_samples.specs.Parameters.{Parameters, IsLegal}
-use Rattle.rice_samples.specs.Places.{place}
-use Rattle.rice_samples.specs.predict.Residuals.{last_of}
-use Rattle.rice_samples.specs.bytes.Spelling.{spellings}
-use Rattle.rice_code.specs.code.Decoded.{Decoded, Ending, EndsWith, Reached, Ended, CutOff, Past, Large, BeginsUnsound, IsWanted, cut_to}
-use Rattle.rice_code.proofs.lemmas.code.RepeatedSamples.{last_append}
-use Rattle.rice_code.proofs.lemmas.code.BlocksByPlaceAlone.{place_step}
-use Rattle.rice_code.specs.code.CodedDataSets.{CodedDataSet, bits_of_set, turns}
-use Rattle.rice_code.specs.decode.Decoder.{StopsBy, SetEnds, SetRefused, with_mark}
-use Rattle.rice_code.specs.decode.DecoderState.{DecoderState, state_after_block, next_block_place}
-use Rattle.rice_code.specs.code.Forms.{IsForm}
-use Rattle.rice_code.specs.decode.ReadSets.{SetCut}
-use Rattle.rice_code.specs.declared.decode.call_results.CodeFault.{CodeFault}
 use Rattle.rice_code.specs.declared.decode.call_results.CodeFault.TheVariants as faults
-use Rattle.rice_stream.specs.DevicesInCalls.{Call, StopsBetween}
-use Rattle.rice_stream.specs.Decodes.{CountsSteps, DecodesBetween, EndsInTurns, Reports, EndsDecoding, DecodesBytes, RunsOut, at_most, wanted_of, ended_fault, refusal_fault}
-use Rattle.rice_stream.specs.DecodingState.{DecodedSoFar, Gains, DecodingProgress, HasRead, HasSets}
-use Rattle.rice_stream.specs.FailedWrites.{TakesPart}
-use Rattle.rice_stream.specs.declared.outcome.Report.{Report}
-use Rattle.rice_stream.specs.declared.outcome.Fault.{Fault}
-use Rattle.rice_stream.specs.declared.outcome.Fault.TheVariants.{Read, Write, TooLong, CodeEnds}
 use Rattle.rice_stream.proofs.lemmas.DecodedSamples.{decoded_nothing, ends_here, ends_reached, cut_nothing, cut_more, cut_none}
-use Rattle.rice_stream.proofs.lemmas.DecodingLemmas.{still_asked}
-use Rattle.rice_stream.proofs.lemmas.SetsRead.{sets-none}
-use Rattle.rice_code.specs.decode.RowsOfFields.{AreCounted}
-use Rattle.rice_samples.proofs.lemmas.bytes.SpellingLengths.{spellings-append}
 
 -- more samples are wanted than are written
 pub goes_on : (s : Parameters) (asked : Option ℕ) (blocks written : ℕ) (all : List ℤ) → length all ≡ s.block * blocks → written ≡ length (cut_to s asked 0 all)
@@ -64,11 +31,7 @@ wanted_part s None blocks written xs e n = ap (λ m. take m xs) (sym n) ∙ take
 wanted_part s (Some m) blocks written xs e n = ap (λ k. take (min (m - k) s.block) xs) e ∙ by_min (m - s.block * blocks) s.block xs n
   where
     by_min : (a j : ℕ) (xs : List ℤ) → length xs ≡ j → take (min a j) xs ≡ take a xs
-    by_min a j [] e = nil (min a j) ∙ sym (nil a)
-      where
-        nil : (n : ℕ) → take {A = ℤ} n [] ≡ []
-        nil zero = refl
-        nil (suc n) = refl
+    by_min a j [] e = take-nil (min a j) ∙ sym (take-nil a)
     by_min zero j (x ∷ xs) e = let z : min 0 j ≡ 0 = omega arith in ap (λ m. take m (x ∷ xs)) z
     by_min (suc a) zero (x ∷ xs) e = absurd (omega arith)
     by_min (suc a) (suc j) (x ∷ xs) e = let z : min (suc a) (suc j) ≡ suc (min a j) = omega arith in ap (λ m. take m (x ∷ xs)) z ∙ ap (λ l. x ∷ l) (by_min a j xs (omega arith))
@@ -226,57 +189,31 @@ at_set : {I : Type 0} {s : Parameters} {asked : Option ℕ} {start : Reader I} {
     → (runs : DecodingProgress s asked start out_old out p r steps written) → p.run ≡ 0 → DecodedSoFar s runs.front runs.begun runs.blocks 0 runs.given
 at_set {s = s} runs none = subst (λ (n : ℕ). DecodedSoFar s runs.front runs.begun runs.blocks n runs.given) none runs.decoded
 
--- the steps where decoding ends with a whole coded data set
+-- the steps where decoding ends with bits that are no sound coded data set
+counts_steps : {s : Parameters} {rep : Report} {sets : List CodedDataSet} {front : List Bool} {blocks : ℕ} (waiting : List Bool) (bytes : List ℕ) (last : List Bool) {ending : Ending} (in_last : ℕ)
+    → HasSets s sets front blocks → bits_of bytes ≡ (front ++ last) ++ waiting → EndsInTurns s blocks last ending in_last → rep.bits ≡ length (front ++ last)
+    → rep.steps ≡ rep.bits + rep.samples + sum_by turns sets + in_last → CountsSteps s (bits_of bytes) rep ending
+counts_steps {s = s} {sets = sets} {front = front} waiting bytes last {ending} in_last has bits ends count steps = record {
+  sets = sets;
+  front = front;
+  last = last;
+  rest = waiting;
+  parts = bits;
+  lie = has.lie;
+  sound = has.sound;
+  turns_in_last = in_last;
+  ends = subst (λ (n : ℕ). EndsInTurns s n last ending in_last) (sym has.end) ends;
+  bits_taken = count;
+  steps = steps;
+}
+
+-- and those where it ends with a whole one
 whole_steps : {s : Parameters} {rep : Report} {sets : List CodedDataSet} {front : List Bool} {blocks : ℕ} (waiting : List Bool) (bytes : List ℕ)
     → HasSets s sets front blocks → bits_of bytes ≡ front ++ waiting → rep.bits ≡ length front
     → rep.steps ≡ rep.bits + rep.samples + sum_by turns sets → CountsSteps s (bits_of bytes) rep Reached
-whole_steps {sets = sets} {front = front} waiting bytes has bits count steps =
+whole_steps {front = front} waiting bytes has bits count steps =
     let whole = append-nil front in
-    record {
-      sets = sets;
-      front = front;
-      last = [];
-      rest = waiting;
-      parts = bits ∙ ap (λ l. l ++ waiting) (sym whole);
-      lie = has.lie;
-      sound = has.sound;
-      turns_in_last = 0;
-      ends = (refl, refl);
-      bits_taken = count ∙ ap length (sym whole);
-      steps = omega (arith, steps);
-    }
-
--- the steps up to a data set, and those of the last one
-record StepsCounted (sets : List CodedDataSet) (front last : List Bool) (in_last steps new_steps taken new_taken written : ℕ) : Type 0 where
-  last_are : new_steps + taken ≡ steps + new_taken + in_last
-  before : steps ≡ taken + written + sum_by turns sets
-  taken_is : new_taken ≡ length (front ++ last)
-
--- what the report says
-record ReportsThem (rep : Report) (new_steps new_taken written : ℕ) : Type 0 where
-  bits : rep.bits ≡ new_taken
-  samples : rep.samples ≡ written
-  steps_are : rep.steps ≡ new_steps
-
--- the steps where it ends with bits that are no sound coded data set
-last_steps : {s : Parameters} {rep : Report} {sets : List CodedDataSet} {front : List Bool} {blocks : ℕ} {last : List Bool} (waiting : List Bool) (bytes : List ℕ)
-    {ending : Ending} (in_last : ℕ) {steps new_steps : ℕ} (taken : ℕ) {new_taken written : ℕ} → HasSets s sets front blocks → bits_of bytes ≡ (front ++ last) ++ waiting
-    → EndsInTurns s blocks last ending in_last → StepsCounted sets front last in_last steps new_steps taken new_taken written
-    → ReportsThem rep new_steps new_taken written → CountsSteps s (bits_of bytes) rep ending
-last_steps {s = s} {sets = sets} {front = front} {last} waiting bytes {ending} in_last {steps} taken has bits ends steps_counted reported =
-    record {
-      sets = sets;
-      front = front;
-      last = last;
-      rest = waiting;
-      parts = bits;
-      lie = has.lie;
-      sound = has.sound;
-      turns_in_last = in_last;
-      ends = subst (λ (n : ℕ). EndsInTurns s n last ending in_last) (sym has.end) ends;
-      bits_taken = reported.bits ∙ steps_counted.taken_is;
-      steps = omega (arith, steps_counted.last_are, steps_counted.before, reported.bits, reported.samples, reported.steps_are);
-    }
+    counts_steps waiting bytes [] 0 has (bits ∙ ap (λ l. l ++ waiting) (sym whole)) (refl, refl) (count ∙ ap length (sym whole)) (omega (arith, steps))
 
 -- the samples that were asked for are reached
 pub reached_ends : {I : Type 0} {s : Parameters} {asked : Option ℕ} {start : Reader I} {out_old out : Option Room} {p : DecoderState} {r : Reader I}
@@ -390,14 +327,9 @@ runs_dry {s = s} {asked = asked} {p = p} {r = r} {new = new} {steps = steps} {st
       bits = tells.bits_are ∙ sym used;
       samples = tells.samples_are ∙ so.count;
       count = so.count;
-      sets = λ more. last_steps (bits_of more) (read.bytes ++ more) in_last r.taken has
-          (bits_of-append read.bytes more ∙ ap (λ l. l ++ bits_of more) whole)
+      sets = λ more. counts_steps (bits_of more) (read.bytes ++ more) bits in_last has (bits_of-append read.bytes more ∙ ap (λ l. l ++ bits_of more) whole)
           (turns_out s runs.blocks bits blank in_last told cut.none (omega (arith, counted.most, cut.stops.taken)) (λ zeros. omega (arith, cut.steps zeros, cut.stops.taken)))
-          (record {
-            last_are = omega (arith, counted.least, cut.stops.taken);
-            before = runs.has_steps.count;
-            taken_is = read.count;
-          }) (record { bits = tells.bits_are; samples = tells.samples_are; steps_are = tells.steps_are });
+          (tells.bits_are ∙ read.count) (omega (arith, counted.least, cut.stops.taken, runs.has_steps.count, tells.bits_are, tells.samples_are, tells.steps_are));
     }
 
 -- no 1 is left, or no data set begins with what is left, where the intake has ended
@@ -511,12 +443,8 @@ refused_ends {s = s} {asked = asked} {start = start} {p = p} {r = r} {new = new}
       gave = read.gave;
       took = so.put;
       ahead = omega (arith, few.0, reported.reports.bits_are);
-      steps = last_steps new.waiting read.bytes (turns refused.set) r.taken has read.bits
-          (by_turns set (turns refused.set) alone refl) (record { last_are = refused.steps; before = runs.has_steps.count; taken_is = read.count }) (record {
-            bits = reported.reports.bits_are;
-            samples = reported.reports.samples_are;
-            steps_are = reported.reports.steps_are;
-          });
+      steps = counts_steps new.waiting read.bytes set (turns refused.set) has read.bits (by_turns set (turns refused.set) alone refl) (reported.reports.bits_are ∙ read.count)
+          (omega (arith, refused.steps, runs.has_steps.count, reported.reports.bits_are, reported.reports.samples_are, reported.reports.steps_are));
     } reported.reports.left_is reported.reports.fault_is (λ _. few.1)
     (ends _ ys (length runs.front + length set, decodes, record { written = refl; samples = reported.reports.samples_are ∙ so.count; bits = sym used })
     (sym so.count ∙ so_far.0 ∙ ap (λ n. s.block * n) (sym number)))
@@ -559,13 +487,14 @@ write_ends {s = s} {asked = asked} {out_old = out_old} {out = out} {out_new = ou
     (subst (λ (l : List Bool). Decoded s l (Some (length ys)) (cut_to s (Some (length ys)) 0 (runs.given ++ xs)) Reached (length front + 0)) (sym read.bits) here)) in
     let all_of : spellings s ys ≡ spellings s (cut_to s asked 0 runs.given) ++ spellings s (take count xs) = ap (spellings s) cut
     ∙ spellings-append s (cut_to s asked 0 runs.given) (cut_to s asked b xs) ∙ ap (λ l. spellings s (cut_to s asked 0 runs.given) ++ spellings s l) (sym piece) in
-    let between = part_between out_old out out_new (spellings s (cut_to s asked 0 runs.given)) (spellings s (take count xs)) (spellings s ys) so.put part all_of in
+    let before_part : Follows (afresh out_old) out (spellings s (cut_to s asked 0 runs.given)) = record { more = spellings s (cut_to s asked 0 runs.given); split = refl; took = so.put } in
+    let between = part_follows (afresh out_old) out out_new (spellings s (cut_to s asked 0 runs.given)) (spellings s (take count xs)) (spellings s ys) before_part part all_of in
     let n : rep.samples ≡ length (cut_to s asked 0 runs.given) = tells.samples_are ∙ so.count in
     let before : take rep.samples ys ≡ cut_to s asked 0 runs.given = (λ i. take (n i) (cut i)) ∙ take-append_seam (cut_to s asked 0 runs.given) (cut_to s asked b xs) in
     let few = given_is_limited read tells.ahead tells.limit in
     call_ends_so left ys Reached (Some Write) record {
       gave = read.gave;
-      took = between.took;
+      took = Follows-all out_old out_new _ between.took;
       ahead = omega (arith, few.0, tells.bits_are);
       steps = whole_steps new.waiting read.bytes gives.has_sets read.bits taken (omega (arith, runs.has_steps.count, gives.counted, tells.steps_are, tells.bits_are, tells.samples_are));
     } tells.left_is tells.fault_is (λ _. few.1) (

@@ -1,38 +1,12 @@
 -- What a call of the decoder does to a decoding.
 use Rattle.std.proofs.Common.{◌≡◌, ℕ, ◌+◌, ◌<◌, ◌≤◌, ◌==◌, ◌&&◌, cond, Bool, true, List, [], ◌∷◌, ◌++◌, length, replicate}
 use Rattle.std.proofs.Common.{ap, arith, sym, ◌∙◌, ◌⊎◌, suc, inl, inr, subst, append_assoc, append-nil, length-append, Option, Some, None, ℤ, pos}
-use Rattle.std.specs.Prelude.{All, IfSome, Ok, Err}
-use Rattle.std.specs.Io.KnownBytes.{Consumes}
-use Rattle.std.proofs.KnownBytes.{Consumes-nil}
-use Rattle.std.proofs.Math.Nat.{mod-lt, mod-eq_of_lt}
-use Rattle.std.proofs.lemmas.Bool.{cases_lt}
-use Rattle.rice_bits.specs.Bits.{bits_to_byte}
-use Rattle.rice_bits.specs.read.Reader.{Reader}
-use Rattle.rice_bits.proofs.lemmas.bits.BytesAndBits.{bits_of-nil}
-use Rattle.rice_samples.specs.Parameters.{Parameters, IsLegal, IsSample}
-use Rattle.rice_samples.specs.Places.{place}
-use Rattle.rice_samples.specs.predict.Residuals.{last_of}
-use Rattle.rice_code.specs.code.Blocks.{zero_block}
-use Rattle.rice_code.specs.code.CodedDataSets.{CodedDataSet, bits_of_set, turns}
-use Rattle.rice_code.specs.decode.Decoder.{GivesBlock, GivesSet, GivesFromRun, StopsBy, SetEnds, with_mark}
-use Rattle.rice_code.specs.decode.DecoderState.{DecoderState, state_after_block}
-use Rattle.rice_code.specs.code.Forms.{blocks_in}
-use Rattle.rice_code.specs.code.Layout.{block_after, padding}
-use Rattle.rice_code.specs.decode.ReadSets.{SetCut}
-use Rattle.rice_code.specs.declared.decode.call_results.Step.TheVariants.{Block, Done}
-use Rattle.rice_code.specs.declared.decode.call_results.CodeFault.{CodeFault}
+use Rattle.rice_stream.proofs.Words.{All, IfSome, Ok, Err, Consumes, Consumes-nil, mod-lt, mod-eq_of_lt, cases_lt, bits_to_byte, Reader, bits_of-nil, Parameters, IsLegal, IsSample, place, last_of}
+use Rattle.rice_stream.proofs.Words.{zero_block, CodedDataSet, bits_of_set, turns, GivesBlock, GivesSet, GivesFromRun, StopsBy, SetEnds, with_mark, DecoderState, state_after_block, blocks_in}
+use Rattle.rice_stream.proofs.Words.{block_after, padding, SetCut, Block, Done, CodeFault, next_place, form_there, run_there, same_blocks_in, same_contents, BitFault, length-replicate, sum_by_push}
+use Rattle.rice_stream.proofs.Words.{Room, wanted_of, Advances, DecodedSoFar, Gains, DecodingProgress, HasSets}
 use Rattle.rice_code.specs.declared.decode.call_results.CodeFault.TheVariants as faults
-use Rattle.rice_code.proofs.lemmas.meaning.DecodingByPlacesAlone.{next_place, form_there, run_there}
-use Rattle.rice_code.proofs.lemmas.code.BlocksByPlaceAlone.{same_blocks_in, same_contents}
-use Rattle.rice_bits.specs.declared.read.fault.BitFault.{BitFault}
-use Rattle.rice_stream.specs.Decodes.{wanted_of}
-use Rattle.std.proofs.lemmas.List.{length-replicate}
-use Rattle.std.proofs.lemmas.List.Sums.{sum_by_push}
-use Rattle.rice_bits.specs.device.OutletRoom.{Room}
-use Rattle.rice_stream.specs.BlockBytes.{Advances}
-use Rattle.rice_stream.specs.DecodingState.{DecodedSoFar, Gains, DecodingProgress, HasSets}
-use Rattle.rice_stream.proofs.lemmas.SetsRead.{sets-push}
-use Rattle.rice_stream.proofs.lemmas.DecodedSamples.{decoded_with_set, decoded_with_run_block}
+use Rattle.rice_stream.proofs.lemmas.{SetsRead.sets-push, DecodedSamples.decoded_with_set, DecodedSamples.decoded_with_run_block}
 
 -- what the decoder says where it gives a block, inside a run and elsewhere
 pub record InsideRun {I : Type 0} (old new : Reader I) (steps steps_new : ℕ) (p q : DecoderState) (samples : List ℤ) : Type 0 where

@@ -1,27 +1,8 @@
 -- The bounds of bits and steps, of the samples so far and of all.
-use Rattle.std.proofs.Common.{◌≡◌, ℕ, ◌+◌, ◌-◌, ◌*◌, ◌%◌, ◌<◌, ◌≤◌, List, ◌++◌, length, replicate, ap, arith, sym, ◌∙◌, subst, length-append, ℤ, pos, inl, inr}
-use Rattle.std.specs.Prelude.{All}
-use Rattle.std.specs.Int.{next_multiple_of}
-use Rattle.std.proofs.Math.Nat.{mul-le-mul_left, mul-le-mul_right}
-use Rattle.std.proofs.lemmas.Bool.{cases_lt}
-use Rattle.std.proofs.lemmas.Bool.Decides.{nat_tests}
-use Rattle.std.proofs.lemmas.Grind.{div_ceil_times}
-use Rattle.std.proofs.lemmas.List.{length-replicate}
-use Rattle.std.proofs.lemmas.List.Elements.{All-from_recursion}
-use Rattle.rice_samples.specs.Parameters.{Parameters, IsLegal, IsSample, id_len, k_max}
-use Rattle.rice_samples.specs.Places.{block_count}
-use Rattle.rice_samples.specs.predict.Residuals.{last_of}
-use Rattle.rice_samples.proofs.lemmas.setting.LevelsOfSamples.{zero_is_sample}
-use Rattle.rice_code.specs.Bounds.{block_bound, bit_bound, step_bound, amortised_step_bound}
-use Rattle.rice_code.specs.code.Code.{code_bits, complete_samples}
-use Rattle.rice_code.specs.code.Blocks.{fill_count_of}
-use Rattle.rice_code.specs.encode.Coder.{HasTaken}
-use Rattle.rice_code.specs.encode.OpenSegment.{CoderState}
-use Rattle.rice_code.specs.CoderSteps.{most_steps}
-use Rattle.rice_code.proofs.lemmas.encode.PushedCode.{complete_are_coded}
-use Rattle.rice_code.proofs.lemmas.encode.HeldSamples.{all_first}
-use Rattle.rice_code.proofs.lemmas.cost.BestSplitsPaid.{all_steps_are_bounded}
-use Rattle.rice_code.proofs.lemmas.code.SoundBlocks.{code_is_bounded, filled_len}
+use Rattle.std.proofs.Common.{◌≡◌, ℕ, ◌+◌, ◌-◌, ◌*◌, ◌%◌, ◌<◌, ◌≤◌, List, ◌++◌, length, replicate, ap, arith, sym, ◌∙◌, subst, length-append, ℤ, pos}
+use Rattle.rice_stream.proofs.Words.{All, next_multiple_of, mul-le-mul_left, mul-le-mul_right, nat_tests, div_ceil_times, length-replicate, All-from_recursion, Parameters, IsLegal, IsSample}
+use Rattle.rice_stream.proofs.Words.{id_len, k_max, block_count, last_of, zero_is_sample, block_bound, bit_bound, step_bound, amortised_step_bound, code_bits, complete_samples, fill_count_of}
+use Rattle.rice_stream.proofs.Words.{HasTaken, CoderState, most_steps, complete_are_coded, all_first, all_steps_are_bounded, code_is_bounded, filled_len, lt_of_mul-lt-mul_left}
 
 -- what is so of the samples that a coder stands for, and of those that make whole segments
 pub record Settles (s : Parameters) (xs : List ℤ) : Type 0 where
@@ -50,10 +31,7 @@ pub record Bounded (s : Parameters) (samples count most : ℕ) : Type 0 where
 
 -- a block count is no more than another where its samples are no more
 count_le : (j n m c d : ℕ) → 1 ≤ j → n ≤ m → c * j < n + j → m ≤ d * j → c ≤ d
-count_le j n m c d one le few enough = elim (cases_lt d c) [
-  | inl lt ↦ absurd (let p : (d + 1) * j ≤ c * j = mul-le-mul_right j (omega arith) in omega arith)
-  | inr le ↦ le
-]
+count_le j n m c d one le few enough = let lt : c < d + 1 = lt_of_mul-lt-mul_left j (omega arith) in omega arith
 
 -- of the samples so far
 pub early_bounded : (s : Parameters) (xs : List ℤ) → Settles s xs → Bounded s (length xs) (code_bits s (complete_samples s xs)) (length xs + most_steps s (complete_samples s xs))

@@ -1,30 +1,13 @@
 -- How encoding ends.
 use Rattle.std.proofs.Common.{◌≡◌, ℕ, ◌+◌, ◌-◌, ◌*◌, ◌%◌, ◌<◌, ◌≤◌, List, [], ◌∷◌, ◌++◌, length, take, drop, refl}
 use Rattle.std.proofs.Common.{ap, arith, sym, ◌∙◌, subst, append_assoc, append-nil, length-append, Option, Some, None, ℤ, inl, inr}
-use Rattle.std.specs.Prelude.{All, Err}
-use Rattle.std.specs.Io.KnownBytes.{IsAtEnd}
-use Rattle.std.proofs.Math.Nat.{mul-le-mul_left, mul-le-mul_right}
-use Rattle.std.proofs.Math.Nat.{mul_comm}
-use Rattle.std.proofs.lemmas.List.{drop_at}
-use Rattle.std.proofs.lemmas.Nat.{mod-mul-add}
-use Rattle.std.proofs.Math.Seq.{take-append_seam}
-use Rattle.std.proofs.KnownBytes.{Consumes-trans}
-use Rattle.rice_bits.specs.device.OutletRoom.{Room}
-use Rattle.rice_samples.specs.Parameters.{Parameters, IsSample, width}
+use Rattle.rice_stream.proofs.Words.{All, Err, IsAtEnd, mul-le-mul_left, mul-le-mul_right, mul_comm, drop_at, mod-mul-add, take-append_seam, Consumes-trans, Room, Parameters, IsSample, width, Spells}
+use Rattle.rice_stream.proofs.Words.{Reads, spellings, AtEnd, TooFew, code_bits, output, early_output, complete_samples, reads_then, reads_before, length-spellings, some_width, narrow_width, Fails}
+use Rattle.rice_stream.proofs.Words.{IsWithinLimit, PassesLimit, StopsBetween, Beginning, afresh, CountsSamples, TakesAll, WritesRest, EncodingProgress, Pushes, PushFails, EncodesBetween}
+use Rattle.rice_stream.proofs.Words.{EndsEncoding, EncodesWithin, ReportsTaken, ReportsAll, LeavesEarly, SpellsSoFar, EncodingValue, Report, Fault, Read, Write, TooLong, SampleOutOfRange, SampleCut}
 use Rattle.rice_stream.specs.WaitingBytes.{WaitingBytes, with_last, Draws, PassesInput, StopsDrawing, CountsReads}
-use Rattle.rice_samples.specs.bytes.Spelling.{Spells, Reads, spellings, AtEnd, TooFew}
-use Rattle.rice_stream.specs.DevicesInCalls.{Fails, IsWithinLimit, PassesLimit, StopsBetween}
-use Rattle.rice_stream.specs.EncodingState.{Beginning, afresh, CountsSamples, TakesAll, WritesRest, EncodingProgress, Pushes, PushFails}
-use Rattle.rice_stream.specs.Encodes.{EncodesBetween, EndsEncoding, EncodesWithin, ReportsTaken, ReportsAll, LeavesEarly, SpellsSoFar}
-use Rattle.rice_code.specs.code.Code.{code_bits, output, early_output, complete_samples}
-use Rattle.rice_stream.specs.EncodingState.{EncodingValue}
-use Rattle.rice_stream.specs.declared.outcome.Report.{Report}
-use Rattle.rice_stream.specs.declared.outcome.Fault.{Fault}
-use Rattle.rice_stream.specs.declared.outcome.Fault.TheVariants.{Read, Write, TooLong, SampleOutOfRange, SampleCut, CodeEnds, RunPastSegment, ResidualTooLarge}
 use Rattle.rice_stream.proofs.lemmas.EncodingBounds.{Settles, early_bounded, all_bounded}
 use Rattle.rice_stream.proofs.lemmas.EncodingLemmas.{Follows-all, settled_by}
-use Rattle.rice_samples.proofs.lemmas.bytes.ReadSamples.{reads_then, reads_before}
-use Rattle.rice_samples.proofs.lemmas.bytes.SpellingLengths.{length-spellings, some_width, narrow_width}
 
 -- a call that stops early is within the bounds
 pub within_early : (s : Parameters) (r : Report) (xs : List ℤ) → Settles s xs → ReportsTaken s r xs → EncodesWithin s r
@@ -174,12 +157,7 @@ drawing_ends {s} {left_old} {left} {left_new} {taken_old} {taken} {v} {r} r_new 
     by_fault : (fault : Fault) → StopsDrawing fault r r_new left left_new → EncodesBetween s left_old left_new taken_old taken report (Some fault)
     by_fault Read d = read_ends (draws_on p d) (omega (arith, few, ap length d.waiting, length-append r.waiting d.bytes, d.number)) limit told
     by_fault TooLong h = long_ends p few (omega (arith, h.full)) told h
-    by_fault Write bad = absurd bad
-    by_fault (SampleOutOfRange index) bad = absurd bad
-    by_fault (SampleCut index) bad = absurd bad
-    by_fault (CodeEnds samples) bad = absurd bad
-    by_fault (RunPastSegment block) bad = absurd bad
-    by_fault (ResidualTooLarge block) bad = absurd bad
+    by_fault _ bad = absurd bad
 
 -- and the failures then
 pub drawing_fails : (fault : Fault) {f : Option Fault} {reads mid : ℕ} (reads_new : ℕ) {writes writes_new : ℕ} (old new : WaitingBytes) (left left_new : Option (List ℕ))
@@ -191,12 +169,7 @@ drawing_fails fault {f} {reads} {mid} reads_new {writes} {writes_new} old new le
     by_fault : (fault : Fault) → StopsDrawing fault old new left left_new → CountsReads {T = ℕ} mid reads_new (Err fault) → Fails (Some fault) reads reads_new writes writes_new
     by_fault Read d e = (e ∙ ap (λ n. n + 1) same, calm)
     by_fault TooLong h e = (e ∙ same, calm)
-    by_fault Write bad e = absurd bad
-    by_fault (SampleOutOfRange index) bad e = absurd bad
-    by_fault (SampleCut index) bad e = absurd bad
-    by_fault (CodeEnds samples) bad e = absurd bad
-    by_fault (RunPastSegment block) bad e = absurd bad
-    by_fault (ResidualTooLarge block) bad e = absurd bad
+    by_fault _ bad e = absurd bad
 
 -- all samples were given, and their code is written or not
 pub finish_ends : {s : Parameters} {left_old left : Option (List ℕ)} {taken_old taken new : Option Room} {e : EncodingValue} {q : WaitingBytes}
@@ -240,13 +213,7 @@ finish_ends {s} {left_old} {left} {taken_old} {new} {e} {q} {r} {f} runs end non
         ahead = no_more;
       },
     )
-    by_fault (Some Read) bad = absurd bad
-    by_fault (Some TooLong) bad = absurd bad
-    by_fault (Some (SampleOutOfRange index)) bad = absurd bad
-    by_fault (Some (SampleCut index)) bad = absurd bad
-    by_fault (Some (CodeEnds samples)) bad = absurd bad
-    by_fault (Some (RunPastSegment block)) bad = absurd bad
-    by_fault (Some (ResidualTooLarge block)) bad = absurd bad
+    by_fault _ bad = absurd bad
 
 -- the samples of the bytes that wait are not all taken
 pub pushing_ends : {s : Parameters} {left_old left : Option (List ℕ)} {taken_old taken taken_new : Option Room} {v v_new : EncodingValue} {r : WaitingBytes} {report : Report}
@@ -313,12 +280,7 @@ pushing_ends {s} {left_old} {left} {taken_old} {taken} {taken_new} {v} {v_new} {
             ahead = omega (arith, fewer);
           },
         )
-    by_fault Read bad = absurd bad
-    by_fault TooLong bad = absurd bad
-    by_fault (SampleCut index) bad = absurd bad
-    by_fault (CodeEnds samples) bad = absurd bad
-    by_fault (RunPastSegment block) bad = absurd bad
-    by_fault (ResidualTooLarge block) bad = absurd bad
+    by_fault _ bad = absurd bad
 
 -- a push failed
 pub record FailedPush (s : Parameters) (old : Beginning) (taken : Option Room) (e : EncodingValue) (xs : List ℤ) (bytes : List ℕ) (f : Fault) (mid writes_new : ℕ) : Type 0 where
@@ -336,21 +298,11 @@ push_fails {s} {old} taken e xs bytes {f} {g} {reads} {reads_new} {writes} {mid}
     by_fault : (f : Fault) → Pushes {T = Unit {0}} s old taken e xs bytes (Err f) → PushFails {T = Unit {0}} mid writes_new (Err f) → Fails (Some f) reads reads_new writes writes_new
     by_fault (SampleOutOfRange index) m k = (same, k ∙ before)
     by_fault Write m k = (same, k ∙ ap (λ n. n + 1) before)
-    by_fault Read bad k = absurd bad
-    by_fault TooLong bad k = absurd bad
-    by_fault (SampleCut index) bad k = absurd bad
-    by_fault (CodeEnds samples) bad k = absurd bad
-    by_fault (RunPastSegment block) bad k = absurd bad
-    by_fault (ResidualTooLarge block) bad k = absurd bad
+    by_fault _ bad k = absurd bad
 
 -- the report's bounds where taking the bytes in hand stops
 pub push_within : {s : Parameters} (old : Beginning) (taken : Option Room) (e : EncodingValue) {r : Report} (f : Fault) (xs : List ℤ) (bytes : List ℕ)
     → ((ys : List ℤ) → CountsSamples s e ys → ReportsTaken s r ys) → Pushes {T = Unit {0}} s old taken e xs bytes (Err f) → EncodesWithin s r
 push_within {s} old taken e {r} (SampleOutOfRange index) xs bytes told m = let k = m.0.holds.counts in within_early s r (xs ++ m.0.more) (settled_by s e (xs ++ m.0.more) k) (told (xs ++ m.0.more) k)
 push_within {s} old taken e {r} Write xs bytes told m = let ys = (xs ++ m.more) ++ m.last ∷ [] in let k = m.fails.counts in within_early s r ys (settled_by s e ys k) (told ys k)
-push_within old taken e Read xs bytes told bad = absurd bad
-push_within old taken e TooLong xs bytes told bad = absurd bad
-push_within old taken e (SampleCut index) xs bytes told bad = absurd bad
-push_within old taken e (CodeEnds samples) xs bytes told bad = absurd bad
-push_within old taken e (RunPastSegment block) xs bytes told bad = absurd bad
-push_within old taken e (ResidualTooLarge block) xs bytes told bad = absurd bad
+push_within old taken e _ xs bytes told bad = absurd bad

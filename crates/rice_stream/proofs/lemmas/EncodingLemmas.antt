@@ -1,39 +1,12 @@
 -- A coder at work takes a sample, writes, and ends.
 use Rattle.std.proofs.Common.{◌≡◌, ℕ, ◌+◌, ◌*◌, ◌<◌, ◌≤◌, Bool, List, [], ◌∷◌, ◌++◌, length, take, drop, replicate, false, true}
-use Rattle.std.proofs.Common.{refl, ap, arith, sym, ◌∙◌, subst, append_assoc, append-nil, length-append, length-drop, take-append-drop, Option, ℤ, pos, zero, suc}
-use Rattle.std.specs.Prelude.{sum_by}
-use Rattle.std.specs.Int.{div_ceil}
-use Rattle.rice_code.specs.code.CodedDataSets.{bits_of_set}
-use Rattle.rice_code.specs.code.Blocks.{blocks_from, fill_count_of}
-use Rattle.rice_code.specs.code.Code.{data_sets, complete_samples}
-use Rattle.rice_code.specs.code.Layout.{layout}
-use Rattle.rice_bits.specs.device.OutletRoom.{Room, Appends}
-use Rattle.rice_bits.proofs.lemmas.device.OutletLemmas.{Appends-trans}
-use Rattle.rice_bits.proofs.lemmas.bits.BytesAndBits.{whole_short}
-use Rattle.rice_bits.specs.Bits.{bits_in_bytes, bits_to_byte, padded_bits, whole_bytes}
-use Rattle.rice_samples.specs.Parameters.{Parameters, width}
-use Rattle.rice_samples.specs.Places.{block_count, cut}
-use Rattle.rice_samples.specs.predict.Residuals.{filled_samples}
-use Rattle.rice_samples.specs.bytes.Spelling.{Reads, spellings}
-use Rattle.rice_code.specs.encode.Coder.{HasTaken, IsAlignedWith, AddsCode, PushesSamples, CompletesNone, complete_code}
-use Rattle.rice_code.specs.encode.OpenSegment.{CoderState}
-use Rattle.rice_code.specs.code.Code.{code, code_bits, early_output}
-use Rattle.rice_code.specs.CoderSteps.{least_looks, most_looks, least_looks_at, most_looks_at, least_steps, most_steps, segment_steps}
-use Rattle.rice_code.proofs.lemmas.encode.PushedCode.{holds_nothing, segment_steps_few}
-use Rattle.rice_fast.specs.encode.Standing.{Standing, HasRoomAt}
-use Rattle.rice_stream.specs.TakenBytes.{ShowsCode, TakesSpelled}
-use Rattle.rice_stream.specs.declared.takes.Taken.{Taken}
-use Rattle.rice_stream.specs.EncodingState.{Beginning, afresh, Follows, CountsSamples, IsEncodingOf, HoldsCode, TakesSamples, TakesBetween}
-use Rattle.rice_stream.specs.EncodingState.{FollowsBetween, FailsAt, MeetsFailure, whole_part}
-use Rattle.rice_stream.specs.DevicesInCalls.{StopsBetween}
-use Rattle.rice_stream.specs.Encodes.{ReportsAll}
-use Rattle.rice_stream.specs.FailedWrites.{TakesPart}
-use Rattle.rice_stream.specs.EncodingState.{EncodingValue}
-use Rattle.rice_stream.specs.declared.outcome.Report.{Report}
-use Rattle.rice_samples.proofs.lemmas.bytes.ReadSamples.{reads_then}
-use Rattle.rice_samples.proofs.lemmas.bytes.SpellingLengths.{length-spellings, some_width}
-use Rattle.std.proofs.Math.Nat.{mul-le-mul_left}
-use Rattle.std.proofs.Math.Seq.{take-append_seam}
+use Rattle.std.proofs.Common.{refl, ap, arith, sym, ◌∙◌, subst, append_assoc, append-nil, length-append, length-drop, take-append-drop, Option, ℤ, pos}
+use Rattle.rice_stream.proofs.Words.{sum_by, div_ceil, bits_of_set, blocks_from, fill_count_of, data_sets, complete_samples, layout, Room, Appends, Appends-trans, whole_short, Parameters, width}
+use Rattle.rice_stream.proofs.Words.{block_count, cut, filled_samples, Reads, spellings, HasTaken, IsAlignedWith, AddsCode, PushesSamples, CompletesNone, complete_code, CoderState, code, code_bits}
+use Rattle.rice_stream.proofs.Words.{early_output, least_looks, most_looks, least_looks_at, most_looks_at, least_steps, most_steps, segment_steps, holds_nothing, segment_steps_few, Standing, take-nil}
+use Rattle.rice_stream.proofs.Words.{HasRoomAt, reads_then, length-spellings, some_width, mul-le-mul_left, take-append_seam, bits_in_bytes, bits_to_byte, padded_bits, whole_bytes, ShowsCode}
+use Rattle.rice_stream.proofs.Words.{TakesSpelled, Taken, Beginning, afresh, Follows, CountsSamples, IsEncodingOf, HoldsCode, TakesSamples, FollowsBetween, FailsAt, MeetsFailure, nil_from_length}
+use Rattle.rice_stream.proofs.Words.{whole_part, ReportsAll, TakesPart, EncodingValue, Report, last_part}
 use Rattle.rice_stream.proofs.lemmas.EncodingBounds.{Settles, taken_settles, early_bounded, all_bounded, few_steps, few_bits}
 use Rattle.rice_stream.proofs.lemmas.BytesOfGrowingCode.{length-part, more_bytes, more_rest}
 
@@ -196,89 +169,56 @@ all_written {s} {old} {now} {new} {f} {xs} ys h c same took rest d =
       took = subst (λ (l : List ℕ). Follows old new l) (sym (more_bytes a b f.sink (sym same))) (Follows-trans old now new (early_output s xs) (whole_bytes f.sink) h.took took);
     }
 
--- what is taken of more bytes lies between
-module _ (from more to : List ℕ) (e : to ≡ from ++ more) where
-  stops_between : (old new : Option Room) (part : TakesPart old new more) → StopsBetween from to (from ++ part.front)
-  stops_between old new part = record {
+-- a part that was taken ends between what was there and what should be
+pub part_follows : (old : Beginning) (now new : Option Room) (from more to : List ℕ) → Follows old now from → TakesPart now new more → to ≡ from ++ more → FollowsBetween old new from to
+part_follows old now new from more to took part e = record {
+  written = from ++ part.front;
+  stops = record {
     more = part.front;
     missing = part.missing;
     begins = refl;
     stops = e ∙ ap (λ l. from ++ l) part.split ∙ sym (append_assoc from part.front part.missing);
     short = part.short;
-  }
-
--- a part that was taken ends between what was there and what should be
-pub part_between : (old now new : Option Room) (from more to : List ℕ) → Appends old now from → TakesPart now new more → to ≡ from ++ more → TakesBetween old new from to
-part_between old now new from more to took part e = record {
-  written = from ++ part.front;
-  stops = stops_between from more to e now new part;
-  took = Appends-trans old now new from part.front took part.took;
-}
-
--- and the same behind what was written before
-pub part_follows : (old : Beginning) (now new : Option Room) (from more to : List ℕ) → Follows old now from → TakesPart now new more → to ≡ from ++ more → FollowsBetween old new from to
-part_follows old now new from more to took part e = record {
-  written = from ++ part.front;
-  stops = stops_between from more to e now new part;
+  };
   took = Follows-trans old now new from part.front took part.took;
 }
-
--- some samples have a last one
-pub record Parts (ys : List ℤ) : Type 0 where
-  pub before : List ℤ
-  pub last : ℤ
-  pub split : ys ≡ before ++ last ∷ []
-
--- samples have a last one
-pub parts_of : (ys : List ℤ) → 0 < length ys → Parts ys
-parts_of [] h = absurd (omega arith)
-parts_of (y ∷ []) h = record { before = []; last = y; split = refl }
-parts_of (y ∷ z ∷ ys) h = let p = parts_of (z ∷ ys) (omega arith) in record { before = y ∷ p.before; last = p.last; split = ap (λ l. y ∷ l) p.split }
 
 -- not all that the samples of some bytes complete was written
 pub meets_failure : {s : Parameters} {old : Beginning} {now new : Option Room} {e f g : EncodingValue} {xs samples : List ℤ} {bytes rest : List ℕ}
     → IsEncodingOf s old now e xs → TakesSamples s f xs xs samples → TakesPart now new (whole_bytes f.sink) → CountsSamples s g (xs ++ samples) → Reads s bytes samples rest
     → MeetsFailure s old new g xs bytes
 meets_failure {s} {old} {now} {new} {e} {f} {g} {xs} {samples} {bytes} {rest} h takes part counts reads =
-    let p = parts_of samples (some samples takes) in
-    let front : take (length p.before) samples ≡ p.before = ap (take (length p.before)) p.split ∙ take-append_seam p.before (p.last ∷ []) in
-    let size : length samples ≡ length p.before + 1 = ap length p.split ∙ length-append p.before (p.last ∷ []) in
-    let all : xs ++ samples ≡ (xs ++ p.before) ++ p.last ∷ [] = ap (λ l. xs ++ l) p.split ∙ sym (append_assoc xs p.before (p.last ∷ [])) in
-    let before : early_output s (xs ++ p.before) ≡ early_output s xs =
-    ap (λ l. early_output s (xs ++ l)) (sym front) ∙ ap (λ l. whole_bytes (code s l)) (takes.before_last (length p.before) (omega (arith, size))) in
+    let p = last_part samples (some samples takes) in
+    let front : take (length p.0) samples ≡ p.0 = ap (take (length p.0)) p.2 ∙ take-append_seam p.0 (p.1 ∷ []) in
+    let size : length samples ≡ length p.0 + 1 = ap length p.2 ∙ length-append p.0 (p.1 ∷ []) in
+    let all : xs ++ samples ≡ (xs ++ p.0) ++ p.1 ∷ [] = ap (λ l. xs ++ l) p.2 ∙ sym (append_assoc xs p.0 (p.1 ∷ [])) in
+    let before : early_output s (xs ++ p.0) ≡ early_output s xs =
+    ap (λ l. early_output s (xs ++ l)) (sym front) ∙ ap (λ l. whole_bytes (code s l)) (takes.before_last (length p.0) (omega (arith, size))) in
     let between = part_follows old now new (early_output s xs) (whole_bytes f.sink) (early_output s (xs ++ samples)) h.took part
     (more_bytes (complete_code s xs) (complete_code s (xs ++ samples)) f.sink (sym takes.code_is)) in
     record {
-      more = p.before;
-      last = p.last;
+      more = p.0;
+      last = p.1;
       rest = rest;
-      reads = subst (λ (l : List ℤ). Reads s bytes l rest) p.split reads;
+      reads = subst (λ (l : List ℤ). Reads s bytes l rest) p.2 reads;
       fails = record {
         counts = subst (CountsSamples s g) all counts;
-        takes = subst (λ (l : List ℕ). FollowsBetween old new l (early_output s ((xs ++ p.before) ++ p.last ∷ []))) (sym before)
+        takes = subst (λ (l : List ℕ). FollowsBetween old new l (early_output s ((xs ++ p.0) ++ p.1 ∷ []))) (sym before)
             (subst (λ (l : List ℤ). FollowsBetween old new (early_output s xs) (early_output s l)) all between);
       };
     }
   where
-    none : (l : List ℕ) → length l ≡ 0 → l ≡ []
-    none [] e = refl
-    none (x ∷ l) e = absurd (omega (arith, e))
-
     -- no samples complete no byte, of which a write could lack a part
     some : (ys : List ℤ) → TakesSamples s f xs xs ys → 0 < length ys
     some [] t =
         let size = ap length (sym t.code_is) ∙ ap (λ l. length (complete_code s l)) (append-nil xs) in
         let few : length f.sink < 8 = omega (arith, size, length-append (whole_part (complete_code s xs)) f.sink, length-part (complete_code s xs)) in
-        absurd (part.short (none part.missing (omega (arith, ap length (sym part.split ∙ whole_short f.sink few), length-append part.front part.missing))))
+        absurd (part.short (nil_from_length part.missing (omega (arith, ap length (sym part.split ∙ whole_short f.sink few), length-append part.front part.missing))))
     some (y ∷ ys) t = omega arith
 
 -- nothing is coded of no samples
 pub settled_nothing : (s : Parameters) → complete_samples s [] ≡ []
-settled_nothing s = none (cut s 0)
-  where
-    none : (n : ℕ) → take {A = ℤ} n [] ≡ []
-    none zero = refl
-    none (suc n) = refl
+settled_nothing s = take-nil (cut s 0)
 
 no_blocks : (s : Parameters) → 1 ≤ s.block → block_count s 0 ≡ 0
 no_blocks s j = by_block s.block j

@@ -1,71 +1,14 @@
 -- What is fed piece by piece is encoded as a whole.
-use Rattle.std.proofs.Common.{◌≡◌, ℕ, ◌+◌, ◌-◌, ◌*◌, ◌/◌, ◌^◌, ◌<◌, ◌≤◌, Bool, false, List, [], ◌∷◌, ◌++◌, length}
+use Rattle.std.proofs.Common.{◌≡◌, ℕ, ◌+◌, ◌-◌, ◌*◌, ◌/◌, ◌<◌, ◌≤◌, Bool, false, List, [], ◌∷◌, ◌++◌, length}
 use Rattle.std.proofs.Common.{length-drop, drop, take, replicate, refl, ap, sym, ◌∙◌, subst, arith, append_assoc, append-nil, length-append, Some, ℤ}
-use Rattle.std.specs.Prelude.{All}
-use Rattle.std.proofs.lemmas.Bool.Decides.{nat_tests}
-use Rattle.std.specs.List.{AllByRecursion}
-use Rattle.std.proofs.Math.Seq.{take-length}
-use Rattle.std.proofs.lemmas.List.{take_at, drop_at, length-take}
-use Rattle.std.proofs.lemmas.List.Elements.{All-append, All-from_recursion, All-head, All-nil, All-tail}
-use Rattle.rice_bits.specs.Bits.{bits_in_bytes, bits_of, bits_to_byte, whole_bytes}
-use Rattle.rice_bits.proofs.lemmas.bits.BytesAndBits.{bits_of-padded, bits_of-whole_bytes, length-bits_of}
-use Rattle.rice_bits.proofs.lemmas.bits.WordsAndNumbers.{length-word}
-use Rattle.rice_samples.specs.Parameters.{Parameters, IsLegal, IsSample, width}
-use Rattle.rice_samples.specs.Places.{cut}
-use Rattle.rice_samples.specs.bytes.Spelling.{spelling, spellings, ordered_bytes}
-use Rattle.rice_samples.specs.bytes.ValueRange.{IsValue}
-use Rattle.rice_samples.specs.predict.Residuals.{twos_complement}
-use Rattle.rice_samples.proofs.lemmas.bytes.SpellingLemmas.{level_spelled, wider_value}
-use Rattle.rice_samples.proofs.lemmas.setting.LevelsOfSamples.{pattern_fits, same_level}
-use Rattle.rice_code.specs.Laws.{AreIntervals}
-use Rattle.rice_code.specs.code.Code.{code, code_bits, early_output, output}
-use Rattle.rice_code.specs.code.Decoded.{Decoded, Reached}
-use Rattle.rice_code.specs.encode.Coder.{complete_code}
-use Rattle.rice_code.specs.encode.OpenSegment.{state_between}
-use Rattle.rice_code.proofs.lemmas.encode.PushedCode.{between_all, complete_are_coded}
-use Rattle.rice_code.proofs.lemmas.meaning.IntervalsStandAlone.{intervals_are_decoded_alone, intervals_are_joined}
-use Rattle.rice_stream.specs.Feeding.{IsSeam}
-use Rattle.rice_stream.specs.Laws.{Piece, AreFed, TakeInParts, last_seam, place_behind, FeedingIsEncoding, IsPlace, SeamsTellPlaces}
-use Rattle.rice_stream.specs.declared.seam.Seam.{Seam}
+use Rattle.rice_stream.proofs.Words.{All, nat_tests, AllByRecursion, take-length, take_at, drop_at, length-take, All-append, All-from_recursion, All-head, All-nil, All-tail, bits_of-padded}
+use Rattle.rice_stream.proofs.Words.{bits_of-whole_bytes, length-bits_of, length-word, Parameters, IsLegal, IsSample, width, cut, spelling, spellings}
+use Rattle.rice_stream.proofs.Words.{AreIntervals, code, code_bits, early_output, output, Decoded, Reached, complete_code, state_between}
+use Rattle.rice_stream.proofs.Words.{between_all, complete_are_coded, intervals_are_decoded_alone, intervals_are_joined, length-spelling, length-spellings, spellings-append, bits_in_bytes, bits_of}
+use Rattle.rice_stream.proofs.Words.{bits_to_byte, whole_bytes, IsSeam, Piece, AreFed, TakeInParts, last_seam, place_behind, FeedingIsEncoding, IsPlace, SeamsTellPlaces, Seam, one_sample}
 use Rattle.rice_stream.proofs.lemmas.EncodingLemmas.{code_nothing, settled_nothing}
-use Rattle.rice_samples.proofs.lemmas.bytes.SpellingLengths.{length-spelling, length-spellings, spellings-append}
 
--- one spelling is of one sample
-one_sample : (s : Parameters) (x y : ℤ) → IsLegal s → IsSample s x → IsSample s y → spelling s x ≡ spelling s y → x ≡ y
-one_sample s x y legal kx ky e =
-    let k = width s in
-    let holds : s.bits ≤ 8 * k = grind (arith, nat_tests, legal.bits_to) in
-    let some : 1 ≤ k = grind (arith, nat_tests) in
-    let few : k ≤ 4 = grind (arith, nat_tests) in
-    let len = length-spelling s x in
-    let word = twos_complement (8 * k) x in
-    let vx : IsValue (8 * k) s.signed x = wider_value s.bits (8 * k) s.signed x legal.bits_from holds kx in
-    let below : word < 2 ^ (8 * k) = pattern_fits (record s { bits = 8 * k }) x (omega arith) vx in
-    let spelled : spelling s x ≡ ordered_bytes s.msb (length (spelling s x)) word = ap (λ n. ordered_bytes s.msb n word) (sym len) in
-    let fits : word < 2 ^ (8 * length (spelling s x)) = subst (λ (n : ℕ). word < 2 ^ (8 * n)) (sym len) below in
-    let lx = level_spelled word x legal (record {
-      order = refl;
-      offset_is = refl;
-      width_is = refl;
-      len = len;
-      enough = holds;
-      some = some;
-      ordered = spelled;
-      fits = fits;
-    }) few kx refl in
-    let ly = level_spelled word y legal (record {
-      order = refl;
-      offset_is = refl;
-      width_is = refl;
-      len = len;
-      enough = holds;
-      some = some;
-      ordered = spelled;
-      fits = fits;
-    }) few ky e in
-    same_level s x y kx ky (sym lx ∙ ly)
-
--- and several spellings are of these samples alone
+-- several spellings are of these samples alone
 same_samples : (s : Parameters) (xs ys : List ℤ) → IsLegal s → All (IsSample s) xs → All (IsSample s) ys → spellings s xs ≡ spellings s ys → xs ≡ ys
 same_samples s [] [] legal kx ky e = refl
 same_samples s [] (y ∷ ys) legal kx ky e = absurd (let some : 1 ≤ width s = grind (arith, nat_tests) in omega (arith, ap length e, length-append (spelling s y) (spellings s ys), length-spelling s y))
@@ -97,7 +40,7 @@ record FeedsOn (s : Parameters) (input : List ℕ) (seam : Seam) (pieces : List 
 -- what is not taken begins behind the samples that the seam counts
 not_taken : (s : Parameters) (input : List ℕ) (seam : Seam) → (h : HasFed s input seam) → drop (width s * seam.samples) input ≡ h.rest
 not_taken s input seam h =
-    let size : length (spellings s h.samples) ≡ width s * seam.samples = length-spellings s h.samples ∙ ap (λ n. width s * n) (sym h.stands.samples) in
+    let size : length (spellings s h.samples) ≡ width s * seam.samples = length-spellings s h.samples ∙ ap (λ n. width s * n) (sym h.stands.counts.samples) in
     ap (drop (width s * seam.samples)) h.split ∙ drop_at (spellings s h.samples) h.rest (width s * seam.samples) size
 
 -- the pieces, from any seam on, give the code of all samples so far
@@ -156,7 +99,7 @@ feeding_is_encoding s legal input seam pieces old new fed encoded encoding begin
 -- the code of a seam's samples is what is written, and the bits that wait
 pub code_of_seam : (s : Parameters) (seam : Seam) (xs : List ℤ) → IsSeam s seam xs → length (code s xs) ≡ 8 * length (early_output s xs) + seam.waiting_bits
 code_of_seam s seam xs h =
-    let all = between_all s seam.start seam.previous xs h.taken in
+    let all = between_all s seam.start seam.previous xs h.counts.stands in
     let same : take (cut s (length xs)) xs ≡ xs = ap (λ n. take n xs) all ∙ take-length xs in
     let bits = complete_code s xs in
     let left : seam.waiting_bits ≡ length bits - bits_in_bytes (length bits) = sym (length-word seam.waiting_bits seam.waiting) ∙ ap length h.waiting
@@ -168,7 +111,7 @@ code_of_seam s seam xs h =
 -- the samples of a seam where an interval begins are those of whole intervals
 whole_intervals : (s : Parameters) (seam : Seam) (xs : List ℤ) → IsSeam s seam xs → seam.start ≡ 0 → (q : ℕ) × AreIntervals s q xs
 whole_intervals s seam xs h at_start =
-    let t = h.taken in
+    let t = h.counts.stands in
     let legal = t.holds.legal in
     let all = between_all s seam.start seam.previous xs t in
     let coded : xs ≡ t.coded = sym (ap (λ n. take n xs) all ∙ take-length xs) ∙ complete_are_coded (state_between s seam.start seam.previous) xs t in
@@ -181,14 +124,14 @@ whole_intervals s seam xs h at_start =
 pub place_of_seam : (s : Parameters) (seam : Seam) (xs ys : List ℤ) (written : ℕ) → IsSeam s seam xs → seam.start ≡ 0 → written ≡ length (early_output s xs)
     → IsPlace s (output s (xs ++ ys)) (place_behind seam written) xs
 place_of_seam s seam xs ys written h at_start count =
-    let legal = h.taken.holds.legal in
+    let legal = h.counts.stands.holds.legal in
     let whole = whole_intervals s seam xs h at_start in
     let place : length (code s xs) ≡ 8 * written + seam.waiting_bits = code_of_seam s seam xs h ∙ ap (λ n. 8 * n + seam.waiting_bits) (sym count) in
     let zeros = replicate (bits_to_byte (length (code s (xs ++ ys)))) false in
     let bits : bits_of (output s (xs ++ ys)) ≡ code s xs ++ (code s ys ++ zeros) =
     bits_of-padded (code s (xs ++ ys)) ∙ ap (λ l. l ++ zeros) (intervals_are_joined s legal whole.0 xs ys whole.1) ∙ append_assoc (code s xs) (code s ys) zeros in
     record {
-      count = h.samples;
+      count = h.counts.samples;
       begins = record {
         intervals = whole.0;
         len = whole.1.len;
@@ -203,5 +146,5 @@ seams_tell_places s input seam pieces begins fed at_start =
     let start : HasFed s input seam = record { samples = []; rest = input; split = refl; legal = All-nil (IsSample s); stands = begins } in
     let on = feeds_on s input seam pieces start fed in
     let h = on.fed in
-    let front : early_output s h.samples ≡ on.bytes = on.grows ∙ ap (λ l. l ++ on.bytes) (nothing_early s begins.taken.holds.legal) in
+    let front : early_output s h.samples ≡ on.bytes = on.grows ∙ ap (λ l. l ++ on.bytes) (nothing_early s begins.counts.stands.holds.legal) in
     (h.samples, on.bytes, h.rest, h.split, on.taken, λ ys. place_of_seam s (last_seam seam pieces) h.samples ys (length on.bytes) h.stands at_start (ap length (sym front)))

@@ -1,26 +1,13 @@
 -- A piece that is decoded: the blocks so far, one more, and where it ends.
 use Rattle.std.proofs.Common.{◌≡◌, ℕ, ◌+◌, ◌*◌, ◌%◌, ◌<◌, ◌≤◌, Bool, List, [], ◌∷◌, ◌++◌, length, length-drop, take}
 use Rattle.std.proofs.Common.{drop, refl, ap, arith, sym, ◌∙◌, subst, append_assoc, append-nil, length-append, None, Some, ℤ, ◌≢◌, ◌-◌}
-use Rattle.std.proofs.Math.Seq.{take-append_seam}
-use Rattle.std.proofs.lemmas.Slice.{drop-append-drop}
-use Rattle.rice_bits.specs.Bits.{bits_of, word}
-use Rattle.rice_bits.specs.read.Reader.{Reader, Stops, Takes, new_reader}
-use Rattle.rice_bits.specs.declared.read.fault.BitFault.{BitFault}
+use Rattle.rice_stream.proofs.Words.{take-append_seam, drop-append-drop, Reader, Stops, Takes, new_reader, BitFault, length-bits_of, length-word, Parameters, width, spellings, EndsWith, Ended}
+use Rattle.rice_stream.proofs.Words.{CodeFault, ◌^◌, Err, length-spellings, spellings-append, bits_of, word, Origin, IsStand, DecodesMore, GivesNext, HasRoomForBlock, PausesAt, TakesNext, ahead}
+use Rattle.rice_stream.proofs.Words.{bits_ahead, pause_for, Pause, Stand, nil_from_length, drop-append_seam}
 use Rattle.rice_bits.specs.declared.read.fault.BitFault.TheVariants as bit_faults
 use Rattle.rice_stream.proofs.lemmas.PullingLemmas.{all_drawn, draws_ahead}
-use Rattle.rice_bits.proofs.lemmas.bits.BytesAndBits.{length-bits_of}
-use Rattle.rice_bits.proofs.lemmas.bits.WordsAndNumbers.{length-word}
-use Rattle.rice_samples.specs.Parameters.{Parameters, width}
-use Rattle.rice_samples.specs.bytes.Spelling.{spellings}
-use Rattle.rice_code.specs.code.Decoded.{EndsWith, Ended}
-use Rattle.rice_code.specs.declared.decode.call_results.CodeFault.{CodeFault}
 use Rattle.rice_code.specs.declared.decode.call_results.CodeFault.TheVariants as faults
-use Rattle.std.specs.Prelude.{◌^◌, Err}
-use Rattle.rice_stream.specs.Pulling.{Origin, IsStand, DecodesMore, GivesNext, HasRoomForBlock, PausesAt, TakesNext, ahead, bits_ahead, pause_for}
-use Rattle.rice_stream.specs.declared.stand.Pause.{Pause}
 use Rattle.rice_stream.specs.declared.stand.Pause.TheVariants as pauses
-use Rattle.rice_stream.specs.declared.stand.Stand.{Stand}
-use Rattle.rice_samples.proofs.lemmas.bytes.SpellingLengths.{length-spellings, spellings-append}
 
 -- Blocks of a piece were given, and their samples stand in the first `at` bytes.
 pub record PulledSoFar (s : Parameters) (o : Origin) (front : List Bool) (given : List ℤ) (piece : List ℕ) (old : Stand) (out_old out : List ℕ) (here : Stand)
@@ -138,26 +125,16 @@ never_too_long s o front given here r new xs refused = subst (λ (f : CodeFault)
 
 -- ---- a reader of a piece
 
--- no bits
-nil_of_length : (bits : List Bool) → length bits ≡ 0 → bits ≡ []
-nil_of_length [] e = refl
-nil_of_length (x ∷ xs) e = absurd (omega arith)
-
 -- a piece without bytes has the same bits, which are none, when some are skipped
 pub nothing_skipped : (k : ℕ) (piece : List ℕ) → length piece ≡ 0 → bits_of piece ≡ drop k (bits_of piece)
-nothing_skipped k piece e = nil_of_length (bits_of piece) (omega (arith, length-bits_of piece))
-    ∙ sym (nil_of_length (drop k (bits_of piece)) (omega (arith, length-drop k (bits_of piece), length-bits_of piece)))
-
--- the front of some bits, and what is behind it
-pub drop_front : (xs ys : List Bool) → drop (length xs) (xs ++ ys) ≡ ys
-drop_front [] ys = refl
-drop_front (x ∷ xs) ys = drop_front xs ys
+nothing_skipped k piece e = nil_from_length (bits_of piece) (omega (arith, length-bits_of piece))
+    ∙ sym (nil_from_length (drop k (bits_of piece)) (omega (arith, length-drop k (bits_of piece), length-bits_of piece)))
 
 -- the bits of the first byte that were taken before are skipped
 pub skipped_bits : {I : Type 0} (intake : I) (piece : List ℕ) (k v : ℕ) (new : Reader I) → Takes (new_reader intake (Some piece) 0) new (word k v) → ahead new ≡ drop k (bits_of piece)
 skipped_bits intake piece k v new takes =
     let drawn = draws_ahead (Some piece) new.left [] new.waiting (word k v) refl takes.draws in
-    sym (ap (λ n. drop n (bits_of piece)) (sym (length-word k v)) ∙ ap (drop (length (word k v))) drawn.1 ∙ drop_front (word k v) (ahead new))
+    sym (ap (λ n. drop n (bits_of piece)) (sym (length-word k v)) ∙ ap (drop (length (word k v))) drawn.1 ∙ drop-append_seam (word k v) (ahead new))
 
 -- a piece that has bytes has so few bits more
 pub never_refused : {I : Type 0} (intake : I) (piece : List ℕ) {k : ℕ} {bits : List Bool} {new : Reader I} (fault : BitFault) → k < 8 → length bits < k

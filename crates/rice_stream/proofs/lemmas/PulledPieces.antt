@@ -1,28 +1,13 @@
 -- Pieces that are pulled give what the code decodes to.
 use Rattle.std.proofs.Common.{◌≡◌, ◌≢◌, ℕ, zero, suc, ◌+◌, ◌-◌, ◌*◌, ◌/◌, ◌%◌, ◌^◌, ◌<◌, ◌≤◌, Bool, List, [], ◌∷◌, ◌++◌}
 use Rattle.std.proofs.Common.{length, length-drop, take, drop, refl, ap, arith, sym, ◌∙◌, subst, append_assoc, append-nil, length-append, Some, None, ℤ, pos}
-use Rattle.std.proofs.Math.Nat.{mul-le-mul_left}
-use Rattle.std.proofs.Math.Seq.{drop-nil, take-length}
-use Rattle.std.proofs.lemmas.List.{drop-drop}
-use Rattle.rice_bits.specs.Bits.{bits_of}
-use Rattle.rice_bits.proofs.lemmas.bits.BytesAndBits.{bits_of-append, bits_of-nil, length-bits_of}
-use Rattle.rice_samples.specs.Parameters.{Parameters, width}
-use Rattle.rice_samples.specs.Places.{place}
-use Rattle.rice_samples.specs.bytes.Spelling.{spellings}
-use Rattle.rice_code.specs.code.CodedDataSets.{CodedDataSet, bits_of_set}
-use Rattle.rice_code.specs.code.Decoded.{BeginsUnsound, Decoded, Ending, Reached, Ended, CutOff, EndsWith, IsWanted}
-use Rattle.rice_code.proofs.lemmas.meaning.DecodingBeginsAfresh.{decoding_begins_afresh}
-use Rattle.rice_code.proofs.lemmas.meaning.DecodingByPlacesAlone.{end_there}
-use Rattle.rice_stream.specs.DecodingState.{DecodedSoFar}
-use Rattle.rice_stream.specs.Laws.{ArePulled, EndsCode, EnoughBehindIsDecoding, EnoughIsDecoding, FrontIsPlace, GiveInParts, IsPlace}
-use Rattle.rice_stream.specs.Laws.{IsPulled, Pull, PullsAreDecoding, SeekingIsDecoding, StandsTellPlaces, last_stand}
-use Rattle.rice_stream.specs.Pulling.{Origin, IsStand, PausesAt, bits_ahead}
-use Rattle.rice_stream.specs.declared.stand.Pause.{Pause}
+use Rattle.rice_stream.proofs.Words.{mul-le-mul_left, drop-nil, take-length, drop-drop, bits_of-append, bits_of-nil, length-bits_of, Parameters, width, place, spellings, CodedDataSet, bits_of_set}
+use Rattle.rice_stream.proofs.Words.{BeginsUnsound, Decoded, Ending, Reached, Ended, CutOff, EndsWith, IsWanted, decoding_begins_afresh, end_there, bits_of, DecodedSoFar, ArePulled, EndsCode}
+use Rattle.rice_stream.proofs.Words.{EnoughBehindIsDecoding, EnoughIsDecoding, FrontIsPlace, GiveInParts, IsPlace, IsPulled, Pull, PullsAreDecoding, SeekingIsDecoding, StandsTellPlaces, last_stand}
+use Rattle.rice_stream.proofs.Words.{Origin, IsStand, PausesAt, bits_ahead, Pause, Stand, drop-append-add, drop-append_seam}
 use Rattle.rice_stream.specs.declared.stand.Pause.TheVariants as pauses
-use Rattle.rice_stream.specs.declared.stand.Stand.{Stand}
+use Rattle.rice_stream.proofs.lemmas.{ReturnedBytes.unsound_on, DecodingLemmas.same_place}
 use Rattle.rice_stream.proofs.lemmas.DecodedSamples.{at_end, ends_here, ends_reached}
-use Rattle.rice_stream.proofs.lemmas.DecodingLemmas.{same_place}
-use Rattle.rice_stream.proofs.lemmas.PulledPieceSoFar.{drop_front}
 
 -- Bits of a code were pulled from where decoding began, and a stand is behind them.
 record HasPulled (s : Parameters) (code : List ℕ) (o : Origin) (stand : Stand) : Type 0 where
@@ -46,15 +31,8 @@ drop_bits (suc n) k [] le = absurd (omega arith)
 drop_bits (suc n) k (x ∷ xs) le =
     let byte = bits_of (x ∷ []) in
     let all : bits_of (x ∷ xs) ≡ byte ++ bits_of xs = bits_of-append (x ∷ []) xs in
-    let eight : length byte ≡ 8 = length-bits_of (x ∷ []) ∙ omega arith in
-    let e : 8 * suc n + k - length byte ≡ 8 * n + k = omega (arith, eight) in
-    let none : length (drop (8 * suc n + k) byte) ≡ 0 = omega (arith, length-drop (8 * suc n + k) byte, eight) in
-    ap (drop (8 * suc n + k)) all ∙ drop_both (8 * suc n + k) byte (bits_of xs) ∙ ap (λ l. l ++ drop (8 * suc n + k - length byte) (bits_of xs)) (nil_of_length (drop (8 * suc n + k) byte) none)
-    ∙ ap (λ m. drop m (bits_of xs)) e ∙ drop_bits n k xs (omega arith)
-  where
-    nil_of_length : (bits : List Bool) → length bits ≡ 0 → bits ≡ []
-    nil_of_length [] e = refl
-    nil_of_length (x ∷ xs) e = absurd (omega arith)
+    let e : 8 * suc n + k ≡ length byte + (8 * n + k) = omega (arith, length-bits_of (x ∷ [])) in
+    (λ i. drop (e i) (all i)) ∙ drop-append-add byte (bits_of xs) (8 * n + k) ∙ drop_bits n k xs (omega arith)
 
 -- the bits behind the stand are those of the piece and others
 bits_behind_stand : (stand : Stand) (piece behind : List ℕ) → List Bool
@@ -69,7 +47,7 @@ behind_stand s code o stand piece behind h e =
     let k = stand.bits % 8 in
     let here : o.bits + length h.front ≡ 8 * n + k = omega (arith, h.stands.bits) in
     let most : n ≤ length code = omega (arith, here, h.inside, length-drop o.bits (bits_of code), ap length h.split, length-append h.front h.rest, length-bits_of code) in
-    sym (drop_front h.front h.rest) ∙ ap (drop (length h.front)) (sym h.split) ∙ drop-drop (length h.front) o.bits (bits_of code)
+    sym (drop-append_seam h.front h.rest) ∙ ap (drop (length h.front)) (sym h.split) ∙ drop-drop (length h.front) o.bits (bits_of code)
     ∙ ap (λ m. drop m (bits_of code)) here ∙ drop_bits n k code most ∙ ap (λ l. drop k (bits_of l)) e
     ∙ ap (drop k) (bits_of-append piece behind) ∙ drop_both k (bits_of piece) (bits_of behind)
 
@@ -154,18 +132,7 @@ record EndsBehind (s : Parameters) (stand : Stand) (rest : List Bool) (ahead : �
   pub ends : EndsWith s None stand.block rest ending used
   pub few : used ≤ ahead
 
--- bits that begin unsoundly do so with more behind them
-unsound_on : (s : Parameters) (b used : ℕ) (left far : List Bool) (P : CodedDataSet → Type 0) → BeginsUnsound s b left used P → BeginsUnsound s b (left ++ far) used P
-unsound_on s b used left far P u = record {
-  refused = u.refused;
-  more = u.more ++ far;
-  form = u.form;
-  unsound = u.unsound;
-  begins = ap (λ l. l ++ far) u.begins ∙ append_assoc _ u.more far;
-  bits = u.bits;
-}
-
--- and the coded data set that is not sound lies in them
+-- the coded data set that is not sound lies in the bits that begin with it
 unsound_in : (s : Parameters) (b used : ℕ) (left : List Bool) (P : CodedDataSet → Type 0) → BeginsUnsound s b left used P → used ≤ length left
 unsound_in s b used left P u = omega (arith, u.bits, ap length u.begins, length-append (bits_of_set s u.refused) u.more)
 
@@ -176,8 +143,6 @@ nothing_far stand piece behind e = let k = stand.bits % 8 - length (bits_of piec
 -- a pause behind which nothing is left is the end of the code
 pause_finishes : {s : Parameters} (old : Stand) {stand : Stand} (piece behind : List ℕ) (room count : ℕ) (left : List Bool) (pause : Pause) {ending : Ending}
     → PausesAt s old piece room stand left count pause → EndsCode pause behind ending → EndsBehind s stand (left ++ bits_behind_stand old piece behind) (length left) ending
-pause_finishes old piece behind room count left pauses.Full at e = absurd e
-pause_finishes old piece behind room count left pauses.TooLong at e = absurd e
 pause_finishes {s} old {stand} piece behind room count left pauses.Blank at e =
     let whole : left ≡ left ++ bits_behind_stand old piece behind = sym (append-nil left) ∙ ap (λ l. left ++ l) (sym (nothing_far old piece behind e.0)) in
     record {
@@ -212,15 +177,15 @@ pause_finishes {s} old {stand} piece behind room count left pauses.ResidualTooLa
       ends = subst (λ (v : Ending). EndsWith s None stand.block (left ++ bits_behind_stand old piece behind) v at.2) (sym e)
           (tt, unsound_on s stand.block at.2 left (bits_behind_stand old piece behind) _ at.3.1);
     }
+pause_finishes old piece behind room count left _ at e = absurd e
 
 -- a code that ends was not refused for its length
 not_long : (pause : Pause) (behind : List ℕ) (ending : Ending) → EndsCode pause behind ending → pause ≢ pauses.TooLong
-not_long pauses.Full behind ending e = absurd e
-not_long pauses.TooLong behind ending e = absurd e
 not_long pauses.Blank behind ending e = λ same. absurd cc
 not_long pauses.Cut behind ending e = λ same. absurd cc
 not_long pauses.RunPastSegment behind ending e = λ same. absurd cc
 not_long pauses.ResidualTooLarge behind ending e = λ same. absurd cc
+not_long _ behind ending e = absurd e
 
 -- nothing is pulled yet
 at_first : (s : Parameters) (code : List ℕ) (o : Origin) (first : Stand) → o.bits ≤ length (bits_of code) → IsStand s o first [] [] → HasPulled s code o first

@@ -1,20 +1,8 @@
 -- Blocks that the decoder gives, one or those of a run, and where decoding stands after them.
 use Rattle.std.proofs.Common.{◌≡◌, ℕ, zero, suc, ◌+◌, ◌-◌, ◌*◌, ◌<◌, ◌≤◌, List, [], ◌++◌, Bool}
 use Rattle.std.proofs.Common.{take, drop, replicate, refl, sym, ◌∙◌, ap, subst, arith, append_assoc, append-nil, None, ℤ}
-use Rattle.std.specs.Prelude.{Ok}
-use Rattle.std.proofs.lemmas.List.{length-replicate, replicate-append-replicate}
-use Rattle.std.proofs.Math.Nat.{mul-pos}
-use Rattle.rice_bits.specs.read.Reader.{Reader}
-use Rattle.rice_samples.specs.Parameters.{Parameters, IsSample, width}
-use Rattle.rice_samples.specs.bytes.Spelling.{spellings}
-use Rattle.rice_code.specs.decode.Decoder.{RepeatsBlocks}
-use Rattle.rice_code.specs.decode.DecoderState.{DecoderState, IsDecoderState}
-use Rattle.rice_code.specs.declared.decode.call_results.Step.TheVariants.{Block}
-use Rattle.rice_code.proofs.lemmas.code.RepeatedSamples.{last_replicate}
-use Rattle.rice_code.proofs.lemmas.decode.DecoderLemmas.{place_moves}
-use Rattle.rice_stream.specs.Pulling.{Origin, IsStand, GivesMore, WritesRunAt, IsReadFrom, ahead, stand_at, state_of}
-use Rattle.rice_stream.specs.declared.stand.Stand.{Stand}
-use Rattle.rice_stream.specs.BlockBytes.{Advances}
+use Rattle.rice_stream.proofs.Words.{Ok, length-replicate, replicate-append-replicate, mul-pos, Reader, Parameters, IsSample, width, spellings, RepeatsBlocks, DecoderState, IsDecoderState, Block}
+use Rattle.rice_stream.proofs.Words.{last_replicate, place_moves, Origin, IsStand, GivesMore, WritesRunAt, IsReadFrom, ahead, stand_at, state_of, Stand, Advances}
 use Rattle.rice_stream.proofs.lemmas.PullingLemmas.{Steps, gives_next, goes_on_at}
 use Rattle.rice_stream.proofs.lemmas.RunsWritten.{advances_in_run, run_is_more}
 

@@ -1,31 +1,13 @@
 -- Decoding piece by piece: what the next block does to where decoding stands, and how a piece ends.
 use Rattle.std.proofs.Common.{◌≡◌, ℕ, ◌+◌, ◌-◌, ◌*◌, ◌%◌, ◌≤◌, ◌==◌, ◌&&◌, cond, Bool, true, false, List, [], ◌∷◌, ◌++◌}
 use Rattle.std.proofs.Common.{length, refl, ap, arith, sym, ◌∙◌, inl, inr, subst, append_assoc, append-nil, length-append, Option, Some, None, ℤ, pos}
-use Rattle.std.specs.Prelude.{IsSome, Ok, Err}
-use Rattle.std.specs.Io.KnownBytes.{Consumes, IsAtEnd}
-use Rattle.rice_bits.specs.Bits.{bits_of}
-use Rattle.rice_bits.specs.read.Reader.{Reader, Draws}
+use Rattle.rice_stream.proofs.Words.{IsSome, Ok, Err, Consumes, IsAtEnd, Reader, Draws, bits_of-nil, bits_of-append, length-bits_of, Parameters, place, last_of, CodedDataSet, bits_of_set}
+use Rattle.rice_stream.proofs.Words.{BeginsUnsound, EndsWith, Ended, CutOff, padding, SetEnds, SetRefused, StopsBy, with_mark, DecoderState, IsDecoderState, AreCounted, SetCut, CodeFault, Block, Done}
+use Rattle.rice_stream.proofs.Words.{last_append, bits_of, DecodedSoFar, Gains, HasSets, Origin, IsStand, MayBegin, GivesNext, GoesOnAt, IsReadFrom, TakesNext, ahead, bytes_told, state_of, Stand}
+use Rattle.rice_stream.proofs.Words.{Advances}
 use Rattle.rice_bits.specs.declared.read.fault.BitFault.TheVariants as bit_faults
-use Rattle.rice_bits.proofs.lemmas.bits.BytesAndBits.{bits_of-nil, bits_of-append, length-bits_of}
-use Rattle.rice_samples.specs.Parameters.{Parameters}
-use Rattle.rice_samples.specs.Places.{place}
-use Rattle.rice_samples.specs.predict.Residuals.{last_of}
-use Rattle.rice_code.specs.code.CodedDataSets.{CodedDataSet, bits_of_set}
-use Rattle.rice_code.specs.code.Decoded.{BeginsUnsound, EndsWith, Ended, CutOff}
-use Rattle.rice_code.specs.code.Layout.{padding}
-use Rattle.rice_code.specs.decode.Decoder.{SetEnds, SetRefused, StopsBy, with_mark}
-use Rattle.rice_code.specs.decode.DecoderState.{DecoderState, IsDecoderState}
-use Rattle.rice_code.specs.decode.RowsOfFields.{AreCounted}
-use Rattle.rice_code.specs.decode.ReadSets.{SetCut}
-use Rattle.rice_code.specs.declared.decode.call_results.CodeFault.{CodeFault}
 use Rattle.rice_code.specs.declared.decode.call_results.CodeFault.TheVariants as faults
-use Rattle.rice_code.specs.declared.decode.call_results.Step.TheVariants.{Block, Done}
-use Rattle.rice_code.proofs.lemmas.code.RepeatedSamples.{last_append}
-use Rattle.rice_stream.specs.DecodingState.{DecodedSoFar, Gains, HasSets}
-use Rattle.rice_stream.specs.Pulling.{Origin, IsStand, MayBegin, GivesNext, GoesOnAt, IsReadFrom, TakesNext, ahead, bytes_told, state_of}
-use Rattle.rice_stream.specs.declared.stand.Stand.{Stand}
 use Rattle.rice_stream.proofs.lemmas.DecodingEnds.{blank_all, next_here, some_one}
-use Rattle.rice_stream.specs.BlockBytes.{Advances}
 use Rattle.rice_stream.proofs.lemmas.DecodingLemmas.{gains_run, gains_set, moves_of, runs_or_not, took_block}
 
 -- what is drawn of a piece

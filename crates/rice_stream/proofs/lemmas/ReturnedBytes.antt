@@ -1,61 +1,47 @@
 -- What was encoded comes back.
 use Rattle.std.proofs.Common.{◌≡◌, ℕ, ◌+◌, ◌*◌, ◌<◌, ◌≤◌, cond, Bool, true, false, List, [], ◌∷◌, ◌++◌, length, length-append, replicate}
 use Rattle.std.proofs.Common.{refl, ap, arith, sym, ◌∙◌, ◌⊎◌, inl, inr, subst, append_assoc, append-nil, Option, Some, None, ℤ, pos}
-use Rattle.std.specs.Prelude.{All, IsSome}
-use Rattle.std.specs.Int.{div_ceil}
-use Rattle.std.proofs.Math.Nat.{mul_assoc, mul-le-mul_left, mul-le-mul_right}
-use Rattle.std.proofs.lemmas.Bool.{cases_lt}
-use Rattle.std.proofs.lemmas.Bool.Decides.{nat_tests}
-use Rattle.std.proofs.lemmas.Grind.{div_ceil_times}
-use Rattle.std.proofs.lemmas.List.{length-replicate}
-use Rattle.std.specs.Io.KnownBytes.{Consumes, IsAtEnd}
-use Rattle.rice_bits.specs.Bits.{bits_of, bits_to_byte}
-use Rattle.rice_bits.proofs.lemmas.bits.BytesAndBits.{bits_of-append, bits_of-padded, length-bits_of}
-use Rattle.rice_samples.specs.Parameters.{Parameters, IsLegal, IsSample, id_len, width}
-use Rattle.rice_samples.specs.Places.{block_count, interval_count}
-use Rattle.rice_samples.specs.bytes.Spelling.{spellings}
-use Rattle.rice_samples.proofs.lemmas.setting.LevelsOfSamples.{zero_is_sample}
-use Rattle.rice_code.specs.code.Code.{code, output}
-use Rattle.rice_code.specs.code.Decoded.{Decoded, Ending, EndsWith, Reached, Ended, CutOff, Past, Large}
-use Rattle.rice_code.proofs.lemmas.meaning.DecodedInOneWay.{decoded_is_one}
-use Rattle.rice_code.proofs.lemmas.cost.PaddingBounds.{padding_is_bounded}
+use Rattle.rice_stream.proofs.Words.{All, IsSome, div_ceil, mul_assoc, mul-le-mul_left, mul-le-mul_right, nat_tests, div_ceil_times, length-replicate, Consumes, IsAtEnd, bits_of-append, ⊤}
+use Rattle.rice_stream.proofs.Words.{bits_of-padded, length-bits_of, Parameters, IsLegal, IsSample, id_len, width, block_count, interval_count, spellings, zero_is_sample, code, output, Decoded}
+use Rattle.rice_stream.proofs.Words.{blocks_in_all, Ending, EndsWith, Reached, Ended, CutOff, Past, Large, decoded_is_one, padding_is_bounded, code_is_bounded, length-spellings, spellings-append}
+use Rattle.rice_stream.proofs.Words.{bits_of, bits_to_byte, Call, PassesLimit, DecodesBytes, EndsDecoding, ReturnsBytes, ReturnsBytesAndFill, Fault, Read, Write, TooLong}
+use Rattle.rice_stream.proofs.Words.{CodeEnds, RunPastSegment, ResidualTooLarge, CodedDataSet, BeginsUnsound, lt_of_mul-lt-mul_left}
 use Rattle.rice_code.proofs.lemmas.meaning.SamplesAreReturned as returned
-use Rattle.rice_code.proofs.lemmas.code.SoundBlocks.{code_is_bounded}
 use Rattle.rice_stream.proofs.lemmas.EncodingBounds.{block_bound_le}
-use Rattle.rice_samples.proofs.lemmas.bytes.SpellingLengths.{length-spellings, spellings-append}
-use Rattle.rice_stream.specs.DevicesInCalls.{Call, PassesLimit}
-use Rattle.rice_stream.specs.Decodes.{DecodesBytes, EndsDecoding}
-use Rattle.rice_stream.specs.Laws.{ReturnsBytes, ReturnsBytesAndFill}
-use Rattle.rice_stream.specs.declared.outcome.Fault.{Fault}
-use Rattle.rice_stream.specs.declared.outcome.Fault.TheVariants.{Read, Write, TooLong, SampleOutOfRange, SampleCut, CodeEnds, RunPastSegment, ResidualTooLarge}
 
 -- it does not end where the bits do
 abbrev pub EndsBefore : Ending → Type 0
-EndsBefore ending = (ending ≡ Reached) ⊎ ((ending ≡ Past) ⊎ (ending ≡ Large))
+EndsBefore Ended = ⊥
+EndsBefore CutOff = ⊥
+EndsBefore _ = ⊤
+
+-- bits that begin unsoundly do so with more behind them
+pub unsound_on : (s : Parameters) (b used : ℕ) (left far : List Bool) (P : CodedDataSet → Type 0) → BeginsUnsound s b left used P → BeginsUnsound s b (left ++ far) used P
+unsound_on s b used left far P u = record {
+  refused = u.refused;
+  more = u.more ++ far;
+  form = u.form;
+  unsound = u.unsound;
+  begins = ap (λ l. l ++ far) u.begins ∙ append_assoc _ u.more far;
+  bits = u.bits;
+}
 
 -- what follows the bits does not matter then
 ends_before : (s : Parameters) (asked : Option ℕ) (b : ℕ) (rest more : List Bool) (ending : Ending) (used : ℕ) → EndsBefore ending
     → EndsWith s asked b rest ending used → EndsWith s asked b (rest ++ more) ending used
 ends_before s asked b rest more Reached used early e = e
-ends_before s asked b rest more Past used early e =
-    let r = e.1 in (e.0, record { refused = r.refused; more = r.more ++ more; form = r.form; unsound = r.unsound; begins = ap (λ l. l ++ more) r.begins ∙ append_assoc _ r.more more; bits = r.bits })
-ends_before s asked b rest more Large used early e =
-    let r = e.1 in (e.0, record { refused = r.refused; more = r.more ++ more; form = r.form; unsound = r.unsound; begins = ap (λ l. l ++ more) r.begins ∙ append_assoc _ r.more more; bits = r.bits })
-ends_before s asked b rest more Ended used (inl e) h = absurd cc
-ends_before s asked b rest more Ended used (inr (inl e)) h = absurd cc
-ends_before s asked b rest more Ended used (inr (inr e)) h = absurd cc
-ends_before s asked b rest more CutOff used (inl e) h = absurd cc
-ends_before s asked b rest more CutOff used (inr (inl e)) h = absurd cc
-ends_before s asked b rest more CutOff used (inr (inr e)) h = absurd cc
+ends_before s asked b rest more Past used early e = (e.0, unsound_on s b used rest more _ e.1)
+ends_before s asked b rest more Large used early e = (e.0, unsound_on s b used rest more _ e.1)
+ends_before s asked b rest more _ used early e = absurd early
 
--- what ends before the bits do decodes so with more behind it
-pub decoded_before : (s : Parameters) (asked : Option ℕ) (bits more : List Bool) (xs : List ℤ) (ending : Ending) (used : ℕ) → EndsBefore ending
-    → Decoded s bits asked xs ending used → Decoded s (bits ++ more) asked xs ending used
-decoded_before s asked bits more xs ending used early d = record {
+-- the coded data sets decode so with another rest that ends decoding
+pub with_rest : {s : Parameters} {asked : Option ℕ} {bits all : List Bool} {xs : List ℤ} {ending : Ending} {used : ℕ} (d : Decoded s bits asked xs ending used) (left : List Bool)
+    → all ≡ d.front ++ left → EndsWith s asked (0 + length (blocks_in_all s 0 d.sets)) left ending d.last → Decoded s all asked xs ending used
+with_rest d left parts ends = record {
   sets = d.sets;
   front = d.front;
-  rest = d.rest ++ more;
-  parts = ap (λ l. l ++ more) d.parts ∙ append_assoc d.front d.rest more;
+  rest = left;
+  parts = parts;
   lie = d.lie;
   taken = d.taken;
   all = d.all;
@@ -64,9 +50,15 @@ decoded_before s asked bits more xs ending used early d = record {
   blocks = d.blocks;
   asked_for = d.asked_for;
   last = d.last;
-  ends = ends_before s asked _ d.rest more ending d.last early d.ends;
+  ends = ends;
   bits_used = d.bits_used;
 }
+
+-- what ends before the bits do decodes so with more behind it
+pub decoded_before : (s : Parameters) (asked : Option ℕ) (bits more : List Bool) (xs : List ℤ) (ending : Ending) (used : ℕ) → EndsBefore ending
+    → Decoded s bits asked xs ending used → Decoded s (bits ++ more) asked xs ending used
+decoded_before s asked bits more xs ending used early d = with_rest d (d.rest ++ more) (ap (λ l. l ++ more) d.parts ∙ append_assoc d.front d.rest more)
+    (ends_before s asked _ d.rest more ending d.last early d.ends)
 
 -- what the first of some bytes decode to, where that ends before them, all do
 from_front : {s : Parameters} → IsLegal s → {asked : Option ℕ} {bytes : List ℕ} {xs ys : List ℤ} (front left : List ℕ) {ending known : Ending} {used all : ℕ}
@@ -84,10 +76,7 @@ few_pads : (s : Parameters) (b : ℕ) → 1 ≤ s.interval → div_ceil b s.inte
 few_pads s b some = at b (div_ceil b s.interval) s.interval some (div_ceil_times b s.interval some).1
   where
     at : (b c r : ℕ) → 1 ≤ r → c * r < b + r → c ≤ b
-    at b c r some few = elim (cases_lt b c) [
-      | inl lt ↦ absurd (let p : (b + 1) * r ≤ c * r = mul-le-mul_right r (omega arith) in let q : b * 1 ≤ b * r = mul-le-mul_left b some in omega arith)
-      | inr le ↦ le
-    ]
+    at b c r some few = let q : b * 1 ≤ b * r = mul-le-mul_left b some in let lt : c < b + 1 = lt_of_mul-lt-mul_left r (omega arith) in omega arith
 
 -- a code is no longer than its blocks sent as they are
 code_short : (s : Parameters) → IsLegal s → (xs : List ℤ) → All (IsSample s) xs → length (code s xs) ≤ block_count s (length xs) * (id_len s + 1 + s.block * s.bits) + 7 * block_count s (length xs)
@@ -212,16 +201,15 @@ returns_bytes s legal enc dec encoded decoded fault encodes consumed decodes = b
         elim ends [ inl e ↦ absurd cc | inr e ↦ absurd (let ended = e.0 in cc) ]
 
     by_fault : (fault : Option Fault) → EndsDecoding s (Some encoded.samples) fault dec decoded ys decodes.ending → Ends fault
-    by_fault None (d, inl reached) = inl (refl, d.2.written ∙ ap (spellings s) (at_front d (inl reached)).0 ∙ sym bytes)
+    by_fault None (d, inl reached) = inl (refl, d.2.written ∙ ap (spellings s) (at_front d (rw reached tt)).0 ∙ sym bytes)
     by_fault None (d, inr (ended, none, end)) = absurd cc
     by_fault (Some Read) h = inr (inl refl)
     by_fault (Some Write) h = inr (inr refl)
     by_fault (Some TooLong) h = absurd (not_too_long enc dec legal xs encodes.ends.0.legal (record { written_is = written; given_is = bytes; within = encodes.limit }) consumed h.0.1)
     by_fault (Some (CodeEnds samples)) (d, ends, end, count) = absurd (not_at_end end d ends)
-    by_fault (Some (RunPastSegment block)) (d, past, count) = absurd (let reached = (at_front d (inr (inl past))).1 in cc)
-    by_fault (Some (ResidualTooLarge block)) (d, large, count) = absurd (let reached = (at_front d (inr (inr large))).1 in cc)
-    by_fault (Some (SampleOutOfRange index)) h = absurd h
-    by_fault (Some (SampleCut index)) h = absurd h
+    by_fault (Some (RunPastSegment block)) (d, past, count) = absurd (let reached = (at_front d (rw past tt)).1 in cc)
+    by_fault (Some (ResidualTooLarge block)) (d, large, count) = absurd (let reached = (at_front d (rw large tt)).1 in cc)
+    by_fault _ h = absurd h
 
 -- and one that is not given the number writes these bytes and the spellings of fewer than 64 blocks of samples more
 pub returns_bytes_and_fill : ReturnsBytesAndFill
@@ -257,7 +245,7 @@ returns_bytes_and_fill s legal enc dec encoded decoded fault encodes consumed de
         (one.0, one.1)
 
     by_fault : (fault : Option Fault) → EndsDecoding s None fault dec decoded ys decodes.ending → Ends fault
-    by_fault None (d, inl reached) = absurd (let ended = at_front d (inl reached) in cc)
+    by_fault None (d, inl reached) = absurd (let ended = at_front d (rw reached tt) in cc)
     by_fault None (d, inr (ended, none, end)) =
         inl (refl, all.0, all.1, d.2.written ∙ ap (spellings s) (at_end end d).0 ∙ spellings-append s xs all.0 ∙ ap (λ l. l ++ spellings s all.0) (sym bytes))
     by_fault (Some Read) h = inr (inl refl)
@@ -265,7 +253,6 @@ returns_bytes_and_fill s legal enc dec encoded decoded fault encodes consumed de
     by_fault (Some TooLong) h = absurd (not_too_long enc dec legal xs encodes.ends.0.legal (record { written_is = written; given_is = bytes; within = encodes.limit }) consumed h.0.1)
     by_fault (Some (CodeEnds samples)) (d, inl cut, end, count) = absurd (let ended = (at_end end d).1 in cc)
     by_fault (Some (CodeEnds samples)) (d, inr (ended, some), end, count) = absurd (let no : false ≡ true = some in cc)
-    by_fault (Some (RunPastSegment block)) (d, past, count) = absurd (let ended = at_front d (inr (inl past)) in cc)
-    by_fault (Some (ResidualTooLarge block)) (d, large, count) = absurd (let ended = at_front d (inr (inr large)) in cc)
-    by_fault (Some (SampleOutOfRange index)) h = absurd h
-    by_fault (Some (SampleCut index)) h = absurd h
+    by_fault (Some (RunPastSegment block)) (d, past, count) = absurd (let ended = at_front d (rw past tt) in cc)
+    by_fault (Some (ResidualTooLarge block)) (d, large, count) = absurd (let ended = at_front d (rw large tt) in cc)
+    by_fault _ h = absurd h

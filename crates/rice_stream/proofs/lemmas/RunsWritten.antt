@@ -1,35 +1,11 @@
 -- Blocks of a run that are written several at a time.
 use Rattle.std.proofs.Common.{◌≡◌, ℕ, zero, suc, ◌+◌, ◌-◌, ◌*◌, ◌/◌, ◌%◌, ◌<◌, ◌≤◌, List, [], ◌∷◌, ◌++◌, length, take, drop}
 use Rattle.std.proofs.Common.{replicate, refl, sym, ◌∙◌, ap, subst, arith, append-nil, append_assoc, get_or, length-append, length-drop, take-append-drop, take-take, Option, Some, None, ℤ}
-use Rattle.std.specs.Prelude.{IfSome, Ok}
-use Rattle.std.specs.List.{copy_within}
-use Rattle.std.proofs.Math.Nat.{div-add-mod, lt_of_mul-lt-mul_left, mod-lt, mul-le-mul_left, mul-le-mul_right}
-use Rattle.std.proofs.Math.Seq.{paste, take-append-add, take-append_seam}
-use Rattle.std.proofs.lemmas.List.Edits.{take-paste}
-use Rattle.std.proofs.lemmas.List.{length-replicate, drop-drop, take-append-le, replicate-append-replicate, take_all}
-use Rattle.rice_bits.specs.read.Reader.{Reader}
-use Rattle.rice_bits.specs.device.OutletRoom.{Room, Appends}
-use Rattle.rice_samples.specs.Parameters.{Parameters, IsLegal, width}
-use Rattle.rice_samples.specs.bytes.Spelling.{spelling, spellings}
-use Rattle.rice_code.specs.code.Blocks.{zero_block}
-use Rattle.rice_code.specs.decode.Decoder.{GivesFromRun, RepeatsBlocks}
-use Rattle.rice_code.specs.decode.DecoderState.{DecoderState}
-use Rattle.rice_stream.specs.Decodes.{wanted_of}
-use Rattle.rice_stream.specs.DecodingState.{DecodingProgress}
-use Rattle.rice_stream.specs.RunsOfBlocks.{FailsInRun, WritesRun, repeated}
-use Rattle.rice_stream.specs.FailedWrites.{TakesPart}
-use Rattle.rice_code.proofs.lemmas.code.RepeatedSamples.{last_replicate}
-use Rattle.rice_code.specs.code.Decoded.{cut_to}
-use Rattle.rice_code.specs.declared.decode.call_results.Step.TheVariants.{Block}
-use Rattle.rice_bits.proofs.lemmas.device.OutletLemmas.{Appends-trans}
-use Rattle.rice_stream.specs.Decodes.{DecodesBetween, Reports}
-use Rattle.rice_stream.specs.declared.outcome.Report.{Report}
-use Rattle.rice_stream.specs.declared.outcome.Fault.{Fault}
-use Rattle.rice_stream.specs.declared.outcome.Fault.TheVariants.{Write}
-use Rattle.rice_stream.proofs.lemmas.DecodingEnds.{progress_with_block, write_ends}
-use Rattle.rice_stream.specs.BlockBytes.{Advances}
-use Rattle.rice_stream.proofs.lemmas.DecodingLemmas.{gains_block}
-use Rattle.rice_samples.proofs.lemmas.bytes.SpellingLengths.{length-spellings, spellings-append}
+use Rattle.rice_stream.proofs.Words.{IfSome, Ok, copy_within, div-add-mod, lt_of_mul-lt-mul_left, mod-lt, mul-le-mul_left, mul-le-mul_right, paste, take-append-add, take-append_seam, take-paste}
+use Rattle.rice_stream.proofs.Words.{length-replicate, drop-drop, take-append-le, replicate-append-replicate, take_all, Reader, Room, Appends, Parameters, IsLegal, width, spelling, spellings}
+use Rattle.rice_stream.proofs.Words.{zero_block, GivesFromRun, RepeatsBlocks, DecoderState, last_replicate, cut_to, Block, Appends-trans, length-spellings, spellings-append, wanted_of}
+use Rattle.rice_stream.proofs.Words.{DecodingProgress, FailsInRun, WritesRun, repeated, TakesPart, DecodesBetween, Reports, Report, Fault, Write, Advances}
+use Rattle.rice_stream.proofs.lemmas.{DecodingEnds.progress_with_block, DecodingEnds.write_ends, DecodingLemmas.gains_block}
 
 -- the front of a repeated pattern
 pub take-repeated : (m n : ℕ) (xs : List ℕ) → m ≤ n → take (length xs * m) (repeated n xs) ≡ repeated m xs
@@ -242,18 +218,16 @@ copied-on pattern bytes done more count inside few len copies =
 
 -- one byte again and again
 pub filled-byte : (s : Parameters) (x : ℤ) (n : ℕ) (pattern : List ℕ) → pattern ≡ spelling s x → length pattern ≡ 1 → replicate n (get_or pattern 0 0) ≡ spellings s (replicate n x)
-filled-byte s x n [] is one = absurd (omega (arith, one))
 filled-byte s x n (b ∷ []) is one = sym (repeated-byte n b) ∙ (ap (repeated n) is ∙ sym (spellings-repeat s n x))
-filled-byte s x n (b ∷ c ∷ bs) is one = absurd (omega (arith, one))
+filled-byte s x n _ is one = absurd (omega (arith, one))
 
 -- a decoder behind some of the blocks of a run, and the one after them
 pub repeats-split : (n k m : ℕ) (p q : DecoderState) → m ≡ n + suc k → RepeatsBlocks m p q → (middle : DecoderState) × RepeatsBlocks n p middle × (last : DecoderState) × RepeatsBlocks 1 middle last
-repeats-split zero k zero p q e h = absurd (omega (arith, e))
 repeats-split zero k (suc j) p q e (m, g, rest) = (p, refl, m, (m, g, refl))
-repeats-split (suc n) k zero p q e h = absurd (omega (arith, e))
 repeats-split (suc n) k (suc j) p q e (m, g, rest) =
     let on = repeats-split n k j m q (omega (arith, e)) rest in
     (on.0, (m, g, on.1), on.2, on.3)
+repeats-split _ k zero p q e h = absurd (omega (arith, e))
 
 -- how many bytes a sample that is repeated takes
 length-repeat : (s : Parameters) (n : ℕ) (x : ℤ) → length (spellings s (replicate n x)) ≡ width s * n

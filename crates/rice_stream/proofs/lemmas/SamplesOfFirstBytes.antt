@@ -1,17 +1,7 @@
 -- Samples of the first bytes are the same whatever bytes follow, and whole samples leave no byte.
-use Rattle.std.proofs.Common.{◌≡◌, ℕ, ◌+◌, ◌*◌, ◌<◌, ◌≤◌, List, [], ◌∷◌, ◌++◌, length, Option, Err, refl, ap, arith, sym, ◌∙◌, append-nil, length-append, inl, inr, ℤ}
-use Rattle.std.proofs.Math.Nat.{mul-le-mul_left}
-use Rattle.std.proofs.lemmas.Bool.{cases_lt}
-use Rattle.std.proofs.lemmas.List.{take-append-le}
-use Rattle.rice_bits.specs.device.OutletRoom.{Room}
-use Rattle.rice_samples.specs.Parameters.{Parameters, width}
-use Rattle.rice_samples.specs.bytes.Spelling.{Reads, spellings, EndsSpelling, NoSpelling}
-use Rattle.rice_stream.specs.EncodingState.{Beginning, Pushes}
-use Rattle.rice_stream.specs.EncodingState.{EncodingValue}
-use Rattle.rice_stream.specs.declared.outcome.Fault.{Fault}
-use Rattle.rice_stream.specs.declared.outcome.Fault.TheVariants.{Read, Write, TooLong, SampleOutOfRange, SampleCut, CodeEnds, RunPastSegment, ResidualTooLarge}
-use Rattle.rice_samples.proofs.lemmas.bytes.ReadSamples.{reads_before}
-use Rattle.rice_samples.proofs.lemmas.bytes.SpellingLengths.{length-spellings}
+use Rattle.std.proofs.Common.{◌≡◌, ℕ, ◌+◌, ◌*◌, ◌<◌, ◌≤◌, List, [], ◌∷◌, ◌++◌, length, Option, Err, ap, arith, sym, ◌∙◌, append-nil, length-append, ℤ}
+use Rattle.rice_stream.proofs.Words.{mul-le-mul_left, take-append-le, Room, Parameters, width, Reads, spellings, EndsSpelling, NoSpelling, reads_before, length-spellings, Beginning, Pushes}
+use Rattle.rice_stream.proofs.Words.{EncodingValue, Fault, Write, SampleOutOfRange, lt_of_mul-lt-mul_left, nil_from_length}
 
 -- what spells no sample spells none with more behind it
 no_spelling_before : (s : Parameters) (rest behind : List ℕ) → EndsSpelling s rest NoSpelling → EndsSpelling s (rest ++ behind) NoSpelling
@@ -37,29 +27,17 @@ stops_before s old new e xs bytes behind Write h = record {
   reads = reads_before s (h.more ++ h.last ∷ []) bytes h.rest behind h.reads;
   fails = h.fails;
 }
-stops_before s old new e xs bytes behind Read h = absurd h
-stops_before s old new e xs bytes behind TooLong h = absurd h
-stops_before s old new e xs bytes behind (SampleCut index) h = absurd h
-stops_before s old new e xs bytes behind (CodeEnds samples) h = absurd h
-stops_before s old new e xs bytes behind (RunPastSegment block) h = absurd h
-stops_before s old new e xs bytes behind (ResidualTooLarge block) h = absurd h
+stops_before s old new e xs bytes behind _ h = absurd h
 
 -- nothing is left of a part that has the bytes of whole samples
 pub none_left : (s : Parameters) (more : List ℤ) (bytes rest : List ℕ) (k : ℕ) → Reads s bytes more rest → length rest < width s → length bytes ≡ width s * k → bytes ≡ spellings s more
 none_left s more bytes rest k r few whole =
     r.split ∙ ap (λ l. spellings s more ++ l)
-    (empty rest (zero_rest (width s) (length more) (length rest) k few
+    (nil_from_length rest (zero_rest (width s) (length more) (length rest) k few
     (omega (arith, ap length r.split, length-append (spellings s more) rest, length-spellings s more, whole)))) ∙ append-nil (spellings s more)
   where
-    empty : (l : List ℕ) → length l ≡ 0 → l ≡ []
-    empty [] e = refl
-    empty (x ∷ l) e = absurd (omega (arith, e))
-
     zero_rest : (w n m k : ℕ) → m < w → w * n + m ≡ w * k → m ≡ 0
-    zero_rest w n m k few same = elim (cases_lt n k) [
-      | inl lt ↦ absurd (let p : w * (n + 1) ≤ w * k = mul-le-mul_left w (omega arith) in omega (arith, p))
-      | inr le ↦ (let p : w * k ≤ w * n = mul-le-mul_left w le in omega (arith, p))
-    ]
+    zero_rest w n m k few same = let lt : k < n + 1 = lt_of_mul-lt-mul_left w (omega arith) in let p : w * k ≤ w * n = mul-le-mul_left w (omega arith) in omega (arith, p)
 
 -- samples, and the bytes that are left, are at most as many as the bytes
 pub few_more : (s : Parameters) (more : List ℤ) (bytes rest : List ℕ) → Reads s bytes more rest → 1 ≤ width s → length more + length rest ≤ length bytes

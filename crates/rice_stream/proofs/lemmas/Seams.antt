@@ -1,34 +1,13 @@
 -- The code between two segments: what is kept of it, and how it goes on.
 use Rattle.std.proofs.Common.{◌≡◌, ℕ, ◌+◌, ◌-◌, ◌*◌, ◌/◌, ◌%◌, ◌^◌, ◌<◌, ◌≤◌, ◌++◌, Bool, false, List, [], ◌∷◌, length, take, drop}
 use Rattle.std.proofs.Common.{replicate, slice_index_or, Option, Some, None, Err, refl, ap, sym, ◌∙◌, subst, arith, inl, inr, append-nil, length-append, take-append-drop, ℤ}
-use Rattle.std.proofs.lemmas.Bool.{cases_lt}
-use Rattle.std.proofs.lemmas.List.{take_at, length-take-le, length-replicate}
-use Rattle.std.proofs.lemmas.Nat.{shr_below}
-use Rattle.std.proofs.Math.Nat.{mul-le-mul_left, mul-mod_right, div-add-mod}
-use Rattle.rice_bits.specs.device.OutletRoom.{Room}
-use Rattle.rice_bits.proofs.lemmas.device.OutletLemmas.{Appends-nil}
-use Rattle.rice_bits.specs.Bits.{bits_of, bits_to_byte, padded_bits, whole_bytes, word}
-use Rattle.rice_bits.proofs.lemmas.bits.BytesAndBits.{bits_of-padded, length-bits_of}
-use Rattle.rice_bits.proofs.lemmas.bits.WordsAndNumbers.{length-word, word-nil, word-split}
-use Rattle.rice_samples.specs.Parameters.{Parameters, IsLegal, width}
-use Rattle.rice_samples.specs.Places.{cut}
-use Rattle.rice_samples.specs.bytes.Spelling.{Reads, spellings}
-use Rattle.rice_samples.proofs.lemmas.setting.CutLemmas.{cut_is_start, cut_is_greatest}
-use Rattle.rice_code.specs.code.Code.{early_output}
-use Rattle.rice_code.specs.encode.Coder.{HasTaken}
-use Rattle.rice_code.specs.encode.OpenSegment.{state_between}
-use Rattle.rice_code.proofs.lemmas.encode.PushedCode.{holds_nothing, between_all}
-use Rattle.rice_stream.specs.Encodes.{ReportsTaken, ReportsAll}
-use Rattle.rice_stream.specs.EncodingState.{Beginning, CountsSamples, IsEncodingOf, TakesAll, Pushes, WritesRest}
-use Rattle.rice_stream.specs.Feeding.{IsSeam, behind, encoding_at, bytes_in_all, samples_to_take, TakesPiece, EncodesMore, AreAll, EncodesRest}
-use Rattle.rice_stream.specs.EncodingState.{EncodingValue}
-use Rattle.rice_stream.specs.declared.outcome.Fault.{Fault}
-use Rattle.rice_stream.specs.declared.outcome.Fault.TheVariants.{Read, Write, TooLong, SampleOutOfRange, SampleCut, CodeEnds, RunPastSegment, ResidualTooLarge}
-use Rattle.rice_stream.specs.declared.outcome.Report.{Report}
-use Rattle.rice_stream.specs.declared.seam.Seam.{Seam}
+use Rattle.rice_stream.proofs.Words.{take_at, length-take-le, length-replicate, shr_below, mul-le-mul_left, mul-mod_right, div-add-mod, Room, Appends-nil, bits_of-padded, length-bits_of}
+use Rattle.rice_stream.proofs.Words.{length-word, word-nil, word-split, Parameters, IsLegal, width, cut, Reads, spellings, cut_is_start, cut_is_greatest, early_output, HasTaken, state_between}
+use Rattle.rice_stream.proofs.Words.{holds_nothing, between_all, some_width, length-spellings, lt_of_mul-lt-mul_left, bits_of, bits_to_byte, padded_bits, whole_bytes, word, ReportsTaken, ReportsAll}
+use Rattle.rice_stream.proofs.Words.{Beginning, CountsSamples, IsEncodingOf, TakesAll, Pushes, WritesRest, IsSeam, behind, encoding_at, bytes_in_all, samples_to_take, TakesPiece, EncodesMore, AreAll}
+use Rattle.rice_stream.proofs.Words.{EncodesRest, EncodingValue, Fault, Write, SampleOutOfRange, SampleCut, Report, Seam}
 use Rattle.rice_stream.proofs.lemmas.EncodingLemmas.{counts_small}
 use Rattle.rice_stream.proofs.lemmas.SamplesOfFirstBytes.{stops_before, none_left, few_more}
-use Rattle.rice_samples.proofs.lemmas.bytes.SpellingLengths.{some_width, length-spellings}
 
 -- a list of no bits is the word of 0 of its length
 pub no_bits : (bits : List Bool) → length bits ≡ 0 → word (length bits) 0 ≡ bits
@@ -82,7 +61,7 @@ byte_fits x n k byte few is = shr_below x n (8 - k) (let e : n + (8 - k) ≡ 8 =
 -- an encoding that begins at a seam has taken its samples
 pub encoding_is_resumed : (s : Parameters) (seam : Seam) (xs : List ℤ) (now : Option Room) → IsSeam s seam xs → IsEncodingOf s (behind s xs now) now (encoding_at s seam) xs
 encoding_is_resumed s seam xs now h = record {
-  counts = record { setting = refl; stands = h.taken; samples = h.samples; bits = h.bits; least = h.least; most = h.most };
+  counts = h.counts;
   sink = h.waiting;
   took = record { more = []; split = sym (append-nil (early_output s xs)); took = Appends-nil now };
 }
@@ -98,7 +77,7 @@ fit_in w n k le = let p : w * k ≤ w * (n / w) = mul-le-mul_left w le in omega 
 -- the steps so far leave room for those of what is still to come
 pub few_steps_so_far : (s : Parameters) (seam : Seam) (xs : List ℤ) → IsSeam s seam xs → seam.steps < 4611686018427387904
 few_steps_so_far s seam xs h =
-    let small = (counts_small s (encoding_at s seam) xs (encoding_is_resumed s seam xs None h).counts).1 in
+    let small = (counts_small s (encoding_at s seam) xs h.counts).1 in
     omega (arith, small, few_all (width s) (length xs) 0 (some_width s) (omega (arith, h.limit)))
 
 -- a seam has what the encoding has
@@ -120,11 +99,14 @@ seam_of {s = s} {e = e} {seam = seam} {xs = xs} h all limit holds few =
     let nothing : e.coder ≡ state_between e.coder.setting e.coder.start e.coder.previous = holds_nothing e.coder xs h.counts.stands (ap (λ t. cut t (length xs)) h.counts.setting ∙ all) in
     let same : e.coder ≡ state_between s seam.start seam.previous = nothing ∙ (λ i. state_between (h.counts.setting i) (sym holds.start i) (sym holds.previous i)) in
     record {
-      taken = subst (λ c. HasTaken c xs) same h.counts.stands;
-      samples = holds.samples ∙ h.counts.samples;
-      bits = holds.bits ∙ h.counts.bits;
-      least = omega (arith, holds.steps, h.counts.least);
-      most = omega (arith, holds.steps, h.counts.most);
+      counts = record {
+        setting = refl;
+        stands = subst (λ c. HasTaken c xs) same h.counts.stands;
+        samples = holds.samples ∙ h.counts.samples;
+        bits = holds.bits ∙ h.counts.bits;
+        least = omega (arith, holds.steps, h.counts.least);
+        most = omega (arith, holds.steps, h.counts.most);
+      };
       waiting = ap (λ n. word n seam.waiting) holds.waiting_bits ∙ holds.waiting ∙ h.sink;
       few = omega (arith, holds.waiting_bits, few);
       fits = subst (λ n. seam.waiting < 2 ^ n) (sym holds.waiting_bits) holds.fits;
@@ -134,13 +116,7 @@ seam_of {s = s} {e = e} {seam = seam} {xs = xs} h all limit holds few =
 -- ---- what a piece gives
 
 same_count : (w n m : ℕ) → 1 ≤ w → w * n ≡ w * m → n ≡ m
-same_count w n m some e = elim (cases_lt n m) [
-  | inl lt ↦ absurd (let p : w * (n + 1) ≤ w * m = mul-le-mul_left w (omega arith) in omega (arith, p, e, some))
-  | inr le ↦ elim (cases_lt m n) [
-    | inl lt ↦ absurd (let p : w * (m + 1) ≤ w * n = mul-le-mul_left w (omega arith) in omega (arith, p, e, some))
-    | inr ge ↦ omega (arith, le, ge)
-  ]
-]
+same_count w n m some e = grind (arith, e, some)
 
 -- a cut is its own
 pub cut_again : (s : Parameters) (m : ℕ) → IsLegal s → cut s (cut s m) ≡ cut s m
@@ -153,9 +129,9 @@ cut_again s m legal =
 -- more samples make no fewer whole segments
 pub cut_grows : (s : Parameters) (seam : Seam) (xs : List ℤ) (n : ℕ) → IsSeam s seam xs → length xs ≤ n → length xs ≤ cut s n
 cut_grows s seam xs n h le =
-    let legal = h.taken.holds.legal in
+    let legal = h.counts.stands.holds.legal in
     let k = cut_is_start s legal (length xs) in
-    let all = between_all s seam.start seam.previous xs h.taken in
+    let all = between_all s seam.start seam.previous xs h.counts.stands in
     let up = cut_is_greatest s legal n k.0 k.2 (omega (arith, k.1, all, le)) in
     omega (arith, up, k.1, all)
 
@@ -173,7 +149,7 @@ module _ {s : Parameters} {old new : Option Room} {e : EncodingValue} {at : Seam
 
   -- the samples so far make whole segments
   pub all_whole : cut s (length (xs ++ t.more)) ≡ length (xs ++ t.more)
-  all_whole = ap (cut s) all_taken ∙ cut_again s (length xs + length bytes / width s) h.taken.holds.legal ∙ sym all_taken
+  all_whole = ap (cut s) all_taken ∙ cut_again s (length xs + length bytes / width s) h.counts.stands.holds.legal ∙ sym all_taken
 
   -- an encoding that ends between two segments leaves a seam
   pub goes_on : {seam : Seam} → bytes_in_all s xs bytes ≤ 281474976710656 → (width s * length (xs ++ t.more) ≤ 281474976710656 → IsSeam s seam (xs ++ t.more)) → TakesPiece s xs bytes old new seam
@@ -203,13 +179,7 @@ stopped_in s old new e xs bytes k f h =
 -- a sample that is refused is one of those that these bytes are of
 refused_within : (s : Parameters) (more : List ℤ) (part rest : List ℕ) (count : ℕ) → Reads s part more rest → width s ≤ length rest → length part ≤ width s * count → length more < count
 refused_within s more part rest count r wide few =
-    by_size (width s) (length more) (length rest) count (some_width s) wide (omega (arith, few, ap length r.split, length-append (spellings s more) rest, length-spellings s more))
-  where
-    by_size : (w n m k : ℕ) → 1 ≤ w → w ≤ m → w * n + m ≤ w * k → n < k
-    by_size w n m k some wide few = elim (cases_lt n k) [
-      | inl lt ↦ lt
-      | inr le ↦ absurd (let p : w * k ≤ w * n = mul-le-mul_left w le in omega (arith, p, some, wide, few))
-    ]
+    lt_of_mul-lt-mul_left (width s) (omega (arith, some_width s, wide, few, ap length r.split, length-append (spellings s more) rest, length-spellings s more))
 
 -- the samples that are to be taken of bytes are pushed, and a push stops
 pub record StopsInBytes (s : Parameters) (old new : Option Room) (e : EncodingValue) (xs : List ℤ) (bytes : List ℕ) (count : ℕ) (f : Fault) : Type 0 where
@@ -230,16 +200,11 @@ more_stops s old new e xs bytes count f stops = by_fault f stops.pushes (stopped
         let len : length (take (width s * count) bytes) ≤ width s * count = omega (arith, length-take-le (width s * count) bytes stops.enough) in
         let before = refused_within s part.more (take (width s * count) bytes) part.rest count part.reads part.none.0 len in (
           m.0.more,
-          record { limit = stops.few; rest = m.0.rest; reads = m.0.reads; none = m.0.none; index_is = m.1 ∙ m.0.holds.counts.samples; writes = m.0.holds.took },
+          record { limit = stops.few; rest = m.0.rest; reads = m.0.reads; ends = m.0.none; index_is = m.1 ∙ m.0.holds.counts.samples; writes = m.0.holds.took },
           omega (arith, h.1, part.holds.counts.samples, length-append xs part.more, before, stops.count_is),
         )
     by_fault Write h m = (m.more, m.last, record { limit = stops.few; rest = m.rest; reads = m.reads; writes = m.fails.takes })
-    by_fault Read h bad = absurd bad
-    by_fault TooLong h bad = absurd bad
-    by_fault (SampleCut index) h bad = absurd bad
-    by_fault (CodeEnds samples) h bad = absurd bad
-    by_fault (RunPastSegment block) h bad = absurd bad
-    by_fault (ResidualTooLarge block) h bad = absurd bad
+    by_fault _ h bad = absurd bad
 
 -- ---- what the last piece gives
 
@@ -252,19 +217,14 @@ module _ (s : Parameters) (old new : Option Room) (e : EncodingValue) (r : Repor
       limit = limit;
       rest = m.0.rest;
       reads = m.0.reads;
-      none = m.0.none;
+      ends = m.0.none;
       index_is = m.1 ∙ m.0.holds.counts.samples;
       writes = m.0.holds.took;
     },
     told (xs ++ m.0.more) m.0.holds.counts,
   )
   rest_stops_at Write told m = inl (m.more, m.last, record { limit = limit; rest = m.rest; reads = m.reads; writes = m.fails.takes }, told ((xs ++ m.more) ++ m.last ∷ []) m.fails.counts)
-  rest_stops_at Read told bad = absurd bad
-  rest_stops_at TooLong told bad = absurd bad
-  rest_stops_at (SampleCut index) told bad = absurd bad
-  rest_stops_at (CodeEnds samples) told bad = absurd bad
-  rest_stops_at (RunPastSegment block) told bad = absurd bad
-  rest_stops_at (ResidualTooLarge block) told bad = absurd bad
+  rest_stops_at _ told bad = absurd bad
 
   -- where a push stops in the last piece, its fault is what the piece tells
   pub rest_stops : (f : Fault) (g : Option Fault) → g ≡ Some f → ((ys : List ℤ) → CountsSamples s e ys → ReportsTaken s r ys)
@@ -280,7 +240,7 @@ module _ (s : Parameters) (old new : Option Room) (e : EncodingValue) (r : Repor
       limit = limit;
       rest = t.rest;
       reads = t.reads;
-      cut_off = (λ none. absurd (omega (arith, whole none, cut_off)), t.few);
+      ends = (λ none. absurd (omega (arith, whole none, cut_off)), t.few);
       index_is = same ∙ t.holds.counts.samples;
       writes = t.holds.took;
     },
@@ -312,13 +272,7 @@ module _ (s : Parameters) (old new : Option Room) (e : EncodingValue) (r : Repor
             (omega (arith, div-add-mod (length bytes) (width s), whole));
         legal = t.reads.legal;
       }
-  rest_all (Some Read) t last whole told bad = absurd bad
-  rest_all (Some TooLong) t last whole told bad = absurd bad
-  rest_all (Some (SampleOutOfRange index)) t last whole told bad = absurd bad
-  rest_all (Some (SampleCut index)) t last whole told bad = absurd bad
-  rest_all (Some (CodeEnds samples)) t last whole told bad = absurd bad
-  rest_all (Some (RunPastSegment block)) t last whole told bad = absurd bad
-  rest_all (Some (ResidualTooLarge block)) t last whole told bad = absurd bad
+  rest_all _ t last whole told bad = absurd bad
 
 -- so few samples that all their steps are counted
 pub takes_few : (s : Parameters) (old : Beginning) (new : Option Room) (e : EncodingValue) (xs : List ℤ) (bytes : List ℕ)

@@ -1,11 +1,6 @@
 -- The coded data sets that were read so far, and one more.
 use Rattle.std.proofs.Common.{◌≡◌, ℕ, ◌+◌, Bool, List, [], ◌∷◌, ◌++◌, length, refl, ap, arith, sym, ◌∙◌, subst, append_assoc, append-nil, length-append, None}
-use Rattle.rice_samples.specs.Parameters.{Parameters}
-use Rattle.rice_code.specs.code.CodedDataSets.{CodedDataSet, bits_of_set}
-use Rattle.rice_code.specs.code.Decoded.{AreTaken}
-use Rattle.rice_code.specs.code.Forms.{IsForm, RunIsSound, ResidualsAreSound, blocks_in, blocks_in_all}
-use Rattle.rice_code.specs.code.Layout.{Lies, block_after, padding}
-use Rattle.rice_stream.specs.DecodingState.{HasSets}
+use Rattle.rice_stream.proofs.Words.{Parameters, CodedDataSet, bits_of_set, AreTaken, IsForm, RunIsSound, ResidualsAreSound, blocks_in, blocks_in_all, Lies, block_after, padding, HasSets}
 
 -- a data set behind others: at which block, at which bit, and what fills it
 record SetBehind (s : Parameters) (b at position place : ℕ) (ds : List CodedDataSet) (bits : List Bool) (d : CodedDataSet) (skipped : List Bool) : Type 0 where

@@ -8,5 +8,5 @@ returns g c =
     let a = c.args in
     let begins = c.new-seam.ensures in
     let few : length a.samples.now ≤ most_input = omega arith in
-    encodes_at_once a.setting.now a.samples.now a.code.now c.finish_into.new.code c.finish_into.new.report c.finish_into.result begins.taken.holds.legal
+    encodes_at_once a.setting.now a.samples.now a.code.now c.finish_into.new.code c.finish_into.new.report c.finish_into.result begins.counts.stands.holds.legal
     few (c.finish_into.ensures [] begins)

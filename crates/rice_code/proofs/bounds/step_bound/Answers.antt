@@ -1,5 +1,4 @@
-use Rattle.std.proofs.lemmas.Grind.{common_steps}
-use Rattle.std.proofs.Common.{arith}
+use Rattle.std.proofs.{lemmas.Grind.common_steps, Common.arith}
 use Rattle.rice_code.proofs.bounds.step_bound.Goals as goal
 
 pub returns-clause-value : goal.returns-clause-value

@@ -1,19 +1,10 @@
 use Rattle.std.proofs.Common.{[], replicate, false, Some, None, refl, lit<, lit≤, pos}
-use Rattle.rice_bits.specs.Bits.{word, bits_of}
-use Rattle.rice_samples.specs.Examples.{defaults}
-use Rattle.rice_code.specs.code.CodedDataSets.{ZeroBlocks}
-use Rattle.rice_code.proofs.lemmas.meaning.DecodingWitnesses.{Gives, unsigned_samples, zeros_end, decoded_by_one}
+use Rattle.rice_code.proofs.Words.{word, bits_of, defaults, ZeroBlocks}
+use Rattle.rice_code.proofs.lemmas.meaning.DecodingWitnesses.{Gives, gives_unsigned, zeros_end, decoded_by_one}
 use Rattle.rice_code.proofs.decoding_examples.decodes_a_numbered_run_to_the_end.Goals as goal
 
 gives : Gives (record defaults { interval = 5 }) (ZeroBlocks (Some 0) 5) (replicate 40 (pos 0))
-gives = record {
-  form = (record { there = refl; fits = lit< tt }, lit≤ tt);
-  run = (lit≤ tt, lit≤ tt);
-  residuals = tt;
-  legal = unsigned_samples (record defaults { interval = 5 }) refl (replicate 40 0) refl;
-  len = refl;
-  blocks = refl;
-}
+gives = gives_unsigned (replicate 40 0) refl (record { there = refl; fits = lit< tt }, lit≤ tt) (lit≤ tt, lit≤ tt) tt refl refl refl
 
 pub returns : goal.returns
 unfolding word bits_of

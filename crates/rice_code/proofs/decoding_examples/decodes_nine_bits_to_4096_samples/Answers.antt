@@ -1,19 +1,10 @@
 use Rattle.std.proofs.Common.{[], replicate, false, None, refl, lit<, lit≤, pos}
-use Rattle.rice_bits.specs.Bits.{word, bits_of}
-use Rattle.rice_samples.specs.Examples.{unprocessed_defaults}
-use Rattle.rice_code.specs.code.CodedDataSets.{RemainderOfSegment}
-use Rattle.rice_code.proofs.lemmas.meaning.DecodingWitnesses.{Gives, unsigned_samples, zeros_end, decoded_by_one}
+use Rattle.rice_code.proofs.Words.{word, bits_of, unprocessed_defaults, RemainderOfSegment}
+use Rattle.rice_code.proofs.lemmas.meaning.DecodingWitnesses.{Gives, gives_unsigned, zeros_end, decoded_by_one}
 use Rattle.rice_code.proofs.decoding_examples.decodes_nine_bits_to_4096_samples.Goals as goal
 
 gives : Gives (record unprocessed_defaults { block = 64; interval = 64 }) (RemainderOfSegment None) (replicate 4096 (pos 0))
-gives = record {
-  form = record { there = refl; fits = tt };
-  run = tt;
-  residuals = tt;
-  legal = unsigned_samples (record unprocessed_defaults { block = 64; interval = 64 }) refl (replicate 4096 0) refl;
-  len = refl;
-  blocks = refl;
-}
+gives = gives_unsigned (replicate 4096 0) refl (record { there = refl; fits = tt }) tt tt refl refl refl
 
 pub returns-clause-all : goal.returns-clause-all
 unfolding word bits_of

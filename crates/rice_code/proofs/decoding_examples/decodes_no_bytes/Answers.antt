@@ -1,7 +1,5 @@
 use Rattle.std.proofs.Common.{[], None}
-use Rattle.rice_bits.specs.Bits.{word, bits_of}
-use Rattle.rice_samples.specs.Examples.{defaults}
-use Rattle.rice_code.specs.code.Decoded.{Ended}
+use Rattle.rice_code.proofs.Words.{word, bits_of, defaults, Ended}
 use Rattle.rice_code.proofs.lemmas.meaning.DecodingWitnesses.{zeros_end, decoded_by_none}
 use Rattle.rice_code.proofs.decoding_examples.decodes_no_bytes.Goals as goal
 

@@ -1,23 +1,13 @@
 use Rattle.std.proofs.Common.{◌∷◌, [], replicate, false, None, refl, lit<, lit≤, pos}
-use Rattle.rice_bits.specs.Bits.{word, bits_of}
-use Rattle.rice_samples.specs.Examples.{unprocessed_defaults}
-use Rattle.rice_code.specs.code.Blocks.{BlockData}
-use Rattle.rice_code.specs.code.CodedDataSets.{Split}
-use Rattle.rice_code.proofs.lemmas.meaning.DecodingWitnesses.{Gives, all_below, unsigned_samples, decoded_by_one}
+use Rattle.rice_code.proofs.Words.{word, bits_of, unprocessed_defaults, BlockData, Split}
+use Rattle.rice_code.proofs.lemmas.meaning.DecodingWitnesses.{Gives, all_below, gives_unsigned, decoded_by_one}
 use Rattle.rice_code.proofs.decoding_examples.decodes_one_sample_and_zeros_as_fill.Goals as goal
 
 abbrev block : BlockData
 block = record { reference = None; residuals = 0xF0 ∷ replicate 7 0 }
 
 gives : Gives unprocessed_defaults (Split 5 block) (pos 0xF0 ∷ replicate 7 (pos 0))
-gives = record {
-  form = (record { reference = record { there = refl; fits = tt }; len = refl }, tt, lit≤ tt);
-  run = tt;
-  residuals = all_below 256 block.residuals refl;
-  legal = unsigned_samples unprocessed_defaults refl (0xF0 ∷ replicate 7 0) refl;
-  len = refl;
-  blocks = refl;
-}
+gives = gives_unsigned (0xF0 ∷ replicate 7 0) refl (record { reference = record { there = refl; fits = tt }; len = refl }, tt, lit≤ tt) tt (all_below 256 block.residuals refl) refl refl refl
 
 pub returns : goal.returns
 unfolding word bits_of

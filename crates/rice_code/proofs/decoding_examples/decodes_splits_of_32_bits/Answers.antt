@@ -1,10 +1,6 @@
 use Rattle.std.proofs.Common.{ℕ, ◌≤◌, ◌∷◌, [], ◌++◌, replicate, false, None, refl, lit≤, pos}
-use Rattle.rice_bits.specs.Bits.{word, bits_of}
-use Rattle.rice_samples.specs.Examples.{unprocessed_defaults}
-use Rattle.rice_samples.specs.Parameters.{Parameters}
-use Rattle.rice_code.specs.code.Blocks.{BlockData}
-use Rattle.rice_code.specs.code.CodedDataSets.{Split}
-use Rattle.rice_code.proofs.lemmas.meaning.DecodingWitnesses.{Gives, all_below, unsigned_samples, zeros_end, decoded_by_one}
+use Rattle.rice_code.proofs.Words.{word, bits_of, unprocessed_defaults, Parameters, BlockData, Split}
+use Rattle.rice_code.proofs.lemmas.meaning.DecodingWitnesses.{Gives, all_below, gives_unsigned, zeros_end, decoded_by_one}
 use Rattle.rice_code.proofs.decoding_examples.decodes_splits_of_32_bits.Goals as goal
 
 abbrev wide : Parameters
@@ -14,14 +10,7 @@ abbrev block : BlockData
 block = record { reference = None; residuals = replicate 7 0 ++ 1 ∷ [] }
 
 gives : (k : ℕ) → k ≤ 29 → Gives wide (Split k block) (replicate 7 (pos 0) ++ pos 1 ∷ [])
-gives k small = record {
-  form = (record { reference = record { there = refl; fits = tt }; len = refl }, tt, small);
-  run = tt;
-  residuals = all_below 4294967296 block.residuals refl;
-  legal = unsigned_samples wide refl block.residuals refl;
-  len = refl;
-  blocks = refl;
-}
+gives k small = gives_unsigned block.residuals refl (record { reference = record { there = refl; fits = tt }; len = refl }, tt, small) tt (all_below 4294967296 block.residuals refl) refl refl refl
 
 pub returns-clause-second : goal.returns-clause-second
 unfolding word bits_of

@@ -1,23 +1,13 @@
 use Rattle.std.proofs.Common.{◌∷◌, [], replicate, false, Some, None, refl, lit<, lit≤, pos}
-use Rattle.rice_bits.specs.Bits.{word, bits_of}
-use Rattle.rice_samples.specs.Examples.{one_bit_defaults}
-use Rattle.rice_code.specs.code.Blocks.{BlockData}
-use Rattle.rice_code.specs.code.CodedDataSets.{Split}
-use Rattle.rice_code.proofs.lemmas.meaning.DecodingWitnesses.{Gives, all_below, unsigned_samples, zeros_end, decoded_by_one}
+use Rattle.rice_code.proofs.Words.{word, bits_of, one_bit_defaults, BlockData, Split}
+use Rattle.rice_code.proofs.lemmas.meaning.DecodingWitnesses.{Gives, all_below, gives_unsigned, zeros_end, decoded_by_one}
 use Rattle.rice_code.proofs.decoding_examples.decodes_the_greatest_split.Goals as goal
 
 abbrev block : BlockData
 block = record { reference = Some 0; residuals = 0 ∷ 1 ∷ replicate 6 0 }
 
 gives : Gives one_bit_defaults (Split 5 block) (pos 0 ∷ replicate 7 (pos 1))
-gives = record {
-  form = (record { reference = record { there = refl; fits = lit< tt }; len = refl }, refl, lit≤ tt);
-  run = tt;
-  residuals = all_below 2 block.residuals refl;
-  legal = unsigned_samples one_bit_defaults refl (0 ∷ replicate 7 1) refl;
-  len = refl;
-  blocks = refl;
-}
+gives = gives_unsigned (0 ∷ replicate 7 1) refl (record { reference = record { there = refl; fits = lit< tt }; len = refl }, refl, lit≤ tt) tt (all_below 2 block.residuals refl) refl refl refl
 
 pub returns : goal.returns
 unfolding word bits_of

@@ -1,7 +1,5 @@
 use Rattle.std.proofs.Common.{◌∷◌, [], ◌++◌, replicate, false, Some, None, refl, lit<, lit≤, pos}
-use Rattle.rice_bits.specs.Bits.{word, bits_of}
-use Rattle.rice_samples.specs.Examples.{defaults}
-use Rattle.rice_code.specs.code.CodedDataSets.{CodedDataSet, ZeroBlocks, bits_of_set}
+use Rattle.rice_code.proofs.Words.{word, bits_of, defaults, CodedDataSet, ZeroBlocks, bits_of_set}
 use Rattle.rice_code.proofs.lemmas.meaning.DecodingWitnesses.{unsigned_samples, zeros_end}
 use Rattle.rice_code.proofs.decoding_examples.decodes_two_references.Goals as goal
 

@@ -1,15 +1,6 @@
 use Rattle.std.proofs.Common.{◌≡◌, ◌∷◌, [], ◌++◌, Bool, List, length, replicate, true, false, Some, None, refl, lit<, lit≤, ap, arith, sym, ◌∙◌, append_assoc, length-append}
-use Rattle.std.specs.Prelude.{flat_map}
-use Rattle.std.specs.List.{range_with_len}
-use Rattle.rice_bits.specs.Bits.{word, bits_of}
-use Rattle.rice_samples.specs.Examples.{defaults}
-use Rattle.rice_samples.specs.Parameters.{IsLegal}
-use Rattle.rice_code.specs.code.Blocks.{BlockData}
-use Rattle.rice_code.specs.code.CodedDataSets.{CodedDataSet, Split, bits_of_set}
-use Rattle.rice_code.specs.code.Decoded.{CutOff}
-use Rattle.rice_code.specs.code.Forms.{IsForm}
-use Rattle.rice_code.proofs.lemmas.meaning.DecodingWitnesses.{decoded_by_none}
-use Rattle.rice_code.proofs.lemmas.code.FormsReadInOneWay.{forms_read_in_one_way}
+use Rattle.rice_code.proofs.Words.{flat_map, range_with_len, defaults, IsLegal, word, bits_of, BlockData, CodedDataSet, Split, bits_of_set, CutOff, IsForm}
+use Rattle.rice_code.proofs.lemmas.{meaning.DecodingWitnesses.decoded_by_none, code.FormsReadInOneWay.forms_read_in_one_way}
 use Rattle.rice_code.proofs.decoding_examples.finds_a_cut_code.Goals as goal
 
 abbrev block : BlockData

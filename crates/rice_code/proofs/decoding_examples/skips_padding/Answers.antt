@@ -1,8 +1,6 @@
 use Rattle.std.proofs.Common.{◌∷◌, [], ◌++◌, replicate, true, false, Some, None, refl, lit<, lit≤, pos}
-use Rattle.rice_bits.specs.Bits.{word, bits_of}
-use Rattle.rice_samples.specs.Examples.{defaults}
-use Rattle.rice_code.specs.code.CodedDataSets.{CodedDataSet, ZeroBlocks, bits_of_set}
-use Rattle.rice_code.proofs.lemmas.meaning.DecodingWitnesses.{Gives, unsigned_samples, zeros_end, decoded_by_one}
+use Rattle.rice_code.proofs.Words.{word, bits_of, defaults, CodedDataSet, ZeroBlocks, bits_of_set}
+use Rattle.rice_code.proofs.lemmas.meaning.DecodingWitnesses.{Gives, gives_unsigned, unsigned_samples, zeros_end, decoded_by_one}
 use Rattle.rice_code.proofs.decoding_examples.skips_padding.Goals as goal
 
 -- eight samples 5 after a reference
@@ -10,14 +8,7 @@ abbrev run : CodedDataSet
 run = ZeroBlocks (Some 5) 1
 
 gives : Gives (record defaults { interval = 1; pad = true }) run (replicate 8 (pos 5))
-gives = record {
-  form = (record { there = refl; fits = lit< tt }, lit≤ tt);
-  run = (lit≤ tt, lit≤ tt);
-  residuals = tt;
-  legal = unsigned_samples (record defaults { interval = 1; pad = true }) refl (replicate 8 5) refl;
-  len = refl;
-  blocks = refl;
-}
+gives = gives_unsigned (replicate 8 5) refl (record { there = refl; fits = lit< tt }, lit≤ tt) (lit≤ tt, lit≤ tt) tt refl refl refl
 
 pub returns-clause-all : goal.returns-clause-all
 unfolding word bits_of

@@ -1,9 +1,7 @@
 use Rattle.std.proofs.Common.{◌+◌, length}
-use Rattle.rice_samples.specs.Places.{block_count}
-use Rattle.rice_code.specs.code.Code.{sets_from}
+use Rattle.rice_code.proofs.Words.{block_count, sets_from}
 use Rattle.rice_code.proofs.laws.code_depends_on_places_alone.Goals as goal
-use Rattle.rice_code.proofs.lemmas.code.Layouts.{laid_at}
-use Rattle.rice_code.proofs.lemmas.code.BlocksByPlaceAlone.{code_stands_in_intervals}
+use Rattle.rice_code.proofs.lemmas.{code.Layouts.laid_at, code.BlocksByPlaceAlone.code_stands_in_intervals}
 
 pub returns-clause-intervals : goal.returns-clause-intervals
 returns-clause-intervals c = code_stands_in_intervals

@@ -1,6 +1,5 @@
 use Rattle.std.proofs.Common.{◌+◌, length}
-use Rattle.rice_samples.specs.Places.{block_count}
-use Rattle.rice_code.specs.code.Code.{sets_of}
+use Rattle.rice_code.proofs.Words.{block_count, sets_of}
 use Rattle.rice_code.proofs.laws.code_is_joined.Goals as goal
 use Rattle.rice_code.proofs.lemmas.code.Layouts.{laid_plain}
 

@@ -1,22 +1,11 @@
 -- Of a block only its place in its interval matters.
 use Rattle.std.proofs.Common.{◌≡◌, ℕ, zero, suc, ◌+◌, ◌-◌, ◌*◌, ◌/◌, ◌%◌, ◌≤◌, ◌==◌, min, Bool, false, cond, not, ◌&&◌, ◌||◌, nat_le}
 use Rattle.std.proofs.Common.{List, [], ◌∷◌, ◌++◌, length, take, drop, replicate, refl, ap, arith, sym, ◌∙◌, inl, inr, Option, Some, None, ℤ}
-use Rattle.std.specs.Prelude.{slice_index_or}
-use Rattle.std.specs.List.{prefix_len}
-use Rattle.std.proofs.Math.Nat.{suc-mod, mul-add-div, mul-add-mod_self_left}
-use Rattle.rice_bits.specs.Bits.{bits_to_byte}
-use Rattle.rice_samples.specs.Parameters.{Parameters, IsLegal}
-use Rattle.rice_samples.specs.Places.{place, is_reference, is_reference_sample, begins_segment, blocks_left, block_count}
-use Rattle.rice_samples.specs.predict.Residuals.{rank, pattern, residuals, last_of, filled_samples}
-use Rattle.rice_code.specs.code.Blocks.{BlockData, block_data, blocks_from, blocks_of, is_zero_block}
-use Rattle.rice_code.specs.code.CodedDataSets.{CodedDataSet, NoCompression, SecondExtension, Split, ZeroBlocks, RemainderOfSegment, bits_of_set}
-use Rattle.rice_code.specs.code.Forms.{blocks_in, zero_blocks}
-use Rattle.rice_code.specs.code.Layout.{block_after, layout}
-use Rattle.std.proofs.lemmas.Bool.{cases_lt}
+use Rattle.rice_code.proofs.Words.{slice_index_or, prefix_len, suc-mod, mul-add-div, mul-add-mod_self_left, bits_to_byte, Parameters, IsLegal, place, is_reference, is_reference_sample, begins_segment}
+use Rattle.rice_code.proofs.Words.{blocks_left, block_count, rank, pattern, residuals, last_of, filled_samples, cases_lt, BlockData, block_data, blocks_from, blocks_of, is_zero_block, CodedDataSet}
+use Rattle.rice_code.proofs.Words.{NoCompression, SecondExtension, Split, ZeroBlocks, RemainderOfSegment, bits_of_set, blocks_in, zero_blocks, block_after, layout, shortest, data_sets, code_from}
+use Rattle.rice_code.proofs.Words.{zero_run}
 use Rattle.rice_code.proofs.lemmas.code.Layouts.{sent_first}
-use Rattle.rice_code.specs.code.Choice.{shortest}
-use Rattle.rice_code.specs.code.Code.{data_sets, code_from}
-use Rattle.rice_code.specs.code.Runs.{zero_run}
 
 -- two blocks at the same place of their intervals: the next ones are at the same place, too,
 pub place_step : (s : Parameters) (b c : ℕ) → place s b ≡ place s c → place s (b + 1) ≡ place s (c + 1)

@@ -1,30 +1,12 @@
 -- Behind whole segments the code goes on from their last sample and their last bit.
 use Rattle.std.proofs.Common.{◌≡◌, ℕ, zero, suc, ◌+◌, ◌-◌, ◌*◌, ◌/◌, ◌%◌, ◌≤◌, min, Bool, true, false, List, ◌++◌}
 use Rattle.std.proofs.Common.{length, take, drop, replicate, refl, ap, arith, sym, ◌∙◌, append_assoc, length-append, subst, None, ℤ, pos}
-use Rattle.std.specs.Prelude.{All, sum_by}
-use Rattle.std.proofs.lemmas.List.Sums.{sum_by-append}
-use Rattle.std.specs.Int.{next_multiple_of}
-use Rattle.std.proofs.lemmas.List.{length-replicate}
-use Rattle.std.proofs.lemmas.List.Elements.{recursion_from_All, All-from_recursion}
-use Rattle.std.proofs.Math.Nat.{mul-add-div, mul-add-mod_self_left}
-use Rattle.rice_samples.specs.Parameters.{Parameters, IsLegal, IsSample}
-use Rattle.rice_samples.specs.Places.{begins_segment, block_count, cut}
-use Rattle.rice_samples.proofs.lemmas.setting.CutLemmas.{cut_is_start}
-use Rattle.rice_samples.proofs.lemmas.setting.LevelsOfSamples.{zero_is_sample}
-use Rattle.std.proofs.lemmas.List.{length-take-le, take-append-drop}
-use Rattle.rice_samples.specs.predict.Residuals.{last_of, filled_samples}
-use Rattle.rice_code.specs.code.Blocks.{blocks_from, blocks_of, zero_block}
-use Rattle.rice_code.specs.code.Forms.{blocks_in_all}
-use Rattle.rice_code.specs.code.Layout.{layout}
-use Rattle.rice_code.specs.code.CodedDataSets.{bits_of_set}
-use Rattle.rice_code.specs.code.Code.{data_sets, sets_from, code_from, code, bits_from}
-use Rattle.rice_code.proofs.lemmas.meaning.CoveredBlocks.{GoOn, covers_blocks}
-use Rattle.rice_code.proofs.lemmas.code.Layouts.{laid_append, laid_inside}
-use Rattle.rice_code.proofs.lemmas.cost.PaddingBounds.{are_blocks}
+use Rattle.rice_code.proofs.Words.{All, sum_by, sum_by-append, next_multiple_of, length-replicate, recursion_from_All, All-from_recursion, mul-add-div, mul-add-mod_self_left, Parameters, IsLegal}
+use Rattle.rice_code.proofs.Words.{IsSample, begins_segment, block_count, cut, cut_is_start, zero_is_sample, length-take-le, take-append-drop, last_of, filled_samples, blocks_from, blocks_of}
+use Rattle.rice_code.proofs.Words.{zero_block, blocks_in_all, layout, bits_of_set, data_sets, sets_from, code_from, code, bits_from}
+use Rattle.rice_code.proofs.lemmas.{meaning.CoveredBlocks.GoOn, meaning.CoveredBlocks.covers_blocks, code.Layouts.laid_append, code.Layouts.laid_inside, cost.PaddingBounds.are_blocks}
+use Rattle.rice_code.proofs.lemmas.{code.SegmentsOneByOne.sets_of_segments, code.RepeatedSamples.last_append, code.RepeatedSamples.blocks_append, code.WholeBlocks.not_filled}
 use Rattle.rice_code.proofs.lemmas.code.SoundBlocks.{all_take, blocks_sound, count_blocks}
-use Rattle.rice_code.proofs.lemmas.code.SegmentsOneByOne.{sets_of_segments}
-use Rattle.rice_code.proofs.lemmas.code.RepeatedSamples.{last_append, blocks_append}
-use Rattle.rice_code.proofs.lemmas.code.WholeBlocks.{not_filled}
 
 -- samples after whole blocks are filled as if they stood alone
 fill_behind : (j q m n : ℕ) → 1 ≤ j → n ≡ j * q + m → (next_multiple_of n j - n ≡ next_multiple_of m j - m) × (n / j + min 1 (n % j) ≡ q + (m / j + min 1 (m % j)))

@@ -1,20 +1,9 @@
 -- Coded data sets are read in one way.
 use Rattle.std.proofs.Common.{◌≡◌, ◌≢◌, ℕ, suc, ◌+◌, ◌-◌, ◌*◌, ◌/◌, ◌%◌, ◌^◌, ◌<◌, ◌≤◌, Bool, true, false}
 use Rattle.std.proofs.Common.{List, [], ◌∷◌, ◌++◌, length, refl, ap, arith, sym, ◌∙◌, subst, append_assoc, Option, Some, None}
-use Rattle.std.specs.Prelude.{All, flat_map, slice_index, OnSome}
-use Rattle.std.specs.List.{AllZip}
-use Rattle.std.proofs.lemmas.Bool.Decides.{nat_tests}
-use Rattle.std.proofs.Math.Nat.{mod-eq_of_lt}
-use Rattle.std.proofs.Math.Pow.{pow_mono}
-use Rattle.std.proofs.lemmas.Nat.{div-add-mod'}
-use Rattle.rice_bits.specs.Bits.{word, fundamental_sequence}
-use Rattle.rice_bits.proofs.lemmas.bits.WordsReadInOneWay.{word_reads, sequence_reads, pieces_read}
-use Rattle.rice_samples.specs.Parameters.{Parameters, IsLegal, id_len, k_max}
-use Rattle.rice_code.specs.code.Blocks.{BlockData}
-use Rattle.rice_samples.specs.blocks.Pairs.{pair_codes}
-use Rattle.rice_code.specs.code.CodedDataSets.{CodedDataSet, NoCompression, SecondExtension, Split, ZeroBlocks, RemainderOfSegment, bits_of_set, sent_residuals, sent_from, reference_bits, run_number}
-use Rattle.rice_code.specs.code.Forms.{IsForm, IsBlock, IsReference, IsZeroAtReference}
-use Rattle.rice_samples.proofs.lemmas.blocks.PairNumbers.{same_pairs, length-pair_codes}
+use Rattle.rice_code.proofs.Words.{All, flat_map, slice_index, OnSome, AllZip, nat_tests, mod-eq_of_lt, pow_mono, div-add-mod', word_reads, sequence_reads, pieces_read, Parameters, IsLegal, id_len}
+use Rattle.rice_code.proofs.Words.{k_max, pair_codes, same_pairs, length-pair_codes, word, fundamental_sequence, BlockData, CodedDataSet, NoCompression, SecondExtension, Split, ZeroBlocks}
+use Rattle.rice_code.proofs.Words.{RemainderOfSegment, bits_of_set, sent_residuals, sent_from, reference_bits, run_number, IsForm, IsBlock, IsReference, IsZeroAtReference}
 
 -- numbers below a limit that are alike modulo it are the same
 pub same_below : (m a b : ℕ) → a < m → b < m → a % m ≡ b % m → a ≡ b
@@ -23,12 +12,11 @@ same_below m a b h k e = sym (mod-eq_of_lt h) ∙ (e ∙ mod-eq_of_lt k)
 -- lists of such numbers too
 pub same_all_below : (m : ℕ) (xs ys : List ℕ) → All (λ d. d < m) xs → All (λ d. d < m) ys → AllZip (λ a b. a % m ≡ b % m) xs ys → xs ≡ ys
 same_all_below m [] [] h k e = refl
-same_all_below m [] (y ∷ ys) h k e = absurd e
-same_all_below m (x ∷ xs) [] h k e = absurd e
 same_all_below m (x ∷ xs) (y ∷ ys) h k e =
     let first = same_below m x y (h 0 0 (omega arith)) (k 0 0 (omega arith)) e.0 in
     let rest = same_all_below m xs ys (λ i d lt. h (suc i) d (omega arith)) (λ i d lt. k (suc i) d (omega arith)) e.1 in
     cc
+same_all_below m _ _ h k e = absurd e
 
 -- a number is its high and its low part
 pub same_parts : (m a b : ℕ) → a / m ≡ b / m → a % m ≡ b % m → a ≡ b
@@ -37,33 +25,33 @@ same_parts m a b e f = sym (div-add-mod' a m) ∙ (ap (λ d. d * m + a % m) e �
 -- and so are the numbers of a list
 pub same_all_parts : (m : ℕ) (xs ys : List ℕ) → AllZip (λ a b. a / m ≡ b / m) xs ys → AllZip (λ a b. a % m ≡ b % m) xs ys → xs ≡ ys
 same_all_parts m [] [] e f = refl
-same_all_parts m [] (y ∷ ys) e f = absurd e
-same_all_parts m (x ∷ xs) [] e f = absurd e
 same_all_parts m (x ∷ xs) (y ∷ ys) e f =
     let first = same_parts m x y e.0 f.0 in
     let rest = same_all_parts m xs ys e.1 f.1 in
     cc
+same_all_parts m _ _ e f = absurd e
 
 -- lists that are alike at each place are the same
 pub same_all : {X : Type 0} (xs ys : List X) → AllZip (λ a b. a ≡ b) xs ys → xs ≡ ys
 same_all [] [] e = refl
-same_all [] (y ∷ ys) e = absurd e
-same_all (x ∷ xs) [] e = absurd e
 same_all (x ∷ xs) (y ∷ ys) e = λ i. e.0 i ∷ same_all xs ys e.1 i
+same_all _ _ e = absurd e
 
 -- what follows a word, where the words are alike
 pub after_word : (w a b : ℕ) (t u x y : List Bool) → (word w a ++ t) ++ x ≡ (word w b ++ u) ++ y → (a % 2 ^ w ≡ b % 2 ^ w) × (t ++ x ≡ u ++ y)
 after_word w a b t u x y e = word_reads w a b (t ++ x) (u ++ y) (sym (append_assoc (word w a) t x) ∙ (e ∙ append_assoc (word w b) u y))
 
+-- and what follows a reference, where the references are those of one block
+pub reference_reads : (s : Parameters) (b : ℕ) (r q : Option ℕ) (x y : List Bool) → IsReference s b r → IsReference s b q → reference_bits s r ++ x ≡ reference_bits s q ++ y → (r ≡ q) × (x ≡ y)
+reference_reads s b None None x y h k e = (refl, e)
+reference_reads s b None (Some w) x y h k e = absurd (let f : false ≡ true = h.there ∙ sym k.there in cc)
+reference_reads s b (Some v) None x y h k e = absurd (let f : true ≡ false = h.there ∙ sym k.there in cc)
+reference_reads s b (Some v) (Some w) x y h k e = let a = word_reads s.bits v w x y e in (ap (λ n. Some n) (same_below (2 ^ s.bits) v w h.fits k.fits a.0), a.1)
+
 -- what follows a reference
 pub after_reference : {s : Parameters} {b : ℕ} (r q : Option ℕ) → IsReference s b r → IsReference s b q → (t u x y : List Bool) →
     (reference_bits s r ++ t) ++ x ≡ (reference_bits s q ++ u) ++ y → (r ≡ q) × (t ++ x ≡ u ++ y)
-after_reference None None h k t u x y e = (refl, e)
-after_reference None (Some w) h k t u x y e = absurd (let f : false ≡ true = h.there ∙ sym k.there in cc)
-after_reference (Some v) None h k t u x y e = absurd (let f : true ≡ false = h.there ∙ sym k.there in cc)
-after_reference {s} (Some v) (Some w) h k t u x y e =
-    let a = after_word s.bits v w t u x y e in
-    (ap (λ n. Some n) (same_below (2 ^ s.bits) v w h.fits k.fits a.0), a.1)
+after_reference {s} {b} r q h k t u x y e = reference_reads s b r q (t ++ x) (u ++ y) h k (sym (append_assoc (reference_bits s r) t x) ∙ (e ∙ append_assoc (reference_bits s q) u y))
 
 -- the identifier of a coded data set
 unfoldable pub identifier : Parameters → CodedDataSet → ℕ
@@ -118,9 +106,8 @@ same_identifiers s b d e x y hd he eq =
 length-coded : (r : Option ℕ) (ds es : List ℕ) → length ds ≡ length es → length (sent_from r ds) ≡ length (sent_from r es)
 length-coded None ds es n = n
 length-coded (Some v) [] [] n = refl
-length-coded (Some v) [] (e ∷ es) n = absurd cc
-length-coded (Some v) (d ∷ ds) [] n = absurd cc
 length-coded (Some v) (d ∷ ds) (e ∷ es) n = omega arith
+length-coded (Some v) _ _ n = absurd cc
 
 -- what holds of all residuals holds of those that are sent beside the reference
 pub All-coded : (P : ℕ → Type 0) (r : Option ℕ) (ds : List ℕ) → All P ds → All P (sent_from r ds)
@@ -131,9 +118,8 @@ All-coded P (Some v) (d ∷ ds) h = λ i e lt. h (suc i) e (omega arith)
 same_residuals : (r : Option ℕ) (ds es : List ℕ) → length ds ≡ length es → OnSome r (slice_index ds 0 ≡ 0) → OnSome r (slice_index es 0 ≡ 0) → sent_from r ds ≡ sent_from r es → ds ≡ es
 same_residuals None ds es n h k e = e
 same_residuals (Some v) [] [] n h k e = refl
-same_residuals (Some v) [] (f ∷ es) n h k e = absurd cc
-same_residuals (Some v) (d ∷ ds) [] n h k e = absurd cc
 same_residuals (Some v) (d ∷ ds) (f ∷ es) n h k e = cc
+same_residuals (Some v) _ _ n h k e = absurd cc
 
 -- contents with one reference and the same coded residuals are the same
 same_contents : (c e : BlockData) → c.reference ≡ e.reference → length c.residuals ≡ length e.residuals → IsZeroAtReference c → IsZeroAtReference e → sent_residuals c ≡ sent_residuals e → c ≡ e
@@ -230,24 +216,13 @@ by_tails {s} b (ZeroBlocks r z) (RemainderOfSegment q) {x} {y} legal h k i t =
     absurd (not_remainder z h.1 (run_reads (run_number z) 4 x y h.0 k t).1)
 by_tails {s} b (RemainderOfSegment q) (ZeroBlocks r z) {x} {y} legal h k i t =
     absurd (not_remainder z k.1 (sym (run_reads 4 (run_number z) x y h k.0 t).1))
-by_tails {s} b (NoCompression c) (SecondExtension e) legal h k i t = let w = wide_id s in absurd (omega arith)
 by_tails {s} b (NoCompression c) (Split n e) legal h k i t = let w = wide_id s in let le : n ≤ 2 ^ id_len s - 3 = k.2 in absurd (omega arith)
-by_tails {s} b (NoCompression c) (ZeroBlocks r z) legal h k i t = let w = wide_id s in absurd (omega arith)
-by_tails {s} b (NoCompression c) (RemainderOfSegment r) legal h k i t = let w = wide_id s in absurd (omega arith)
-by_tails {s} b (SecondExtension c) (NoCompression e) legal h k i t = let w = wide_id s in absurd (omega arith)
-by_tails b (SecondExtension c) (Split n e) legal h k i t = absurd (omega arith)
-by_tails b (SecondExtension c) (ZeroBlocks r z) legal h k i t = absurd cc
-by_tails b (SecondExtension c) (RemainderOfSegment r) legal h k i t = absurd cc
 by_tails {s} b (Split n c) (NoCompression e) legal h k i t = let w = wide_id s in let le : n ≤ 2 ^ id_len s - 3 = h.2 in absurd (omega arith)
-by_tails b (Split n c) (SecondExtension e) legal h k i t = absurd (omega arith)
-by_tails b (Split n c) (ZeroBlocks r z) legal h k i t = absurd (omega arith)
-by_tails b (Split n c) (RemainderOfSegment r) legal h k i t = absurd (omega arith)
-by_tails {s} b (ZeroBlocks r z) (NoCompression e) legal h k i t = let w = wide_id s in absurd (omega arith)
-by_tails b (ZeroBlocks r z) (SecondExtension e) legal h k i t = absurd cc
-by_tails b (ZeroBlocks r z) (Split n e) legal h k i t = absurd (omega arith)
-by_tails {s} b (RemainderOfSegment r) (NoCompression e) legal h k i t = let w = wide_id s in absurd (omega arith)
-by_tails b (RemainderOfSegment r) (SecondExtension e) legal h k i t = absurd cc
-by_tails b (RemainderOfSegment r) (Split n e) legal h k i t = absurd (omega arith)
+by_tails {s} b (NoCompression c) _ legal h k i t = let w = wide_id s in absurd (omega arith)
+by_tails {s} b _ (NoCompression e) legal h k i t = let w = wide_id s in absurd (omega arith)
+by_tails b (Split n c) _ legal h k i t = absurd (omega arith)
+by_tails b _ (Split n e) legal h k i t = absurd (omega arith)
+by_tails b _ _ legal h k i t = absurd cc
 
 -- no form begins another
 pub forms_read_in_one_way : {s : Parameters} (b : ℕ) (d e : CodedDataSet) (x y : List Bool) → IsLegal s → IsForm s b d → IsForm s b e →

@@ -1,19 +1,9 @@
 -- How coded data sets lie: without padding their texts are joined, what is laid is taken, and each interval has seven bits of padding at most.
 use Rattle.std.proofs.Common.{◌≡◌, ℕ, ◌+◌, ◌-◌, ◌*◌, ◌/◌, ◌%◌, ◌<◌, ◌≤◌, ◌==◌, min, Bool, true, false, cond, ◌&&◌}
 use Rattle.std.proofs.Common.{List, [], ◌∷◌, ◌++◌, length, replicate, refl, ap, arith, sym, ◌∙◌, inl, inr, append_assoc, append-nil, length-append}
-use Rattle.std.specs.Prelude.{flat_map, sum_by}
-use Rattle.std.proofs.lemmas.Bool.Decides.{nat_tests}
-use Rattle.std.proofs.lemmas.Bool.{cases_lt}
-use Rattle.std.proofs.lemmas.List.{length-replicate}
-use Rattle.std.proofs.lemmas.List.Sums.{sum_by-cons}
-use Rattle.std.proofs.lemmas.Nat.{le-div}
-use Rattle.std.proofs.Math.Nat.{div-add-mod, div-mul-le_self, mul-le-mul_left}
-use Rattle.rice_bits.specs.Bits.{bits_to_byte}
-use Rattle.rice_samples.specs.Parameters.{Parameters}
-use Rattle.rice_samples.specs.Places.{place, is_padded}
-use Rattle.rice_code.specs.code.CodedDataSets.{CodedDataSet, NoCompression, SecondExtension, Split, ZeroBlocks, RemainderOfSegment, bits_of_set}
-use Rattle.rice_code.specs.code.Forms.{blocks_in, blocks_in_all}
-use Rattle.rice_code.specs.code.Layout.{block_after, padding, bits_with_padding, layout, Lies}
+use Rattle.rice_code.proofs.Words.{flat_map, sum_by, cases_lt, length-replicate, sum_by-cons, le-div, div-add-mod, div-mul-le_self, mul-le-mul_left, bits_to_byte, Parameters, place}
+use Rattle.rice_code.proofs.Words.{is_padded, CodedDataSet, NoCompression, SecondExtension, Split, ZeroBlocks, RemainderOfSegment, bits_of_set, blocks_in, blocks_in_all, block_after, padding}
+use Rattle.rice_code.proofs.Words.{bits_with_padding, layout, Lies, eqb-true}
 use Rattle.rice_code.proofs.lemmas.meaning.CoveredBlocks.{bool_cases, and-split}
 
 -- without padding an interval ends with no zeros of its own
@@ -73,8 +63,7 @@ lies_inside s end b position (d ∷ ds) h =
           (position + length (sent_first s end b position d)) ds (omega arith),
     )
 
--- What is laid is taken with some zeros more, no more than fill the last byte.
--- They are skipped after a run that stands for more blocks than there are.
+-- What is laid is taken with some zeros more, no more than fill the last byte. They are skipped after a run that stands for more blocks than there are.
 pub lies_laid : (s : Parameters) (end b position : ℕ) (ds : List CodedDataSet) → is_padded s end ≡ false → BeginBefore s end b ds →
     (n : ℕ) × (n ≤ bits_to_byte (position + length (layout s end b position ds))) × Lies s b position ds (layout s end b position ds ++ replicate n false)
 lies_laid s end b position [] e h = (0, omega arith, refl)
@@ -182,7 +171,7 @@ padding_bound s end b bits d h lt =
     let q' = ap (λ m. m / r) there in
     elim (bool_cases (is_padded s next)) [
       | inl e ↦
-          let at_end : place s next ≡ 0 = same (place s next) (and-split s.pad (place s next == 0) e).1 in
+          let at_end : place s next ≡ 0 = eqb-true (place s next) 0 (and-split s.pad (place s next == 0) e).1 in
           let p = end_passed b k r h (omega arith) (ap (λ m. m % r) here ∙ at_end) in
           let p' = ap (λ m. m / r) here in
           let f : padding s next bits ≡ bits_to_byte bits = ap (λ v. cond v (bits_to_byte bits) 0) e in
@@ -193,9 +182,6 @@ padding_bound s end b bits d h lt =
           omega arith
     ]
   where
-    same : (m : ℕ) → (m == 0) ≡ true → m ≡ 0
-    same m e = grind (arith, nat_tests)
-
     sums : (p bits x y : ℕ) → p ≡ bits → bits ≤ 7 → x + 1 ≤ y → p + 7 * x ≤ 7 * y
     sums p bits x y e h k = omega arith
 

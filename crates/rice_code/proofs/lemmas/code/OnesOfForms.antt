@@ -1,17 +1,9 @@
 -- Every form contains a one.
 use Rattle.std.proofs.Common.{◌≡◌, ℕ, zero, suc, ◌+◌, ◌-◌, ◌*◌, ◌/◌, ◌%◌, ◌^◌, ◌<◌, ◌≤◌, ◌==◌, Bool, true, false, List, [], ◌∷◌, ◌++◌, replicate, refl, ap, arith, ◌∙◌, inl, inr}
-use Rattle.std.specs.Prelude.{Contains, flat_map}
-use Rattle.std.proofs.lemmas.Bool.Decides.{nat_tests}
-use Rattle.std.proofs.lemmas.List.Elements.{Contains-append_left, Contains-append_right, Contains-push}
-use Rattle.std.proofs.Math.Nat.{mod-eq_of_lt}
-use Rattle.rice_bits.specs.Bits.{word, fundamental_sequence}
-use Rattle.rice_bits.proofs.lemmas.bits.WordsReadInOneWay.{digit_split}
-use Rattle.rice_samples.specs.Parameters.{Parameters, IsLegal, id_len}
-use Rattle.rice_samples.specs.blocks.Pairs.{pair_codes}
-use Rattle.rice_code.specs.code.CodedDataSets.{CodedDataSet, NoCompression, SecondExtension, Split, ZeroBlocks, RemainderOfSegment, bits_of_set, sent_residuals, reference_bits, run_number}
-use Rattle.rice_code.specs.code.Forms.{IsForm}
-use Rattle.rice_code.proofs.lemmas.meaning.CoveredBlocks.{bool_cases}
-use Rattle.rice_code.proofs.lemmas.code.FormsReadInOneWay.{wide_id}
+use Rattle.rice_code.proofs.Words.{Contains, flat_map, nat_tests, Contains-append_left, Contains-append_right, Contains-push, mod-eq_of_lt, digit_split, Parameters, IsLegal, id_len, pair_codes, word}
+use Rattle.rice_code.proofs.Words.{fundamental_sequence, CodedDataSet, NoCompression, SecondExtension, Split, ZeroBlocks, RemainderOfSegment, bits_of_set, sent_residuals, reference_bits, run_number}
+use Rattle.rice_code.proofs.Words.{IsForm}
+use Rattle.rice_code.proofs.lemmas.{meaning.CoveredBlocks.bool_cases, code.FormsReadInOneWay.wide_id}
 
 -- the word of a number has a one, where its digits are not all zeros
 word_has_one : (w v : ℕ) → 1 ≤ v % 2 ^ w → Contains (word w v) true

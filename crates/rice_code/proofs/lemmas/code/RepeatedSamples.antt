@@ -1,16 +1,8 @@
 -- Samples that repeat the last one make blocks of zeros.
 use Rattle.std.proofs.Common.{◌≡◌, ℕ, zero, suc, ◌+◌, ◌-◌, ◌*◌, ◌≤◌, ◌==◌, Bool, true, false, cond, List, [], ◌∷◌, ◌++◌}
 use Rattle.std.proofs.Common.{length, take, drop, replicate, refl, ap, arith, sym, ◌∙◌, ◌⊎◌, inl, inr, length-drop, Some, None, ℤ}
-use Rattle.std.specs.Prelude.{slice_index_or}
-use Rattle.std.specs.List.{list_all}
-use Rattle.std.proofs.lemmas.Bool.Decides.{nat_tests}
-use Rattle.std.proofs.lemmas.List.{take-append-le, drop-append-le, take-append-drop, take-replicate, drop-replicate}
-use Rattle.std.proofs.Math.Seq.{take-length}
-use Rattle.rice_samples.specs.Parameters.{Parameters, value_count, level}
-use Rattle.rice_samples.specs.Places.{is_reference_sample, is_reference}
-use Rattle.rice_samples.specs.predict.Residuals.{rank_below, rank, residual, residuals, pattern, last_of}
-use Rattle.rice_samples.proofs.lemmas.setting.PlaceLemmas.{reference_begins}
-use Rattle.rice_code.specs.code.Blocks.{block_data, blocks_from, zero_block}
+use Rattle.rice_code.proofs.Words.{slice_index_or, list_all, nat_tests, take-append-le, drop-append-le, take-append-drop, take-replicate, drop-replicate, take-length, Parameters, value_count, level}
+use Rattle.rice_code.proofs.Words.{is_reference_sample, is_reference, rank_below, rank, residual, residuals, pattern, last_of, reference_begins, block_data, blocks_from, zero_block, eqb-true}
 use Rattle.rice_code.proofs.lemmas.meaning.CoveredBlocks.{bool_cases, and-split, GoOn, EndsInZeros}
 
 -- the last of samples in two parts is the last of the second part, after that of the first
@@ -96,10 +88,7 @@ repeated_blocks s b p (suc n) k h =
 -- without prediction the last sample of a block of zeros is zero
 last_of_zeros : (s : Parameters) (i : ℕ) (p : ℤ) (xs : List ℤ) → s.preprocess ≡ false → 1 ≤ length xs → list_all (λ d. d == 0) (residuals s i p xs) ≡ true → pattern s (last_of p xs) ≡ 0
 last_of_zeros s i p [] e h k = absurd (omega arith)
-last_of_zeros s i p (x ∷ []) e h k = sym (ap (λ v. cond v (cond (is_reference_sample s i) 0 (rank s p x)) (pattern s x)) e) ∙ is_none (residual s i p x) (and-split (residual s i p x == 0) true k).0
-  where
-    is_none : (d : ℕ) → (d == 0) ≡ true → d ≡ 0
-    is_none d e = grind (arith, nat_tests)
+last_of_zeros s i p (x ∷ []) e h k = sym (ap (λ v. cond v (cond (is_reference_sample s i) 0 (rank s p x)) (pattern s x)) e) ∙ eqb-true (residual s i p x) 0 (and-split (residual s i p x == 0) true k).0
 last_of_zeros s i p (x ∷ y ∷ ys) e h k =
     last_of_zeros s (i + 1) x (y ∷ ys) e (omega arith) (and-split (residual s i p x == 0) (list_all (λ d. d == 0) (residuals s (i + 1) x (y ∷ ys))) k).1
 

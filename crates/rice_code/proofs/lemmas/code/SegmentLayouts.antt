@@ -1,24 +1,11 @@
 -- How the coded data sets of a segment lie: one after the other, and padded where they end an interval.
 use Rattle.std.proofs.Common.{◌≡◌, ℕ, suc, ◌+◌, ◌-◌, ◌*◌, ◌/◌, ◌%◌, ◌<◌, ◌≤◌, ◌==◌, min, Bool, true, false, cond, ◌&&◌, List}
 use Rattle.std.proofs.Common.{[], ◌∷◌, ◌++◌, length, replicate, refl, ap, arith, sym, ◌∙◌, inl, inr, subst, append_assoc, append-nil, length-append, None, Some}
-use Rattle.std.proofs.lemmas.Bool.Decides.{nat_tests}
-use Rattle.std.proofs.lemmas.Bool.{cases_lt}
-use Rattle.std.proofs.Math.Nat.{mod-lt, mod-eq_of_lt, mul-le-mul_left, mod_self}
-use Rattle.rice_bits.specs.Bits.{bits_to_byte}
-use Rattle.rice_samples.specs.Parameters.{Parameters, IsLegal}
-use Rattle.rice_samples.specs.Places.{place, blocks_left, is_padded}
-use Rattle.rice_code.specs.code.Blocks.{BlockData, zero_block}
-use Rattle.rice_code.specs.code.Code.{data_sets}
-use Rattle.rice_code.specs.code.CodedDataSets.{CodedDataSet, bits_of_set, bits_of_sets}
-use Rattle.rice_code.specs.code.Decoded.{AreTaken}
-use Rattle.rice_code.specs.code.Forms.{blocks_in_all}
-use Rattle.rice_code.specs.code.SoundBlocks.{AreSoundBlocks}
-use Rattle.rice_code.specs.code.Layout.{block_after, padding, bits_with_padding, layout}
-use Rattle.rice_code.proofs.lemmas.meaning.CoveredBlocks.{covers_blocks}
+use Rattle.rice_code.proofs.Words.{nat_tests, cases_lt, mod-lt, mod-eq_of_lt, mul-le-mul_left, mod_self, bits_to_byte, Parameters, IsLegal, place, blocks_left, is_padded, BlockData, zero_block}
+use Rattle.rice_code.proofs.Words.{data_sets, CodedDataSet, bits_of_set, bits_of_sets, AreTaken, blocks_in_all, AreSoundBlocks, block_after, padding, bits_with_padding, layout}
+use Rattle.rice_code.proofs.lemmas.{meaning.CoveredBlocks.covers_blocks, cost.PaddingBounds.are_blocks, code.SegmentPlaces.none_padded, meaning.SentSetsAreTaken.are_taken}
+use Rattle.rice_code.proofs.lemmas.{meaning.SentSetsAreTaken.begin_before}
 use Rattle.rice_code.proofs.lemmas.code.Layouts.{BeginBefore, ends_inside, sent_first, some_block}
-use Rattle.rice_code.proofs.lemmas.cost.PaddingBounds.{are_blocks}
-use Rattle.rice_code.proofs.lemmas.code.SegmentPlaces.{none_padded}
-use Rattle.rice_code.proofs.lemmas.meaning.SentSetsAreTaken.{are_taken, begin_before}
 
 -- only the last can be padded, since the others end inside
 laid_to_end : (s : Parameters) (end b position : ℕ) (d : CodedDataSet) (ds : List CodedDataSet) → ((m : ℕ) → b < m → m < end → is_padded s m ≡ false)

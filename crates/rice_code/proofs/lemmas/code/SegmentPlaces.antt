@@ -1,12 +1,7 @@
 -- The places of the blocks of a segment, and of the segment after it.
 use Rattle.std.proofs.Common.{◌≡◌, ℕ, zero, suc, ◌+◌, ◌-◌, ◌*◌, ◌/◌, ◌%◌, ◌<◌, ◌≤◌, ◌==◌, min, true, false, cond, ap, arith, sym, ◌∙◌, inl, inr}
-use Rattle.std.proofs.lemmas.Bool.{cases_lt}
-use Rattle.std.proofs.lemmas.Bool.Decides.{nat_tests}
-use Rattle.std.proofs.lemmas.Nat.{div-mul-add}
-use Rattle.std.proofs.Math.Nat.{div-add-mod, mod-lt, mod-eq_of_lt, mul-le-mul_left}
-use Rattle.rice_samples.specs.Parameters.{Parameters}
-use Rattle.rice_samples.specs.Places.{place, segment_start, begins_segment, blocks_left, is_padded, cut}
-use Rattle.rice_samples.proofs.lemmas.setting.PlaceLemmas.{next_place, some_left}
+use Rattle.rice_code.proofs.Words.{nat_tests, div-mul-add, div-add-mod, mod-lt, mod-eq_of_lt, Parameters, place, segment_start, begins_segment, blocks_left, is_padded, cut, eqb-true}
+use Rattle.rice_code.proofs.Words.{next_place, some_left, lt_of_mul-lt-mul_left}
 use Rattle.rice_code.proofs.lemmas.meaning.CoveredBlocks.{bool_cases, and-split}
 
 -- places go on inside a segment
@@ -31,16 +26,13 @@ begins_next s b h e =
     let p = place_inside s b q h (omega arith) in
     let n : b + q + 1 ≡ b + blocks_left s b = omega arith in
     let lt = mod-lt b h in
-    let t : x ≡ 64 * (x / 64) = same x (64 * (x / 64)) e in
+    let t : x ≡ 64 * (x / 64) = eqb-true x (64 * (x / 64)) e in
     let l : blocks_left s b ≡ min 64 (r - x) = left_is x r t in
     elim (next_place s (b + q) h) [
       | inl f ↦ ap (begins_segment s) (sym n) ∙ (ap (λ y. y == 64 * (y / 64)) (up x r (place s (b + q)) (place s (b + q + 1)) (blocks_left s b) t l left.0 p f.0 f.1) ∙ whole (x / 64 + 1))
       | inr f ↦ ap (begins_segment s) (sym n) ∙ ap (λ y. y == 64 * (y / 64)) f.0
     ]
   where
-    same : (x y : ℕ) → (x == y) ≡ true → x ≡ y
-    same x y e = grind (arith, nat_tests)
-
     left_is : (x r : ℕ) → x ≡ 64 * (x / 64) → 64 * (x / 64) + min 64 (r - 64 * (x / 64)) - x ≡ min 64 (r - x)
     left_is x r e = omega arith
 
@@ -59,19 +51,13 @@ cut_is s b m n h j e f k =
     let few : q < blocks_left s b = below q (n % s.block) s.block (blocks_left s b) n d k in
     let at : m / s.block ≡ b + q = divided m n b s.block j f in
     let p = place_inside s b q h few in
-    let t : place s b ≡ 64 * (place s b / 64) = same (place s b) (64 * (place s b / 64)) e in
+    let t : place s b ≡ 64 * (place s b / 64) = eqb-true (place s b) (64 * (place s b / 64)) e in
     let left = some_left s b h in
     let back : b + q - (place s (b + q) - segment_start s (b + q)) ≡ b = offset b q (place s b) (place s (b + q)) p t (omega arith) in
     ap (λ c. s.block * (c - (place s c - segment_start s c))) at ∙ ap (λ v. s.block * v) back
   where
-    same : (x y : ℕ) → (x == y) ≡ true → x ≡ y
-    same x y e = grind (arith, nat_tests)
-
     below : (q r j left n : ℕ) → j * q + r ≡ n → n < j * left → q < left
-    below q r j left n d k = elim (cases_lt q left) [
-      | inl lt ↦ lt
-      | inr le ↦ absurd (let f : j * left ≤ j * q = mul-le-mul_left j le in omega arith)
-    ]
+    below q r j left n d k = lt_of_mul-lt-mul_left j (omega arith)
 
     divided : (m n b j : ℕ) → 1 ≤ j → m ≡ j * b + n → m / j ≡ b + n / j
     divided m n b j h e =
@@ -87,11 +73,8 @@ pub none_padded : (s : Parameters) (b q : ℕ) → 1 ≤ s.interval → 1 ≤ q 
 none_padded s b q h some k =
     elim (bool_cases (is_padded s (b + q))) [
       | inr e ↦ e
-      | inl e ↦ absurd (let first = same (place s (b + q)) (and-split s.pad (place s (b + q) == 0) e).1 in omega (arith, first, place_inside s b q h k))
+      | inl e ↦ absurd (let first = eqb-true (place s (b + q)) 0 (and-split s.pad (place s (b + q) == 0) e).1 in omega (arith, first, place_inside s b q h k))
     ]
-  where
-    same : (m : ℕ) → (m == 0) ≡ true → m ≡ 0
-    same m e = grind (arith, nat_tests)
 
 -- the place after a segment
 pub next_start_is : (s : Parameters) (b start : ℕ) → 1 ≤ s.interval → place s b ≡ start →

@@ -1,18 +1,8 @@
 -- Segments are coded one by one: what stands after a segment's end changes nothing before it.
 use Rattle.std.proofs.Common.{◌≡◌, ℕ, zero, suc, ◌+◌, ◌≤◌, ◌==◌, Bool, true, false, cond, not, ◌&&◌, ◌||◌, nat_le}
 use Rattle.std.proofs.Common.{List, [], ◌∷◌, ◌++◌, length, refl, ap, arith, sym, ◌∙◌, inl, inr, append_assoc, length-append, Option}
-use Rattle.std.specs.List.{prefix_len}
-use Rattle.std.proofs.lemmas.Bool.Decides.{nat_tests}
-use Rattle.std.proofs.lemmas.Bool.{cases_lt}
-use Rattle.std.proofs.lemmas.List.{take-append-le}
-use Rattle.rice_samples.specs.Parameters.{Parameters}
-use Rattle.rice_samples.specs.Places.{begins_segment, blocks_left}
-use Rattle.rice_samples.proofs.lemmas.setting.PlaceLemmas.{one_less_left, last_of_segment}
-use Rattle.rice_code.specs.code.Blocks.{BlockData, is_zero_block}
-use Rattle.rice_code.specs.code.CodedDataSets.{ZeroBlocks, RemainderOfSegment}
-use Rattle.rice_code.specs.code.Choice.{shortest}
-use Rattle.rice_code.specs.code.Code.{data_sets, data_set_at}
-use Rattle.rice_code.specs.code.Runs.{zero_run, run_len}
+use Rattle.rice_code.proofs.Words.{prefix_len, nat_tests, cases_lt, take-append-le, Parameters, begins_segment, blocks_left, one_less_left, last_of_segment, BlockData, is_zero_block, ZeroBlocks}
+use Rattle.rice_code.proofs.Words.{RemainderOfSegment, shortest, data_sets, data_set_at, zero_run, run_len}
 use Rattle.rice_code.proofs.lemmas.meaning.CoveredBlocks.{bool_cases, run_inside}
 
 -- a segment that begins n blocks on ends the one before

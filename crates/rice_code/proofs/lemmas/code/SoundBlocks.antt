@@ -1,23 +1,10 @@
 -- The blocks of legal samples are sound, and as many as they should be.
 use Rattle.std.proofs.Common.{◌≡◌, ℕ, zero, suc, ◌+◌, ◌-◌, ◌*◌, ◌/◌, ◌%◌, ◌<◌, ◌≤◌, min, Bool, true, false, cond, List}
 use Rattle.std.proofs.Common.{[], ◌∷◌, ◌++◌, length, take, drop, replicate, refl, ap, arith, ◌∙◌, inl, inr, length-append, Some, None, ℤ}
-use Rattle.std.specs.Prelude.{All, OnSome, slice_index}
-use Rattle.std.specs.List.{AllByRecursion}
-use Rattle.std.specs.Int.{next_multiple_of}
-use Rattle.std.proofs.lemmas.Bool.{cases_lt}
-use Rattle.std.proofs.lemmas.List.{length-take, length-drop, length-replicate}
-use Rattle.std.proofs.lemmas.List.Elements.{recursion_from_All, All-from_recursion}
-use Rattle.std.proofs.Math.Nat.{div-add-mod, mod-lt, mod-eq_of_lt, mod_self}
-use Rattle.rice_samples.specs.Parameters.{Parameters, IsLegal, IsSample, value_count}
-use Rattle.rice_samples.specs.Places.{is_reference, block_count}
-use Rattle.rice_samples.specs.predict.Residuals.{pattern, residuals, last_of, filled_samples}
-use Rattle.rice_samples.proofs.lemmas.setting.LevelsOfSamples.{pattern_fits}
-use Rattle.rice_samples.proofs.lemmas.predict.ResidualLemmas.{length-residuals, residuals_fit, zero_at_reference}
-use Rattle.rice_code.specs.code.Blocks.{block_data, blocks_from, blocks_of}
-use Rattle.rice_code.specs.code.Code.{bits_from}
-use Rattle.rice_code.specs.Bounds.{bit_bound}
-use Rattle.rice_code.specs.code.Forms.{IsReference}
-use Rattle.rice_code.specs.code.SoundBlocks.{IsSoundBlock, AreSoundBlocks}
+use Rattle.rice_code.proofs.Words.{All, OnSome, slice_index, AllByRecursion, next_multiple_of, cases_lt, length-take, length-drop, length-replicate, recursion_from_All, All-from_recursion}
+use Rattle.rice_code.proofs.Words.{div-add-mod, mod-lt, mod-eq_of_lt, mod_self, Parameters, IsLegal, IsSample, value_count, is_reference, block_count, pattern, residuals, last_of, filled_samples}
+use Rattle.rice_code.proofs.Words.{pattern_fits, length-residuals, residuals_fit, zero_at_reference, block_data, blocks_from, blocks_of, bits_from, bit_bound, IsReference, IsSoundBlock}
+use Rattle.rice_code.proofs.Words.{AreSoundBlocks}
 use Rattle.rice_code.proofs.lemmas.cost.BlockBounds.{blocks_are_bounded}
 
 abbrev Samples : Parameters → List ℤ → Type 0

@@ -1,10 +1,6 @@
 -- Whole blocks are not filled.
 use Rattle.std.proofs.Common.{◌≡◌, ℕ, ◌-◌, ◌*◌, ◌/◌, ◌%◌, ◌≤◌, min, List, ◌++◌, length, replicate, ap, arith, ◌∙◌, append-nil, ℤ}
-use Rattle.std.specs.Int.{next_multiple_of}
-use Rattle.std.proofs.Math.Nat.{mul-mod_right, mul-div_cancel_left, mod_self}
-use Rattle.rice_samples.specs.Parameters.{Parameters}
-use Rattle.rice_samples.specs.Places.{block_count}
-use Rattle.rice_samples.specs.predict.Residuals.{last_of, filled_samples}
+use Rattle.rice_code.proofs.Words.{next_multiple_of, mul-mod_right, mul-div_cancel_left, mod_self, Parameters, block_count, last_of, filled_samples}
 
 -- whole blocks are not filled
 pub not_filled : (s : Parameters) (q : ℕ) (p : ℤ) (xs : List ℤ) → 1 ≤ s.block → length xs ≡ s.block * q → (filled_samples s p xs ≡ xs) × (block_count s (length xs) ≡ q)

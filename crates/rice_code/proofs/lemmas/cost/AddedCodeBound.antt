@@ -1,28 +1,12 @@
 -- What samples add to the code of whole segments is bounded, and so is what is sent at once.
 use Rattle.std.proofs.Common.{◌≡◌, ℕ, suc, ◌+◌, ◌≤◌, Bool, true, false, not, ◌&&◌, List, [], ◌∷◌, ◌++◌, length, length-append, ap, arith, sym, ◌∙◌, inl, inr, subst, Option, pos}
-use Rattle.std.specs.List.{AllByRecursion}
-use Rattle.std.proofs.lemmas.Bool.Decides.{nat_tests}
-use Rattle.std.proofs.lemmas.List.Elements.{All-from_recursion, recursion_from_All}
-use Rattle.rice_samples.specs.Parameters.{Parameters, IsLegal, IsSample}
-use Rattle.rice_samples.specs.Places.{begins_segment}
-use Rattle.rice_samples.specs.predict.Residuals.{last_of}
-use Rattle.rice_samples.proofs.lemmas.setting.CutLemmas.{cut_is_start}
-use Rattle.rice_samples.proofs.lemmas.setting.LevelsOfSamples.{zero_is_sample}
-use Rattle.rice_code.specs.Bounds.{set_bound}
-use Rattle.rice_code.specs.Laws.{AddedCodeIsBounded, SetsAreBounded}
-use Rattle.rice_code.specs.code.Blocks.{BlockData, is_zero_block}
-use Rattle.rice_code.specs.code.Code.{code, code_from, data_sets, sets_of}
-use Rattle.rice_code.specs.code.CodedDataSets.{CodedDataSet, bits_of_set, cost, run_number}
-use Rattle.rice_code.specs.code.Forms.{IsReference, RunIsSound}
-use Rattle.rice_code.specs.code.Runs.{zero_run, run_len}
-use Rattle.rice_code.specs.code.SoundBlocks.{AreSoundBlocks}
-use Rattle.rice_code.proofs.lemmas.code.CodeGoesOn.{code_goes_on}
+use Rattle.rice_code.proofs.Words.{AllByRecursion, nat_tests, All-from_recursion, recursion_from_All, Parameters, IsLegal, IsSample, begins_segment, last_of, cut_is_start, zero_is_sample, set_bound}
+use Rattle.rice_code.proofs.Words.{AddedCodeIsBounded, SetsAreBounded, BlockData, is_zero_block, code, code_from, data_sets, sets_of, CodedDataSet, bits_of_set, cost, run_number, IsReference}
+use Rattle.rice_code.proofs.Words.{RunIsSound, zero_run, run_len, AreSoundBlocks}
+use Rattle.rice_code.proofs.lemmas.{code.CodeGoesOn.code_goes_on, cost.BlockBounds.shortest_bound, cost.BlockBounds.reference_bound, cost.CostIsLength.cost_is_length}
+use Rattle.rice_code.proofs.lemmas.{cost.PaddingBounds.padding_behind_is_bounded, meaning.SentSetsAreTaken.zero_run_is_sound}
 use Rattle.rice_code.proofs.lemmas.code.SoundBlocks.{blocks_sound_behind, code_is_bounded, last_legal}
-use Rattle.rice_code.proofs.lemmas.cost.BlockBounds.{shortest_bound, reference_bound}
-use Rattle.rice_code.proofs.lemmas.cost.CostIsLength.{cost_is_length}
-use Rattle.rice_code.proofs.lemmas.cost.PaddingBounds.{padding_behind_is_bounded}
 use Rattle.rice_code.proofs.lemmas.meaning.CoveredBlocks.{bool_cases, skipped, data_sets_plain, data_sets_start, data_sets_inside, zero_run_is, run_cons}
-use Rattle.rice_code.proofs.lemmas.meaning.SentSetsAreTaken.{zero_run_is_sound}
 
 -- After whole segments other samples add at most so many bits, all padding included.
 pub added_code_is_bounded : AddedCodeIsBounded

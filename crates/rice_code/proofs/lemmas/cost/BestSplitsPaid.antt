@@ -1,33 +1,16 @@
 -- The best split is no larger than the bits of a sample, and costs less than J bits for each of its digits.
 use Rattle.std.proofs.Common.{◌≡◌, ℕ, zero, suc, ◌+◌, ◌*◌, ◌/◌, ◌^◌, ◌<◌, ◌≤◌, Bool, true, false, cond, nat_lt, map}
 use Rattle.std.proofs.Common.{min, List, [], ◌∷◌, length, ap, arith, inl, inr, Option, None, Some, ◌∙◌, ◌++◌, ℤ, pos}
-use Rattle.std.specs.Prelude.{sum_by, All}
-use Rattle.std.specs.List.{AllByRecursion, range_with_len}
-use Rattle.std.proofs.lemmas.Bool.{cases_lt}
-use Rattle.std.proofs.lemmas.List.Sums.{sum_by-cons, sum_by-append}
-use Rattle.std.proofs.lemmas.List.Elements.{recursion_from_All}
-use Rattle.std.proofs.Math.Nat.{mul-le-mul_left, div-eq_of_lt}
-use Rattle.rice_samples.specs.Parameters.{Parameters, IsLegal, IsSample, id_len, k_max}
-use Rattle.rice_samples.specs.Places.{begins_segment, block_count}
-use Rattle.rice_samples.specs.predict.Residuals.{last_of, filled_samples}
-use Rattle.rice_samples.proofs.lemmas.setting.LevelsOfSamples.{zero_is_sample}
-use Rattle.rice_samples.specs.blocks.Pairs.{pair_code, pair_codes}
-use Rattle.rice_code.specs.code.Blocks.{BlockData, blocks_of, is_zero_block}
-use Rattle.rice_code.specs.Bounds.{block_bound, step_bound, amortised_step_bound}
-use Rattle.rice_code.specs.code.CodedDataSets.{CodedDataSet, NoCompression, SecondExtension, Split, bits_of_set, cost, sent_residuals, sent_from, reference_len}
-use Rattle.rice_code.specs.code.Code.{data_sets, data_set_at, bits_from, code_bits}
-use Rattle.rice_code.specs.code.SoundBlocks.{IsSoundData, AreSoundBlocks}
-use Rattle.rice_code.specs.Laws.{SplitIsPaid}
-use Rattle.rice_code.specs.CoderSteps.{most_looks, most_looks_at, most_steps}
+use Rattle.rice_code.proofs.Words.{sum_by, All, AllByRecursion, range_with_len, cases_lt, sum_by-cons, sum_by-append, recursion_from_All, mul-le-mul_left, div-eq_of_lt, Parameters, IsLegal, IsSample}
+use Rattle.rice_code.proofs.Words.{id_len, k_max, begins_segment, block_count, last_of, filled_samples, zero_is_sample, pair_code, pair_codes, cut_sum, sum_halves, BlockData, blocks_of, is_zero_block}
+use Rattle.rice_code.proofs.Words.{block_bound, step_bound, amortised_step_bound, CodedDataSet, NoCompression, SecondExtension, Split, bits_of_set, cost, sent_residuals, sent_from, reference_len}
+use Rattle.rice_code.proofs.Words.{data_sets, data_set_at, bits_from, code_bits, IsSoundData, AreSoundBlocks, SplitIsPaid, most_looks, most_looks_at, most_steps, IsBestSplit, best_split, shortest}
+use Rattle.rice_code.proofs.Words.{other_options}
 use Rattle.rice_code.proofs.lemmas.meaning.CoveredBlocks.{best_keeps, bool_cases, data_sets_plain}
-use Rattle.rice_code.specs.code.Choice.{IsBestSplit, best_split, shortest, other_options}
-use Rattle.rice_samples.proofs.lemmas.blocks.FallingSums.{cut_sum, sum_halves}
 use Rattle.rice_code.proofs.lemmas.cost.SplitSavings.{coded_sum, best_where_it_stops, best_where_it_ends, first_more}
-use Rattle.rice_code.proofs.lemmas.encode.ChoiceLemmas.{best_split_is}
+use Rattle.rice_code.proofs.lemmas.{encode.ChoiceLemmas.best_split_is, encode.PushedCode.blocks_go_on, code.CodeGoesOn.bits_go_on}
 use Rattle.rice_code.proofs.lemmas.encode.SegmentBlocksInTurn.{most_of_one, looks_zero, sound_of, shortest_len}
-use Rattle.rice_code.proofs.lemmas.encode.PushedCode.{blocks_go_on}
 use Rattle.rice_code.proofs.lemmas.code.SoundBlocks.{blocks_sound_behind, count_blocks, last_legal, code_is_bounded}
-use Rattle.rice_code.proofs.lemmas.code.CodeGoesOn.{bits_go_on}
 
 none_above : (n : ℕ) (ds : List ℕ) → AllByRecursion (λ d. d < 2 ^ n) ds → cut_sum ds n ≡ 0
 none_above n [] h = omega arith
@@ -98,9 +81,6 @@ pair_covers a b = at (a + b) b
 
 pairs_cover : (half : ℕ) (ds : List ℕ) → length ds ≡ half + half → cut_sum ds 0 ≤ sum_by (λ g. g + 1) (pair_codes ds)
 pairs_cover zero [] h = omega arith
-pairs_cover zero (d ∷ ds) h = absurd (omega arith)
-pairs_cover (suc half) [] h = absurd (omega arith)
-pairs_cover (suc half) (d ∷ []) h = absurd (omega arith)
 pairs_cover (suc half) (a ∷ b ∷ ds) h =
     let ih = pairs_cover half ds (omega arith) in
     let x = sum_by-cons (λ d. d / 2 ^ 0) a (b ∷ ds) in
@@ -108,6 +88,7 @@ pairs_cover (suc half) (a ∷ b ∷ ds) h =
     let z = sum_by-cons (λ g. g + 1) (pair_code a b) (pair_codes ds) in
     let c = pair_covers a b in
     omega (arith, ih, x, y, z, c)
+pairs_cover _ _ h = absurd (omega arith)
 
 coded_most : (r : Option ℕ) (ds : List ℕ) → length ds ≤ length (sent_from r ds) + 1
 coded_most None ds = omega arith

@@ -1,22 +1,9 @@
 -- Blocks cost no more bits than sent as they are, or a bit more each where two samples of one bit make a block.
 use Rattle.std.proofs.Common.{◌≡◌, ℕ, zero, suc, ◌+◌, ◌-◌, ◌*◌, ◌<◌, ◌≤◌, Bool, true, false, cond, not, ◌&&◌, nat_lt}
 use Rattle.std.proofs.Common.{map, List, [], ◌∷◌, length, refl, ap, arith, sym, ◌∙◌, inl, inr, subst, Option, Some, None}
-use Rattle.std.specs.Prelude.{sum_by}
-use Rattle.std.specs.List.{best_of, range_with_len, AllByRecursion}
-use Rattle.std.proofs.lemmas.Bool.Decides.{nat_tests}
-use Rattle.std.proofs.lemmas.List.Sums.{sum_by-cons}
-use Rattle.std.proofs.Math.Nat.{mul-le-mul_left}
-use Rattle.rice_samples.specs.Parameters.{Parameters, IsLegal, id_len, k_max}
-use Rattle.rice_samples.specs.Places.{begins_segment}
-use Rattle.rice_code.specs.code.Blocks.{BlockData, is_zero_block}
-use Rattle.rice_code.specs.code.CodedDataSets.{CodedDataSet, NoCompression, Split, ZeroBlocks, RemainderOfSegment, bits_of_set, cost, reference_len, run_number}
-use Rattle.rice_code.specs.code.Forms.{IsForm, IsReference}
-use Rattle.rice_code.specs.code.Choice.{shortest, other_options}
-use Rattle.rice_code.specs.code.SoundBlocks.{IsSoundBlock, AreSoundBlocks}
-use Rattle.rice_code.specs.code.Code.{data_sets}
-use Rattle.rice_code.specs.Bounds.{block_bound}
-use Rattle.rice_code.specs.Laws.{RunIsNeverLonger}
-use Rattle.rice_code.specs.code.Runs.{zero_run, run_len}
+use Rattle.rice_code.proofs.Words.{sum_by, best_of, range_with_len, AllByRecursion, nat_tests, sum_by-cons, mul-le-mul_left, Parameters, IsLegal, id_len, k_max, begins_segment, BlockData}
+use Rattle.rice_code.proofs.Words.{is_zero_block, CodedDataSet, NoCompression, Split, ZeroBlocks, RemainderOfSegment, bits_of_set, cost, reference_len, run_number, IsForm, IsReference, shortest}
+use Rattle.rice_code.proofs.Words.{other_options, IsSoundBlock, AreSoundBlocks, data_sets, block_bound, RunIsNeverLonger, zero_run, run_len}
 use Rattle.rice_code.proofs.lemmas.meaning.CoveredBlocks.{bool_cases, skipped, data_sets_plain, data_sets_start, data_sets_inside, skipped_nil}
 use Rattle.rice_code.proofs.lemmas.meaning.CoveredBlocks.{skipped_plain, skipped_go, skipped_stop, zero_run_is, best_keeps, run_cons}
 use Rattle.rice_code.proofs.lemmas.cost.CostIsLength.{cost_is_length}

@@ -1,14 +1,7 @@
 -- The cost is the length of the text.
 use Rattle.std.proofs.Common.{◌≡◌, ℕ, ◌+◌, ◌-◌, ◌*◌, ◌/◌, ◌^◌, ◌≤◌, Bool, true, false, List, [], ◌∷◌, ◌++◌, length, refl, arith, sym, ◌∙◌, Option, Some, None, length-append}
-use Rattle.std.specs.Prelude.{flat_map, sum_by}
-use Rattle.std.proofs.lemmas.List.Sums.{sum_by-cons}
-use Rattle.rice_bits.specs.Bits.{word, fundamental_sequence}
-use Rattle.rice_bits.proofs.lemmas.bits.WordsAndNumbers.{length-word, length-fundamental_sequence}
-use Rattle.rice_samples.specs.Parameters.{Parameters, id_len}
-use Rattle.rice_samples.specs.blocks.Pairs.{pair_codes}
-use Rattle.rice_code.specs.code.CodedDataSets.{CodedDataSet, NoCompression, SecondExtension, Split, ZeroBlocks, RemainderOfSegment, bits_of_set}
-use Rattle.rice_code.specs.code.CodedDataSets.{cost, sent_residuals, sent_from, reference_bits, reference_len, run_number}
-use Rattle.rice_code.specs.code.Forms.{IsForm}
+use Rattle.rice_code.proofs.Words.{flat_map, sum_by, sum_by-cons, length-word, length-fundamental_sequence, Parameters, id_len, pair_codes, word, fundamental_sequence, CodedDataSet, NoCompression}
+use Rattle.rice_code.proofs.Words.{SecondExtension, Split, ZeroBlocks, RemainderOfSegment, bits_of_set, cost, sent_residuals, sent_from, reference_bits, reference_len, run_number, IsForm}
 
 -- the length of pieces, each as long as f says
 pub length_pieces : {X : Type 0} (piece : X → List Bool) (f : X → ℕ) → ((x : X) → length (piece x) ≡ f x) → (xs : List X) → length (flat_map piece xs) ≡ sum_by f xs

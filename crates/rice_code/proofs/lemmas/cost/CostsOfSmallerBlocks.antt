@@ -1,17 +1,8 @@
 -- Blocks of which no residual is greater than another block's: no option of theirs is longer.
 use Rattle.std.proofs.Common.{◌≡◌, ℕ, zero, suc, ◌+◌, ◌*◌, ◌/◌, ◌^◌, ◌<◌, ◌≤◌, List, [], ◌∷◌, ◌++◌, length, replicate, refl, ap, arith, sym, ◌∙◌, subst, Option, Some, None}
-use Rattle.std.specs.Prelude.{OnSome, slice_index, sum_by}
-use Rattle.std.specs.List.{AllZip, AllByRecursion}
-use Rattle.std.proofs.lemmas.List.Elements.{recursion_from_All, All-from_recursion}
-use Rattle.std.proofs.lemmas.List.Sums.{sum_by-cons}
-use Rattle.std.proofs.lemmas.Nat.{le-div, pow_pos}
-use Rattle.std.proofs.Math.Nat.{div-mul-le_self, mul-le-mul, mul-le-mul_right}
-use Rattle.rice_samples.specs.Parameters.{Parameters, id_len, value_count}
-use Rattle.rice_samples.specs.blocks.Pairs.{pair_code, pair_codes}
-use Rattle.rice_code.specs.code.Blocks.{BlockData, zero_block}
-use Rattle.rice_code.specs.code.CodedDataSets.{NoCompression, SecondExtension, Split, cost, sent_residuals, sent_from, reference_len}
-use Rattle.rice_code.specs.code.Forms.{IsReference}
-use Rattle.rice_code.specs.code.SoundBlocks.{IsSoundBlock}
+use Rattle.rice_code.proofs.Words.{OnSome, slice_index, sum_by, AllZip, AllByRecursion, recursion_from_All, All-from_recursion, sum_by-cons, le-div, pow_pos, div-mul-le_self, mul-le-mul}
+use Rattle.rice_code.proofs.Words.{mul-le-mul_right, Parameters, id_len, value_count, pair_code, pair_codes, BlockData, zero_block, NoCompression, SecondExtension, Split, cost, sent_residuals}
+use Rattle.rice_code.proofs.Words.{sent_from, reference_len, IsReference, IsSoundBlock}
 use Rattle.rice_code.proofs.lemmas.cost.BlockBounds.{reference_bound}
 
 -- each number is at most the one at its place
@@ -41,24 +32,21 @@ begin_with (c ∷ cs) more = (record { reference = refl; residuals = at_most_its
 
 same_len : (xs ys : List ℕ) → AreAtMost xs ys → length xs ≡ length ys
 same_len [] [] h = refl
-same_len [] (y ∷ ys) h = absurd h
-same_len (x ∷ xs) [] h = absurd h
 same_len (x ∷ xs) (y ∷ ys) h = ap (λ n. suc n) (same_len xs ys h.1)
+same_len _ _ h = absurd h
 
 -- ---- what they cost
 
 sums_at_most : (f : ℕ → ℕ) → ((x y : ℕ) → x ≤ y → f x ≤ f y) → (xs ys : List ℕ) → AreAtMost xs ys → sum_by f xs ≤ sum_by f ys
 sums_at_most f rises [] [] h = omega arith
-sums_at_most f rises [] (y ∷ ys) h = absurd h
-sums_at_most f rises (x ∷ xs) [] h = absurd h
 sums_at_most f rises (x ∷ xs) (y ∷ ys) h = omega (arith, sum_by-cons f x xs, sum_by-cons f y ys, rises x y h.0, sums_at_most f rises xs ys h.1)
+sums_at_most f rises _ _ h = absurd h
 
 sent_at_most : (r : Option ℕ) (xs ys : List ℕ) → AreAtMost xs ys → AreAtMost (sent_from r xs) (sent_from r ys)
 sent_at_most None xs ys h = h
 sent_at_most (Some v) [] [] h = tt
-sent_at_most (Some v) [] (y ∷ ys) h = absurd h
-sent_at_most (Some v) (x ∷ xs) [] h = absurd h
 sent_at_most (Some v) (x ∷ xs) (y ∷ ys) h = h.1
+sent_at_most (Some v) _ _ h = absurd h
 
 those_sent : (c x : BlockData) → IsAtMost c x → AreAtMost (sent_residuals c) (sent_residuals x)
 those_sent c x h = subst (λ (r : Option ℕ). AreAtMost (sent_from r c.residuals) (sent_residuals x)) (sym h.reference) (sent_at_most x.reference c.residuals x.residuals h.residuals)
@@ -70,12 +58,11 @@ pair_rises a b c d h k =
 
 pairs_at_most : (xs ys : List ℕ) → AreAtMost xs ys → AreAtMost (pair_codes xs) (pair_codes ys)
 pairs_at_most [] [] h = tt
-pairs_at_most [] (y ∷ ys) h = absurd h
-pairs_at_most (x ∷ xs) [] h = absurd h
 pairs_at_most (x ∷ []) (y ∷ []) h = tt
+pairs_at_most (x ∷ w ∷ xs) (y ∷ z ∷ ys) h = (pair_rises x w y z h.0 h.1.0, pairs_at_most xs ys h.1.1)
 pairs_at_most (x ∷ []) (y ∷ z ∷ ys) h = absurd h.1
 pairs_at_most (x ∷ w ∷ xs) (y ∷ []) h = absurd h.1
-pairs_at_most (x ∷ w ∷ xs) (y ∷ z ∷ ys) h = (pair_rises x w y z h.0 h.1.0, pairs_at_most xs ys h.1.1)
+pairs_at_most _ _ h = absurd h
 
 -- a block that is at most another costs no more than the other by no compression,
 pub no_compression_at_most : (s : Parameters) (c x : BlockData) → IsAtMost c x → cost s (NoCompression c) ≤ cost s (NoCompression x)
@@ -101,9 +88,8 @@ split_at_most s k c x h =
 
 zeros_at_most : (n : ℕ) (xs : List ℕ) → AreAtMost xs (replicate n 0) → xs ≡ replicate n 0
 zeros_at_most zero [] h = refl
-zeros_at_most zero (x ∷ xs) h = absurd h
-zeros_at_most (suc n) [] h = absurd h
 zeros_at_most (suc n) (x ∷ xs) h = let first : x ≡ 0 = omega (arith, h.0) in let rest = zeros_at_most n xs h.1 in λ i. first i ∷ rest i
+zeros_at_most _ _ h = absurd h
 
 -- only a block of zeros is at most one
 pub zero_at_most : (s : Parameters) (r : Option ℕ) (c : BlockData) → IsAtMost c (zero_block s r) → c ≡ zero_block s r
@@ -112,15 +98,13 @@ zero_at_most s r c h = let zeros = zeros_at_most s.block c.residuals h.residuals
 first_at_most : (r : Option ℕ) (xs ys : List ℕ) → AreAtMost xs ys → OnSome r (slice_index ys 0 ≡ 0) → OnSome r (slice_index xs 0 ≡ 0)
 first_at_most None xs ys h k = tt
 first_at_most (Some v) [] [] h k = refl
-first_at_most (Some v) [] (y ∷ ys) h k = absurd h
-first_at_most (Some v) (x ∷ xs) [] h k = absurd h
 first_at_most (Some v) (x ∷ xs) (y ∷ ys) h k = let zero : y ≡ 0 = k in omega (arith, h.0, zero)
+first_at_most (Some v) _ _ h k = absurd h
 
 fit_at_most : (n : ℕ) (xs ys : List ℕ) → AreAtMost xs ys → AllByRecursion (λ d. d < n) ys → AllByRecursion (λ d. d < n) xs
 fit_at_most n [] [] h k = tt
-fit_at_most n [] (y ∷ ys) h k = absurd h
-fit_at_most n (x ∷ xs) [] h k = absurd h
 fit_at_most n (x ∷ xs) (y ∷ ys) h k = (omega (arith, h.0, k.0), fit_at_most n xs ys h.1 k.1)
+fit_at_most n _ _ h k = absurd h
 
 -- a block that is at most a sound one is sound
 pub sound_at_most : (s : Parameters) (b : ℕ) (c x : BlockData) → IsAtMost c x → IsSoundBlock s b x → IsSoundBlock s b c
@@ -143,9 +127,8 @@ pub second_extension_exceeds : (s : Parameters) (c : BlockData) → 4 ≤ length
 second_extension_exceeds s c h = omega (arith, some c.residuals (omega (arith, h)))
   where
     some : (ds : List ℕ) → 2 ≤ length ds → 1 ≤ sum_by (λ g. g + 1) (pair_codes ds)
-    some [] h = absurd (omega arith)
-    some (a ∷ []) h = absurd (omega arith)
     some (a ∷ b ∷ ds) h = omega (arith, sum_by-cons (λ g. g + 1) (pair_code a b) (pair_codes ds))
+    some _ h = absurd (omega arith)
 
 -- nor by a split
 pub split_exceeds : (s : Parameters) (k : ℕ) (c : BlockData) → 4 ≤ length c.residuals → id_len s + 2 + reference_len s c.reference ≤ cost s (Split k c)

@@ -1,25 +1,12 @@
 -- No coded data sets have fewer bits than those that are chosen.
 use Rattle.std.proofs.Common.{◌≡◌, ℕ, suc, ◌+◌, ◌-◌, ◌≤◌, min, false, map, List, [], ◌∷◌, ◌++◌, length, refl, ap, arith, sym, ◌∙◌, inl, inr, subst, Option, None}
-use Rattle.std.specs.List.{range_with_len}
-use Rattle.std.proofs.lemmas.List.{length-map, length-replicate}
-use Rattle.std.proofs.lemmas.List.FromFn.{get_or-map-range_with_len, length-range_with_len}
-use Rattle.rice_samples.specs.Parameters.{Parameters, IsLegal, id_len, k_max}
-use Rattle.rice_samples.specs.Places.{blocks_left}
-use Rattle.rice_samples.proofs.lemmas.setting.PlaceLemmas.{some_left}
-use Rattle.rice_code.specs.Laws.{NoSetsAreShorter}
-use Rattle.rice_code.specs.code.Blocks.{BlockData, is_zero_block, zero_block}
-use Rattle.rice_code.specs.code.Choice.{shortest}
-use Rattle.rice_code.specs.code.Code.{data_sets}
-use Rattle.rice_code.specs.code.CodedDataSets.{CodedDataSet, NoCompression, SecondExtension, Split, ZeroBlocks, RemainderOfSegment, bits_of_set, cost, reference_len, run_number}
-use Rattle.rice_code.specs.code.Decoded.{AreTaken}
-use Rattle.rice_code.specs.code.Forms.{IsForm, blocks_in, blocks_in_all, zero_blocks}
-use Rattle.rice_code.specs.code.Layout.{block_after}
-use Rattle.rice_code.specs.code.SoundBlocks.{IsSoundBlock}
-use Rattle.rice_code.proofs.lemmas.cost.BlockBounds.{shortest_is_form}
+use Rattle.rice_code.proofs.Words.{range_with_len, length-map, length-replicate, get_or-map-range_with_len, length-range_with_len, Parameters, IsLegal, id_len, k_max, blocks_left, some_left}
+use Rattle.rice_code.proofs.Words.{NoSetsAreShorter, BlockData, is_zero_block, zero_block, shortest, data_sets, CodedDataSet, NoCompression, SecondExtension, Split, ZeroBlocks, RemainderOfSegment}
+use Rattle.rice_code.proofs.Words.{bits_of_set, cost, reference_len, run_number, AreTaken, IsForm, blocks_in, blocks_in_all, zero_blocks, block_after, IsSoundBlock}
+use Rattle.rice_code.proofs.lemmas.{cost.BlockBounds.shortest_is_form, cost.SplitSavings.choice_is_least}
 use Rattle.rice_code.proofs.lemmas.cost.WhereSetsEnd.{IsFill, code_end, never_back, sent_bits, taken_bits, taken_end, unfilled_is}
 use Rattle.rice_code.proofs.lemmas.cost.CostIsLength.{cost_is_length, numbered_run_len, remainder_len}
 use Rattle.rice_code.proofs.lemmas.cost.LeastRuns.{IsLeastCodeword, by_run, run_and_more}
-use Rattle.rice_code.proofs.lemmas.cost.SplitSavings.{choice_is_least}
 use Rattle.rice_code.proofs.lemmas.cost.CostsOfSmallerBlocks.{BeginAtMost, IsAtMost, begin_with, no_compression_at_most, no_compression_exceeds}
 use Rattle.rice_code.proofs.lemmas.cost.CostsOfSmallerBlocks.{second_extension_at_most, second_extension_exceeds, sound_at_most, split_at_most, split_exceeds}
 use Rattle.rice_code.proofs.lemmas.meaning.CoveredBlocks.{bool_cases, data_sets_plain, shortest_covers, zero_block_is}

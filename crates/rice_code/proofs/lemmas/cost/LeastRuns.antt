@@ -1,24 +1,12 @@
 -- No runs of the same zero blocks have fewer bits than the coder's one run.
 use Rattle.std.proofs.Common.{◌≡◌, ℕ, zero, suc, ◌+◌, ◌-◌, ◌<◌, ◌≤◌, ◌==◌, min, Bool, true, false, cond, not, ◌||◌, List, []}
 use Rattle.std.proofs.Common.{◌∷◌, ◌++◌, length, take, replicate, refl, ap, arith, sym, ◌∙◌, ◌⊎◌, inl, inr, append-nil, length-append, Option, None}
-use Rattle.std.proofs.lemmas.Bool.Decides.{nat_tests}
-use Rattle.std.proofs.lemmas.List.{length-replicate, length-take}
-use Rattle.std.proofs.lemmas.List.Sums.{prefix_len-le-length}
-use Rattle.rice_samples.specs.Parameters.{Parameters, id_len}
-use Rattle.rice_samples.specs.Places.{begins_segment, blocks_left}
-use Rattle.rice_code.specs.code.Blocks.{BlockData, is_zero_block, zero_block}
-use Rattle.rice_code.specs.code.Code.{data_sets}
-use Rattle.rice_code.specs.code.CodedDataSets.{bits_of_set, reference_len, run_number}
-use Rattle.rice_code.specs.code.Forms.{zero_blocks}
-use Rattle.rice_code.specs.code.Layout.{block_after}
-use Rattle.rice_code.specs.code.Runs.{run_len, zero_run}
-use Rattle.rice_code.specs.encode.HeldBlocks.{zeros_of_run}
-use Rattle.rice_code.proofs.lemmas.code.SegmentsOneByOne.{head_of_segment}
+use Rattle.rice_code.proofs.Words.{nat_tests, length-replicate, length-take, prefix_len-le-length, Parameters, id_len, begins_segment, blocks_left, BlockData, is_zero_block, zero_block, data_sets}
+use Rattle.rice_code.proofs.Words.{bits_of_set, reference_len, run_number, zero_blocks, block_after, run_len, zero_run, zeros_of_run}
+use Rattle.rice_code.proofs.lemmas.{code.SegmentsOneByOne.head_of_segment, cost.CostsOfSmallerBlocks.BeginAtMost, cost.CostsOfSmallerBlocks.zero_at_most, encode.OptionTexts.run_cost}
+use Rattle.rice_code.proofs.lemmas.{encode.OptionTexts.run_text_len, encode.SegmentBlocksInTurn.left_inside}
 use Rattle.rice_code.proofs.lemmas.cost.WhereSetsEnd.{IsFill, code_end, ends_later}
-use Rattle.rice_code.proofs.lemmas.cost.CostsOfSmallerBlocks.{BeginAtMost, zero_at_most}
-use Rattle.rice_code.proofs.lemmas.encode.OptionTexts.{run_cost, run_text_len}
 use Rattle.rice_code.proofs.lemmas.encode.PendingRuns.{count_zeros, is_zero_zeros, skip_zeros}
-use Rattle.rice_code.proofs.lemmas.encode.SegmentBlocksInTurn.{left_inside}
 use Rattle.rice_code.proofs.lemmas.meaning.CoveredBlocks.{bool_cases, data_sets_inside, data_sets_plain, data_sets_start, nothing_more, run_cons, run_inside}
 use Rattle.rice_code.proofs.lemmas.meaning.CoveredBlocks.{skipped, skipped_go, skipped_nil, skipped_plain, skipped_stop, zero_run_is}
 

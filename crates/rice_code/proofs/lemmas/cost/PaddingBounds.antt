@@ -1,32 +1,12 @@
 -- The padding of the code of samples is bounded.
 use Rattle.std.proofs.Common.{◌≡◌, ℕ, zero, suc, ◌+◌, ◌*◌, ◌/◌, ◌%◌, ◌<◌, ◌≤◌, Bool, true, false, cond, List, []}
 use Rattle.std.proofs.Common.{◌∷◌, length, replicate, ap, arith, subst, sym, ◌∙◌, inl, inr, length-append, None, ℤ, pos, Some}
-use Rattle.std.specs.Prelude.{All}
-use Rattle.std.specs.Int.{div_ceil}
-use Rattle.std.proofs.lemmas.Bool.Decides.{nat_tests}
-use Rattle.std.proofs.lemmas.Bool.{cases_lt}
-use Rattle.std.proofs.lemmas.Grind.{div_ceil_times}
-use Rattle.std.proofs.lemmas.List.{length-replicate}
-use Rattle.std.proofs.lemmas.List.Concat.{length-flat_map}
-use Rattle.std.proofs.lemmas.List.Elements.{recursion_from_All}
-use Rattle.std.proofs.Math.Nat.{div-add-mod, mod-lt, mod-eq_of_lt, mul-add-mod_self_left}
-use Rattle.std.proofs.lemmas.Nat.{div-mul-add}
-use Rattle.rice_samples.specs.Parameters.{Parameters, IsLegal, IsSample}
-use Rattle.rice_samples.specs.Places.{place, begins_segment, block_count, interval_count}
-use Rattle.rice_samples.specs.predict.Residuals.{filled_samples}
-use Rattle.rice_samples.proofs.lemmas.setting.LevelsOfSamples.{zero_is_sample}
-use Rattle.rice_code.specs.code.Blocks.{BlockData, blocks_of, zero_block}
-use Rattle.rice_code.specs.code.CodedDataSets.{bits_of_set}
-use Rattle.rice_code.specs.code.Forms.{blocks_in_all}
-use Rattle.rice_code.specs.code.Code.{sets_from, code, code_from, code_bits, bits_from}
-use Rattle.rice_code.specs.code.Decoded.{AreTaken}
-use Rattle.rice_code.specs.Bounds.{padding_bound}
+use Rattle.rice_code.proofs.Words.{All, div_ceil, nat_tests, cases_lt, div_ceil_times, length-replicate, length-flat_map, recursion_from_All, div-add-mod, mod-lt, mod-eq_of_lt, mul-add-mod_self_left}
+use Rattle.rice_code.proofs.Words.{div-mul-add, Parameters, IsLegal, IsSample, place, begins_segment, block_count, interval_count, filled_samples, zero_is_sample, mul-le-mul_left, mul-le-mul_right}
+use Rattle.rice_code.proofs.Words.{BlockData, blocks_of, zero_block, bits_of_set, blocks_in_all, sets_from, code, code_from, code_bits, bits_from, AreTaken, padding_bound, AreSoundBlocks}
 use Rattle.rice_code.proofs.lemmas.meaning.CoveredBlocks.{bool_cases, GoOn, AreBlocks, covers_blocks}
 use Rattle.rice_code.proofs.lemmas.code.Layouts.{BeginBefore, laid_plain, laid_bound}
-use Rattle.rice_code.proofs.lemmas.meaning.SentSetsAreTaken.{are_taken, begin_before}
-use Rattle.std.proofs.Math.Nat.{mul-le-mul_left, mul-le-mul_right}
-use Rattle.rice_code.specs.code.SoundBlocks.{AreSoundBlocks}
-use Rattle.rice_code.proofs.lemmas.code.SoundBlocks.{count_blocks, blocks_sound_behind}
+use Rattle.rice_code.proofs.lemmas.{meaning.SentSetsAreTaken.are_taken, meaning.SentSetsAreTaken.begin_before, code.SoundBlocks.count_blocks, code.SoundBlocks.blocks_sound_behind}
 
 -- sound blocks are blocks
 pub are_blocks : (s : Parameters) (b : ℕ) (cs : List BlockData) → AreSoundBlocks s b cs → AreBlocks s b cs

@@ -1,13 +1,6 @@
 -- Second extension is longer than a split that saves bits.
 use Rattle.std.proofs.Common.{◌≡◌, ℕ, zero, suc, ◌+◌, ◌*◌, ◌/◌, ◌^◌, ◌<◌, ◌≤◌, List, [], ◌∷◌, length, ap, arith, Option, Some, None}
-use Rattle.std.specs.Prelude.{sum_by}
-use Rattle.std.proofs.Math.Nat.{mul-le-mul_left}
-use Rattle.std.proofs.lemmas.List.Sums.{sum_by-cons}
-use Rattle.rice_samples.specs.blocks.Pairs.{pair_code, pair_codes}
-use Rattle.rice_samples.specs.Parameters.{Parameters}
-use Rattle.rice_code.specs.code.Blocks.{BlockData}
-use Rattle.rice_code.specs.code.Choice.{IsBestSplit}
-use Rattle.rice_code.specs.code.CodedDataSets.{SecondExtension, Split, cost, sent_residuals, sent_from}
+use Rattle.rice_code.proofs.Words.{sum_by, mul-le-mul_left, sum_by-cons, pair_code, pair_codes, Parameters, BlockData, IsBestSplit, SecondExtension, Split, cost, sent_residuals, sent_from}
 
 -- the codeword of a pair is no shorter than twice its sum
 half_square : (s : ℕ) → 2 * s ≤ s * (s + 1) / 2 + 1
@@ -20,8 +13,6 @@ pair_long a b = let h = half_square (a + b) in omega (arith, h)
 
 pairs_long : (n : ℕ) (ds : List ℕ) → length ds ≡ 2 * n → 2 * sum_by (λ d. d / 2 ^ 0) ds ≤ sum_by (λ g. g + 1) (pair_codes ds)
 pairs_long n [] e = omega arith
-pairs_long n (a ∷ []) e = absurd (omega arith)
-pairs_long zero (a ∷ b ∷ ds) e = absurd (omega arith)
 pairs_long (suc n) (a ∷ b ∷ ds) e =
     let h = pair_long a b in
     let ih = pairs_long n ds (omega arith) in
@@ -29,6 +20,7 @@ pairs_long (suc n) (a ∷ b ∷ ds) e =
     let q = sum_by-cons (λ d. d / 2 ^ 0) b ds in
     let r = sum_by-cons (λ g. g + 1) (pair_code a b) (pair_codes ds) in
     omega (arith, h, ih, p, q, r)
+pairs_long _ _ e = absurd (omega arith)
 
 coded_few : (f : ℕ → ℕ) (r : Option ℕ) (ds : List ℕ) → sum_by f (sent_from r ds) ≤ sum_by f ds
 coded_few f None ds = omega arith

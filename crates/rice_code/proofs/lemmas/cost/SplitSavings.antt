@@ -1,18 +1,8 @@
 -- How the costs of the splits go from one to the next, and which option is chosen.
 use Rattle.std.proofs.Common.{◌≡◌, ℕ, zero, suc, ◌+◌, ◌-◌, ◌*◌, ◌/◌, ◌^◌, ◌<◌, ◌≤◌, Bool, true, false, cond, nat_lt, map, List, [], ◌∷◌, length, refl, ap, arith, sym, ◌∙◌, ◌⊎◌, inl, inr, subst}
-use Rattle.std.specs.Prelude.{All, OnSome, slice_index, Option, Some, None}
-use Rattle.std.specs.List.{best_of, range_with_len, AllByRecursion}
-use Rattle.std.proofs.lemmas.List.Elements.{All-from_recursion}
-use Rattle.std.proofs.lemmas.Bool.{cases_lt}
-use Rattle.std.proofs.lemmas.Bool.Decides.{nat_tests}
-use Rattle.std.proofs.lemmas.List.Sums.{sum_by-cons}
-use Rattle.std.proofs.Math.Nat.{zero-div}
-use Rattle.rice_samples.specs.Parameters.{Parameters, id_len, k_max}
-use Rattle.rice_samples.proofs.lemmas.blocks.FallingSums.{cut_sum, sum_halves}
-use Rattle.rice_code.specs.code.Blocks.{BlockData}
-use Rattle.rice_code.specs.code.CodedDataSets.{NoCompression, SecondExtension, Split, cost, sent_residuals, sent_from, reference_len}
-use Rattle.rice_code.specs.code.Choice.{shortest, other_options, IsBestSplit}
-use Rattle.rice_code.specs.code.Forms.{IsZeroAtReference}
+use Rattle.rice_code.proofs.Words.{All, OnSome, slice_index, Option, Some, None, best_of, range_with_len, AllByRecursion, All-from_recursion, cases_lt, nat_tests, sum_by-cons, zero-div, Parameters}
+use Rattle.rice_code.proofs.Words.{id_len, k_max, cut_sum, sum_halves, BlockData, NoCompression, SecondExtension, Split, cost, sent_residuals, sent_from, reference_len, shortest, other_options}
+use Rattle.rice_code.proofs.Words.{IsBestSplit, IsZeroAtReference}
 use Rattle.rice_code.proofs.lemmas.meaning.CoveredBlocks.{bool_cases}
 
 -- What a split saves against the one before never rises.

@@ -1,15 +1,7 @@
 -- Where coded data sets end that begin after so many bits, with padding and without.
 use Rattle.std.proofs.Common.{◌≡◌, ℕ, ◌+◌, ◌<◌, ◌≤◌, min, Bool, true, false, cond, List, [], ◌∷◌, ◌++◌, length, replicate, refl, ap, arith, length-append}
-use Rattle.std.proofs.lemmas.List.{length-replicate}
-use Rattle.std.proofs.lemmas.List.Sums.{sum_by-cons}
-use Rattle.rice_bits.specs.Bits.{bits_to_byte}
-use Rattle.rice_samples.specs.Parameters.{Parameters}
-use Rattle.rice_samples.specs.Places.{blocks_left, is_padded}
-use Rattle.rice_code.specs.code.CodedDataSets.{CodedDataSet, bits_of_set}
-use Rattle.rice_code.specs.code.Layout.{block_after, layout, padding, Lies}
-use Rattle.rice_code.proofs.lemmas.code.Layouts.{sent_first}
-use Rattle.rice_code.proofs.lemmas.code.SegmentPlaces.{none_padded}
-use Rattle.rice_code.proofs.lemmas.cost.BlockBounds.{text_bits}
+use Rattle.rice_code.proofs.Words.{length-replicate, sum_by-cons, bits_to_byte, Parameters, blocks_left, is_padded, CodedDataSet, bits_of_set, block_after, layout, padding, Lies}
+use Rattle.rice_code.proofs.lemmas.{code.Layouts.sent_first, code.SegmentPlaces.none_padded, cost.BlockBounds.text_bits}
 
 -- What bits become before block `next`, with what fills them up: no fewer, and no fewer for more bits, and inside a segment nothing is filled.
 pub record IsFill (s : Parameters) (fill : ℕ → ℕ → ℕ) : Type 0 where

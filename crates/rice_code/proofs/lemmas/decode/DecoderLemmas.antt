@@ -1,37 +1,15 @@
 -- What a decoder gives.
 use Rattle.std.proofs.Common.{◌≡◌, ℕ, zero, suc, ◌+◌, ◌-◌, ◌*◌, ◌/◌, ◌^◌, ◌<◌, ◌≤◌, ◌==◌, Bool, true, false, List, []}
 use Rattle.std.proofs.Common.{◌∷◌, ◌++◌, length, replicate, refl, sym, ◌∙◌, ap, subst, arith, Option, None, ℤ, inl, inr, length-append}
-use Rattle.std.specs.Prelude.{◌≢◌, All, nat_lt, if◌then◌else◌, ◌&&◌, Some, Result, Ok, Err}
-use Rattle.std.proofs.lemmas.Bool.{cases_lt}
-use Rattle.std.proofs.lemmas.Bool.Decides.{nat_tests}
-use Rattle.std.proofs.Math.Nat.{mod-eq_of_lt}
-use Rattle.std.proofs.Math.Nat.{mul-le-mul_left}
-use Rattle.std.proofs.lemmas.List.{length-replicate}
-use Rattle.std.proofs.lemmas.List.Elements.{All-replicate}
-use Rattle.rice_code.proofs.lemmas.code.RepeatedSamples.{last_replicate, repeated_block}
-use Rattle.rice_bits.specs.Bits.{word, fundamental_sequence}
-use Rattle.rice_bits.proofs.lemmas.bits.WordsAndNumbers.{length-word, length-fundamental_sequence}
-use Rattle.rice_code.proofs.lemmas.code.FormsReadInOneWay.{long_id}
-use Rattle.rice_bits.specs.read.Reader.{Reader, Takes, is_blank}
-use Rattle.rice_samples.specs.Parameters.{Parameters, IsSample, IsLegal, id_len}
-use Rattle.rice_samples.specs.Places.{blocks_left, begins_segment, is_reference, place}
-use Rattle.rice_samples.proofs.lemmas.setting.PlaceLemmas.{some_left, one_less_left, last_of_segment, reference_begins, next_place}
-use Rattle.rice_code.specs.code.Blocks.{BlockData, block_data, zero_block}
-use Rattle.rice_code.specs.code.CodedDataSets.{CodedDataSet, NoCompression, SecondExtension, Split, ZeroBlocks, RemainderOfSegment, bits_of_set, turns}
-use Rattle.rice_code.specs.code.CodedDataSets.{run_number, run_tail, run_with_zeros, no_compression_tail, second_extension_tail, split_tail, reference_bits}
-use Rattle.rice_code.specs.code.Forms.{IsForm, IsReference, RunIsSound, ResidualsAreSound, blocks_in, zero_blocks}
-use Rattle.rice_code.specs.decode.ReadSets.{SetRead, SetCut}
-use Rattle.rice_code.specs.declared.decode.options.SetSummary.TheVariants.{Residuals, Zeros}
-use Rattle.rice_code.specs.code.Layout.{block_after, padding}
-use Rattle.rice_code.specs.code.SoundBlocks.{block_with}
-use Rattle.rice_code.specs.decode.Decoder.{Answers, RepeatsBlocks, Skips, TakesSet, GivesSet, GivesFromRun, SetEnds, StopsBy, answer_to, with_mark}
-use Rattle.rice_code.specs.decode.DecoderState.{DecoderState, IsDecoderState, next_block_place, place_after}
-use Rattle.rice_bits.specs.declared.read.fault.BitFault.{BitFault}
+use Rattle.rice_code.proofs.Words.{◌≢◌, All, nat_lt, if◌then◌else◌, ◌&&◌, Some, Result, Ok, Err, cases_lt, nat_tests, mod-eq_of_lt, mul-le-mul_left, length-replicate, All-replicate, length-word}
+use Rattle.rice_code.proofs.Words.{length-fundamental_sequence, Reader, Takes, is_blank, Parameters, IsSample, IsLegal, id_len, blocks_left, begins_segment, is_reference, place, some_left}
+use Rattle.rice_code.proofs.Words.{one_less_left, last_of_segment, reference_begins, next_place, BitFault, last_of, word, fundamental_sequence, BlockData, block_data, zero_block, CodedDataSet}
+use Rattle.rice_code.proofs.Words.{NoCompression, SecondExtension, Split, ZeroBlocks, RemainderOfSegment, bits_of_set, turns, run_number, run_tail, run_with_zeros, no_compression_tail, BlockSummary}
+use Rattle.rice_code.proofs.Words.{second_extension_tail, split_tail, reference_bits, IsForm, IsReference, RunIsSound, ResidualsAreSound, blocks_in, zero_blocks, SetRead, SetCut, Residuals, Zeros}
+use Rattle.rice_code.proofs.Words.{block_after, padding, block_with, Answers, RepeatsBlocks, Skips, TakesSet, GivesSet, GivesFromRun, SetEnds, StopsBy, answer_to, with_mark, DecoderState}
+use Rattle.rice_code.proofs.Words.{IsDecoderState, next_block_place, place_after, Step, Block, Done, CodeFault}
+use Rattle.rice_code.proofs.lemmas.{code.RepeatedSamples.last_replicate, code.RepeatedSamples.repeated_block, code.FormsReadInOneWay.long_id}
 use Rattle.rice_bits.specs.declared.read.fault.BitFault.TheVariants as bit_faults
-use Rattle.rice_samples.specs.predict.Residuals.{last_of}
-use Rattle.rice_code.specs.declared.decode.call_results.Step.{Step}
-use Rattle.rice_code.specs.declared.decode.call_results.Step.TheVariants.{Block, Done}
-use Rattle.rice_code.specs.declared.decode.call_results.CodeFault.{CodeFault}
 
 -- a run says no residuals
 run_residuals : (s : Parameters) (reference : Option ℕ) (zeros : ℕ) → ResidualsAreSound s (run_with_zeros reference zeros)
@@ -61,14 +39,14 @@ run_given {old} {new} {first} {last} {s} {b} r zeros z read run blocks len legal
 }
 
 -- a sound block was taken, and its samples are given
-pub block_given : {I : Type 0} {old new : Reader I} {first last : ℕ} {s : Parameters} {b : ℕ} (p : ℤ) (r : Option ℕ) (samples : List ℤ) {items : List ℕ}
-    → SetRead old new first last s b (Residuals r true) items
-    → length samples ≡ s.block → All (IsSample s) samples → block_data s b p samples ≡ block_with r items
+pub block_given : {I : Type 0} {old new : Reader I} {first last : ℕ} {s : Parameters} {b : ℕ} (p : ℤ) (head : BlockSummary) (samples : List ℤ) {items : List ℕ}
+    → SetRead old new first last s b (Residuals head) items → head.sound ≡ true
+    → length samples ≡ s.block → All (IsSample s) samples → block_data s b p samples ≡ block_with head.reference items
     → TakesSet old new first last s b p samples 0
-block_given p r samples {items} read len legal says =
+block_given p head samples {items} read sound len legal says =
     let d = read.tells in
-    let told = d.told refl in
-    let same : block_with r items ≡ d.contents = (λ i. record { reference = sym d.reference_is i; residuals = sym told.3 i }) in
+    let told = d.told sound in
+    let same : block_with head.reference items ≡ d.contents = (λ i. record { reference = sym d.reference_is i; residuals = sym told.3 i }) in
     record {
       set = read.set;
       form = read.form;

@@ -1,24 +1,13 @@
 -- Residuals from their high and low parts.
 use Rattle.std.proofs.Common.{◌≡◌, ℕ, zero, suc, ◌+◌, ◌-◌, ◌*◌, ◌/◌, ◌%◌, ◌^◌, ◌<◌, ◌≤◌, Bool, true, false, List, [], ◌∷◌, ◌++◌, length, get_or, take, drop, set, refl, sym, ◌∙◌, ap, subst, arith}
-use Rattle.std.specs.Prelude.{All, flat_map, ◌&&◌}
-use Rattle.std.proofs.lemmas.List.{take_more, take_more_set, drop-set-lt, drop-drop, get_or-drop}
-use Rattle.std.proofs.lemmas.Grind.{get_or_default_zero}
-use Rattle.std.proofs.Math.Dec.{leb}
-use Rattle.std.proofs.lemmas.List.Elements.{All-push}
-use Rattle.std.proofs.lemmas.Nat.{div-mul-add, pow_pos, pow-add}
-use Rattle.std.proofs.lemmas.Bool.{leb-true, leb-false}
-use Rattle.std.proofs.Math.Nat.{le-div_iff_mul-le, div-lt_iff_lt-mul, mod-eq_of_lt, mul-le-mul_right}
-use Rattle.rice_bits.specs.Bits.{word, fundamental_sequence}
-use Rattle.rice_bits.proofs.lemmas.bits.WordsAndNumbers.{word-low}
-use Rattle.rice_bits.proofs.lemmas.read.JoinedPartsLemmas.{length-joined}
-use Rattle.rice_bits.specs.read.JoinedParts.{joined_parts}
+use Rattle.rice_code.proofs.Words.{All, flat_map, ◌&&◌, take_more, take_more_set, drop-set-lt, drop-drop, get_or-drop, get_or_default_zero, leb, All-push, div-mul-add, pow_pos, pow-add, leb-true}
+use Rattle.rice_code.proofs.Words.{leb-false, le-div_iff_mul-le, div-lt_iff_lt-mul, mod-eq_of_lt, mul-le-mul_right, word-low, length-joined, joined_parts, word, fundamental_sequence}
 
 -- the joined part at a place: the high part there, moved up by k digits, and the low part
 pub joined-at : (k : ℕ) (ms ls : List ℕ) (i : ℕ) → i < length ms → length ls ≡ length ms → get_or (joined_parts k ms ls) i 0 ≡ get_or ms i 0 * 2 ^ k + get_or ls i 0
-joined-at k [] ls i h e = absurd (omega arith)
-joined-at k (m ∷ ms) [] i h e = absurd (omega arith)
 joined-at k (m ∷ ms) (l ∷ ls) zero h e = refl
 joined-at k (m ∷ ms) (l ∷ ls) (suc i) h e = joined-at k ms ls i (omega arith) (omega arith)
+joined-at k _ _ i h e = absurd (omega arith)
 
 -- all of a list, one more
 pub fit_more : (count : ℕ) (xs : List ℕ) (i : ℕ) → i < length xs → All (λ d. d < count) (take i xs) → get_or xs i 0 < count → All (λ d. d < count) (take (i + 1) xs)
@@ -54,9 +43,8 @@ high_pieces k (m ∷ ms) (l ∷ ls) e f =
 -- and the words of k bits of joined parts are those of the low parts
 pub low_pieces : (k : ℕ) (ms ls : List ℕ) → length ls ≡ length ms → flat_map (word k) (joined_parts k ms ls) ≡ flat_map (word k) ls
 low_pieces k [] [] e = refl
-low_pieces k [] (l ∷ ls) e = absurd (omega arith)
-low_pieces k (m ∷ ms) [] e = absurd (omega arith)
 low_pieces k (m ∷ ms) (l ∷ ls) e = rw (word-low k k m l (omega arith), low_pieces k ms ls (omega arith)) refl
+low_pieces k _ _ e = absurd (omega arith)
 
 -- whether all of a list are below a number, one more of them
 pub below-more : (count : ℕ) (xs : List ℕ) (i : ℕ) (all : Bool) → i < length xs → 0 < count → (all ≡ true → All (λ d. d < count) (take i xs)) → (all ≡ false → All (λ d. d < count) xs → ⊥)

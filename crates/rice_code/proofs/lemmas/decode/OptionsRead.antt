@@ -1,34 +1,15 @@
 -- What is read of a block after its identifier.
 use Rattle.std.proofs.Common.{◌≡◌, ℕ, zero, suc, ◌+◌, ◌-◌, ◌*◌, ◌/◌, ◌^◌, ◌<◌, ◌≤◌, Bool, true, false, List, [], ◌∷◌, ◌++◌}
 use Rattle.std.proofs.Common.{length, refl, sym, ◌∙◌, ap, subst, arith, append_assoc, length-append, replicate, take, drop, length-drop, Option, Some, None}
-use Rattle.std.specs.Prelude.{All, flat_map, is_some, slice_index, OnSome}
-use Rattle.std.proofs.lemmas.List.{append-nil, length-replicate, length-take-le, take-append-drop}
-use Rattle.std.proofs.lemmas.List.Elements.{All-replicate}
-use Rattle.rice_bits.specs.Bits.{word, fundamental_sequence}
-use Rattle.rice_bits.specs.read.Reader.{Reader, Takes, Stops}
-use Rattle.rice_bits.specs.declared.read.fault.BitFault.{BitFault}
-use Rattle.rice_bits.proofs.lemmas.bits.WordsReadInOneWay.{sequence_reads}
-use Rattle.rice_bits.proofs.lemmas.read.ReaderLemmas.{takes-append, stops-append}
+use Rattle.rice_code.proofs.Words.{All, flat_map, is_some, slice_index, OnSome, append-nil, length-replicate, length-take-le, take-append-drop, All-replicate, Reader, Takes, Stops, BitFault}
+use Rattle.rice_code.proofs.Words.{sequence_reads, takes-append, stops-append, length-word, Parameters, IsBlockSize, IsLegal, value_count, k_max, is_reference, pair_codes, joined_parts, count_pairs}
+use Rattle.rice_code.proofs.Words.{length-words, length-joined, pow_pos, word, fundamental_sequence, BlockData, CodedDataSet, NoCompression, SecondExtension, Split, sent_residuals, sent_from}
+use Rattle.rice_code.proofs.Words.{reference_bits, run_tail, IsForm, IsReference, IsBlock, Row, CountRow, WordRow, PairRow, ones, BlockRead, BlockCut, PartsRead, PartsCut, reference_place, set_tail}
 pub use Rattle.rice_bits.proofs.lemmas.bits.JoinedBits.{up_to_end}
-use Rattle.rice_bits.proofs.lemmas.bits.WordsAndNumbers.{length-word}
-use Rattle.rice_samples.specs.Parameters.{Parameters, IsBlockSize, IsLegal, value_count, k_max}
-use Rattle.rice_samples.specs.Places.{is_reference}
-use Rattle.rice_code.specs.code.Blocks.{BlockData}
-use Rattle.rice_samples.specs.blocks.Pairs.{pair_codes}
-use Rattle.rice_code.specs.code.CodedDataSets.{CodedDataSet, NoCompression, SecondExtension, Split, sent_residuals, sent_from, reference_bits, run_tail}
-use Rattle.rice_code.specs.code.Forms.{IsForm, IsReference, IsBlock}
-use Rattle.rice_code.specs.decode.RowsOfFields.{Row, CountRow, WordRow, PairRow, ones}
-use Rattle.rice_code.specs.decode.ReadSets.{BlockRead, BlockCut, PartsRead, PartsCut, reference_place, set_tail}
-use Rattle.rice_bits.specs.read.JoinedParts.{joined_parts}
-use Rattle.rice_samples.proofs.lemmas.blocks.PairNumbers.{count_pairs}
-use Rattle.rice_bits.proofs.lemmas.read.WindowLemmas.{length-words}
 use Rattle.rice_code.proofs.lemmas.decode.RowsOfFields.{put_rest, ones-append, ones-zeros, ones-sequence, ones-sequences}
 use Rattle.rice_code.proofs.lemmas.decode.JoinedResiduals.{high_pieces, low_pieces, highs_small, joined_highs}
-use Rattle.rice_bits.proofs.lemmas.read.JoinedPartsLemmas.{length-joined}
-use Rattle.std.proofs.lemmas.Nat.{pow_pos}
 use borrow.Rule.Slice.PartMut.{put_mid}
-use Rattle.rice_code.proofs.lemmas.code.FormsReadInOneWay.{after_reference}
-use Rattle.rice_code.proofs.lemmas.encode.OptionTexts.{no_digits}
+use Rattle.rice_code.proofs.lemmas.{code.FormsReadInOneWay.after_reference, encode.OptionTexts.no_digits}
 
 -- residuals put behind the place of the reference sample are those that are sent
 pub coded-placed : (r : Option ℕ) (vs : List ℕ) → sent_from r (reference_place r ++ vs) ≡ vs
@@ -57,10 +38,9 @@ length-coded_at s b c r count h k e = by_cases r c.reference c.residuals (k.ther
     by_cases : (r q : Option ℕ) (ds : List ℕ) → Rattle.std.specs.Prelude.is_some r ≡ Rattle.std.specs.Prelude.is_some q
         → count + length (reference_place r) ≡ length ds → length (sent_from q ds) ≡ count
     by_cases None None ds e f = omega arith
-    by_cases None (Some w) ds e f = absurd cc
-    by_cases (Some v) None ds e f = absurd cc
     by_cases (Some v) (Some w) [] e f = absurd (omega arith)
     by_cases (Some v) (Some w) (d ∷ ds) e f = omega arith
+    by_cases _ _ ds e f = absurd cc
 
 -- where a block has a reference sample, it is sent in as many bits as a sample has
 pub length-reference : (s : Parameters) (b : ℕ) (r : Option ℕ) → IsReference s b r → is_reference s b ≡ true → length (reference_bits s r) ≡ s.bits
@@ -297,13 +277,12 @@ parts_cut_high old new k count bits f short stops = record {
 
 after_sequences : (k : ℕ) (ms ds : List ℕ) (x y : List Bool) → length ms ≡ length ds → flat_map fundamental_sequence ms ++ x ≡ flat_map (λ d. fundamental_sequence (d / 2 ^ k)) ds ++ y → x ≡ y
 after_sequences k [] [] x y n e = e
-after_sequences k [] (d ∷ ds) x y n e = absurd (omega arith)
-after_sequences k (m ∷ ms) [] x y n e = absurd (omega arith)
 after_sequences k (m ∷ ms) (d ∷ ds) x y n e =
     let a = sequence_reads m (d / 2 ^ k) (flat_map fundamental_sequence ms ++ x) (flat_map (λ d. fundamental_sequence (d / 2 ^ k)) ds ++ y)
     (sym (append_assoc (fundamental_sequence m) (flat_map fundamental_sequence ms) x)
     ∙ (e ∙ append_assoc (fundamental_sequence (d / 2 ^ k)) (flat_map (λ d. fundamental_sequence (d / 2 ^ k)) ds) y)) in
     after_sequences k ms ds x y (omega arith) a.1
+after_sequences k _ _ x y n e = absurd (omega arith)
 
 -- too few low parts
 pub parts_cut_low : {I : Type 0} {old mid new : Reader I} {most : ℕ} (k : ℕ) {small : Bool} {count : ℕ} {told : List ℕ} {bits : List Bool} {f : BitFault}

@@ -1,19 +1,8 @@
 -- Samples of a block, restored.
 use Rattle.std.proofs.Common.{◌≡◌, ℕ, suc, ◌+◌, ◌*◌, ◌/◌, ◌%◌, ◌<◌, ◌==◌, Bool, true, false, cond, List, [], ◌∷◌, length, map}
 use Rattle.std.proofs.Common.{drop, refl, sym, ◌∙◌, ap, arith, Option, Some, None, ℤ, zero, subst, ◌≤◌, inl, inr, replicate}
-use Rattle.std.specs.Prelude.{All, IfSome, IfNone, OnSome, is_some, slice_index, slice_index_or, ◌&&◌}
-use Rattle.std.proofs.lemmas.Nat.{div-mul-add}
-use Rattle.std.proofs.Math.Nat.{mul_comm}
-use Rattle.std.proofs.lemmas.Nat.{mod-mul-add}
-use Rattle.std.proofs.Math.Dec.{eqb-suc-zero}
-use Rattle.rice_samples.specs.Parameters.{Parameters, IsSample, level, value_count}
-use Rattle.rice_samples.proofs.lemmas.setting.LevelsOfSamples.{same_level}
-use Rattle.rice_samples.proofs.lemmas.predict.Ranks.{rank_injective}
-use Rattle.rice_samples.specs.Places.{is_reference, is_reference_sample, place}
-use Rattle.rice_samples.specs.predict.Residuals.{residual, residuals, rank, ranks, pattern}
-use Rattle.rice_code.specs.code.Blocks.{block_data, zero_block}
-use Rattle.rice_code.specs.code.Forms.{IsReference}
-use Rattle.rice_code.specs.decode.Restoring.{residual_at}
+use Rattle.rice_code.proofs.Words.{All, IfSome, IfNone, OnSome, is_some, slice_index, slice_index_or, ◌&&◌, div-mul-add, mul_comm, mod-mul-add, eqb-suc-zero, Parameters, IsSample, level, value_count}
+use Rattle.rice_code.proofs.Words.{same_level, rank_injective, is_reference, is_reference_sample, place, residual, residuals, rank, ranks, pattern, block_data, zero_block, IsReference, residual_at}
 use Rattle.rice_code.proofs.lemmas.meaning.CoveredBlocks.{bool_cases}
 use Rattle.rice_code.proofs.lemmas.code.RepeatedSamples.{Repeats, repeated_all, same_rank}
 

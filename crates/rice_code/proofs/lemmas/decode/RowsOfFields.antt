@@ -1,24 +1,11 @@
 -- Pieces that a reader takes one after another.
 use Rattle.std.proofs.Common.{◌≡◌, ℕ, zero, suc, ◌+◌, ◌-◌, ◌*◌, ◌/◌, ◌<◌, ◌≤◌, Bool, true, false, List, [], ◌∷◌, ◌++◌}
 use Rattle.std.proofs.Common.{length, replicate, set, take, drop, refl, sym, ◌∙◌, ap, arith, append_assoc, length-append, None, sum, ◌^◌, subst}
-use Rattle.std.specs.Prelude.{All, flat_map, ◌&&◌}
-use Rattle.std.proofs.lemmas.List.{append-nil, drop_all, length-drop, get_or_append_left, get_or-append-add, length-set, take_all, take_more_set}
-use Rattle.std.proofs.lemmas.Grind.{get_or_head}
+use Rattle.rice_code.proofs.Words.{All, flat_map, ◌&&◌, append-nil, drop_all, length-drop, get_or_append_left, get_or-append-add, length-set, take_all, take_more_set, get_or_head, flat_map-append}
+use Rattle.rice_code.proofs.Words.{All-append, sum_by-append, mul-le-mul_right, Reader, Takes, Stops, takes-none, takes-append, stops-append, length-words, length-fundamental_sequence, BitFault}
+use Rattle.rice_code.proofs.Words.{pair_code, pair_codes, flat_map-push, word, fundamental_sequence, Row, CountRow, PairRow, ones}
 use borrow.Rule.Slice.PartMut.{put_mid}
-use Rattle.std.proofs.lemmas.Grind.{flat_map-append}
-use Rattle.std.proofs.lemmas.List.Elements.{All-append}
-use Rattle.std.proofs.lemmas.List.Sums.{sum_by-append}
-use Rattle.std.proofs.Math.Nat.{mul-le-mul_right}
-use Rattle.rice_bits.specs.Bits.{word, fundamental_sequence}
-use Rattle.rice_bits.specs.read.Reader.{Reader, Takes, Stops}
-use Rattle.rice_bits.proofs.lemmas.read.ReaderLemmas.{takes-none, takes-append, stops-append}
-use Rattle.rice_bits.proofs.lemmas.read.WindowLemmas.{length-words}
-use Rattle.rice_bits.proofs.lemmas.bits.WordsAndNumbers.{length-fundamental_sequence}
-use Rattle.rice_bits.specs.declared.read.fault.BitFault.{BitFault}
-use Rattle.rice_samples.specs.blocks.Pairs.{pair_code, pair_codes}
-use Rattle.rice_samples.proofs.lemmas.bytes.SamplesInTurn.{flat_map-push}
 use Rattle.rice_code.proofs.lemmas.meaning.CoveredBlocks.{and-split}
-use Rattle.rice_code.specs.decode.RowsOfFields.{Row, CountRow, PairRow, ones}
 
 -- no pieces: the reader stays as it is, and no number is appended
 pub row-none : {I : Type 0} (f : ℕ → List Bool) (P : ℕ → Type 0) (r : Reader I) (before : List ℕ)
@@ -167,10 +154,8 @@ sequences-stop {old} {mid} {new} ms count m {f} t h s = (
 -- one pair more
 pub pair_codes-push : (half : ℕ) (ds : List ℕ) (a b : ℕ) → length ds ≡ half + half → pair_codes ((ds ++ a ∷ []) ++ b ∷ []) ≡ pair_codes ds ++ pair_code a b ∷ []
 pair_codes-push zero [] a b h = refl
-pair_codes-push zero (d ∷ ds) a b h = absurd (omega arith)
-pair_codes-push (suc half) [] a b h = absurd (omega arith)
-pair_codes-push (suc half) (d ∷ []) a b h = absurd (omega arith)
 pair_codes-push (suc half) (d ∷ e ∷ ds) a b h = ap (λ z. pair_code d e ∷ z) (pair_codes-push half ds a b (omega arith))
+pair_codes-push _ _ a b h = absurd (omega arith)
 
 -- the sum of numbers with two more behind them
 pub sum-push2 : (xs : List ℕ) (a b : ℕ) → sum ((xs ++ a ∷ []) ++ b ∷ []) ≡ sum xs + (a + b)

@@ -1,12 +1,6 @@
 -- The samples of a block, restored one after another.
 use Rattle.std.proofs.Common.{◌≡◌, ℕ, suc, ◌+◌, ◌*◌, ◌<◌, ◌==◌, true, List, [], ◌∷◌, ◌++◌, length, take, get_or, refl, sym, ◌∙◌, ap, arith, Option, Some, None, ℤ, length-append, eq-eqb}
-use Rattle.std.specs.Prelude.{IfSome}
-use Rattle.std.proofs.lemmas.List.{take_more}
-use Rattle.std.proofs.lemmas.List.Elements.{All-push}
-use Rattle.rice_samples.specs.Parameters.{Parameters, IsSample}
-use Rattle.rice_samples.specs.predict.Residuals.{residual, residuals, pattern, last_of}
-use Rattle.rice_code.specs.code.Forms.{IsReference}
-use Rattle.rice_code.specs.decode.Restoring.{residual_at, IsRestored}
+use Rattle.rice_code.proofs.Words.{IfSome, take_more, All-push, Parameters, IsSample, residual, residuals, pattern, last_of, IsReference, residual_at, IsRestored}
 use Rattle.rice_code.proofs.lemmas.decode.RestoredBlocks.{residual_within}
 
 -- the last of some samples and one more

@@ -1,22 +1,9 @@
 -- What is read of a data set.
 use Rattle.std.proofs.Common.{◌≡◌, ℕ, zero, suc, ◌+◌, ◌-◌, ◌*◌, ◌%◌, ◌^◌, ◌<◌, ◌≤◌, ◌∙◌, Bool, true, false, List, [], ◌∷◌, ◌++◌, length, refl, sym, ap, subst, arith, length-append, Option, cond}
-use Rattle.std.specs.Prelude.{if◌then◌else◌, nat_lt, ◌==◌, ◌&&◌}
-use Rattle.std.proofs.lemmas.Bool.Decides.{nat_tests}
-use Rattle.std.proofs.Math.Nat.{mod-eq_of_lt}
-use Rattle.std.proofs.Math.Pow.{pow_mono}
-use Rattle.rice_bits.specs.Bits.{word}
-use Rattle.rice_bits.specs.read.Reader.{Reader, Takes, Stops, is_blank}
-use Rattle.rice_bits.specs.declared.read.fault.BitFault.{BitFault}
-use Rattle.rice_bits.proofs.lemmas.read.ReaderLemmas.{takes-append, stops-append}
-use Rattle.rice_bits.proofs.lemmas.bits.WordsAndNumbers.{length-word}
-use Rattle.rice_bits.proofs.lemmas.read.BlankBits.{blank-append, blank-word_positive}
-use Rattle.rice_samples.specs.Parameters.{Parameters, id_len}
-use Rattle.rice_code.specs.code.Blocks.{BlockData}
-use Rattle.rice_code.specs.code.CodedDataSets.{CodedDataSet, NoCompression, SecondExtension, Split, ZeroBlocks, RemainderOfSegment}
-use Rattle.rice_code.specs.code.CodedDataSets.{bits_of_set, run_number, no_compression_tail, second_extension_tail, split_tail, run_tail}
-use Rattle.rice_code.specs.code.Forms.{IsForm, IsReference}
-use Rattle.rice_code.specs.decode.ReadSets.{BlockRead, BlockCut, SetRead, SetCut, LowEntropyRead, LowEntropyCut, low_entropy_tail, IsLowEntropy}
-use Rattle.rice_code.specs.declared.decode.options.SetSummary.TheVariants.{Residuals, Zeros}
+use Rattle.rice_code.proofs.Words.{if◌then◌else◌, nat_lt, ◌==◌, ◌&&◌, nat_tests, mod-eq_of_lt, pow_mono, Reader, Takes, Stops, is_blank, BitFault, takes-append, stops-append, length-word}
+use Rattle.rice_code.proofs.Words.{blank-append, blank-word_positive, Parameters, id_len, word, BlockData, CodedDataSet, NoCompression, SecondExtension, Split, ZeroBlocks, RemainderOfSegment}
+use Rattle.rice_code.proofs.Words.{bits_of_set, run_number, no_compression_tail, second_extension_tail, split_tail, run_tail, IsForm, IsReference, BlockRead, BlockCut, SetRead, SetCut, LowEntropyRead}
+use Rattle.rice_code.proofs.Words.{LowEntropyCut, low_entropy_tail, IsLowEntropy, Residuals, Zeros, BlockSummary}
 use Rattle.rice_code.proofs.lemmas.code.FormsReadInOneWay.{head_reads, identifier, tail, wide_id}
 
 -- a word of less than the identifier begins nothing
@@ -112,10 +99,10 @@ low_set_cut {old} {mid} {new} first {last} {s} {b} {id} {f} lt e t steps cut =
     behind false y h = absurd (let none : false ≡ true = h in cc)
 
 -- one whose identifier and block by no compression were read was read
-pub no_compression_set : {I : Type 0} {old mid new : Reader I} {first second last : ℕ} {s : Parameters} {b id : ℕ} (r : Option ℕ) (sound : Bool) {items : List ℕ}
+pub no_compression_set : {I : Type 0} {old mid new : Reader I} {first second last : ℕ} {s : Parameters} {b id : ℕ} (head : BlockSummary) {items : List ℕ}
     → id ≡ 2 ^ id_len s - 1 → Takes old mid (word (id_len s) id) → second + old.taken ≡ first + mid.taken
-    → BlockRead mid new second last s b NoCompression (record { reference = r; sound = sound }) items → SetRead old new first last s b (Residuals r sound) items
-no_compression_set {old} {mid} {new} r sound e t steps read = record {
+    → BlockRead mid new second last s b NoCompression head items → SetRead old new first last s b (Residuals head) items
+no_compression_set {old} {mid} {new} head e t steps read = record {
   set = NoCompression read.contents;
   form = read.form;
   takes = rw (← e) (takes-append old mid new _ _ t read.takes);
@@ -132,10 +119,10 @@ no_compression_set {old} {mid} {new} r sound e t steps read = record {
 }
 
 -- one whose identifier and block by a split were read was read
-pub split_set : {I : Type 0} {old mid new : Reader I} {first second last : ℕ} {s : Parameters} {b : ℕ} (id k : ℕ) (r : Option ℕ) (sound : Bool) {items : List ℕ}
+pub split_set : {I : Type 0} {old mid new : Reader I} {first second last : ℕ} {s : Parameters} {b : ℕ} (id k : ℕ) (head : BlockSummary) {items : List ℕ}
     → id ≡ k + 1 → Takes old mid (word (id_len s) id) → second + old.taken ≡ first + mid.taken
-    → BlockRead mid new second last s b (Split k) (record { reference = r; sound = sound }) items → SetRead old new first last s b (Residuals r sound) items
-split_set {old} {mid} {new} id k r sound e t steps read = record {
+    → BlockRead mid new second last s b (Split k) head items → SetRead old new first last s b (Residuals head) items
+split_set {old} {mid} {new} id k head e t steps read = record {
   set = Split k read.contents;
   form = read.form;
   takes = rw (← e) (takes-append old mid new _ _ t read.takes);
@@ -164,11 +151,10 @@ low_set {old} {mid} {new} {s} e t steps read = record {
 }
   where
     low_text : (d : CodedDataSet) → IsLowEntropy d → word (id_len s) 0 ++ low_entropy_tail s d ≡ bits_of_set s d
-    low_text (NoCompression c) h = absurd h
     low_text (SecondExtension c) h = refl
-    low_text (Split k c) h = absurd h
     low_text (ZeroBlocks r z) h = refl
     low_text (RemainderOfSegment r) h = refl
+    low_text _ h = absurd h
 
 -- one bit
 bit_word : (v : ℕ) → v < 2 → word 1 v ≡ (if v == 0 then false ∷ [] else true ∷ [])
@@ -183,9 +169,8 @@ zero_bit = bit_word 0 (omega arith)
 
 -- and one of a digit that is not 0 is a 1
 pub one_bit : (v : ℕ) → v < 2 → 0 < v → word 1 v ≡ true ∷ []
-one_bit zero h k = absurd (omega arith)
 one_bit (suc zero) h k = bit_word 1 (omega arith)
-one_bit (suc (suc v)) h k = absurd (omega arith)
+one_bit _ h k = absurd (omega arith)
 
 -- no bit is left behind an identifier of 0: the coded data set is cut off there
 pub low_bit_cut : {I : Type 0} {old new : Reader I} (first last : ℕ) (s : Parameters) (b : ℕ) {bits : List Bool} {f : BitFault}
@@ -214,8 +199,7 @@ second_low_cut {old} {mid} {new} first last {s} {b} {v} {f} lt pos t cut = recor
     none bits h (NoCompression c) more form low e = low
     none bits h (SecondExtension c) more form low e = h c more form cc
     none bits h (Split k c) more form low e = low
-    none bits h (ZeroBlocks r z) more form low e = absurd cc
-    none bits h (RemainderOfSegment r) more form low e = absurd cc
+    none bits h _ more form low e = absurd cc
 
 -- the bit is a 0, and what is left behind it begins with no run
 pub run_low_cut : {I : Type 0} {old mid new : Reader I} {first : ℕ} (second : ℕ) {last : ℕ} (s : Parameters) (b : ℕ) {bits : List Bool} {f : BitFault}
@@ -237,10 +221,10 @@ run_low_cut {old} {mid} {new} second s b {bits} {f} t before stops behind cut = 
     none bits h (RemainderOfSegment r) more form low e = h r 4 more form cc
 
 -- the bit is a 1, and a block by second extension was read behind it
-pub second_low : {I : Type 0} {old mid new : Reader I} {first second last : ℕ} {s : Parameters} {b v : ℕ} (r : Option ℕ) (sound : Bool) {items : List ℕ}
+pub second_low : {I : Type 0} {old mid new : Reader I} {first second last : ℕ} {s : Parameters} {b v : ℕ} (head : BlockSummary) {items : List ℕ}
     → v < 2 → 0 < v → Takes old mid (word 1 v) → second + old.taken ≡ first + mid.taken
-    → BlockRead mid new second last s b SecondExtension (record { reference = r; sound = sound }) items → LowEntropyRead old new first last s b (Residuals r sound) items
-second_low {old} {mid} {new} {v} r sound lt pos t steps read = record {
+    → BlockRead mid new second last s b SecondExtension head items → LowEntropyRead old new first last s b (Residuals head) items
+second_low {old} {mid} {new} {v} head lt pos t steps read = record {
   set = SecondExtension read.contents;
   low = tt;
   form = read.form;

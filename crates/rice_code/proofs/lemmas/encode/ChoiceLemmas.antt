@@ -1,28 +1,15 @@
 -- The search for the best split, and the choice after it.
-use Rattle.std.proofs.Common.{◌≡◌, ℕ, zero, suc, ◌+◌, ◌*◌, ◌/◌, ◌^◌, ◌<◌, ◌≤◌, Bool, true, false, cond, nat_lt, map, List, [], ◌∷◌, length, refl, ap, arith, sym, ◌∙◌}
-use Rattle.std.specs.Prelude.{All, Option, None, Some}
-use Rattle.std.specs.List.{best_of, range_with_len}
-use Rattle.std.proofs.lemmas.Bool.Decides.{nat_tests}
-use Rattle.std.proofs.lemmas.List.Elements.{All-nil, All-cons, All-head, All-tail}
-use Rattle.std.proofs.lemmas.List.Sums.{sum_by-cons}
-use Rattle.std.proofs.Math.Nat.{pow-le-pow_right}
-use Rattle.rice_samples.specs.Parameters.{Parameters, k_max, value_count}
-use Rattle.rice_samples.proofs.lemmas.blocks.FallingSums.{cut_sum}
-use Rattle.rice_code.specs.code.Blocks.{BlockData}
-use Rattle.rice_code.specs.code.Choice.{shortest, IsBestSplit, best_split}
-use Rattle.rice_code.specs.code.CodedDataSets.{NoCompression, SecondExtension, Split, cost, reference_len, sent_from}
+use Rattle.std.proofs.Common.{◌≡◌, ℕ, zero, suc, ◌+◌, ◌*◌, ◌/◌, ◌^◌, ◌<◌, ◌≤◌, Bool, true, false, cond, nat_lt, map, List, [], ◌∷◌, length, ap, arith, sym, ◌∙◌}
+use Rattle.rice_code.proofs.Words.{All, Option, None, Some, best_of, range_with_len, nat_tests, All-nil, All-cons, All-head, All-tail, sum_by-cons, pow-le-pow_right, Parameters, k_max, value_count}
+use Rattle.rice_code.proofs.Words.{cut_sum, BlockData, shortest, IsBestSplit, best_split, NoCompression, SecondExtension, Split, cost, reference_len, sent_from, map-id}
 use Rattle.rice_code.proofs.lemmas.cost.SplitSavings.{first_is_kept, nat_lt-true, not_less, best_numbered, shortest_is}
-
-map_same : (xs : List ℕ) → map (λ k. k) xs ≡ xs
-map_same [] = refl
-map_same (x ∷ xs) = ap (λ l. x ∷ l) (map_same xs)
 
 abbrev shorter : Parameters → BlockData → ℕ → ℕ → Bool
 shorter s c j k = nat_lt (cost s (Split j c)) (cost s (Split k c))
 
 -- the smallest of the splits of least length is the best split
 pub best_split_is : (s : Parameters) (c : BlockData) (k : ℕ) → IsBestSplit s c k → best_split s c ≡ k
-best_split_is s c k h = sym (ap (λ ks. best_of (shorter s c) 0 ks) (map_same (range_with_len 1 (k_max s)))) ∙ mapped k h
+best_split_is s c k h = sym (ap (λ ks. best_of (shorter s c) 0 ks) (map-id (range_with_len 1 (k_max s)))) ∙ mapped k h
   where
     yes : (m n : ℕ) → m < n → nat_lt m n ≡ true
     yes m n h = grind (arith, nat_tests)

@@ -1,8 +1,6 @@
 -- What is put for the option that is chosen.
 use Rattle.std.proofs.Common.{◌≡◌, ℕ, ◌-◌, ◌*◌, ◌≤◌, ◌++◌, ◌∙◌, Bool, not, nat_eq, if◌then◌else◌, List, length, Option, ap, arith}
-use Rattle.rice_samples.specs.Parameters.{Parameters}
-use Rattle.rice_code.specs.code.CodedDataSets.{CodedDataSet, bits_of_set, cost}
-use Rattle.rice_code.specs.encode.BitBuffer.{PutsSet}
+use Rattle.rice_code.proofs.Words.{Parameters, CodedDataSet, bits_of_set, cost, PutsSet}
 
 -- what a flag chooses, where it is set, and where it is not
 pub where_set : (flag : ℕ) (a b : Option ℕ) → (flag ≡ 0 → ⊥) → a ≡ (if not (nat_eq flag 0) then a else b)

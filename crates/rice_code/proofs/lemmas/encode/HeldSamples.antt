@@ -1,26 +1,11 @@
 -- The residuals and the reference of the samples that a coder holds.
 use Rattle.std.proofs.Common.{◌≡◌, ℕ, zero, suc, ◌+◌, ◌*◌, ◌/◌, ◌%◌, ◌<◌, ◌≤◌, ◌==◌, min, Bool, true, false, cond, ◌&&◌, List, [], ◌∷◌, ◌++◌}
 use Rattle.std.proofs.Common.{length, take, drop, replicate, refl, ap, arith, sym, ◌∙◌, inl, inr, subst, append_assoc, append-nil, length-append, length-drop, None, Some, ℤ, pos}
-use Rattle.std.specs.Prelude.{slice_index_or}
-use Rattle.std.specs.List.{AllByRecursion}
-use Rattle.std.proofs.lemmas.Bool.{cases_lt}
-use Rattle.std.proofs.lemmas.Bool.Decides.{nat_tests}
-use Rattle.std.proofs.lemmas.List.{take_at, drop_at, length-take-le, length-take, take-append-drop}
-use Rattle.std.proofs.lemmas.Nat.{div-mul-add}
-use Rattle.std.proofs.Math.Nat.{div-add-mod, mod-lt, mul-mod_right, mul-div_cancel_left, mul-le-mul_left}
-use Rattle.rice_samples.specs.Parameters.{Parameters, IsSample}
-use Rattle.rice_samples.specs.Places.{place, begins_segment, blocks_left, is_reference, is_reference_sample}
-use Rattle.rice_samples.specs.predict.Residuals.{pattern, residual, residuals, last_of, rank}
-use Rattle.rice_samples.proofs.lemmas.setting.PlaceLemmas.{one_less_left, last_of_segment, reference_begins}
-use Rattle.rice_samples.proofs.lemmas.predict.ResidualLemmas.{length-residuals}
-use Rattle.rice_code.specs.code.Blocks.{BlockData, blocks_from}
-use Rattle.rice_code.specs.encode.Coder.{HasCodedBefore, reference_in}
-use Rattle.rice_code.specs.encode.OpenSegment.{CoderState, is_empty, next_residual, next_reference, state_after, state_with_fill}
-use Rattle.rice_code.specs.encode.HeldBlocks.{held_blocks}
-use Rattle.rice_code.specs.code.SoundBlocks.{block_with}
-use Rattle.rice_code.proofs.lemmas.meaning.CoveredBlocks.{bool_cases, and-split}
-use Rattle.rice_code.proofs.lemmas.code.RepeatedSamples.{last_append}
-use Rattle.rice_code.proofs.lemmas.code.SegmentPlaces.{place_inside}
+use Rattle.rice_code.proofs.Words.{slice_index_or, AllByRecursion, take_at, drop_at, length-take-le, length-take, take-append-drop, div-mul-add, div-add-mod, mod-lt, eqb-true, and-true}
+use Rattle.rice_code.proofs.Words.{mul-mod_right, mul-div_cancel_left, Parameters, IsSample, place, begins_segment, blocks_left, is_reference, is_reference_sample, pattern, residual, and-false}
+use Rattle.rice_code.proofs.Words.{residuals, last_of, rank, one_less_left, last_of_segment, reference_begins, length-residuals, lt_of_mul-lt-mul_left, BlockData, blocks_from, HasCodedBefore}
+use Rattle.rice_code.proofs.Words.{reference_in, CoderState, is_empty, next_residual, next_reference, state_after, state_with_fill, held_blocks, block_with}
+use Rattle.rice_code.proofs.lemmas.{meaning.CoveredBlocks.bool_cases, meaning.CoveredBlocks.and-split, code.RepeatedSamples.last_append, code.SegmentPlaces.place_inside}
 
 -- the next residual and the reference after it
 first_reference : (s : Parameters) (b : ℕ) → 1 ≤ s.block → is_reference_sample s (s.block * b + 0) ≡ is_reference s b
@@ -28,11 +13,7 @@ first_reference s b j =
     let e : s.block * b + 0 ≡ s.block * b = omega arith in
     let q : (s.block * b + 0) / s.block ≡ b = ap (λ v. v / s.block) e ∙ mul-div_cancel_left b j in
     let r : (s.block * b + 0) % s.block ≡ 0 = ap (λ v. v % s.block) e ∙ mul-mod_right s.block b in
-    (λ i. is_reference s (q i) && (r i == 0)) ∙ right (is_reference s b)
-  where
-    right : (v : Bool) → (v && true) ≡ v
-    right true = refl
-    right false = refl
+    (λ i. is_reference s (q i) && (r i == 0)) ∙ and-true (is_reference s b)
 
 later_reference : (s : Parameters) (b n : ℕ) → 1 ≤ s.interval → 1 ≤ s.block → suc n < s.block * blocks_left s b → is_reference_sample s (s.block * b + suc n) ≡ false
 later_reference s b n h j k =
@@ -42,8 +23,8 @@ later_reference s b n h j k =
           let m = s.block * b + suc n in
           let p = and-split (is_reference s (m / s.block)) (m % s.block == 0) e in
           let p' = and-split s.preprocess (place s (m / s.block) == 0) p.0 in
-          let whole : m % s.block ≡ 0 = same (m % s.block) p.1 in
-          let first : place s (m / s.block) ≡ 0 = same (place s (m / s.block)) p'.1 in
+          let whole : m % s.block ≡ 0 = eqb-true (m % s.block) 0 p.1 in
+          let first : place s (m / s.block) ≡ 0 = eqb-true (place s (m / s.block)) 0 p'.1 in
           let q = suc n / s.block in
           let d = div-add-mod (suc n) s.block in
           let r = mod-lt (suc n) j in
@@ -56,9 +37,6 @@ later_reference s b n h j k =
           absurd (omega (arith, in', first, some))
     ]
   where
-    same : (x : ℕ) → (x == 0) ≡ true → x ≡ 0
-    same x e = grind (arith, nat_tests)
-
     split : (m n b j q : ℕ) → j * q + suc n % j ≡ suc n → j * b + suc n ≡ (b + q) * j + suc n % j
     split m n b j q d = omega (arith, d)
 
@@ -66,10 +44,7 @@ later_reference s b n h j k =
     remainder m a j r f g d = let e = ap (λ v. j * v) g in omega (arith, e)
 
     below : (q r j left n : ℕ) → j * q + r ≡ n → n < j * left → q < left
-    below q r j left n d k = elim (cases_lt q left) [
-      | inl lt ↦ lt
-      | inr le ↦ absurd (let f : j * left ≤ j * q = mul-le-mul_left j le in omega arith)
-    ]
+    below q r j left n d k = lt_of_mul-lt-mul_left j (omega arith)
 
     positive : (q r j n : ℕ) → j * q + r ≡ suc n → r ≡ 0 → 1 ≤ q
     positive zero r j n d e = absurd (omega arith)
@@ -158,16 +133,12 @@ held_are s b p (suc n) xs h j k e =
 
     behind : (m : ℕ) (ys : List ℤ) (ds : List ℕ) (rest : List BlockData) → suc m ≤ blocks_left s b → (m ≡ 0 → rest ≡ [])
         → (m ≤ blocks_left s (b + 1) → rest ≡ held_blocks s (reference_in s (b + 1) ys) m ds) → rest ≡ held_blocks s None m ds
-    behind zero ys ds rest g and-false again = and-false refl
-    behind (suc m) ys ds rest g and-false again =
+    behind zero ys ds rest g none again = none refl
+    behind (suc m) ys ds rest g none again =
         elim (bool_cases (begins_segment s (b + 1))) [
           | inl f ↦ absurd (let i = last_of_segment s b h f in omega arith)
           | inr f ↦ let i = one_less_left s b h f in again (omega arith) ∙ ap (λ r. held_blocks s r (suc m) ds) (none_inside s (b + 1) ys f)
         ]
-
-and-false : (v : Bool) → (v && false) ≡ false
-and-false true = refl
-and-false false = refl
 
 -- the reference after it
 the_reference : (coder : CoderState) (b : ℕ) (held : List ℤ) (p x : ℤ) → place coder.setting b ≡ coder.start → coder.residuals ≡ residuals coder.setting (coder.setting.block * b) p held →

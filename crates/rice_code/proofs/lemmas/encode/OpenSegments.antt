@@ -1,29 +1,11 @@
 -- What an open segment holds, and the room that its code takes.
 use Rattle.std.proofs.Common.{◌≡◌, ℕ, suc, ◌+◌, ◌-◌, ◌*◌, ◌/◌, ◌%◌, ◌^◌, ◌<◌, ◌≤◌, ◌==◌, Bool, true, false}
 use Rattle.std.proofs.Common.{cond, ◌&&◌, List, ◌++◌, length, replicate, subst, ap, arith, sym, ◌∙◌, inl, inr, append_assoc, length-append}
-use Rattle.std.specs.Prelude.{sum_by}
-use Rattle.std.proofs.lemmas.Bool.{cases_lt}
-use Rattle.std.proofs.lemmas.Bool.Decides.{nat_tests}
-use Rattle.std.proofs.lemmas.List.Concat.{length-flat_map}
-use Rattle.std.proofs.Math.Nat.{div-add-mod, mod-lt, mod-eq_of_lt, mod_self, mul-le-mul_left, mul-le-mul_right}
-use Rattle.rice_bits.specs.Bits.{bits_to_byte}
-use Rattle.rice_samples.specs.Parameters.{Parameters, IsLegal, id_len}
-use Rattle.rice_samples.specs.Places.{place, blocks_left}
-use Rattle.rice_samples.proofs.lemmas.setting.LevelsOfSamples.{zero_is_sample}
-use Rattle.rice_samples.proofs.lemmas.setting.PlaceLemmas.{some_left}
-use Rattle.rice_code.specs.code.Code.{data_sets}
-use Rattle.rice_code.specs.encode.BitBuffer.{sink_bits}
-use Rattle.rice_code.specs.encode.OpenSegment.{CoderState, IsOpen, HoldsAnySegment, HasRoomForSegment, empty_state, state_after_segment, next_start}
-use Rattle.rice_code.specs.encode.OpenSegment.{blocks_held, contents_held, sets_held, code_held, HoldsSoundBlocks, CodesHeld}
-use Rattle.rice_code.specs.code.CodedDataSets.{bits_of_set, bits_of_sets}
-use Rattle.rice_code.specs.encode.HeldBlocks.{held_blocks, code_of_blocks, PutsBlocks}
-use Rattle.rice_code.specs.code.SoundBlocks.{AreSoundBlocks}
-use Rattle.rice_code.specs.CoderSteps.{least_looks, most_looks}
-use Rattle.rice_code.specs.Bounds.{block_bound}
-use Rattle.rice_code.proofs.lemmas.cost.BlockBounds.{blocks_are_bounded}
-use Rattle.rice_code.proofs.lemmas.code.SegmentLayouts.{code_lies}
-use Rattle.rice_code.proofs.lemmas.code.SegmentPlaces.{begins_next, next_start_is}
-use Rattle.rice_code.proofs.lemmas.encode.PendingRuns.{held_len}
+use Rattle.rice_code.proofs.Words.{sum_by, cases_lt, nat_tests, length-flat_map, div-add-mod, mod-lt, mod-eq_of_lt, mod_self, mul-le-mul_left, mul-le-mul_right, bits_to_byte, Parameters, IsLegal}
+use Rattle.rice_code.proofs.Words.{id_len, place, blocks_left, zero_is_sample, some_left, le_of_mul-le-mul_left, data_sets, sink_bits, CoderState, IsOpen, HoldsAnySegment, HasRoomForSegment, eqb-true}
+use Rattle.rice_code.proofs.Words.{empty_state, state_after_segment, next_start, blocks_held, contents_held, sets_held, code_held, HoldsSoundBlocks, CodesHeld, bits_of_set, bits_of_sets, held_blocks}
+use Rattle.rice_code.proofs.Words.{code_of_blocks, PutsBlocks, AreSoundBlocks, least_looks, most_looks, block_bound}
+use Rattle.rice_code.proofs.lemmas.{cost.BlockBounds.blocks_are_bounded, code.SegmentLayouts.code_lies, code.SegmentPlaces.begins_next, code.SegmentPlaces.next_start_is, encode.PendingRuns.held_len}
 
 -- the room that the residuals of any segment take
 pub holds_any : (s : Parameters) → IsLegal s → HoldsAnySegment 4096 s
@@ -113,14 +95,8 @@ pub few_blocks : (coder : CoderState) (end : ℕ) → IsOpen coder end → lengt
 few_blocks coder end h whole =
     let s = coder.setting in
     let j : 1 ≤ s.block = grind (arith, h.legal.block) in
-    let less : blocks_held coder ≤ blocks_left s coder.start = few s.block (blocks_held coder) (blocks_left s coder.start) j (omega (arith, whole, h.few)) in
+    let less : blocks_held coder ≤ blocks_left s coder.start = le_of_mul-le-mul_left {k = s.block} (omega (arith, whole, h.few)) j in
     (less, omega (arith, less, some_left s coder.start h.legal.interval_from))
-  where
-    few : (j q count : ℕ) → 1 ≤ j → j * q ≤ j * count → q ≤ count
-    few j q count h e = elim (cases_lt count q) [
-      | inl lt ↦ absurd (let k : j * suc count ≤ j * q = mul-le-mul_left j lt in omega arith)
-      | inr le ↦ le
-    ]
 
 -- what is put is the code of what is held
 pub code_is_held : {coder : CoderState} {count end : ℕ} (old : List Bool) {put new : List Bool} → count ≡ blocks_held coder → IsOpen coder end → HoldsSoundBlocks coder →
@@ -187,10 +163,7 @@ next_of_whole coder end h le =
     sym (next_start_is s coder.start coder.start r h.place) ∙ (next ∙ (sym now ∙ h.place))
   where
     at_front : (p : ℕ) → p < 64 → (p == 64 * (p / 64)) ≡ true → p ≡ 0
-    at_front p lt e = let f : p ≡ 64 * (p / 64) = same p (64 * (p / 64)) e in omega arith
-      where
-        same : (x y : ℕ) → (x == y) ≡ true → x ≡ y
-        same x y e = grind (arith, nat_tests)
+    at_front p lt e = let f : p ≡ 64 * (p / 64) = eqb-true p (64 * (p / 64)) e in omega arith
 
 -- a first segment
 pub first_is_open : (s : Parameters) (end : ℕ) → IsLegal s → end ≡ s.block * blocks_left s 0 → IsOpen (empty_state s) end

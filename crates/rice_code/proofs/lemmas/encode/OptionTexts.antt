@@ -1,17 +1,9 @@
 -- The texts of blocks, piece by piece. `split_is_joined` says what joins the parts of a split block.
 use Rattle.std.proofs.Common.{◌≡◌, ℕ, zero, suc, ◌+◌, ◌-◌, ◌*◌, ◌/◌, ◌^◌, ◌<◌, Bool, true, false, cond}
 use Rattle.std.proofs.Common.{◌&&◌, nat_le, List, [], ◌∷◌, ◌++◌, length, drop, get_or, refl, ap, arith, sym, ◌∙◌, append_assoc, Option}
-use Rattle.std.specs.Prelude.{flat_map, sum_by}
-use Rattle.std.proofs.lemmas.List.{length-drop, drop_more}
-use Rattle.rice_samples.specs.Parameters.{Parameters, id_len}
-use Rattle.rice_samples.specs.blocks.Pairs.{pair_code, pair_codes}
-use Rattle.rice_code.specs.code.Blocks.{BlockData}
-use Rattle.rice_code.specs.code.CodedDataSets.{bits_of_set, cost, reference_bits, reference_len, run_number, sent_residuals, Split, ZeroBlocks, RemainderOfSegment}
-use Rattle.rice_code.specs.code.Runs.{run_of_blocks}
-use Rattle.rice_code.specs.encode.HeldBlocks.{zeros_of_run}
-use Rattle.rice_bits.specs.Bits.{word, fundamental_sequence}
+use Rattle.rice_code.proofs.Words.{flat_map, sum_by, length-drop, Parameters, id_len, pair_code, pair_codes, word-fs, word-zero, word-cat, word-nil, BlockData, bits_of_set, cost}
+use Rattle.rice_code.proofs.Words.{reference_bits, reference_len, run_number, sent_residuals, Split, ZeroBlocks, RemainderOfSegment, run_of_blocks, zeros_of_run, word, fundamental_sequence}
 use Rattle.rice_code.proofs.lemmas.cost.CostIsLength.{numbered_run_len, remainder_len}
-use Rattle.rice_bits.proofs.lemmas.bits.WordsAndNumbers.{word-fs, word-zero, word-cat, word-nil}
 
 -- What joins a split block: identifier and reference sample, the fundamental sequences of the high parts, and then the words of the low
 -- parts, put into a sink one after the other, are the text of its coded data set.
@@ -89,8 +81,6 @@ run_text_len s to_end r z = by_test (nat_le 5 z && to_end)
 -- the codewords of the pairs from number i on
 pub pairs_left : (i : ℕ) (xs : List ℕ) → 2 * i + 1 < length xs →
     pair_codes (drop (2 * i) xs) ≡ pair_code (get_or xs (2 * i) 0) (get_or xs (2 * i + 1) 0) ∷ pair_codes (drop (2 * (i + 1)) xs)
-pairs_left i [] h = absurd (omega arith)
-pairs_left i (a ∷ []) h = absurd (omega arith)
 pairs_left zero (a ∷ b ∷ xs) h = refl
 pairs_left (suc i) (a ∷ b ∷ xs) h =
     let ih = pairs_left i xs (omega arith) in
@@ -99,18 +89,4 @@ pairs_left (suc i) (a ∷ b ∷ xs) h =
     let l : 2 * suc i + 1 ≡ suc (suc (2 * i + 1)) = omega arith in
     ap (λ n. pair_codes (drop n (a ∷ b ∷ xs))) k ∙ (ih
     ∙ (λ j. pair_code (get_or (a ∷ b ∷ xs) (sym k j) 0) (get_or (a ∷ b ∷ xs) (sym l j) 0) ∷ pair_codes (drop (sym e j) (a ∷ b ∷ xs))))
-
--- four residuals more
-pub four_more : (xs : List ℕ) (i n : ℕ) → i + 3 < length xs → n ≡ i + 4 → drop i xs ≡ get_or xs i 0 ∷ get_or xs (i + 1) 0 ∷ get_or xs (i + 2) 0 ∷ get_or xs (i + 3) 0 ∷ drop n xs
-four_more xs i n h e =
-    let a = drop_more xs i 0 (omega arith) in
-    let b = drop_more xs (i + 1) 0 (omega arith) in
-    let c = drop_more xs (i + 2) 0 (omega arith) in
-    let d = drop_more xs (i + 3) 0 h in
-    let p : i + 1 + 1 ≡ i + 2 = omega arith in
-    let q : i + 2 + 1 ≡ i + 3 = omega arith in
-    let r : i + 3 + 1 ≡ n = omega arith in
-    let b' = b ∙ ap (λ m. get_or xs (i + 1) 0 ∷ drop m xs) p in
-    let c' = c ∙ ap (λ m. get_or xs (i + 2) 0 ∷ drop m xs) q in
-    let d' = d ∙ ap (λ m. get_or xs (i + 3) 0 ∷ drop m xs) r in
-    a ∙ ap (λ v. get_or xs i 0 ∷ v) (b' ∙ ap (λ v. get_or xs (i + 1) 0 ∷ v) (c' ∙ ap (λ v. get_or xs (i + 2) 0 ∷ v) d'))
+pairs_left i _ h = absurd (omega arith)

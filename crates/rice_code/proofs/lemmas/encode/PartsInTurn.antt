@@ -1,9 +1,6 @@
 -- The parts of residuals are written one range after the other.
 use Rattle.std.proofs.Common.{◌≡◌, ℕ, suc, ◌+◌, ◌-◌, ◌*◌, ◌<◌, ◌≤◌, Bool, List, [], ◌∷◌, ◌++◌, length, drop, take, get_or, ap, arith, sym, ◌∙◌, append_assoc, append-nil}
-use Rattle.std.specs.Prelude.{flat_map, slice_range}
-use Rattle.std.proofs.Math.Seq.{take-suc}
-use Rattle.std.proofs.lemmas.Grind.{flat_map-append}
-use Rattle.std.proofs.lemmas.List.{length-drop, get_or-drop}
+use Rattle.rice_code.proofs.Words.{flat_map, slice_range, take-suc, flat_map-append, length-drop, get_or-drop}
 
 -- and one more
 slice_snoc : (ds : List ℕ) (from i : ℕ) → from ≤ i → i < length ds → slice_range ds from (i + 1) ≡ slice_range ds from i ++ get_or ds i 0 ∷ []

@@ -1,20 +1,9 @@
 -- Zero blocks that wait for the end of their run.
 use Rattle.std.proofs.Common.{◌≡◌, ℕ, zero, suc, ◌+◌, ◌*◌, ◌<◌, ◌≤◌, ◌==◌, Bool, true, false, cond, not, ◌&&◌, ◌||◌, nat_le, List, []}
 use Rattle.std.proofs.Common.{◌∷◌, ◌++◌, length, take, drop, replicate, refl, ap, arith, sym, ◌∙◌, inl, inr, subst, append-nil, length-append, Option, None}
-use Rattle.std.specs.List.{list_all}
-use Rattle.std.proofs.lemmas.Bool.Decides.{nat_tests}
-use Rattle.std.proofs.lemmas.List.{length-replicate, drop-drop}
-use Rattle.rice_samples.specs.Parameters.{Parameters}
-use Rattle.rice_samples.specs.Places.{begins_segment, blocks_left}
-use Rattle.rice_samples.proofs.lemmas.setting.PlaceLemmas.{one_less_left, last_of_segment}
-use Rattle.rice_code.specs.code.Blocks.{BlockData, is_zero_block, zero_block}
-use Rattle.rice_code.specs.code.CodedDataSets.{CodedDataSet, ZeroBlocks, RemainderOfSegment}
-use Rattle.rice_code.specs.code.Code.{data_sets}
-use Rattle.rice_code.specs.code.Runs.{zero_run, run_len}
-use Rattle.rice_code.specs.code.Choice.{shortest}
-use Rattle.rice_code.specs.code.Runs.{run_of_blocks}
-use Rattle.rice_code.specs.encode.HeldBlocks.{pending_zeros, pending_run, held_blocks, reference_at}
-use Rattle.rice_code.specs.code.SoundBlocks.{block_with, AreSoundBlocks}
+use Rattle.rice_code.proofs.Words.{list_all, nat_tests, length-replicate, drop-drop, Parameters, begins_segment, blocks_left, one_less_left, last_of_segment, BlockData, is_zero_block, zero_block}
+use Rattle.rice_code.proofs.Words.{CodedDataSet, ZeroBlocks, RemainderOfSegment, data_sets, zero_run, run_len, shortest, run_of_blocks, pending_zeros, pending_run, held_blocks, reference_at}
+use Rattle.rice_code.proofs.Words.{block_with, AreSoundBlocks}
 use Rattle.rice_code.proofs.lemmas.meaning.CoveredBlocks.{bool_cases, skipped, run_cons, skipped_go, skipped_plain, skipped_nil, data_sets_inside, data_sets_start, data_sets_plain}
 
 zeros_are_zero : (n : ℕ) → list_all (λ d. d == 0) (replicate n 0) ≡ true

@@ -1,42 +1,20 @@
 -- The samples that a coder has taken, and the code that a push or the end completes.
-use Rattle.std.proofs.Common.{◌≡◌, ℕ, suc, ◌+◌, ◌-◌, ◌*◌, ◌/◌, ◌%◌, ◌<◌, ◌≤◌, ◌==◌, min, Bool, true, false, List, [], ◌∷◌}
+use Rattle.std.proofs.Common.{◌≡◌, ℕ, ◌+◌, ◌-◌, ◌*◌, ◌/◌, ◌%◌, ◌<◌, ◌≤◌, ◌==◌, min, Bool, true, false, List, [], ◌∷◌}
 use Rattle.std.proofs.Common.{◌++◌, length, take, replicate, refl, ap, arith, sym, ◌∙◌, inl, inr, subst, append_assoc, append-nil, length-append, None, ℤ, pos}
-use Rattle.std.specs.Prelude.{sum_by}
-use Rattle.std.specs.List.{AllByRecursion}
-use Rattle.std.specs.Int.{next_multiple_of}
-use Rattle.std.proofs.lemmas.Bool.{cases_lt}
-use Rattle.std.proofs.lemmas.Bool.Decides.{nat_tests}
-use Rattle.std.proofs.lemmas.List.{take_at}
-use Rattle.std.proofs.lemmas.List.Elements.{All-from_recursion}
-use Rattle.std.proofs.lemmas.List.Sums.{sum_by-append}
-use Rattle.std.proofs.Math.Nat.{mod-lt, mod-eq_of_lt, mul-div_cancel_left, mul-add-mod_self_left, mod_self, mul-le-mul_left}
-use Rattle.rice_samples.specs.Parameters.{Parameters, IsLegal, IsSample, id_len, k_max}
-use Rattle.rice_samples.specs.Places.{place, begins_segment, blocks_left, cut, block_count}
-use Rattle.rice_samples.specs.predict.Residuals.{last_of, filled_samples}
-use Rattle.rice_samples.proofs.lemmas.setting.PlaceLemmas.{some_left}
-use Rattle.rice_samples.proofs.lemmas.predict.ResidualLemmas.{length-residuals}
-use Rattle.rice_samples.proofs.lemmas.setting.LevelsOfSamples.{zero_is_sample}
-use Rattle.rice_code.specs.code.Blocks.{BlockData, blocks_from, blocks_of, fill_count_of, fill_count}
-use Rattle.rice_code.specs.code.Code.{code, code_bits, data_sets, complete_samples}
-use Rattle.rice_code.specs.encode.Coder.{reference_in, HasCodedBefore, HasTaken, IsCoder, AddsCode}
-use Rattle.rice_code.specs.encode.OpenSegment.{CoderState, IsOpen, IsWhole, state_between, empty_state, state_after, state_with_fill, state_after_segment, next_start}
-use Rattle.rice_code.specs.encode.OpenSegment.{blocks_held, contents_held, sets_held, code_held, bits_held, HoldsSoundBlocks, CodesHeld, is_empty}
-use Rattle.rice_code.specs.code.CodedDataSets.{CodedDataSet, bits_of_set}
-use Rattle.rice_code.specs.encode.HeldBlocks.{held_blocks}
-use Rattle.rice_code.specs.code.SoundBlocks.{AreSoundBlocks}
-use Rattle.rice_code.specs.code.Layout.{layout}
-use Rattle.rice_code.specs.Bounds.{block_bound}
-use Rattle.rice_code.specs.CoderSteps.{least_looks, most_looks, least_looks_at, most_looks_at, least_steps, most_steps, coding_steps, segment_steps}
-use Rattle.rice_code.proofs.lemmas.meaning.CoveredBlocks.{bool_cases}
-use Rattle.rice_code.proofs.lemmas.code.RepeatedSamples.{last_append, blocks_append}
+use Rattle.rice_code.proofs.Words.{sum_by, AllByRecursion, next_multiple_of, cases_lt, nat_tests, take_at, All-from_recursion, sum_by-append, mod-lt, mod-eq_of_lt, mul-div_cancel_left}
+use Rattle.rice_code.proofs.Words.{mul-add-mod_self_left, mod_self, mul-le-mul_left, Parameters, IsLegal, IsSample, id_len, k_max, place, begins_segment, blocks_left, cut, block_count, last_of}
+use Rattle.rice_code.proofs.Words.{filled_samples, some_left, length-residuals, zero_is_sample, BlockData, blocks_from, blocks_of, fill_count_of, fill_count, code, code_bits, data_sets}
+use Rattle.rice_code.proofs.Words.{complete_samples, reference_in, HasCodedBefore, HasTaken, IsCoder, AddsCode, CoderState, IsOpen, IsWhole, state_between, empty_state, state_after, state_with_fill}
+use Rattle.rice_code.proofs.Words.{state_after_segment, next_start, blocks_held, contents_held, sets_held, code_held, bits_held, HoldsSoundBlocks, CodesHeld, is_empty, CodedDataSet, bits_of_set}
+use Rattle.rice_code.proofs.Words.{held_blocks, AreSoundBlocks, layout, block_bound, least_looks, most_looks, least_looks_at, most_looks_at, least_steps, most_steps, coding_steps, segment_steps}
+use Rattle.rice_code.proofs.lemmas.{meaning.CoveredBlocks.bool_cases, code.RepeatedSamples.last_append, code.RepeatedSamples.blocks_append, code.Layouts.laid_plain, code.Layouts.laid_at}
+use Rattle.rice_code.proofs.lemmas.{encode.OpenSegments.fill_inside, code.WholeBlocks.not_filled}
 use Rattle.rice_code.proofs.lemmas.code.CodeGoesOn.{filled_behind, own_blocks, code_goes_on, bits_go_on}
 use Rattle.rice_code.proofs.lemmas.encode.HeldSamples.{held_are, one_more, holds_fill, all_first}
-use Rattle.rice_code.proofs.lemmas.code.Layouts.{laid_plain, laid_at}
-use Rattle.rice_code.proofs.lemmas.encode.OpenSegments.{fill_inside}
 use Rattle.rice_code.proofs.lemmas.code.BlocksByPlaceAlone.{same_blocks, same_data_sets, same_reference, place_step, code_stands_in_intervals}
 use Rattle.rice_code.proofs.lemmas.code.SegmentPlaces.{begins_next, cut_is, next_start_is}
 use Rattle.rice_code.proofs.lemmas.code.SoundBlocks.{blocks_sound, last_legal, filled_len}
-use Rattle.rice_code.proofs.lemmas.code.WholeBlocks.{not_filled}
+use Rattle.rice_code.proofs.Words.{nil_from_length, le_of_mul-le-mul_left}
 
 -- of the samples that a coder has taken, those of whole segments are the ones that are coded
 pub complete_are_coded : (coder : CoderState) (xs : List ℤ) (h : HasTaken coder xs) → complete_samples coder.setting xs ≡ h.coded
@@ -168,17 +146,12 @@ open_between s start p xs k =
       ends = refl;
     }
 
--- a list of no length has nothing
-no_items : {X : Type 0} (xs : List X) → length xs ≡ 0 → xs ≡ []
-no_items [] e = refl
-no_items (x ∷ xs) e = absurd (omega arith)
-
 -- a coder whose samples all make whole segments holds nothing: it stands between two segments
 pub holds_nothing : (coder : CoderState) (xs : List ℤ) → HasTaken coder xs → cut coder.setting (length xs) ≡ length xs → coder ≡ state_between coder.setting coder.start coder.previous
 holds_nothing coder xs k all =
     let none : length coder.residuals ≡ 0 = omega (arith, pending_are coder xs k, all) in
-    let residuals : coder.residuals ≡ [] = no_items coder.residuals none in
-    let held : k.held ≡ [] = no_items k.held (omega (arith, held_count coder k.block k.coded k.held k.holds, none)) in
+    let residuals : coder.residuals ≡ [] = nil_from_length coder.residuals none in
+    let held : k.held ≡ [] = nil_from_length k.held (omega (arith, held_count coder k.block k.coded k.held k.holds, none)) in
     let reference : coder.reference ≡ None = k.holds.reference ∙ ap (reference_in coder.setting k.block) held in
     λ i. record { setting = coder.setting; residuals = residuals i; reference = reference i; previous = coder.previous; start = coder.start }
 
@@ -225,7 +198,7 @@ held_part {coder} {b} {n} {coded} {held} {full} h shape counted len =
     let zero = zero_is_sample s h.legal.bits_from in
     let size = ap length h.residuals ∙ (length-residuals s (s.block * b) p full ∙ len) in
     let q : blocks_held coder ≡ n = ap (λ v. v / s.block) size ∙ mul-div_cancel_left n j in
-    let few : n ≤ blocks_left s b = at_most s.block n (blocks_left s b) j (omega (arith, len, h.few)) in
+    let few : n ≤ blocks_left s b = le_of_mul-le-mul_left {k = s.block} (omega (arith, len, h.few)) j in
     let own : blocks_from s b p n full ≡ contents_held coder = held_are s b p n full r j few len ∙ (λ i. held_blocks s (sym h.reference i) (sym q i) (sym h.residuals i)) in
     let blocks : blocks_of s b p held ≡ contents_held coder = (λ i. blocks_from s b p (counted i) (shape i)) ∙ own in
     let lt : coder.start < s.interval = omega (arith, h.place, mod-lt b r) in
@@ -251,12 +224,6 @@ held_part {coder} {b} {n} {coded} {held} {full} h shape counted len =
       blocks_are = blocks_go_on s 0 b (pos 0) coded held j h.whole ∙ ap (λ v. blocks_of s 0 (pos 0) coded ++ v) (ap (λ m. blocks_of s m p held) here ∙ blocks);
     }
   where
-    at_most : (j q count : ℕ) → 1 ≤ j → j * q ≤ j * count → q ≤ count
-    at_most j q count h e = elim (cases_lt count q) [
-      | inl lt ↦ absurd (let k : j * suc count ≤ j * q = mul-le-mul_left j lt in omega arith)
-      | inr le ↦ le
-    ]
-
     none : (n : ℕ) → n ≡ 0 + n
     none n = omega arith
 
@@ -373,11 +340,7 @@ whole_segment_adds_code coder x xs h legal e =
     all_complete next =
         let parts : xs ++ x ∷ [] ≡ h.coded ++ (h.held ++ x ∷ []) = ap (λ v. v ++ x ∷ []) h.parts ∙ append_assoc h.coded h.held (x ∷ []) in
         let none : length next.held ≡ 0 = sym (held_count _ next.block next.coded next.held next.holds) in
-        complete_are_coded _ (xs ++ x ∷ []) next ∙ (sym (append-nil next.coded) ∙ (ap (λ v. next.coded ++ v) (sym (no_samples next.held none)) ∙ (sym next.parts ∙ parts)))
-      where
-        no_samples : (ys : List ℤ) → length ys ≡ 0 → ys ≡ []
-        no_samples [] e = refl
-        no_samples (y ∷ ys) e = absurd (omega arith)
+        complete_are_coded _ (xs ++ x ∷ []) next ∙ (sym (append-nil next.coded) ∙ (ap (λ v. next.coded ++ v) (sym (nil_from_length next.held none)) ∙ (sym next.parts ∙ parts)))
 
 zero_fill : (j m : ℕ) → 1 ≤ j → m ≡ 0 → (j - m % j) % j ≡ 0
 zero_fill j m h e =

@@ -1,20 +1,9 @@
 -- What pushing samples does: what pushing the last of them does after the others.
 use Rattle.std.proofs.Common.{◌≡◌, ℕ, ◌+◌, ◌-◌, ◌*◌, ◌%◌, ◌^◌, ◌<◌, ◌≤◌, Bool, List, [], ◌∷◌, ◌++◌, length}
-use Rattle.std.proofs.Common.{take, All, refl, ap, arith, inl, inr, sym, ◌∙◌, subst, append_assoc, append-nil, length-append, ℤ}
-use Rattle.std.specs.List.{AllByRecursion}
-use Rattle.std.proofs.Math.Nat.{mod-lt, mul-le-mul_left}
-use Rattle.std.proofs.Math.Seq.{take-length}
-use Rattle.std.proofs.lemmas.Bool.{cases_lt}
-use Rattle.std.proofs.lemmas.List.{length-take-le}
-use Rattle.std.proofs.lemmas.List.Elements.{recursion_from_All, All-take}
-use Rattle.rice_samples.specs.Parameters.{IsSample}
-use Rattle.rice_samples.specs.Places.{blocks_left, cut}
-use Rattle.rice_samples.proofs.lemmas.setting.PlaceLemmas.{some_left}
-use Rattle.rice_code.specs.code.Code.{complete_samples}
-use Rattle.rice_code.specs.encode.Coder.{HasTaken, IsCoder, PushesSamples, CompletesNone}
-use Rattle.rice_code.specs.code.Blocks.{fill_count}
-use Rattle.rice_code.specs.encode.OpenSegment.{CoderState, IsWhole, state_after, state_after_all, state_after_segment, state_with_fill, next_residual, HoldsSoundBlocks, CodesHeld}
-use Rattle.rice_code.specs.CoderSteps.{coding_steps, segment_steps}
+use Rattle.std.proofs.Common.{take, refl, ap, arith, inl, inr, sym, ◌∙◌, subst, append_assoc, append-nil, length-append, ℤ}
+use Rattle.rice_code.proofs.Words.{AllByRecursion, mod-lt, mul-le-mul_left, take-length, cases_lt, IsSample, blocks_left, cut, some_left}
+use Rattle.rice_code.proofs.Words.{complete_samples, HasTaken, IsCoder, PushesSamples, fill_count, CoderState, IsWhole, state_after, state_after_all, state_after_segment}
+use Rattle.rice_code.proofs.Words.{state_with_fill, next_residual, HoldsSoundBlocks, CodesHeld, coding_steps, segment_steps}
 use Rattle.rice_code.proofs.lemmas.encode.PushedCode.{stays_open, stays_open_completes_none, short_of, pending_are, whole_sound, takes_last_of_segment}
 use Rattle.rice_code.proofs.lemmas.encode.PushedCode.{whole_segment_adds_code, AddsHeldCode, adds_code, adds_nothing, steps_of_segment}
 use Rattle.rice_code.proofs.lemmas.encode.SeveralSamplesHeld.{state_after_all-none, state_after_all-cons, state_after_all-snoc, length-state_after_all}
@@ -47,7 +36,8 @@ pub record IsLast (coder : CoderState) (xs ys : List ℤ) : Type 0 where
   pub grows : state_after_all coder ys ≡ state_after (state_after_all coder others) x
   pub all : xs ++ ys ≡ (xs ++ others) ++ x ∷ []
 
-last_part : (ys : List ℤ) → 0 < length ys → (others : List ℤ) × (x : ℤ) × (ys ≡ others ++ x ∷ [])
+-- a list with some samples has a last one
+pub last_part : (ys : List ℤ) → 0 < length ys → (others : List ℤ) × (x : ℤ) × (ys ≡ others ++ x ∷ [])
 last_part [] h = absurd (omega arith)
 last_part (y ∷ []) h = ([], y, refl)
 last_part (y ∷ z ∷ zs) h = let r = last_part (z ∷ zs) (omega arith) in (y ∷ r.0, r.1, ap (λ v. y ∷ v) r.2)
@@ -115,21 +105,6 @@ pub record HoldsMore (value coder held : CoderState) (ys : List ℤ) : Type 0 wh
   pub legal : AllByRecursion (IsSample coder.setting) ys
   pub room : length coder.residuals + length ys ≤ coder.setting.block * blocks_left coder.setting coder.start
   pub holds : held ≡ state_after_all coder ys
-
--- the first t of several samples,
-holds_first : {value coder held : CoderState} (xs : List ℤ) (t : ℕ) → coder ≡ value → IsCoder coder → All (IsSample value.setting) xs
-    → length coder.residuals + t ≤ coder.setting.block * blocks_left coder.setting coder.start → t ≤ length xs →
-    held ≡ state_after_all coder (take t xs) → HoldsMore value coder held (take t xs)
-holds_first {coder} xs t e k legal room few g = record {
-  same = e;
-  coded = k;
-  legal = recursion_from_All (IsSample coder.setting) (take t xs) (All-take (IsSample coder.setting) t xs (subst (λ (v : CoderState). All (IsSample v.setting) xs) (sym e) legal));
-  room = omega (arith, room, length-take-le t xs few);
-  holds = g;
-}
-
-steps_of_first : (xs : List ℤ) (t m0 m1 : ℕ) → t ≤ length xs → m1 ≡ m0 + t → m1 ≡ m0 + length (take t xs)
-steps_of_first xs t m0 m1 few steps = let len : length (take t xs) ≡ t = length-take-le t xs few in omega (arith, len, steps)
 
 -- or one
 pub holds_one : {value coder held : CoderState} {x y : ℤ} → coder ≡ value → IsCoder coder → IsSample value.setting x → y ≡ x → held ≡ state_after coder y → HoldsMore value coder held (x ∷ [])
@@ -204,15 +179,6 @@ open_pushes {value} {coder} {held} {ys} {sink} {m0} {m1} h not_whole steps =
       adds = λ xs k. adds_nothing coder.setting (complete_samples coder.setting xs) (complete_samples coder.setting (xs ++ ys)) sink (length ys) m0 m1
           (several_stay_open coder ys xs k h.legal short).1 steps;
     })
-
--- Before the last of the first t samples none completes a segment.
-none_before_last : {value coder : CoderState} (xs : List ℤ) {t m : ℕ} → coder ≡ value → All (IsSample value.setting) xs
-    → length coder.residuals + t ≤ coder.setting.block * blocks_left coder.setting coder.start → t ≤ length xs → m < t → CompletesNone value (take m xs)
-none_before_last {coder} xs {m} e legal room few less =
-    let all : All (IsSample coder.setting) xs = subst (λ (v : CoderState). All (IsSample v.setting) xs) (sym e) legal in
-    let firsts = recursion_from_All (IsSample coder.setting) (take m xs) (All-take (IsSample coder.setting) m xs all) in
-    let len : length (take m xs) ≡ m = length-take-le m xs (omega (arith, less, few)) in
-    subst (λ v. CompletesNone v (take m xs)) e (λ zs k. (several_stay_open coder (take m xs) zs k firsts (omega (arith, len, less, room))).1)
 
 -- After the call the coder has taken some samples still.
 pub is_coder_after : {value coder held after : CoderState} {ys : List ℤ} {old new : List Bool} {n m0 m2 : ℕ} → HoldsMore value coder held ys

@@ -1,27 +1,11 @@
 -- A segment's blocks are coded one by one.
 use Rattle.std.proofs.Common.{◌≡◌, ℕ, zero, suc, ◌+◌, ◌-◌, ◌*◌, ◌^◌, ◌<◌, ◌≤◌, min, Bool, true, false, cond, List, [], ◌∷◌}
 use Rattle.std.proofs.Common.{◌++◌, length, take, drop, refl, ap, arith, sym, ◌∙◌, inl, inr, subst, append_assoc, append-nil, length-append, Option, None}
-use Rattle.std.specs.Prelude.{sum_by, slice_range}
-use Rattle.std.proofs.lemmas.Bool.{cases_lt}
-use Rattle.std.proofs.lemmas.List.{drop_all}
-use Rattle.std.proofs.lemmas.List.Sums.{sum_by-cons}
-use Rattle.std.proofs.lemmas.Grind.{flat_map-append}
-use Rattle.std.proofs.Math.Nat.{mul-le-mul_left, mul-le-mul_right}
-use Rattle.rice_samples.specs.Parameters.{Parameters, k_max}
-use Rattle.rice_samples.specs.Places.{begins_segment, blocks_left}
-use Rattle.rice_samples.proofs.lemmas.setting.PlaceLemmas.{one_less_left, last_of_segment}
-use Rattle.rice_code.specs.code.Blocks.{BlockData, is_zero_block}
-use Rattle.rice_code.specs.code.CodedDataSets.{bits_of_set, cost, bits_of_sets}
-use Rattle.rice_code.specs.code.Code.{data_sets}
-use Rattle.rice_code.specs.code.Choice.{shortest, best_split}
-use Rattle.rice_code.specs.code.Runs.{run_of_blocks}
-use Rattle.rice_code.specs.encode.HeldBlocks.{pending_zeros, pending_run, held_blocks, reference_at}
-use Rattle.rice_code.specs.code.SoundBlocks.{block_with, IsSoundData, AreSoundBlocks, IsSoundBlock}
-use Rattle.rice_code.specs.CoderSteps.{least_looks, most_looks}
-use Rattle.rice_code.proofs.lemmas.meaning.CoveredBlocks.{bool_cases, zero_block_is}
-use Rattle.rice_code.proofs.lemmas.cost.CostIsLength.{cost_is_length}
-use Rattle.rice_code.proofs.lemmas.cost.BlockBounds.{shortest_is_form}
-use Rattle.rice_code.proofs.lemmas.encode.OptionTexts.{run_text_len}
+use Rattle.rice_code.proofs.Words.{sum_by, slice_range, cases_lt, drop_all, sum_by-cons, flat_map-append, mul-le-mul_left, mul-le-mul_right, Parameters, k_max, begins_segment, blocks_left}
+use Rattle.rice_code.proofs.Words.{one_less_left, last_of_segment, BlockData, is_zero_block, bits_of_set, cost, bits_of_sets, data_sets, shortest, best_split, run_of_blocks, pending_zeros}
+use Rattle.rice_code.proofs.Words.{pending_run, held_blocks, reference_at, block_with, IsSoundData, AreSoundBlocks, IsSoundBlock, least_looks, most_looks}
+use Rattle.rice_code.proofs.lemmas.{meaning.CoveredBlocks.bool_cases, meaning.CoveredBlocks.zero_block_is, cost.CostIsLength.cost_is_length, cost.BlockBounds.shortest_is_form}
+use Rattle.rice_code.proofs.lemmas.{encode.OptionTexts.run_text_len}
 use Rattle.rice_code.proofs.lemmas.encode.PendingRuns.{run_then_block, run_ends, zero_block_joins_run, held_at, held_len, drop_sound}
 
 -- the text of a run is as long as it costs

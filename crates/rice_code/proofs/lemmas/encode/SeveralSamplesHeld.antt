@@ -1,9 +1,7 @@
 -- What a coder holds when it takes several samples.
 use Rattle.std.proofs.Common.{◌≡◌, ℕ, suc, ◌+◌, ◌==◌, Bool, true, false, cond, ◌&&◌, List, [], ◌∷◌}
 use Rattle.std.proofs.Common.{◌++◌, length, map, refl, ap, arith, sym, ◌∙◌, append_assoc, append-nil, length-append, Some, ℤ}
-use Rattle.std.proofs.Math.Bool.{and-false}
-use Rattle.rice_samples.specs.Parameters.{Parameters, level, value_count}
-use Rattle.rice_samples.specs.predict.Residuals.{pattern, rank, ranks, last_of}
+use Rattle.rice_code.proofs.Words.{and-false, Parameters, level, value_count, pattern, rank, ranks, last_of}
 use Rattle.rice_code.specs.encode.OpenSegment.{CoderState, is_empty, is_first, next_residual, next_residuals, next_references, later_residuals, state_after, state_after_all, state_with_later}
 use Rattle.rice_code.proofs.lemmas.code.RepeatedSamples.{same_rank}
 

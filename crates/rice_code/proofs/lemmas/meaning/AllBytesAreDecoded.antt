@@ -1,36 +1,15 @@
 -- All bytes are decoded, in one way or another.
 use Rattle.std.proofs.Common.{◌≡◌, ℕ, zero, suc, ◌+◌, ◌-◌, ◌*◌, ◌%◌, ◌<◌, ◌≤◌, ◌⊎◌, inl, inr, Bool, true, false, cond, List, []}
 use Rattle.std.proofs.Common.{◌∷◌, ◌++◌, length, take, drop, replicate, refl, ap, arith, sym, ◌∙◌, subst, length-append, Option, Some, None, ℤ}
-use Rattle.std.specs.Prelude.{Contains, IsSomeAnd, OnSome, slice_index}
-use Rattle.std.specs.List.{AllByRecursion}
-use Rattle.std.proofs.lemmas.Bool.{cases_lt}
-use Rattle.std.proofs.lemmas.List.{length-replicate, length-take-le, length-drop, take-append-drop}
-use Rattle.std.proofs.lemmas.List.Elements.{All-from_recursion, recursion_from_All, All-replicate, Contains-append_right}
-use Rattle.std.proofs.lemmas.Nat.{pow_pos}
-use Rattle.std.proofs.Math.Seq.{take-append_seam, drop-append_seam}
-use Rattle.rice_bits.specs.Bits.{bits_to_byte, bits_of}
-use Rattle.rice_bits.proofs.lemmas.bits.BytesAndBits.{length-bits_of}
-use Rattle.rice_samples.specs.Parameters.{Parameters, IsLegal, IsSample, value_count}
-use Rattle.rice_samples.specs.Places.{is_reference, is_reference_sample, is_padded, blocks_left}
-use Rattle.rice_samples.specs.predict.Residuals.{pattern, rank, residual, residuals, last_of}
-use Rattle.rice_samples.proofs.lemmas.setting.PlaceLemmas.{some_left, reference_begins}
-use Rattle.rice_samples.proofs.lemmas.setting.LevelsOfSamples.{zero_is_sample}
-use Rattle.rice_samples.proofs.lemmas.predict.ResidualLemmas.{zero_at_reference}
-use Rattle.rice_samples.proofs.lemmas.predict.DistinctPatternsAndResiduals.{inside_block, no_reference_at}
-use Rattle.rice_samples.proofs.lemmas.predict.InverseRanksAndPatterns.{has_pattern, has_rank}
-use Rattle.rice_code.specs.code.Blocks.{BlockData, block_data, blocks_from, zero_block}
-use Rattle.rice_code.specs.code.CodedDataSets.{CodedDataSet, NoCompression, SecondExtension, Split, ZeroBlocks, RemainderOfSegment, bits_of_set}
-use Rattle.rice_code.specs.code.Forms.{IsReference, AllFit, RunIsSound, ResidualsAreSound, blocks_in}
-use Rattle.rice_code.specs.code.Layout.{block_after, padding}
-use Rattle.rice_code.specs.code.Decoded.{Decoded, DecodedFrom, Ending, Reached, Ended, CutOff, Past, Large, IsWanted, EndsWith, cut_to}
+use Rattle.rice_code.proofs.Words.{Contains, IsSomeAnd, OnSome, slice_index, AllByRecursion, cases_lt, length-replicate, length-take-le, length-drop, take-append-drop, All-from_recursion}
+use Rattle.rice_code.proofs.Words.{recursion_from_All, All-replicate, Contains-append_right, pow_pos, take-append_seam, drop-append_seam, length-bits_of, Parameters, IsLegal, IsSample, value_count}
+use Rattle.rice_code.proofs.Words.{is_reference, is_reference_sample, is_padded, blocks_left, pattern, rank, residual, residuals, last_of, some_left, reference_begins, zero_is_sample}
+use Rattle.rice_code.proofs.Words.{zero_at_reference, inside_block, no_reference_at, has_pattern, has_rank, bits_to_byte, bits_of, BlockData, block_data, blocks_from, zero_block, CodedDataSet}
+use Rattle.rice_code.proofs.Words.{NoCompression, SecondExtension, Split, ZeroBlocks, RemainderOfSegment, bits_of_set, IsReference, AllFit, RunIsSound, ResidualsAreSound, blocks_in, block_after}
+use Rattle.rice_code.proofs.Words.{padding, Decoded, DecodedFrom, Ending, Reached, Ended, CutOff, Past, Large, IsWanted, EndsWith, cut_to, IsSoundBlock, AreSoundBlocks}
 use Rattle.rice_code.proofs.lemmas.meaning.CoveredBlocks.{bool_cases, GoOn, segment_goes_on}
-use Rattle.rice_code.specs.code.SoundBlocks.{IsSoundBlock, AreSoundBlocks}
-use Rattle.rice_code.proofs.lemmas.code.SoundBlocks.{all_append, last_legal}
-use Rattle.rice_code.proofs.lemmas.meaning.SentSetsAreTaken.{IsSound}
-use Rattle.rice_code.proofs.lemmas.code.OnesOfForms.{forms_have_a_one}
-use Rattle.rice_code.proofs.lemmas.meaning.FormsAtFront.{form_piece}
-use Rattle.rice_code.proofs.lemmas.meaning.DecodingWitnesses.{decoded_from_none}
-use Rattle.rice_code.proofs.lemmas.meaning.DecodingGoesOn.{decoding_goes_on}
+use Rattle.rice_code.proofs.lemmas.{code.SoundBlocks.all_append, code.SoundBlocks.last_legal, meaning.SentSetsAreTaken.IsSound, code.OnesOfForms.forms_have_a_one, meaning.FormsAtFront.form_piece}
+use Rattle.rice_code.proofs.lemmas.{meaning.DecodingWitnesses.decoded_from_none, meaning.DecodingGoesOn.decoding_goes_on}
 
 -- what can be decided
 run_or_not : (s : Parameters) (b : ℕ) (d : CodedDataSet) → RunIsSound s b d ⊎ (RunIsSound s b d → ⊥)

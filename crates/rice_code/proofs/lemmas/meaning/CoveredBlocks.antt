@@ -1,21 +1,10 @@
 -- The coded data sets of blocks stand for those blocks, in order, and for no more than the rest of a segment of zero blocks.
 use Rattle.std.proofs.Common.{◌≡◌, ℕ, zero, suc, ◌+◌, ◌-◌, ◌<◌, ◌≤◌, ◌==◌, Bool, true, false, cond, not, ◌&&◌, ◌||◌, nat_le, nat_lt, map, List, []}
 use Rattle.std.proofs.Common.{◌∷◌, ◌++◌, length, take, drop, replicate, refl, ap, arith, sym, ◌∙◌, ◌⊎◌, inl, inr, append_assoc, Option, Some, None, lit<, append-nil, subst}
-use Rattle.std.specs.Prelude.{is_some}
-use Rattle.std.specs.List.{list_all, prefix_len, best_of, range_with_len, AllByRecursion}
-use Rattle.std.proofs.lemmas.Bool.Decides.{nat_tests}
-use Rattle.std.proofs.lemmas.List.{take-append-drop, length-replicate, replicate-append-replicate, length-take}
-use Rattle.std.proofs.lemmas.List.Sums.{prefix_len-le-length}
-use Rattle.std.proofs.Math.Seq.{take-length}
-use Rattle.rice_samples.specs.Parameters.{Parameters, k_max}
-use Rattle.rice_samples.specs.Places.{is_reference, begins_segment, blocks_left}
-use Rattle.rice_samples.proofs.lemmas.setting.PlaceLemmas.{some_left, one_less_left, last_of_segment, reference_begins}
-use Rattle.rice_code.specs.code.Blocks.{BlockData, is_zero_block, zero_block}
-use Rattle.rice_code.specs.code.CodedDataSets.{CodedDataSet, NoCompression, Split, ZeroBlocks, RemainderOfSegment, cost}
-use Rattle.rice_code.specs.code.Choice.{shortest, other_options}
-use Rattle.rice_code.specs.code.Code.{data_sets}
-use Rattle.rice_code.specs.code.Runs.{zero_run, run_len}
-use Rattle.rice_code.specs.code.Forms.{IsBlock, blocks_in, blocks_in_all, zero_blocks}
+use Rattle.rice_code.proofs.Words.{is_some, list_all, prefix_len, best_of, range_with_len, AllByRecursion, nat_tests, take-append-drop, length-replicate, replicate-append-replicate, length-take}
+use Rattle.rice_code.proofs.Words.{prefix_len-le-length, take-length, Parameters, k_max, is_reference, begins_segment, blocks_left, some_left, one_less_left, last_of_segment, reference_begins}
+use Rattle.rice_code.proofs.Words.{BlockData, is_zero_block, zero_block, CodedDataSet, NoCompression, Split, ZeroBlocks, RemainderOfSegment, cost, shortest, other_options, data_sets, zero_run}
+use Rattle.rice_code.proofs.Words.{run_len, IsBlock, blocks_in, blocks_in_all, zero_blocks, eqb-true}
 
 -- each block is one, from block b on
 abbrev pub AreBlocks : Parameters → ℕ → List BlockData → Type 0
@@ -32,14 +21,11 @@ pub and-split : (a b : Bool) → (a && b) ≡ true → (a ≡ true) × (b ≡ tr
 and-split true b e = (refl, e)
 and-split false b e = absurd (let f : false ≡ true = e in cc)
 
-zero_head : (d : ℕ) → (d == 0) ≡ true → d ≡ 0
-zero_head d e = grind (arith, nat_tests)
-
 all_zero : (ds : List ℕ) → list_all (λ d. d == 0) ds ≡ true → ds ≡ replicate (length ds) 0
 all_zero [] e = refl
 all_zero (d ∷ ds) e =
     let p = and-split (d == 0) (list_all (λ d. d == 0) ds) e in
-    let first = zero_head d p.0 in
+    let first = eqb-true d 0 p.0 in
     let rest = all_zero ds p.1 in
     cc
 
@@ -175,9 +161,6 @@ zero_run_is s b r cs = cases (run_len s b cs) (blocks_left s b) (length cs)
     five : (z : ℕ) → nat_le 5 z ≡ true → 5 ≤ z
     five z e = grind (arith, nat_tests)
 
-    same : (m n : ℕ) → (m == n) ≡ true → m ≡ n
-    same m n e = grind (arith, nat_tests)
-
     cases : (z left len : ℕ) → let run = cond (nat_le 5 z && (z == left || z == len)) (RemainderOfSegment r) (ZeroBlocks r z) in
         (run ≡ ZeroBlocks r z) ⊎ ((run ≡ RemainderOfSegment r) × ((z ≡ left) ⊎ (z ≡ len)) × (5 ≤ z))
     cases z left len =
@@ -185,7 +168,7 @@ zero_run_is s b r cs = cases (run_len s b cs) (blocks_left s b) (length cs)
           | inr e ↦ inl (ap (λ v. cond v (RemainderOfSegment r) (ZeroBlocks r z)) e)
           | inl e ↦ inr (
             ap (λ v. cond v (RemainderOfSegment r) (ZeroBlocks r z)) e,
-            elim (either (z == left) (z == len) (and-split (nat_le 5 z) (z == left || z == len) e).1) [ inl f ↦ inl (same z left f) | inr f ↦ inr (same z len f) ],
+            elim (either (z == left) (z == len) (and-split (nat_le 5 z) (z == left || z == len) e).1) [ inl f ↦ inl (eqb-true z left f) | inr f ↦ inr (eqb-true z len f) ],
             five z (and-split (nat_le 5 z) (z == left || z == len) e).0,
           )
         ]
@@ -294,8 +277,7 @@ all_skipped s b c (d ∷ cs) h z e =
       ]
     ]
 
--- The blocks of the coded data sets are the blocks, after those that are skipped,
--- and perhaps zero blocks to the end of the segment of the last block, which is then one of zeros too.
+-- The blocks of the coded data sets are the blocks, after those that are skipped, and perhaps zero blocks to the end of the segment of the last block, which is then one of zeros too.
 pub record Covering (s : Parameters) (b : ℕ) (behind : Bool) (cs : List BlockData) : Type 0 where
   pub fill : ℕ
   pub few : fill < 64

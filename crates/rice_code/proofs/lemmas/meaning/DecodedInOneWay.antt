@@ -1,25 +1,13 @@
 -- Bits are decoded in one way only.
 use Rattle.std.proofs.Common.{◌≡◌, ℕ, zero, suc, ◌+◌, ◌*◌, ◌<◌, ◌≤◌, Bool, true, false, List, [], ◌∷◌, ◌++◌, length, take}
 use Rattle.std.proofs.Common.{drop, refl, ap, arith, sym, ◌∙◌, inl, inr, subst, append_assoc, length-append, length-drop, Option, Some, None, ℤ}
-use Rattle.std.specs.Prelude.{All, Contains, IfSome, IsSomeAnd, cond}
-use Rattle.std.specs.List.{AllByRecursion}
-use Rattle.std.proofs.lemmas.List.{length-take-le, take-append-drop}
-use Rattle.std.proofs.lemmas.List.Elements.{All-contains, Contains-append_left, recursion_from_All}
-use Rattle.rice_bits.proofs.lemmas.bits.WordsReadInOneWay.{bits_read}
-use Rattle.rice_samples.specs.Parameters.{Parameters, IsLegal, IsSample}
-use Rattle.rice_samples.specs.Places.{is_reference, is_reference_sample}
-use Rattle.rice_samples.specs.predict.Residuals.{pattern, residuals, residual, last_of}
-use Rattle.rice_samples.proofs.lemmas.predict.DistinctPatternsAndResiduals.{same_pattern, same_residual, same_residuals, inside_block, no_reference_at}
-use Rattle.rice_code.specs.code.Blocks.{BlockData, block_data, blocks_from}
-use Rattle.rice_code.specs.code.CodedDataSets.{CodedDataSet, NoCompression, SecondExtension, Split, ZeroBlocks, RemainderOfSegment, bits_of_set}
-use Rattle.rice_code.specs.code.Forms.{IsForm, RunIsSound, ResidualsAreSound, blocks_in, blocks_in_all}
-use Rattle.rice_code.specs.code.Layout.{block_after, padding, Lies}
-use Rattle.rice_code.specs.code.Decoded.{DecodedFrom, Ending, Reached, Ended, CutOff, Past, Large, IsWanted, AreTaken, BeginsUnsound, EndsWith, cut_to}
-use Rattle.rice_code.proofs.lemmas.meaning.CoveredBlocks.{bool_cases}
+use Rattle.rice_code.proofs.Words.{All, Contains, IfSome, IsSomeAnd, cond, AllByRecursion, length-take-le, take-append-drop, All-contains, Contains-append_left, recursion_from_All, bits_read}
+use Rattle.rice_code.proofs.Words.{Parameters, IsLegal, IsSample, is_reference, is_reference_sample, pattern, residuals, residual, last_of, same_pattern, same_residual, same_residuals, inside_block}
+use Rattle.rice_code.proofs.Words.{no_reference_at, BlockData, block_data, blocks_from, CodedDataSet, NoCompression, SecondExtension, Split, ZeroBlocks, RemainderOfSegment, bits_of_set, IsForm}
+use Rattle.rice_code.proofs.Words.{RunIsSound, ResidualsAreSound, blocks_in, blocks_in_all, block_after, padding, Lies, DecodedFrom, Ending, Reached, Ended, CutOff, Past, Large, IsWanted, AreTaken}
+use Rattle.rice_code.proofs.Words.{BeginsUnsound, EndsWith, cut_to}
+use Rattle.rice_code.proofs.lemmas.{meaning.CoveredBlocks.bool_cases, code.FormsReadInOneWay.forms_read_in_one_way, code.OnesOfForms.forms_have_a_one, meaning.SentSetsAreTaken.IsSound}
 use Rattle.rice_code.proofs.lemmas.code.SoundBlocks.{all_take, all_drop, last_legal}
-use Rattle.rice_code.proofs.lemmas.code.FormsReadInOneWay.{forms_read_in_one_way}
-use Rattle.rice_code.proofs.lemmas.code.OnesOfForms.{forms_have_a_one}
-use Rattle.rice_code.proofs.lemmas.meaning.SentSetsAreTaken.{IsSound}
 
 -- what excludes each other
 reached_or_not : (asked : Option ℕ) (m : ℕ) → IsSomeAnd asked (λ n. n ≤ m) → IfSome asked (λ n. m < n) → ⊥
@@ -78,26 +66,16 @@ same_ending asked b rest Ended Ended legal h k = (refl, h.2 ∙ sym k.2)
 same_ending asked b rest CutOff CutOff legal h k = (refl, h.3 ∙ sym k.3)
 same_ending {s} asked b rest Past Past {m} {n} legal h k = (refl, same_refusal s b rest m n (RunIsSound s b) legal h.1 k.1)
 same_ending {s} asked b rest Large Large {m} {n} legal h k = (refl, same_refusal s b rest m n (ResidualsAreSound s) legal h.1 k.1)
-same_ending {s} asked b rest Reached Ended legal h k = absurd (reached_or_not asked (s.block * b) h.0 k.0)
-same_ending {s} asked b rest Reached CutOff legal h k = absurd (reached_or_not asked (s.block * b) h.0 k.0)
-same_ending {s} asked b rest Reached Past legal h k = absurd (reached_or_not asked (s.block * b) h.0 k.0)
-same_ending {s} asked b rest Reached Large legal h k = absurd (reached_or_not asked (s.block * b) h.0 k.0)
-same_ending {s} asked b rest Ended Reached legal h k = absurd (reached_or_not asked (s.block * b) k.0 h.0)
-same_ending {s} asked b rest CutOff Reached legal h k = absurd (reached_or_not asked (s.block * b) k.0 h.0)
-same_ending {s} asked b rest Past Reached legal h k = absurd (reached_or_not asked (s.block * b) k.0 h.0)
-same_ending {s} asked b rest Large Reached legal h k = absurd (reached_or_not asked (s.block * b) k.0 h.0)
 same_ending asked b rest Ended CutOff legal h k = absurd (zeros_or_one rest h.1 k.1)
 same_ending asked b rest CutOff Ended legal h k = absurd (zeros_or_one rest k.1 h.1)
-same_ending {s} asked b rest Ended Past legal h k = absurd (zeros_or_one rest h.1 (begins_with_one s b k.1.refused rest k.1.more legal k.1.form k.1.begins))
-same_ending {s} asked b rest Ended Large legal h k = absurd (zeros_or_one rest h.1 (begins_with_one s b k.1.refused rest k.1.more legal k.1.form k.1.begins))
-same_ending {s} asked b rest Past Ended legal h k = absurd (zeros_or_one rest k.1 (begins_with_one s b h.1.refused rest h.1.more legal h.1.form h.1.begins))
-same_ending {s} asked b rest Large Ended legal h k = absurd (zeros_or_one rest k.1 (begins_with_one s b h.1.refused rest h.1.more legal h.1.form h.1.begins))
-same_ending asked b rest CutOff Past legal h k = absurd (h.2 k.1.refused k.1.more k.1.form k.1.begins)
-same_ending asked b rest CutOff Large legal h k = absurd (h.2 k.1.refused k.1.more k.1.form k.1.begins)
-same_ending asked b rest Past CutOff legal h k = absurd (k.2 h.1.refused h.1.more h.1.form h.1.begins)
-same_ending asked b rest Large CutOff legal h k = absurd (k.2 h.1.refused h.1.more h.1.form h.1.begins)
 same_ending {s} asked b rest Past Large {m} {n} legal h k = absurd (past_and_large s b rest m n legal h.1 k.1)
 same_ending {s} asked b rest Large Past {m} {n} legal h k = absurd (past_and_large s b rest n m legal k.1 h.1)
+same_ending {s} asked b rest Reached _ legal h k = absurd (reached_or_not asked (s.block * b) h.0 k.0)
+same_ending {s} asked b rest _ Reached legal h k = absurd (reached_or_not asked (s.block * b) k.0 h.0)
+same_ending {s} asked b rest Ended _ legal h k = absurd (zeros_or_one rest h.1 (begins_with_one s b k.1.refused rest k.1.more legal k.1.form k.1.begins))
+same_ending {s} asked b rest _ Ended legal h k = absurd (zeros_or_one rest k.1 (begins_with_one s b h.1.refused rest h.1.more legal h.1.form h.1.begins))
+same_ending asked b rest CutOff _ legal h k = absurd (h.2 k.1.refused k.1.more k.1.form k.1.begins)
+same_ending asked b rest _ CutOff legal h k = absurd (k.2 h.1.refused h.1.more h.1.form h.1.begins)
 
 -- at block b nothing of the rest is taken
 abbrev NothingFollows : Parameters → Option ℕ → ℕ → List Bool → Type 0

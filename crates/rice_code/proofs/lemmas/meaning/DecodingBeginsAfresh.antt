@@ -1,32 +1,14 @@
 -- Where an interval begins decoding begins afresh.
 use Rattle.std.proofs.Common.{◌≡◌, ℕ, zero, suc, ◌+◌, ◌-◌, ◌*◌, ◌%◌, ◌<◌, ◌≤◌, ◌==◌, Bool, true, false, cond, ◌&&◌, List, [], ◌∷◌}
 use Rattle.std.proofs.Common.{◌++◌, length, take, drop, refl, ap, arith, sym, ◌∙◌, inl, inr, subst, append_assoc, length-append, Option, Some, None, ℤ, pos}
-use Rattle.std.specs.Prelude.{IsSomeAnd}
-use Rattle.std.proofs.lemmas.Bool.{cases_lt}
-use Rattle.std.proofs.lemmas.List.{drop_at, length-replicate, take_all}
-use Rattle.std.proofs.lemmas.List.Elements.{All-append}
-use Rattle.std.proofs.Math.Nat.{mod-eq_of_lt, mul-le-mul_left, mul-mod_right}
-use Rattle.std.proofs.Math.Seq.{take-length}
-use Rattle.rice_bits.specs.Bits.{bits_to_byte}
-use Rattle.rice_samples.specs.Parameters.{Parameters, IsLegal, IsSample}
-use Rattle.rice_samples.specs.Places.{place, begins_segment, blocks_left, is_padded}
-use Rattle.rice_samples.specs.predict.Residuals.{last_of}
-use Rattle.rice_samples.proofs.lemmas.setting.PlaceLemmas.{some_left}
-use Rattle.rice_code.specs.Laws.{BeginsInterval, DecodingBeginsAfresh, count_behind}
-use Rattle.rice_code.specs.code.Blocks.{blocks_from, zero_block}
-use Rattle.rice_code.specs.code.CodedDataSets.{CodedDataSet, NoCompression, SecondExtension, Split, ZeroBlocks, RemainderOfSegment, bits_of_set}
-use Rattle.rice_code.specs.code.Decoded.{AreTaken, Decoded, DecodedFrom, Ending, Reached, EndsWith, IsWanted, cut_to}
-use Rattle.rice_code.specs.code.Forms.{RunIsSound, blocks_in, blocks_in_all}
-use Rattle.rice_code.specs.code.Layout.{block_after, padding, Lies}
-use Rattle.rice_code.proofs.lemmas.code.BlocksByPlaceAlone.{place_on, same_blocks}
-use Rattle.rice_code.proofs.lemmas.code.RepeatedSamples.{blocks_append}
-use Rattle.rice_code.proofs.lemmas.code.Layouts.{ends_inside, lies_at}
-use Rattle.rice_code.proofs.lemmas.code.SegmentsOneByOne.{ends_before}
-use Rattle.rice_code.proofs.lemmas.cost.PaddingBounds.{interval_begins_segment}
-use Rattle.rice_code.proofs.lemmas.meaning.CoveredBlocks.{bool_cases}
-use Rattle.rice_code.proofs.lemmas.meaning.DecodingGoesOn.{cut_parts}
+use Rattle.rice_code.proofs.Words.{IsSomeAnd, drop_at, length-replicate, take_all, All-append, mod-eq_of_lt, mul-mod_right, take-length, bits_to_byte, Parameters, IsLegal}
+use Rattle.rice_code.proofs.Words.{IsSample, place, begins_segment, blocks_left, is_padded, last_of, some_left, le_of_mul-le-mul_left, lt_of_mul-lt-mul_left, BeginsInterval, DecodingBeginsAfresh}
+use Rattle.rice_code.proofs.Words.{count_behind, blocks_from, zero_block, CodedDataSet, NoCompression, SecondExtension, Split, ZeroBlocks, RemainderOfSegment, bits_of_set, AreTaken, Decoded}
+use Rattle.rice_code.proofs.Words.{DecodedFrom, Ending, Reached, EndsWith, IsWanted, cut_to, RunIsSound, blocks_in, blocks_in_all, block_after, padding, Lies}
+use Rattle.rice_code.proofs.lemmas.{code.BlocksByPlaceAlone.place_on, code.BlocksByPlaceAlone.same_blocks, code.RepeatedSamples.blocks_append, code.Layouts.ends_inside, code.Layouts.lies_at}
+use Rattle.rice_code.proofs.lemmas.{code.SegmentsOneByOne.ends_before, cost.PaddingBounds.interval_begins_segment, meaning.CoveredBlocks.bool_cases, meaning.DecodingGoesOn.cut_parts}
+use Rattle.rice_code.proofs.lemmas.{meaning.IntervalsStandAlone.first_blocks, meaning.IntervalsStandAlone.to_byte}
 use Rattle.rice_code.proofs.lemmas.meaning.DecodingByPlacesAlone.{ends_there, same_all_blocks, same_lie, taken_there}
-use Rattle.rice_code.proofs.lemmas.meaning.IntervalsStandAlone.{first_blocks, to_byte}
 
 -- ---- coded data sets at another block, and after other bits
 
@@ -159,7 +141,7 @@ end_inside : (s : Parameters) (end b : ℕ) (ds : List CodedDataSet) → 1 ≤ s
 end_inside s end b [] some e le h = omega arith
 end_inside s end b (d ∷ ds) some e le h =
     let lt : s.block * b < s.block * end = h.0 in
-    let before : b < end = elim (cases_lt b end) [ inl l ↦ l | inr le ↦ let m : s.block * end ≤ s.block * b = mul-le-mul_left s.block le in absurd (omega arith) ] in
+    let before : b < end = lt_of_mul-lt-mul_left s.block lt in
     let n = end - b - 1 in
     let same : b + suc n ≡ end = omega arith in
     let left = ends_before s b n some (ap (begins_segment s) same ∙ interval_begins_segment s end e) in
@@ -198,10 +180,7 @@ all_wanted s None xs = refl
 all_wanted s (Some m) xs = sym (take_all (length xs + m - s.block * 0) xs (omega arith))
 
 same_count : (j n m : ℕ) → 1 ≤ j → j * n ≤ j * m → m ≤ n → m ≡ n
-same_count j n m some most le = elim (cases_lt m n) [
-  | inl lt ↦ absurd (let more : j * (m + 1) ≤ j * n = mul-le-mul_left j (omega arith) in omega (arith, more, most, some))
-  | inr ge ↦ omega arith
-]
+same_count j n m some most le = let back : n ≤ m = le_of_mul-le-mul_left {k = j} most some in omega arith
 
 -- What was decoded before an interval: its coded data sets have the blocks of the samples, and no others.
 record IsBefore (s : Parameters) (bits : List Bool) (before : List ℤ) (begin : ℕ) (h : Decoded s bits (Some (length before)) before Reached begin) : Type 0 where

@@ -1,14 +1,8 @@
 -- Where no number is asked for, decoding depends on the place in the interval and the place in the byte alone.
 use Rattle.std.proofs.Common.{◌≡◌, ℕ, ◌+◌, ◌*◌, ◌%◌, ◌≤◌, ◌==◌, Bool, cond, ◌&&◌, List, [], ◌∷◌, ◌++◌, length, refl, ap, arith, sym, ◌∙◌, subst, Option, None, ℤ}
-use Rattle.std.specs.Prelude.{IsSomeAnd}
-use Rattle.rice_bits.specs.Bits.{bits_to_byte}
-use Rattle.rice_samples.specs.Parameters.{Parameters, IsLegal}
-use Rattle.rice_samples.specs.Places.{place, blocks_left}
-use Rattle.rice_code.specs.code.Blocks.{blocks_from}
-use Rattle.rice_code.specs.code.CodedDataSets.{CodedDataSet, NoCompression, SecondExtension, Split, ZeroBlocks, RemainderOfSegment, bits_of_set}
-use Rattle.rice_code.specs.code.Forms.{IsForm, IsReference, RunIsSound, blocks_in, blocks_in_all}
-use Rattle.rice_code.specs.code.Layout.{block_after, Lies}
-use Rattle.rice_code.specs.code.Decoded.{DecodedFrom, Ending, Reached, Ended, CutOff, Past, Large, AreTaken, EndsWith, IsWanted}
+use Rattle.rice_code.proofs.Words.{IsSomeAnd, bits_to_byte, Parameters, IsLegal, place, blocks_left, blocks_from, CodedDataSet, NoCompression, SecondExtension, Split, ZeroBlocks, RemainderOfSegment}
+use Rattle.rice_code.proofs.Words.{bits_of_set, IsForm, IsReference, RunIsSound, blocks_in, blocks_in_all, block_after, Lies, DecodedFrom, Ending, Reached, Ended, CutOff, Past, Large, AreTaken}
+use Rattle.rice_code.proofs.Words.{EndsWith, IsWanted}
 use Rattle.rice_code.proofs.lemmas.code.Layouts.{lies_at}
 use Rattle.rice_code.proofs.lemmas.code.BlocksByPlaceAlone.{place_on, same_reference, same_left, same_blocks_in, same_blocks}
 

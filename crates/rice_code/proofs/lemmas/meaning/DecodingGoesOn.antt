@@ -1,22 +1,11 @@
 -- Behind a coded data set that is taken, decoding goes on.
 use Rattle.std.proofs.Common.{◌≡◌, ℕ, zero, suc, ◌+◌, ◌-◌, ◌*◌, Bool, List, [], ◌∷◌, ◌++◌, length, take, refl, ap, arith, sym, ◌∙◌, subst, append_assoc, length-append, Option, Some, None, ℤ}
-use Rattle.std.proofs.lemmas.List.Elements.{All-append}
-use Rattle.rice_samples.specs.Parameters.{Parameters, IsLegal, IsSample}
-use Rattle.rice_samples.specs.predict.Residuals.{last_of}
-use Rattle.rice_code.specs.code.Blocks.{blocks_from}
-use Rattle.rice_code.specs.code.CodedDataSets.{CodedDataSet, bits_of_set}
-use Rattle.rice_code.specs.code.Forms.{blocks_in, blocks_in_all}
-use Rattle.rice_code.specs.code.Layout.{block_after, padding}
-use Rattle.rice_code.specs.code.Decoded.{DecodedFrom, Ending, EndsWith, cut_to}
+use Rattle.rice_code.proofs.Words.{All-append, Parameters, IsLegal, IsSample, last_of, blocks_from, CodedDataSet, bits_of_set, blocks_in, blocks_in_all, block_after, padding, DecodedFrom, Ending}
+use Rattle.rice_code.proofs.Words.{EndsWith, cut_to, IsWantedSet, MakeBlocks, take-nil}
 use Rattle.rice_code.proofs.lemmas.code.RepeatedSamples.{blocks_append}
-use Rattle.rice_code.specs.Laws.{IsWantedSet, MakeBlocks}
 
 take_parts : (n : ℕ) (xs ys : List ℤ) → take n xs ++ take (n - length xs) ys ≡ take n (xs ++ ys)
-take_parts n [] ys = let e : n - 0 ≡ n = omega arith in ap (λ m. take n (let v : List ℤ = [] in v) ++ take m ys) e ∙ nothing n
-  where
-    nothing : (n : ℕ) → take n (let v : List ℤ = [] in v) ++ take n ys ≡ take n ys
-    nothing zero = refl
-    nothing (suc n) = refl
+take_parts n [] ys = let e : n - 0 ≡ n = omega arith in ap (λ l. l ++ take (n - 0) ys) (take-nil n) ∙ ap (λ m. take m ys) e
 take_parts zero (x ∷ xs) ys = let e : 0 - suc (length xs) ≡ 0 = omega arith in ap (λ m. take m ys) e
 take_parts (suc n) (x ∷ xs) ys = let e : suc n - suc (length xs) ≡ n - length xs = omega arith in ap (λ m. x ∷ (take n xs ++ take m ys)) e ∙ ap (λ v. x ∷ v) (take_parts n xs ys)
 

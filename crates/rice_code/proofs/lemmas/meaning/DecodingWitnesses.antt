@@ -1,20 +1,8 @@
 -- What shows that bits are decoded so: the coded data sets in them, the samples of these, and what the rest is.
 use Rattle.std.proofs.Common.{◌≡◌, ℕ, ◌+◌, ◌*◌, ◌<◌, Bool, true, false, nat_lt, map, List, [], ◌∷◌, ◌++◌, length, replicate, refl, ap, subst, sym, arith, ◌∙◌, append-nil, Option, ℤ, pos}
-use Rattle.std.specs.Prelude.{All}
-use Rattle.std.specs.List.{list_all, AllByRecursion}
-use Rattle.std.proofs.lemmas.Bool.Decides.{nat_tests}
-use Rattle.std.proofs.lemmas.Int.{ints}
-use Rattle.std.proofs.lemmas.List.Elements.{All-from_recursion, All-replicate}
-use Rattle.rice_samples.specs.Parameters.{Parameters, IsSample, value_count}
-use Rattle.rice_code.specs.code.Blocks.{blocks_from}
-use Rattle.rice_code.specs.code.CodedDataSets.{CodedDataSet, bits_of_set}
-use Rattle.rice_code.specs.code.Decoded.{Decoded, DecodedFrom, Ending, Ended, IsWanted, EndsWith, cut_to}
-use Rattle.rice_code.specs.code.Forms.{IsForm, RunIsSound, ResidualsAreSound, blocks_in}
-use Rattle.rice_code.specs.code.Layout.{block_after, padding}
+use Rattle.rice_code.proofs.Words.{All, list_all, AllByRecursion, ints, All-from_recursion, All-replicate, Parameters, IsSample, value_count, blocks_from, CodedDataSet, bits_of_set}
+use Rattle.rice_code.proofs.Words.{BeginsUnsound, Decoded, DecodedFrom, Ending, Ended, IsWanted, EndsWith, cut_to, IsForm, RunIsSound, ResidualsAreSound, blocks_in, block_after, padding, ltb-true}
 use Rattle.rice_code.proofs.lemmas.meaning.CoveredBlocks.{and-split}
-
-nat_lt-below : (limit d : ℕ) → nat_lt d limit ≡ true → d < limit
-nat_lt-below limit d e = grind (arith, nat_tests)
 
 -- numbers that a test finds small enough
 pub all_below : (limit : ℕ) (ds : List ℕ) → list_all (λ d. nat_lt d limit) ds ≡ true → All (λ d. d < limit) ds
@@ -22,7 +10,7 @@ all_below limit ds e = All-from_recursion (λ d. d < limit) ds (each ds e)
   where
     each : (ds : List ℕ) → list_all (λ d. nat_lt d limit) ds ≡ true → AllByRecursion (λ d. d < limit) ds
     each [] e = tt
-    each (d ∷ ds) e = let p = and-split (nat_lt d limit) (list_all (λ d. nat_lt d limit) ds) e in (nat_lt-below limit d p.0, each ds p.1)
+    each (d ∷ ds) e = let p = and-split (nat_lt d limit) (list_all (λ d. nat_lt d limit) ds) e in (ltb-true d limit p.0, each ds p.1)
 
 -- unsigned samples
 pub unsigned_samples : (s : Parameters) → s.signed ≡ false → (vs : List ℕ) → list_all (λ v. nat_lt v (value_count s)) vs ≡ true → All (IsSample s) (map pos vs)
@@ -33,7 +21,7 @@ unsigned_samples s unsigned vs e = All-from_recursion (IsSample s) (map pos vs) 
 
     each : (vs : List ℕ) → list_all (λ v. nat_lt v (value_count s)) vs ≡ true → AllByRecursion (IsSample s) (map pos vs)
     each [] e = tt
-    each (v ∷ vs) e = let p = and-split (nat_lt v (value_count s)) (list_all (λ v. nat_lt v (value_count s)) vs) e in (one v (nat_lt-below (value_count s) v p.0), each vs p.1)
+    each (v ∷ vs) e = let p = and-split (nat_lt v (value_count s)) (list_all (λ v. nat_lt v (value_count s)) vs) e in (one v (ltb-true v (value_count s) p.0), each vs p.1)
 
 -- only zeros are left
 pub zeros_end : (s : Parameters) (asked : Option ℕ) (b n : ℕ) → IsWanted s asked b → EndsWith s asked b (replicate n false) Ended (length (replicate n false))
@@ -47,6 +35,17 @@ pub record Gives (s : Parameters) (d : CodedDataSet) (xs : List ℤ) : Type 0 wh
   pub legal : All (IsSample s) xs
   pub len : length xs ≡ s.block * length (blocks_in s 0 d)
   pub blocks : blocks_from s 0 (pos 0) (length (blocks_in s 0 d)) xs ≡ blocks_in s 0 d
+
+-- where it stands for these unsigned ones
+pub gives_unsigned : {s : Parameters} {d : CodedDataSet} (vs : List ℕ) → s.signed ≡ false → IsForm s 0 d → RunIsSound s 0 d → ResidualsAreSound s d
+    → list_all (λ v. nat_lt v (value_count s)) vs ≡ true → length (map pos vs) ≡ s.block * length (blocks_in s 0 d)
+    → blocks_from s 0 (pos 0) (length (blocks_in s 0 d)) (map pos vs) ≡ blocks_in s 0 d → Gives s d (map pos vs)
+gives_unsigned {s} vs unsigned form run residuals fit len blocks = record { form = form; run = run; residuals = residuals; legal = unsigned_samples s unsigned vs fit; len = len; blocks = blocks }
+
+-- bits that begin with a coded data set that is not sound
+pub begins_unsound : {s : Parameters} {b : ℕ} {P : CodedDataSet → Type 0} (d : CodedDataSet) (more : List Bool) → IsForm s b d → (P d → ⊥)
+    → BeginsUnsound s b (bits_of_set s d ++ more) (length (bits_of_set s d)) P
+begins_unsound d more form unsound = record { refused = d; more = more; form = form; unsound = unsound; begins = refl; bits = refl }
 
 -- one coded data set with its padding, and the rest
 pub decoded_by_one : {s : Parameters} {d : CodedDataSet} {xs : List ℤ} → Gives s d xs → (skipped rest : List Bool) {bits : List Bool}

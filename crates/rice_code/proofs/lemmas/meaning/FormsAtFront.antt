@@ -1,27 +1,13 @@
 -- Bits begin with a form, or with none.
 use Rattle.std.proofs.Common.{◌≡◌, ℕ, zero, suc, ◌+◌, ◌-◌, ◌/◌, ◌^◌, ◌<◌, ◌≤◌, inl, inr, Bool, true, false, map}
 use Rattle.std.proofs.Common.{List, [], ◌∷◌, ◌++◌, length, refl, ap, arith, sym, ◌∙◌, subst, append_assoc, Option, Some, None}
-use Rattle.std.specs.Prelude.{flat_map}
-use Rattle.std.specs.List.{AllByRecursion}
-use Rattle.std.proofs.lemmas.Bool.Decides.{nat_tests}
-use Rattle.std.proofs.lemmas.Bool.{cases_lt}
-use Rattle.std.proofs.lemmas.List.{length-map}
-use Rattle.std.proofs.lemmas.List.Elements.{All-from_recursion, recursion_from_All}
-use Rattle.std.proofs.lemmas.List.Folds.{flat_map-map}
-use Rattle.std.proofs.lemmas.Nat.{pow_pos}
-use Rattle.rice_bits.specs.Bits.{word, fundamental_sequence}
-use Rattle.rice_bits.proofs.lemmas.bits.WordsReadInOneWay.{word_reads, sequence_reads, pieces_read, bits_read}
-use Rattle.rice_bits.proofs.lemmas.bits.FieldsAtFront.{Piece, NoPiece, Search, word_piece, bits_piece, sequence_piece, search_pieces, two_pieces}
-use Rattle.rice_bits.proofs.lemmas.bits.WordsAndNumbers.{length-word, followed_by, high-followed_by, word-followed_by}
-use Rattle.rice_samples.specs.Parameters.{Parameters, IsLegal, id_len, k_max, value_count}
-use Rattle.rice_samples.specs.Places.{is_reference}
-use Rattle.rice_code.specs.code.Blocks.{BlockData}
-use Rattle.rice_samples.specs.blocks.Pairs.{pair_codes}
-use Rattle.rice_code.specs.code.CodedDataSets.{CodedDataSet, NoCompression, SecondExtension, Split, ZeroBlocks, RemainderOfSegment, bits_of_set, sent_residuals, sent_from, reference_bits, run_number}
-use Rattle.rice_code.specs.code.Forms.{IsForm, IsBlock, IsReference, IsZeroAtReference}
+use Rattle.rice_code.proofs.Words.{flat_map, AllByRecursion, nat_tests, cases_lt, length-map, All-from_recursion, recursion_from_All, flat_map-map, pow_pos, word_reads, sequence_reads, pieces_read}
+use Rattle.rice_code.proofs.Words.{bits_read, Piece, NoPiece, Search, word_piece, bits_piece, sequence_piece, search_pieces, two_pieces, length-word, followed_by, high-followed_by, word-followed_by}
+use Rattle.rice_code.proofs.Words.{Parameters, IsLegal, id_len, k_max, value_count, is_reference, pair_codes, unpaired, codes_of_unpaired, length-unpaired, count_pairs, word, fundamental_sequence}
+use Rattle.rice_code.proofs.Words.{BlockData, CodedDataSet, NoCompression, SecondExtension, Split, ZeroBlocks, RemainderOfSegment, bits_of_set, sent_residuals, sent_from, reference_bits, run_number}
+use Rattle.rice_code.proofs.Words.{IsForm, IsBlock, IsReference, IsZeroAtReference}
 use Rattle.rice_code.proofs.lemmas.meaning.CoveredBlocks.{bool_cases}
-use Rattle.rice_samples.proofs.lemmas.blocks.PairNumbers.{unpaired, codes_of_unpaired, length-unpaired, count_pairs}
-use Rattle.rice_code.proofs.lemmas.code.FormsReadInOneWay.{identifier, tail, text_is, identifier_fits, wide_id, same_below, same_all, even_block, All-coded}
+use Rattle.rice_code.proofs.lemmas.code.FormsReadInOneWay.{reference_reads, identifier, tail, text_is, identifier_fits, wide_id, same_below, same_all, even_block, All-coded}
 
 -- a reference
 reference_piece : (s : Parameters) (b : ℕ) (bits : List Bool) → Search (reference_bits s) (IsReference s b) bits
@@ -37,12 +23,6 @@ reference_piece s b bits =
     none : is_reference s b ≡ true → NoPiece (word s.bits) (λ v. v < 2 ^ s.bits) bits → NoPiece (reference_bits s) (IsReference s b) bits
     none e miss None more h f = let g : false ≡ true = h.there ∙ e in absurd cc
     none e miss (Some v) more h f = miss v more h.fits f
-
-reference_reads : (s : Parameters) (b : ℕ) (r q : Option ℕ) (x y : List Bool) → IsReference s b r → IsReference s b q → reference_bits s r ++ x ≡ reference_bits s q ++ y → (r ≡ q) × (x ≡ y)
-reference_reads s b None None x y h k e = (refl, e)
-reference_reads s b None (Some w) x y h k e = absurd (let f : false ≡ true = h.there ∙ sym k.there in cc)
-reference_reads s b (Some v) None x y h k e = absurd (let f : true ≡ false = h.there ∙ sym k.there in cc)
-reference_reads s b (Some v) (Some w) x y h k e = let a = word_reads s.bits v w x y e in (ap (λ n. Some n) (same_below (2 ^ s.bits) v w h.fits k.fits a.0), a.1)
 
 -- how many residuals are coded beside a reference
 coded_count : Parameters → Option ℕ → ℕ
@@ -94,7 +74,7 @@ IsUncoded s b p = IsReference s b p.0 × ((length p.1 ≡ coded_count s p.0) × 
 plain_piece : (s : Parameters) (b : ℕ) (bits : List Bool) → Search (PlainBody s) (IsUncoded s b) bits
 plain_piece s b bits =
     two_pieces (reference_bits s) (IsReference s b) (λ r. flat_map (word s.bits)) (λ r xs. (length xs ≡ coded_count s r) × AllByRecursion (λ v. v < 2 ^ s.bits) xs) bits (reference_piece s b bits)
-    (λ r q x y h k e. reference_reads s b r q x y h k e)
+    (reference_reads s b)
     (λ r rest h. search_pieces (word s.bits) (λ v. v < 2 ^ s.bits) (word_piece s.bits) (λ v w x y h k e. (word_reads s.bits v w x y e).1) (coded_count s r) rest)
 
 -- second extension
@@ -107,7 +87,7 @@ IsSecond s b p = IsReference s b p.0 × ((length p.1 ≡ s.block / 2) × AllByRe
 second_piece : (s : Parameters) (b : ℕ) (bits : List Bool) → Search (SecondBody s) (IsSecond s b) bits
 second_piece s b bits =
     two_pieces (reference_bits s) (IsReference s b) (λ r. flat_map fundamental_sequence) (λ r xs. (length xs ≡ s.block / 2) × AllByRecursion (λ m. Unit {0}) xs) bits (reference_piece s b bits)
-    (λ r q x y h k e. reference_reads s b r q x y h k e)
+    (reference_reads s b)
     (λ r rest h. search_pieces fundamental_sequence (λ m. Unit {0}) sequence_piece (λ v w x y h k e. (sequence_reads v w x y e).1) (s.block / 2) rest)
 
 -- a run
@@ -120,7 +100,7 @@ IsRun s b p = IsReference s b p.0 × Unit {0}
 run_piece : (s : Parameters) (b : ℕ) (bits : List Bool) → Search (RunBody s) (IsRun s b) bits
 run_piece s b bits =
     two_pieces (reference_bits s) (IsReference s b) (λ r. fundamental_sequence) (λ r m. Unit {0}) bits (reference_piece s b bits)
-    (λ r q x y h k e. reference_reads s b r q x y h k e) (λ r rest h. sequence_piece rest)
+    (reference_reads s b) (λ r rest h. sequence_piece rest)
 
 -- a split: the high parts, and then the low digits
 abbrev Halves : Type 0
@@ -149,7 +129,7 @@ IsSplit s b k p = IsReference s b p.0 × AreHalves k (coded_count s p.0) p.1
 split_piece : (s : Parameters) (b k : ℕ) (bits : List Bool) → Search (SplitBody s) (IsSplit s b k) bits
 split_piece s b k bits =
     two_pieces (reference_bits s) (IsReference s b) (λ r. HalvesBody) (λ r. AreHalves k (coded_count s r)) bits (reference_piece s b bits)
-    (λ r q x y h k e. reference_reads s b r q x y h k e) (λ r rest h. halves_piece k (coded_count s r) rest)
+    (reference_reads s b) (λ r rest h. halves_piece k (coded_count s r) rest)
 
 -- the numbers of high parts and low digits
 joined : List ℕ → List (List Bool) → List ℕ
@@ -176,12 +156,11 @@ high_joined k (h ∷ hs) (l ∷ ls) e g =
 low_joined : (k : ℕ) (hs : List ℕ) (ls : List (List Bool)) → length hs ≡ length ls → AllByRecursion (λ v. length v ≡ k) ls → flat_map (word k) (joined hs ls) ≡ flat_map (λ (v : List Bool). v) ls
 unfolding joined
 low_joined k [] [] e h = refl
-low_joined k [] (l ∷ ls) e h = absurd cc
-low_joined k (h ∷ hs) [] e g = absurd cc
 low_joined k (h ∷ hs) (l ∷ ls) e g =
     let first : word k (followed_by h l) ≡ l = ap (λ n. word n (followed_by h l)) (sym g.0) ∙ word-followed_by h l in
     let rest = low_joined k hs ls (omega arith) g.1 in
     λ i. first i ++ rest i
+low_joined k _ _ e h = absurd cc
 
 all_words : (k : ℕ) (ds : List ℕ) → AllByRecursion (λ (v : List Bool). length v ≡ k) (map (word k) ds)
 all_words k [] = tt
@@ -265,13 +244,11 @@ split_halves s b k c h =
 from_split : (s : Parameters) (b k : ℕ) (d : CodedDataSet) → k ≤ k_max s → IsTail s b (k + 1) d → (x : Option ℕ × Halves) × IsSplit s b k x × (tail s d ≡ SplitBody s x)
 unfolding identifier
 from_split s b k (NoCompression c) le h = let w = wide_id s in let l : k ≤ 2 ^ id_len s - 3 = le in absurd (omega (arith, h.1))
-from_split s b k (SecondExtension c) le h = absurd (omega (arith, h.1))
 from_split s b k (Split n c) le h =
     let e : n ≡ k = omega (arith, h.1) in
     let P : ℕ → Type 0 = λ m. (x : Option ℕ × Halves) × IsSplit s b m x × (tail s (Split n c) ≡ SplitBody s x) in
     subst P e (split_halves s b n c h.0)
-from_split s b k (ZeroBlocks r z) le h = absurd (omega (arith, h.1))
-from_split s b k (RemainderOfSegment r) le h = absurd (omega (arith, h.1))
+from_split s b k _ le h = absurd (omega (arith, h.1))
 
 -- after the identifier 0 a bit tells second extension from runs
 to_second : (s : Parameters) (b : ℕ) (bits : List Bool) → IsLegal s → Piece (SecondBody s) (IsSecond s b) bits → Piece (tail s) (IsTail s b 0) (true ∷ bits)
@@ -296,8 +273,7 @@ no_second s b bits legal miss (SecondExtension c) more h e =
     let t : bits ≡ (reference_bits s c.reference ++ flat_map fundamental_sequence (pair_codes c.residuals)) ++ more = cc in
     miss (c.reference, pair_codes c.residuals) more (h.0.reference, (count_pairs (s.block / 2) c.residuals (h.0.len ∙ even_block s legal), all_units (pair_codes c.residuals))) t
 no_second s b bits legal miss (Split k c) more h e = absurd (omega (arith, h.1))
-no_second s b bits legal miss (ZeroBlocks r z) more h e = absurd cc
-no_second s b bits legal miss (RemainderOfSegment r) more h e = absurd cc
+no_second s b bits legal miss _ more h e = absurd cc
 
 to_run : (s : Parameters) (b : ℕ) (bits : List Bool) → Piece (RunBody s) (IsRun s b) bits → Piece (tail s) (IsTail s b 0) (false ∷ bits)
 unfolding tail identifier
@@ -348,10 +324,8 @@ no_run s b bits miss (RemainderOfSegment r) more h e =
 no_tail : (s : Parameters) (b : ℕ) → NoPiece (tail s) (IsTail s b 0) []
 unfolding tail identifier
 no_tail s b (NoCompression c) more h e = let w = wide_id s in absurd (omega (arith, h.1))
-no_tail s b (SecondExtension c) more h e = absurd cc
 no_tail s b (Split k c) more h e = absurd (omega (arith, h.1))
-no_tail s b (ZeroBlocks r z) more h e = absurd cc
-no_tail s b (RemainderOfSegment r) more h e = absurd cc
+no_tail s b _ more h e = absurd cc
 
 zero_tail : (s : Parameters) (b : ℕ) (bits : List Bool) → IsLegal s → Search (tail s) (IsTail s b 0) bits
 zero_tail s b [] legal = inr (no_tail s b)

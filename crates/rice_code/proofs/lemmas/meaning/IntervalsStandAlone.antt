@@ -1,33 +1,16 @@
 -- Intervals stand alone: their code begins afresh, ends with a byte where intervals are padded, and is decoded by itself.
 use Rattle.std.proofs.Common.{◌≡◌, ℕ, zero, suc, ◌+◌, ◌-◌, ◌*◌, ◌/◌, ◌%◌, ◌<◌, ◌≤◌, ◌==◌, min, Bool, true, false, cond, ◌&&◌, List, [], ◌∷◌}
 use Rattle.std.proofs.Common.{◌++◌, length, take, drop, replicate, refl, ap, arith, sym, ◌∙◌, inl, inr, subst, append_assoc, append-nil, length-append, Some, None, ℤ, pos}
-use Rattle.std.specs.Int.{div_ceil}
-use Rattle.std.proofs.lemmas.List.{length-replicate, drop_at}
-use Rattle.std.proofs.lemmas.List.Elements.{recursion_from_All}
-use Rattle.std.proofs.Math.Nat.{mul-div_cancel_left, mul-le-mul_left, mul-mod_right, mod-eq_of_lt}
-use Rattle.std.proofs.Math.Seq.{take-length}
-use Rattle.rice_bits.specs.Bits.{bits_of, bits_to_byte, padded_bits, whole_bytes}
-use Rattle.rice_bits.proofs.lemmas.bits.BytesAndBits.{bits_of-append, bits_of-padded}
-use Rattle.rice_samples.specs.Parameters.{Parameters, IsLegal, IsSample}
-use Rattle.rice_samples.specs.Places.{place, is_padded, is_reference, is_reference_sample, block_count}
-use Rattle.rice_samples.specs.predict.Residuals.{rank, pattern, residual, residuals, last_of, filled_samples}
-use Rattle.rice_samples.proofs.lemmas.setting.LevelsOfSamples.{zero_is_sample}
-use Rattle.rice_code.specs.Laws.{AreIntervals, IntervalsBeginAfresh, IntervalsAreJoined, PaddedIntervalsAreJoined, IntervalsAreDecodedAlone, DamageStaysInItsInterval}
-use Rattle.rice_code.specs.code.Blocks.{block_data, blocks_from, blocks_of, zero_block}
-use Rattle.rice_code.specs.code.Code.{data_sets, sets_of, sets_from, code, code_from, output}
-use Rattle.rice_code.specs.code.CodedDataSets.{CodedDataSet, bits_of_set}
-use Rattle.rice_code.specs.code.Decoded.{Decoded, Reached}
-use Rattle.rice_code.specs.code.Forms.{blocks_in_all}
-use Rattle.rice_code.specs.code.Layout.{block_after, padding, layout}
-use Rattle.rice_code.proofs.lemmas.code.BlocksByPlaceAlone.{code_stands_in_intervals}
+use Rattle.rice_code.proofs.Words.{div_ceil, length-replicate, drop_at, recursion_from_All, mul-div_cancel_left, mul-le-mul_left, mul-mod_right, mod-eq_of_lt, take-length, bits_of-append}
+use Rattle.rice_code.proofs.Words.{bits_of-padded, Parameters, IsLegal, IsSample, place, is_padded, is_reference, is_reference_sample, block_count, rank, pattern, residual, residuals, last_of}
+use Rattle.rice_code.proofs.Words.{filled_samples, zero_is_sample, bits_of, bits_to_byte, padded_bits, whole_bytes, AreIntervals, IntervalsBeginAfresh, IntervalsAreJoined, PaddedIntervalsAreJoined}
+use Rattle.rice_code.proofs.Words.{IntervalsAreDecodedAlone, DamageStaysInItsInterval, block_data, blocks_from, blocks_of, zero_block, data_sets, sets_of, sets_from, code, code_from, output}
+use Rattle.rice_code.proofs.Words.{CodedDataSet, bits_of_set, Decoded, Reached, blocks_in_all, block_after, padding, layout}
+use Rattle.rice_code.proofs.lemmas.{code.BlocksByPlaceAlone.code_stands_in_intervals, code.SoundBlocks.blocks_sound_behind, code.SoundBlocks.count_blocks, code.WholeBlocks.not_filled}
+use Rattle.rice_code.proofs.lemmas.{code.WholeBytes.whole-append, cost.PaddingBounds.are_blocks, cost.PaddingBounds.interval_begins_segment, meaning.CoveredBlocks.bool_cases}
+use Rattle.rice_code.proofs.lemmas.{meaning.CoveredBlocks.covers_blocks, meaning.SentSetsAreTaken.are_taken}
 use Rattle.rice_code.proofs.lemmas.code.CodeGoesOn.{code_goes_on, no_zeros_past_segment, own_blocks}
 use Rattle.rice_code.proofs.lemmas.code.Layouts.{ends_inside, laid_at, laid_plain, lies_inside, sent_first}
-use Rattle.rice_code.proofs.lemmas.code.SoundBlocks.{blocks_sound_behind, count_blocks}
-use Rattle.rice_code.proofs.lemmas.code.WholeBlocks.{not_filled}
-use Rattle.rice_code.proofs.lemmas.code.WholeBytes.{whole-append}
-use Rattle.rice_code.proofs.lemmas.cost.PaddingBounds.{are_blocks, interval_begins_segment}
-use Rattle.rice_code.proofs.lemmas.meaning.CoveredBlocks.{bool_cases, covers_blocks}
-use Rattle.rice_code.proofs.lemmas.meaning.SentSetsAreTaken.{are_taken}
 
 -- ---- an interval begins afresh
 

@@ -1,36 +1,19 @@
 -- No bits that decode to samples are fewer than the code of these samples.
 use Rattle.std.proofs.Common.{◌≡◌, ℕ, zero, suc, ◌+◌, ◌-◌, ◌*◌, ◌%◌, ◌<◌, ◌≤◌, Bool, true, false, List, [], ◌∷◌, ◌++◌, length, take}
 use Rattle.std.proofs.Common.{drop, replicate, refl, ap, arith, sym, ◌∙◌, ◌⊎◌, inl, inr, append_assoc, length-append, length-drop, subst, Option, Some, None, ℤ, pos}
-use Rattle.std.specs.Int.{next_multiple_of}
-use Rattle.std.proofs.lemmas.List.{drop-append-le, length-replicate, length-take-le, take-append-drop, take-append-le}
-use Rattle.std.proofs.Math.Nat.{mod-lt, mod_self}
-use Rattle.std.proofs.Math.Seq.{take-append-add, take-length}
-use Rattle.rice_bits.specs.Bits.{bits_to_byte}
-use Rattle.rice_bits.proofs.lemmas.bits.BytesAndBits.{bits_of-padded, length-bits_of}
-use Rattle.rice_samples.specs.Parameters.{Parameters, IsLegal}
-use Rattle.rice_samples.specs.Places.{block_count}
-use Rattle.rice_samples.specs.predict.Residuals.{residuals, last_of, filled_samples}
-use Rattle.rice_samples.proofs.lemmas.predict.ResidualLemmas.{length-residuals}
-use Rattle.rice_code.specs.Laws.{NoCodeIsShorter, NoOutputIsShorter}
-use Rattle.rice_code.specs.code.Blocks.{block_data, blocks_from, blocks_of}
-use Rattle.rice_code.specs.code.Code.{code, output, sets_of}
-use Rattle.rice_code.specs.code.CodedDataSets.{CodedDataSet}
-use Rattle.rice_code.specs.code.Decoded.{AreTaken, Decoded, Ending, cut_to}
-use Rattle.rice_code.specs.code.Forms.{blocks_in_all}
-use Rattle.rice_code.specs.code.Layout.{block_after}
-use Rattle.rice_code.proofs.lemmas.code.RepeatedSamples.{last_behind, repeated_all}
-use Rattle.rice_code.proofs.lemmas.code.SoundBlocks.{count_blocks, filled_len}
+use Rattle.rice_code.proofs.Words.{next_multiple_of, drop-append-le, length-replicate, length-take-le, take-append-drop, take-append-le, mod-lt, mod_self, take-append-add, take-length, bits_to_byte}
+use Rattle.rice_code.proofs.Words.{bits_of-padded, length-bits_of, Parameters, IsLegal, block_count, residuals, last_of, filled_samples, length-residuals, NoCodeIsShorter, NoOutputIsShorter}
+use Rattle.rice_code.proofs.Words.{block_data, blocks_from, blocks_of, code, output, sets_of, CodedDataSet, AreTaken, Decoded, Ending, cut_to, blocks_in_all, block_after}
+use Rattle.rice_code.proofs.lemmas.{code.RepeatedSamples.last_behind, code.RepeatedSamples.repeated_all, code.SoundBlocks.count_blocks, code.SoundBlocks.filled_len, cost.LeastCode.ends_no_later}
 use Rattle.rice_code.proofs.lemmas.cost.WhereSetsEnd.{padded_is, sent_padded, taken_padded}
-use Rattle.rice_code.proofs.lemmas.cost.LeastCode.{ends_no_later}
 use Rattle.rice_code.proofs.lemmas.cost.CostsOfSmallerBlocks.{AreAtMost, BeginAtMost, IsAtMost, at_most_itself}
 
 -- ---- samples that repeat the last one have the least residuals
 
 zeros_below : (n : ℕ) (ds : List ℕ) → length ds ≡ n → AreAtMost (replicate n 0) ds
 zeros_below zero [] e = tt
-zeros_below zero (d ∷ ds) e = absurd (omega arith)
-zeros_below (suc n) [] e = absurd (omega arith)
 zeros_below (suc n) (d ∷ ds) e = (omega arith, zeros_below n ds (omega arith))
+zeros_below _ _ e = absurd (omega arith)
 
 -- the last sample is predicted again, or no sample is filled
 abbrev FillsLeast : Parameters → ℕ → Type 0

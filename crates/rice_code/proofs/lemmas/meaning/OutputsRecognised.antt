@@ -1,16 +1,8 @@
 -- Which bytes are an output, and of which samples.
 use Rattle.std.proofs.Common.{◌≡◌, ℕ, ◌-◌, ◌*◌, ◌≤◌, Bool, List, length, refl, take, ap, sym, ◌∙◌, subst, arith, Some, ℤ}
-use Rattle.std.specs.Prelude.{All}
-use Rattle.std.proofs.lemmas.List.{length-take-le}
-use Rattle.std.proofs.lemmas.List.Elements.{All-take}
-use Rattle.rice_bits.specs.Bits.{bits_of}
-use Rattle.rice_samples.specs.Parameters.{Parameters, IsLegal, IsSample}
-use Rattle.rice_samples.proofs.lemmas.setting.LevelsOfSamples.{zero_is_sample}
-use Rattle.rice_code.specs.Laws.{CodesDiffer, RefusedBytesAreNoOutput, IsOutputOf, OwnBytesAreRecognised}
-use Rattle.rice_code.specs.code.Code.{output}
-use Rattle.rice_code.specs.code.Decoded.{Decoded, Ending, Reached}
-use Rattle.rice_code.proofs.lemmas.meaning.DecodedInOneWay.{decoded_is_one}
-use Rattle.rice_code.proofs.lemmas.meaning.SamplesAreReturned.{returns_samples}
+use Rattle.rice_code.proofs.Words.{All, length-take-le, All-take, Parameters, IsLegal, IsSample, zero_is_sample, bits_of, CodesDiffer, RefusedBytesAreNoOutput, IsOutputOf, OwnBytesAreRecognised}
+use Rattle.rice_code.proofs.Words.{output, Decoded, Ending, Reached}
+use Rattle.rice_code.proofs.lemmas.{meaning.DecodedInOneWay.decoded_is_one, meaning.SamplesAreReturned.returns_samples}
 
 -- what the output of samples decodes to, by their number
 decodes_to : {s : Parameters} → IsLegal s → {bytes : List ℕ} {count : ℕ} (xs : List ℤ) {ys : List ℤ} {ending : Ending} {used : ℕ} → All (IsSample s) xs → length xs ≡ count → output s xs ≡ bytes

@@ -1,31 +1,14 @@
 -- The output decodes to its samples, and without their number to less than a segment more.
 use Rattle.std.proofs.Common.{◌≡◌, ℕ, zero, suc, ◌+◌, ◌-◌, ◌*◌, ◌/◌, ◌%◌, ◌<◌, ◌≤◌, ◌==◌, Bool, true, false, List, ◌++◌, length}
 use Rattle.std.proofs.Common.{take, replicate, refl, ap, arith, sym, ◌∙◌, inl, inr, append_assoc, append-nil, length-append, subst, Option, Some, None, ℤ, pos}
-use Rattle.std.specs.Prelude.{All}
-use Rattle.std.specs.Int.{div_ceil, next_multiple_of}
-use Rattle.std.proofs.lemmas.Bool.{cases_lt}
-use Rattle.std.proofs.lemmas.List.{length-replicate, replicate-append-replicate}
-use Rattle.std.proofs.lemmas.Bool.Decides.{nat_tests}
-use Rattle.std.proofs.lemmas.List.Elements.{recursion_from_All, All-from_recursion, All-replicate}
-use Rattle.std.proofs.Math.Nat.{div-add-mod, mod-lt, mul-le-mul_left}
-use Rattle.std.proofs.Math.Seq.{take-append_seam}
-use Rattle.rice_bits.specs.Bits.{bits_to_byte, padded_bits, whole_bytes, bits_of}
-use Rattle.rice_bits.proofs.lemmas.bits.BytesAndBits.{bits_of-padded}
-use Rattle.rice_samples.specs.Parameters.{Parameters, IsLegal, IsSample}
-use Rattle.rice_samples.specs.Places.{place, is_padded, block_count}
-use Rattle.rice_samples.specs.predict.Residuals.{last_of, filled_samples}
-use Rattle.rice_samples.proofs.lemmas.setting.LevelsOfSamples.{zero_is_sample}
-use Rattle.rice_code.specs.code.Blocks.{blocks_from, blocks_of, zero_block}
-use Rattle.rice_code.specs.code.CodedDataSets.{CodedDataSet}
-use Rattle.rice_code.specs.code.Layout.{Lies}
-use Rattle.rice_code.specs.code.Forms.{blocks_in_all}
-use Rattle.rice_code.specs.code.Code.{sets_of, code, output}
-use Rattle.rice_code.specs.code.Decoded.{Decoded, Ending, Reached, Ended, IsWanted, EndsWith, cut_to}
+use Rattle.rice_code.proofs.Words.{All, div_ceil, next_multiple_of, cases_lt, length-replicate, replicate-append-replicate, recursion_from_All, All-from_recursion, All-replicate, eqb-true}
+use Rattle.rice_code.proofs.Words.{div-add-mod, mod-lt, mul-le-mul_left, take-append_seam, bits_of-padded, Parameters, IsLegal, IsSample, place, is_padded, block_count, last_of, filled_samples}
+use Rattle.rice_code.proofs.Words.{zero_is_sample, bits_to_byte, padded_bits, whole_bytes, bits_of, blocks_from, blocks_of, zero_block, CodedDataSet, Lies, blocks_in_all, sets_of, code, output}
+use Rattle.rice_code.proofs.Words.{Decoded, Ending, Reached, Ended, IsWanted, EndsWith, cut_to}
 use Rattle.rice_code.proofs.lemmas.meaning.CoveredBlocks.{bool_cases, and-split, GoOn, covers_blocks}
-use Rattle.rice_code.proofs.lemmas.code.Layouts.{lies_laid, lies_inside}
+use Rattle.rice_code.proofs.lemmas.{code.Layouts.lies_laid, code.Layouts.lies_inside, meaning.SentSetsAreTaken.are_taken}
 use Rattle.rice_code.proofs.lemmas.cost.PaddingBounds.{are_blocks, interval_begins_segment, sets_begin}
 use Rattle.rice_code.proofs.lemmas.code.SoundBlocks.{all_append, all_replicate, last_legal, count_blocks, filled_len, blocks_sound_behind}
-use Rattle.rice_code.proofs.lemmas.meaning.SentSetsAreTaken.{are_taken}
 use Rattle.rice_code.proofs.lemmas.code.RepeatedSamples.{blocks_append, repeated_blocks, last_repeats}
 
 -- What the output of samples decodes to, whether their number is known or not.
@@ -138,15 +121,12 @@ samples_are_returned s legal xs k =
           };
         }
       where
-        test_zero : (m : ℕ) → (m == 0) ≡ true → m ≡ 0
-        test_zero m e = grind (arith, nat_tests)
-
         not_padded : (s : Parameters) (b n : ℕ) → 1 ≤ n → GoOn s b n → is_padded s b ≡ false
         not_padded s b zero h g = absurd (omega arith)
         not_padded s b (suc n) h g =
             elim (bool_cases (is_padded s b)) [
               | inr e ↦ e
-              | inl e ↦ absurd (let f : true ≡ false = sym (interval_begins_segment s b (test_zero (place s b) (and-split s.pad (place s b == 0) e).1)) ∙ g.0 in cc)
+              | inl e ↦ absurd (let f : true ≡ false = sym (interval_begins_segment s b (eqb-true (place s b) 0 (and-split s.pad (place s b == 0) e).1)) ∙ g.0 in cc)
             ]
 
         whole_len : (base back all n fill j found : ℕ) → all ≡ base + back → base ≡ j * n → back ≡ j * fill → found ≡ n + fill → all ≡ j * found

@@ -1,27 +1,12 @@
 -- The coded data sets that a coder sends are ones that a decoder takes.
 use Rattle.std.proofs.Common.{◌≡◌, ℕ, suc, ◌+◌, ◌-◌, ◌*◌, ◌<◌, ◌≤◌, ◌==◌, Bool, true, false, cond, not, ◌&&◌, ◌||◌, nat_le}
 use Rattle.std.proofs.Common.{nat_lt, map, List, [], ◌∷◌, length, ap, arith, sym, ◌∙◌, inl, inr, subst, Option, Some, None}
-use Rattle.std.specs.List.{range_with_len, AllByRecursion}
-use Rattle.std.proofs.lemmas.Bool.Decides.{nat_tests}
-use Rattle.std.proofs.lemmas.Bool.{cases_lt}
-use Rattle.std.proofs.lemmas.List.{length-replicate}
-use Rattle.std.proofs.Math.Nat.{mul-le-mul_left}
-use Rattle.rice_code.proofs.lemmas.code.Layouts.{BeginBefore}
-use Rattle.rice_samples.specs.Parameters.{Parameters, k_max}
-use Rattle.rice_samples.specs.Places.{begins_segment, blocks_left}
-use Rattle.rice_samples.proofs.lemmas.setting.PlaceLemmas.{some_left}
-use Rattle.rice_code.specs.code.Blocks.{BlockData, is_zero_block, zero_block}
-use Rattle.rice_code.specs.code.CodedDataSets.{CodedDataSet, NoCompression, Split, ZeroBlocks, RemainderOfSegment, cost}
-use Rattle.rice_code.specs.code.Forms.{IsForm, IsReference, RunIsSound, ResidualsAreSound, blocks_in, zero_blocks}
-use Rattle.rice_code.specs.code.Layout.{block_after}
-use Rattle.rice_code.specs.code.Choice.{shortest, other_options}
-use Rattle.rice_code.specs.code.Code.{data_sets}
-use Rattle.rice_code.specs.code.Runs.{zero_run, run_len}
-use Rattle.rice_code.specs.code.Decoded.{IsWanted, AreTaken}
+use Rattle.rice_code.proofs.Words.{range_with_len, AllByRecursion, nat_tests, cases_lt, length-replicate, mul-le-mul_left, Parameters, k_max, begins_segment, blocks_left, some_left, BlockData}
+use Rattle.rice_code.proofs.Words.{is_zero_block, zero_block, CodedDataSet, NoCompression, Split, ZeroBlocks, RemainderOfSegment, cost, IsForm, IsReference, RunIsSound, ResidualsAreSound, blocks_in}
+use Rattle.rice_code.proofs.Words.{zero_blocks, block_after, shortest, other_options, data_sets, zero_run, run_len, IsWanted, AreTaken, IsSoundBlock, AreSoundBlocks}
+use Rattle.rice_code.proofs.lemmas.{code.Layouts.BeginBefore, cost.BlockBounds.shortest_is_form}
 use Rattle.rice_code.proofs.lemmas.meaning.CoveredBlocks.{bool_cases, skipped, data_sets_plain, data_sets_start, data_sets_inside, skipped_plain, skipped_go}
 use Rattle.rice_code.proofs.lemmas.meaning.CoveredBlocks.{skipped_stop, zero_run_is, best_keeps, run_cons, run_inside, shortest_covers, nothing_more}
-use Rattle.rice_code.specs.code.SoundBlocks.{IsSoundBlock, AreSoundBlocks}
-use Rattle.rice_code.proofs.lemmas.cost.BlockBounds.{shortest_is_form}
 
 -- a form that is sound
 abbrev pub IsSound : Parameters → ℕ → CodedDataSet → Type 0

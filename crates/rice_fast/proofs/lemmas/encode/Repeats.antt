@@ -39,7 +39,8 @@ all_same zero level (x ∷ row) count h = absurd (omega arith)
 all_same (suc n) level (x ∷ row) count h = (same_digits x level h.0, all_same n level row (omega arith) h.1)
 
 -- one row more
-pub row_compared : {s : Parameters} {level n at : ℕ} {bytes other first now more : List ℕ} (row : List ℕ) → RowsCompared s level at bytes other → length row ≡ n → length other ≡ n → first ≡ replicate n level
+pub row_compared : {s : Parameters} {level n at : ℕ} {bytes other first now more : List ℕ} (row : List ℕ) → RowsCompared s level at bytes other → length row ≡ n → length other ≡ n → first ≡
+    replicate n level
     → take (width s * n) (drop (width s * at) bytes) ≡ spellings s (values_at s row) → now ≡ zip2 bit_xor row first → length now ≡ n → more ≡ zip2 bit_or other now
     → RowsCompared s level (at + n) bytes more
 row_compared {s} {level} {n} {at} {bytes} {other} {first} {now} {more} row old many as_many firsts spelled digits counted gathered = record {

@@ -132,6 +132,7 @@ pub steps_behind : {c : BlockCoder} {row : List ℕ} {sink : List Bool} {meter :
     → m.meter + length xs + coding_steps c.setting < 2 ^ 62
 steps_behind h room = let all = meter_behind 0 h room (omega (arith, blocks_inside h.holds)) in omega (arith, all)
 
+-- can be looked at,
 pub room_for_look : {c : BlockCoder} {row : List ℕ} {sink : List Bool} {meter : ℕ} {m : Standing} {xs : List ℤ} → StandsWith c row sink meter m xs → HasRoomAt m → length row ≡ c.setting.block
     → c.blocks < c.end → meter + c.setting.block < 2 ^ 62
 room_for_look {m = m} {xs} h room whole less =

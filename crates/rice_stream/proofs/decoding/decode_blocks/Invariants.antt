@@ -1,6 +1,5 @@
 use Rattle.std.proofs.Common.{◌≡◌, ◌+◌, ◌-◌, ◌*◌}
-use Rattle.rice_bits.specs.read.Reader.{new_reader}
-use Rattle.rice_stream.specs.DecodingState.{DecodingProgress}
+use Rattle.rice_stream.proofs.Words.{new_reader, DecodingProgress}
 use Rattle.rice_stream.proofs.decoding.decode_blocks.Given as goal
 
 abbrev pub invariant-decode_all : goal.invariant-decode_all

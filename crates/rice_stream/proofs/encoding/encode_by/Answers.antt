@@ -1,16 +1,7 @@
 use Rattle.std.proofs.Common.{arith, ◌≡◌, ◌==◌, ◌%◌, ◌<◌, ◌≤◌, List, [], ◌∷◌, length, length-append, true, false, Err, refl, ap, sym, ◌∙◌, subst, ℕ, Some}
-use Rattle.std.proofs.KnownBytes.{Consumes-nil}
-use Rattle.std.proofs.lemmas.Bool.Decides.{nat_tests}
-use Rattle.rice_samples.specs.Parameters.{Parameters, width}
-use Rattle.rice_samples.proofs.lemmas.bytes.SpellingLengths.{narrow_width, some_width}
-use Rattle.rice_stream.specs.EncodingState.{afresh, IsEncodingOf, Pushes, TakesAll}
-use Rattle.rice_stream.specs.WaitingBytes.{with_last}
-use Rattle.rice_stream.specs.Encodes.{EncodesBetween}
-use Rattle.rice_stream.specs.declared.outcome.Fault.TheVariants.{SampleCut}
-use Rattle.rice_stream.specs.Feeding.{IsSeam, encoding_at}
-use Rattle.rice_stream.specs.declared.seam.Seam.{Seam}
-use Rattle.rice_stream.proofs.lemmas.EncodingLemmas.{nothing_early, settled_by}
-use Rattle.rice_stream.proofs.lemmas.Seams.{encoding_is_resumed}
+use Rattle.rice_stream.proofs.Words.{Consumes-nil, nat_tests, Parameters, width, narrow_width, some_width, afresh, IsEncodingOf, Pushes, TakesAll, with_last, EncodesBetween, SampleCut, IsSeam}
+use Rattle.rice_stream.proofs.Words.{encoding_at, Seam}
+use Rattle.rice_stream.proofs.lemmas.{EncodingLemmas.nothing_early, EncodingLemmas.settled_by, Seams.encoding_is_resumed}
 use Rattle.rice_stream.proofs.lemmas.EncodingEnds.{within_early, within_all, few_given, draws_on, takes_on, rest_is}
 use Rattle.rice_stream.proofs.lemmas.EncodingEnds.{drawing_ends, drawing_fails, cut_ends, finish_ends, pushing_ends, push_fails, push_within}
 use Rattle.rice_stream.proofs.encoding.encode_by.Goals as goal
@@ -26,7 +17,7 @@ filled l e = grind (arith, nat_tests, e)
 
 -- a block has samples
 some_block : (s : Parameters) {seam : Seam} → IsSeam s seam [] → 1 ≤ s.block
-some_block s h = let legal = h.taken.holds.legal in grind (arith, legal.block)
+some_block s h = let legal = h.counts.stands.holds.legal in grind (arith, legal.block)
 
 pub resume-encoding-requires : goal.resume-encoding-requires
 resume-encoding-requires g c = ([], c.new-seam.ensures)

@@ -1,6 +1,5 @@
 use Rattle.std.proofs.Common.{◌≡◌, ◌-◌, ◌^◌, ◌<◌, length}
-use Rattle.rice_samples.specs.Parameters.{width}
-use Rattle.rice_stream.specs.EncodingState.{EncodingValue, Sees, EncodingProgress}
+use Rattle.rice_stream.proofs.Words.{width, EncodingValue, Sees, EncodingProgress}
 use Rattle.rice_stream.proofs.encoding.encode_by.Given as goal
 
 abbrev pub invariant-encode_all : goal.invariant-encode_all

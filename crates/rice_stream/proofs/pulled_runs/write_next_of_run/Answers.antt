@@ -1,6 +1,5 @@
 use Rattle.std.proofs.Common.{◌≡◌, ◌+◌, ◌-◌, ◌*◌, ◌∙◌, arith, w64, to_z, of_z, to_z-of_z}
-use Rattle.std.proofs.lemmas.Grind.{common_steps}
-use Rattle.rice_stream.specs.Pulling.{stand_at}
+use Rattle.rice_stream.proofs.Words.{common_steps, stand_at}
 use Rattle.rice_stream.proofs.lemmas.PulledRuns.{run_written}
 use Rattle.rice_stream.proofs.pulled_runs.write_next_of_run.Goals as goal
 
@@ -23,7 +22,7 @@ returns-clause-gives c =
       width_some = omega (arith, c.width-width.ensures.range);
       block_some = omega (arith, c.block-block.ensures.range);
       some = blocks.ensures.some;
-    }) (c.stand_behind-stand.ensures.numbers ∙ (λ i. stand_at (stand.samples + n) (stand.bits + taken i) (steps i) q)) same c.spell_copies_at.ensures
+    }) (c.stand_behind-stand.ensures.numbers ∙ (λ i. stand_at (stand.samples + n) (stand.bits + taken i) (steps i) q)) same (grind (arith, common_steps, c.spell_copies_of_sample.ensures))
 
 pub returns-clause-room : goal.returns-clause-room
 returns-clause-room c = grind (arith, common_steps)

@@ -1,15 +1,6 @@
 use Rattle.std.proofs.Common.{rules, arith, refl, w64, FitsSigned, ℤ, ◌≡◌, ◌+◌, ◌*◌, ◌++◌, ◌∙◌, ap, sym, subst, length, length-drop, take, drop, Option}
-use Rattle.std.specs.Prelude.{Ok, IfSome, ◌%◌}
-use Rattle.std.proofs.lemmas.Int.{to_z-of_z}
-use Rattle.std.proofs.lemmas.List.{length-take-le}
-use Rattle.rice_bits.specs.Bits.{bits_of}
-use Rattle.rice_bits.proofs.lemmas.bits.BytesAndBits.{length-bits_of}
-use Rattle.rice_samples.specs.Parameters.{width}
-use Rattle.rice_samples.specs.bytes.Spelling.{spellings}
+use Rattle.rice_stream.proofs.Words.{Ok, IfSome, ◌%◌, to_z-of_z, length-take-le, length-bits_of, width, spellings, bits_of, DecodesMore, GoesOnAt, TakesNext, ahead, state_of, Pause, Stand}
 use Rattle.rice_code.specs.declared.decode.call_results.CodeFault.TheVariants as faults
-use Rattle.rice_stream.specs.Pulling.{DecodesMore, GoesOnAt, TakesNext, ahead, state_of}
-use Rattle.rice_stream.specs.declared.stand.Pause.{Pause}
-use Rattle.rice_stream.specs.declared.stand.Stand.{Stand}
 use Rattle.rice_stream.specs.declared.stand.Pause.TheVariants as pauses
 use Rattle.rice_stream.proofs.lemmas.PulledPieceSoFar.{ends_so, failed_once, has_none, has_room, more_so_far, never_too_long, none_so_far, nothing_ahead, refused_so}
 use Rattle.rice_stream.proofs.pulling.decode_piece.Goals as goal

@@ -1,16 +1,7 @@
 use Rattle.std.proofs.Common.{arith, ◌≡◌, ◌+◌, ◌-◌, ◌*◌, ap, length, sym, take, ◌∙◌, subst, None}
-use Rattle.std.specs.Prelude.{Ok, Err}
-use Rattle.std.proofs.lemmas.Result.{err_from_is_err_and}
-use Rattle.rice_samples.specs.Parameters.{Parameters, width}
-use Rattle.rice_samples.specs.bytes.Spelling.{spellings}
-use Rattle.rice_code.specs.decode.DecoderState.{DecoderState, IsDecoderState}
-use Rattle.rice_code.specs.declared.decode.call_results.Step.TheVariants.{Block, Done}
-use Rattle.rice_stream.specs.BlockBytes.{Advances}
-use Rattle.rice_stream.specs.Pulling.{GivesMore, stand_at, state_of}
-use Rattle.rice_stream.specs.declared.stand.Stand.{Stand}
-use Rattle.rice_stream.proofs.lemmas.DecodingLemmas.{samples_of_block}
+use Rattle.rice_stream.proofs.Words.{Ok, Err, err_from_is_err_and, Parameters, width, spellings, DecoderState, IsDecoderState, Block, Done, Advances, GivesMore, stand_at, state_of, Stand}
+use Rattle.rice_stream.proofs.lemmas.{DecodingLemmas.samples_of_block, PulledRuns.gives_one}
 use Rattle.rice_stream.proofs.lemmas.PullingLemmas.{Steps, done_next, stops_next}
-use Rattle.rice_stream.proofs.lemmas.PulledRuns.{gives_one}
 use Rattle.rice_stream.proofs.pulling.give_next_block.Goals as goal
 
 pub returns-in_err-next_bytes : goal.returns-in_err-next_bytes

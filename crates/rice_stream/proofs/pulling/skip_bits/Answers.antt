@@ -1,8 +1,5 @@
 use Rattle.std.proofs.Common.{rules, length, ◌≢◌, ◌≡◌, ◌∙◌, ap, subst}
-use Rattle.rice_bits.specs.Bits.{word}
-use Rattle.rice_bits.specs.declared.device.slice.SliceIn.{SliceIn}
-use Rattle.rice_bits.specs.read.Reader.{Reader, Stops, Takes}
-use Rattle.rice_stream.specs.Pulling.{ahead}
+use Rattle.rice_stream.proofs.Words.{word, SliceIn, Reader, Stops, Takes, ahead}
 use Rattle.rice_stream.proofs.lemmas.PulledPieceSoFar.{never_refused, nothing_skipped, skipped_bits}
 use Rattle.rice_stream.proofs.pulling.skip_bits.Goals as goal
 

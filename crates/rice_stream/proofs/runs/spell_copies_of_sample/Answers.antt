@@ -1,7 +1,5 @@
 use Rattle.std.proofs.Common.{◌≡◌, ◌*◌, ◌∙◌, ap, arith, length, replicate, sym, get_or, w64, to_z, of_z, to_z-of_z}
-use Rattle.rice_samples.specs.Parameters.{width}
-use Rattle.rice_samples.specs.bytes.Spelling.{spelling}
-use Rattle.rice_stream.specs.RunsOfBlocks.{repeated}
+use Rattle.rice_stream.proofs.Words.{width, spelling, repeated}
 use Rattle.rice_stream.proofs.lemmas.RunsWritten.{filled-byte, spellings-repeat}
 use Rattle.rice_stream.proofs.runs.spell_copies_of_sample.Goals as goal
 

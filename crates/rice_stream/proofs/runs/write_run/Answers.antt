@@ -1,6 +1,5 @@
 use Rattle.std.proofs.Common.{◌≡◌, ◌≤◌, ◌*◌, ◌∙◌, ap, arith, replicate, sym, subst, w64, to_z, of_z, to_z-of_z}
-use Rattle.rice_samples.specs.Parameters.{IsSample}
-use Rattle.rice_samples.specs.bytes.Spelling.{spellings}
+use Rattle.rice_stream.proofs.Words.{IsSample, spellings}
 use Rattle.rice_stream.proofs.lemmas.RunsWritten.{run_cut}
 use Rattle.rice_stream.proofs.runs.write_run.Goals as goal
 

@@ -1,7 +1,5 @@
 use Rattle.std.proofs.Common.{arith, ◌≡◌, ◌∙◌, ◌-◌, ◌+◌, ap, sym, subst, length, take, drop, length-drop}
-use Rattle.std.proofs.Math.Seq.{take-length, take-add}
-use Rattle.rice_bits.specs.device.OutletRoom.{Appends}
-use Rattle.rice_bits.proofs.lemmas.device.OutletLemmas.{Appends-trans}
+use Rattle.rice_stream.proofs.Words.{take-length, take-add, Appends, Appends-trans}
 use Rattle.rice_stream.proofs.write.write_counted.Goals as goal
 
 pub returns-in-Err-write_in_calls-clause-err : goal.returns-in-Err-write_in_calls-clause-err

@@ -1,7 +1,5 @@
 use Rattle.std.proofs.Common.{arith, ◌≡◌, ◌+◌, ap, sym, ◌∙◌, subst, length, take, drop, length-drop, ◌-◌}
-use Rattle.std.proofs.Math.Seq.{take-length, take-add}
-use Rattle.rice_bits.specs.device.OutletRoom.{Appends}
-use Rattle.rice_bits.proofs.lemmas.device.OutletLemmas.{Appends-trans, Appends-kept}
+use Rattle.rice_stream.proofs.Words.{take-length, take-add, Appends, Appends-trans, Appends-kept}
 use Rattle.rice_stream.proofs.write.write_in_calls.Goals as goal
 
 pub loop-done-preserved : goal.loop-done-preserved

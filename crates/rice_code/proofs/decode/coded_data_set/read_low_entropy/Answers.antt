@@ -1,6 +1,5 @@
-use Rattle.std.proofs.Common.{arith}
+use Rattle.std.proofs.{Common.arith, lemmas.Result.err_from_is_err_and}
 use Rattle.rice_code.proofs.lemmas.decode.SetsRead.{low_bit_cut, second_low_cut, run_low_cut, second_low, run_low}
-use Rattle.std.proofs.lemmas.Result.{err_from_is_err_and}
 use Rattle.rice_code.proofs.decode.coded_data_set.read_low_entropy.Goals as goal
 
 pub returns-in_err-bit-clause-err : goal.returns-in_err-bit-clause-err
@@ -23,7 +22,7 @@ returns-in_err-reference-clause-err g c =
 
 pub returns-clause-ok : goal.returns-clause-ok
 returns-clause-ok g c =
-    second_low c.in_ok-head.head.reference c.in_ok-head.head.sound
+    second_low c.in_ok-head.head
     c.in_ok-bit.ensures.ok.0 (omega arith) c.in_ok-bit.ensures.ok.1 c.in_ok-bit.ensures.steps c.in_ok-head.ensures.ok
 
 pub returns-in_err-head-clause-err : goal.returns-in_err-head-clause-err

@@ -24,7 +24,7 @@ pub returns-then-id-width-clause-ok : goal.returns-then-id-width-clause-ok
 returns-then-id-width-clause-ok g c =
     let t = rw c.id_len-width.ensures.value at c.in_ok-id.ensures.ok in
     let e = rw c.id_len-width.ensures.value at c.if-id-width.true in
-    no_compression_set c.in_ok-head.head.reference c.in_ok-head.head.sound
+    no_compression_set c.in_ok-head.head
     (e ∙ ones_id c.args.setting.now) t.1 c.in_ok-id.ensures.steps c.in_ok-head.ensures.ok
 
 pub returns-in_err-head-clause-err : goal.returns-in_err-head-clause-err
@@ -38,7 +38,7 @@ returns-in_err-head-clause-err g c =
 pub returns-clause-ok : goal.returns-clause-ok
 returns-clause-ok g c =
     let t = rw c.id_len-width.ensures.value at c.in_ok-id.ensures.ok in
-    split_set c.in_ok-id.id (c.in_ok-id.id - 1) c.in_ok-head-2.head.reference c.in_ok-head-2.head.sound
+    split_set c.in_ok-id.id (c.in_ok-id.id - 1) c.in_ok-head-2.head
     (omega arith) t.1 c.in_ok-id.ensures.steps c.in_ok-head-2.ensures.ok
 
 pub returns-in_err-head-2-clause-err : goal.returns-in_err-head-2-clause-err

@@ -1,5 +1,4 @@
-use Rattle.std.proofs.lemmas.Grind.{common_steps}
-use Rattle.std.proofs.Common.{arith}
+use Rattle.std.proofs.{lemmas.Grind.common_steps, Common.arith}
 use Rattle.rice_code.proofs.decode.decoder.skip_padding.Goals as goal
 
 pub returns-then-next-interval-clause-skips : goal.returns-then-next-interval-clause-skips

@@ -1,10 +1,6 @@
 use Rattle.std.proofs.Common.{arith, ◌≡◌, ◌<◌, ◌∙◌, Bool, List, length, subst, sym, true, false}
-use Rattle.std.proofs.lemmas.Result.{IfErr-weaker, IfOk-weaker}
-use Rattle.rice_bits.specs.read.Reader.{Stops}
-use Rattle.rice_code.specs.decode.RowsOfFields.{CountRow, ones}
-use Rattle.rice_code.specs.decode.ReadSets.{PartsCut, PartsRead}
+use Rattle.rice_code.proofs.Words.{IfErr-weaker, IfOk-weaker, Stops, err_from_is_err_and, CountRow, ones, PartsCut, PartsRead}
 use Rattle.rice_code.proofs.lemmas.decode.OptionsRead.{counts_read, parts_read, parts_cut_high, parts_cut_low}
-use Rattle.std.proofs.lemmas.Result.{err_from_is_err_and}
 use Rattle.rice_code.proofs.decode.high_and_low_parts.read_parts.Goals as goal
 
 pub returns-then-k-eq0-clause-ok : goal.returns-then-k-eq0-clause-ok

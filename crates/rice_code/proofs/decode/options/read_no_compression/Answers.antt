@@ -1,11 +1,6 @@
 use Rattle.std.proofs.Common.{arith, ◌^◌, ◌<◌, ◌∙◌, refl}
-use Rattle.rice_code.specs.decode.ReadSets.{reference_place}
-use Rattle.std.specs.Prelude.{flat_map}
-use Rattle.std.proofs.lemmas.Nat.{pow_pos}
-use Rattle.rice_bits.specs.Bits.{word}
-use Rattle.rice_code.specs.code.CodedDataSets.{NoCompression, sent_residuals}
+use Rattle.rice_code.proofs.Words.{reference_place, flat_map, pow_pos, err_from_is_err_and, word, NoCompression, sent_residuals}
 use Rattle.rice_code.proofs.lemmas.decode.OptionsRead.{no_compression_read, residuals_behind_reference, row_after_others, coded_part, no_compression_cut, cut_at_reference}
-use Rattle.std.proofs.lemmas.Result.{err_from_is_err_and}
 use Rattle.rice_code.proofs.decode.options.read_no_compression.Goals as goal
 
 pub returns-in_err-reference-clause-err : goal.returns-in_err-reference-clause-err

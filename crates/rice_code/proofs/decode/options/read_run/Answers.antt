@@ -1,8 +1,6 @@
 use Rattle.std.proofs.Common.{◌++◌, false, replicate}
-use Rattle.rice_bits.proofs.lemmas.read.ReaderLemmas.{takes-append, stops-append}
-use Rattle.rice_code.specs.code.CodedDataSets.{reference_bits}
+use Rattle.rice_code.proofs.Words.{takes-append, stops-append, err_from_is_err_and, reference_bits}
 use Rattle.rice_code.proofs.lemmas.decode.OptionsRead.{run_cut, run_cut_at_reference}
-use Rattle.std.proofs.lemmas.Result.{err_from_is_err_and}
 use Rattle.rice_code.proofs.decode.options.read_run.Goals as goal
 
 pub returns-in_err-reference-clause-err : goal.returns-in_err-reference-clause-err

@@ -1,11 +1,6 @@
 use Rattle.std.proofs.Common.{◌+◌, ◌/◌, ◌∙◌, ap, refl}
-use Rattle.std.specs.Prelude.{flat_map}
-use Rattle.std.proofs.lemmas.Bool.{iff_false}
-use Rattle.rice_bits.specs.Bits.{fundamental_sequence}
-use Rattle.rice_samples.specs.blocks.Pairs.{pair_codes}
-use Rattle.rice_code.specs.code.CodedDataSets.{SecondExtension}
+use Rattle.rice_code.proofs.Words.{flat_map, iff_false, fundamental_sequence, pair_codes, err_from_is_err_and, SecondExtension}
 use Rattle.rice_code.proofs.lemmas.decode.OptionsRead.{two_halves, second_extension_read, second_extension_cut, cut_at_reference}
-use Rattle.std.proofs.lemmas.Result.{err_from_is_err_and}
 use Rattle.rice_code.proofs.decode.options.read_second_extension.Goals as goal
 
 pub returns-in_err-reference-clause-err : goal.returns-in_err-reference-clause-err

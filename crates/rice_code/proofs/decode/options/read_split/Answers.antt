@@ -1,11 +1,6 @@
 use Rattle.std.proofs.Common.{arith, ◌≡◌, ◌≤◌, ◌∙◌, ap, ◌-◌, ◌/◌, ◌^◌, ◌++◌, drop, refl, subst, sym}
-use Rattle.std.specs.Prelude.{All, flat_map}
-use Rattle.std.proofs.lemmas.Bool.{iff_false}
-use Rattle.rice_bits.specs.Bits.{word, fundamental_sequence}
-use Rattle.rice_samples.specs.Parameters.{value_count}
-use Rattle.rice_code.specs.code.CodedDataSets.{Split, sent_residuals}
+use Rattle.rice_code.proofs.Words.{All, flat_map, iff_false, value_count, err_from_is_err_and, word, fundamental_sequence, Split, sent_residuals}
 use Rattle.rice_code.proofs.lemmas.decode.OptionsRead.{sent_part, sent_placed, up_to_end, split_large, split_joined, split_cut, parts_small, cut_at_reference}
-use Rattle.std.proofs.lemmas.Result.{err_from_is_err_and}
 use Rattle.rice_code.proofs.decode.options.read_split.Goals as goal
 
 pub returns-in_err-reference-clause-err : goal.returns-in_err-reference-clause-err

@@ -1,8 +1,6 @@
 use Rattle.std.proofs.Common.{arith, ◌+◌, ◌/◌, length, take}
-use Rattle.rice_samples.proofs.lemmas.blocks.PairNumbers.{count_pairs}
+use Rattle.rice_code.proofs.Words.{count_pairs, pair_codes, err_from_is_err_and}
 use Rattle.rice_code.proofs.lemmas.decode.RowsOfFields.{pairs-none, pairs-more, sequences-stop, two_more}
-use Rattle.rice_samples.specs.blocks.Pairs.{pair_codes}
-use Rattle.std.proofs.lemmas.Result.{err_from_is_err_and}
 use Rattle.rice_code.proofs.decode.pairs.read_pairs.Goals as goal
 
 pub loop-done-init : goal.loop-done-init

@@ -1,9 +1,7 @@
 use Rattle.std.proofs.Common.{arith, rules, ◌≡◌, ap, ◌∙◌, w64, to_z, length, take}
-use Rattle.std.proofs.lemmas.Int.{to_z-of_z}
-use Rattle.std.proofs.Math.Seq.{take-length}
+use Rattle.rice_code.proofs.Words.{to_z-of_z, take-length}
 use mir.Val.{SFits}
-use Rattle.rice_code.proofs.lemmas.decode.RestoredBlocks.{contents_are}
-use Rattle.rice_code.proofs.lemmas.decode.SamplesRestored.{restored-none, restored-more}
+use Rattle.rice_code.proofs.lemmas.{decode.RestoredBlocks.contents_are, decode.SamplesRestored.restored-none, decode.SamplesRestored.restored-more}
 use Rattle.rice_code.proofs.decode.restoring.restore_block.Goals as goal
 
 pub loop-i-init : goal.loop-i-init

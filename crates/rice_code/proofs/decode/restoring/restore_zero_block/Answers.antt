@@ -1,13 +1,7 @@
 use Rattle.std.proofs.Common.{rules, arith, ℕ, zero, suc, ◌≡◌, ◌≤◌, ◌∙◌, ap, sym, subst, w64, replicate, refl, ℤ, List}
-use Rattle.std.specs.Prelude.{All}
-use Rattle.std.proofs.lemmas.Int.{to_z-of_z}
-use Rattle.std.proofs.lemmas.List.Elements.{All-replicate}
+use Rattle.rice_code.proofs.Words.{All, to_z-of_z, All-replicate, IsSample, last_of, block_data}
 use mir.Val.{SFits}
-use Rattle.rice_samples.specs.Parameters.{IsSample}
-use Rattle.rice_samples.specs.predict.Residuals.{last_of}
-use Rattle.rice_code.specs.code.Blocks.{block_data}
-use Rattle.rice_code.proofs.lemmas.code.RepeatedSamples.{last_replicate}
-use Rattle.rice_code.proofs.lemmas.decode.RestoredBlocks.{zeros_restored}
+use Rattle.rice_code.proofs.lemmas.{code.RepeatedSamples.last_replicate, decode.RestoredBlocks.zeros_restored}
 use Rattle.rice_code.proofs.decode.restoring.restore_zero_block.Goals as goal
 
 last_of_many : (p x : ℤ) (n : ℕ) → 1 ≤ n → last_of p (replicate n x) ≡ x

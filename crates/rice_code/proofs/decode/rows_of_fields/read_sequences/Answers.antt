@@ -1,8 +1,6 @@
 use Rattle.std.proofs.Common.{arith, length, refl, take, ◌∙◌}
-use Rattle.std.proofs.lemmas.Bool.{leb-true, leb-false}
-use Rattle.std.proofs.Math.Nat.{min-eq_left}
+use Rattle.rice_code.proofs.Words.{leb-true, leb-false, min-eq_left, err_from_is_err_and}
 use Rattle.rice_code.proofs.lemmas.decode.RowsOfFields.{row_of_counts-none, row_of_counts-more, row_of_counts-whole, sequences-stop}
-use Rattle.std.proofs.lemmas.Result.{err_from_is_err_and}
 use Rattle.rice_code.proofs.decode.rows_of_fields.read_sequences.Goals as goal
 
 pub loop-done-init : goal.loop-done-init

@@ -1,7 +1,6 @@
 use Rattle.std.proofs.Common.{arith, ◌^◌, ◌<◌, [], length, refl}
-use Rattle.rice_bits.specs.Bits.{word}
+use Rattle.rice_code.proofs.Words.{word, err_from_is_err_and}
 use Rattle.rice_code.proofs.lemmas.decode.RowsOfFields.{row-none, row-word, row-whole, words-stop}
-use Rattle.std.proofs.lemmas.Result.{err_from_is_err_and}
 use Rattle.rice_code.proofs.decode.rows_of_fields.read_words.Goals as goal
 
 pub loop-done-init : goal.loop-done-init

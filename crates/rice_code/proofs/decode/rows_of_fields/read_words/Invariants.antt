@@ -1,6 +1,5 @@
 use Rattle.std.proofs.Common.{◌+◌, ◌≡◌, ◌^◌, ◌<◌, ◌≤◌, [], take}
-use Rattle.rice_bits.specs.Bits.{word}
-use Rattle.rice_code.specs.decode.RowsOfFields.{Row}
+use Rattle.rice_code.proofs.Words.{word, Row}
 use Rattle.rice_code.proofs.decode.rows_of_fields.read_words.Given as goal
 
 abbrev pub invariant-loop-done : goal.invariant-loop-done

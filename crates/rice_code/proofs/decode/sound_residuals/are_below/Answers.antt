@@ -1,7 +1,5 @@
 use Rattle.std.proofs.Common.{◌≡◌, ◌<◌, arith, take, subst}
-use Rattle.std.specs.Prelude.{All}
-use Rattle.std.proofs.lemmas.Bool.{true_from_ne_false}
-use Rattle.std.proofs.lemmas.List.{take_all}
+use Rattle.rice_code.proofs.Words.{All, true_from_ne_false, take_all}
 use Rattle.rice_code.proofs.lemmas.decode.JoinedResiduals.{below-more}
 use Rattle.rice_code.proofs.decode.sound_residuals.are_below.Goals as goal
 

@@ -1,8 +1,6 @@
 use Rattle.std.proofs.Common.{arith, sym, ◌∙◌}
-use Rattle.std.proofs.lemmas.List.{take_all}
-use Rattle.rice_bits.specs.read.JoinedParts.{joined_parts}
+use Rattle.rice_code.proofs.Words.{take_all, joined_parts, length-joined}
 use Rattle.rice_code.proofs.lemmas.decode.JoinedResiduals.{join-more}
-use Rattle.rice_bits.proofs.lemmas.read.JoinedPartsLemmas.{length-joined}
 use Rattle.rice_code.proofs.decode.sound_residuals.join_all_parts.Goals as goal
 
 pub overflow_add-lows : goal.overflow_add-lows

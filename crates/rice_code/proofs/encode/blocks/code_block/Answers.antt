@@ -1,11 +1,5 @@
 use Rattle.std.proofs.Common.{◌≡◌, ℕ, ◌+◌, ◌*◌, ◌≤◌, Bool, List, ◌++◌, ◌∙◌, arith, ap, sym}
-use Rattle.rice_samples.specs.Parameters.{Parameters, k_max}
-use Rattle.rice_code.specs.code.Blocks.{BlockData}
-use Rattle.rice_code.specs.code.CodedDataSets.{CodedDataSet, bits_of_set, cost}
-use Rattle.rice_code.specs.code.Choice.{shortest, best_split}
-use Rattle.rice_code.specs.encode.BitBuffer.{PutsSet}
-use Rattle.rice_code.specs.encode.HeldBlocks.{PutsShortest}
-use Rattle.rice_code.specs.encode.SetOfChoice.{chosen_set}
+use Rattle.rice_code.proofs.Words.{Parameters, k_max, BlockData, CodedDataSet, bits_of_set, cost, shortest, best_split, PutsSet, PutsShortest, chosen_set}
 use Rattle.rice_code.proofs.lemmas.encode.SegmentBlocksInTurn.{steps_least}
 use Rattle.rice_code.proofs.encode.blocks.code_block.Goals as goal
 

@@ -1,17 +1,7 @@
 use Rattle.std.proofs.Common.{◌≡◌, ◌+◌, ◌-◌, ◌*◌, ◌≤◌, ◌++◌, ◌∙◌, min, true, false, length, drop, take, arith, ap, sym, subst, inl, inr}
-use Rattle.std.specs.Prelude.{sum_by, slice_range}
-use Rattle.std.proofs.lemmas.List.{take_all}
-use Rattle.rice_samples.specs.Parameters.{k_max}
-use Rattle.rice_code.specs.code.Blocks.{BlockData, is_zero_block}
-use Rattle.rice_code.specs.code.CodedDataSets.{cost, bits_of_set, bits_of_sets}
-use Rattle.rice_code.specs.code.Code.{data_sets}
-use Rattle.rice_code.specs.code.Choice.{shortest, best_split}
-use Rattle.rice_code.specs.encode.HeldBlocks.{held_blocks, reference_at, pending_run, pending_bits}
-use Rattle.rice_code.specs.encode.BitBuffer.{HasRoomFor}
-use Rattle.rice_code.specs.code.SoundBlocks.{block_with, IsSoundData}
-use Rattle.rice_code.specs.CoderSteps.{least_looks, most_looks}
-use Rattle.rice_code.proofs.lemmas.meaning.CoveredBlocks.{bool_cases}
-use Rattle.rice_code.proofs.lemmas.encode.PendingRuns.{held_at, held_len}
+use Rattle.rice_code.proofs.Words.{sum_by, slice_range, take_all, k_max, BlockData, is_zero_block, cost, bits_of_set, bits_of_sets, data_sets, shortest, best_split, held_blocks, reference_at}
+use Rattle.rice_code.proofs.Words.{pending_run, pending_bits, HasRoomFor, block_with, IsSoundData, least_looks, most_looks}
+use Rattle.rice_code.proofs.lemmas.{meaning.CoveredBlocks.bool_cases, encode.PendingRuns.held_at, encode.PendingRuns.held_len}
 use Rattle.rice_code.proofs.lemmas.encode.SegmentBlocksInTurn.{to_come, held, held_range, held_sound, sound_of, next_zero, next_other, at_end, sum_next, most_of_all, looks_zero}
 use Rattle.rice_code.proofs.lemmas.encode.SegmentBlocksInTurn.{looks_other, room_other, room_within, meter_fits, meter_ends, length_both, looks_more, other_same, least_more, most_more}
 use Rattle.rice_code.proofs.encode.blocks.code_blocks.Goals as goal

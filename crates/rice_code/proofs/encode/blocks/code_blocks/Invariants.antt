@@ -1,9 +1,5 @@
 use Rattle.std.proofs.Common.{◌≡◌, ◌+◌, ◌-◌, ◌≤◌, ◌++◌, length, drop, take, false}
-use Rattle.std.specs.Prelude.{sum_by}
-use Rattle.rice_code.specs.code.Code.{data_sets}
-use Rattle.rice_code.specs.code.CodedDataSets.{bits_of_sets}
-use Rattle.rice_code.specs.encode.HeldBlocks.{held_blocks, reference_at, pending_zeros}
-use Rattle.rice_code.specs.CoderSteps.{least_looks, most_looks}
+use Rattle.rice_code.proofs.Words.{sum_by, data_sets, bits_of_sets, held_blocks, reference_at, pending_zeros, least_looks, most_looks}
 use Rattle.rice_code.proofs.encode.blocks.code_blocks.Given as goal
 
 abbrev pub invariant-loop-i : goal.invariant-loop-i

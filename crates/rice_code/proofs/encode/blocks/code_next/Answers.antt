@@ -1,5 +1,4 @@
-use Rattle.std.proofs.lemmas.Grind.{common_steps}
-use Rattle.std.proofs.Common.{arith}
+use Rattle.std.proofs.{lemmas.Grind.common_steps, Common.arith}
 use Rattle.rice_code.proofs.encode.blocks.code_next.Goals as goal
 
 pub returns-then-is_zero-clause-joins : goal.returns-then-is_zero-clause-joins

@@ -1,7 +1,5 @@
 use Rattle.std.proofs.Common.{◌≡◌, ℕ, zero, suc, ◌<◌, ◌++◌, ◌∙◌, length, false, arith, ap, sym, subst, append-nil}
-use Rattle.std.specs.Prelude.{IfSome, Option}
-use Rattle.rice_samples.specs.Parameters.{value_count}
-use Rattle.rice_code.specs.encode.HeldBlocks.{pending_bits, reference_at}
+use Rattle.rice_code.proofs.Words.{IfSome, Option, value_count, pending_bits, reference_at}
 use Rattle.rice_code.proofs.encode.blocks.put_run_before_block.Goals as goal
 
 reference_fits : (r : Option ℕ) (n : ℕ) (P : ℕ → Type 0) → IfSome r P → IfSome (reference_at r n) P

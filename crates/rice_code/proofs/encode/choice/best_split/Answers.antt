@@ -1,6 +1,5 @@
 use Rattle.std.proofs.Common.{arith}
-use Rattle.rice_code.proofs.lemmas.cost.SplitSavings.{best_where_it_stops, best_where_it_ends}
-use Rattle.rice_code.proofs.lemmas.encode.ChoiceLemmas.{best_split_is}
+use Rattle.rice_code.proofs.lemmas.{cost.SplitSavings.best_where_it_stops, cost.SplitSavings.best_where_it_ends, encode.ChoiceLemmas.best_split_is}
 use Rattle.rice_code.proofs.encode.choice.best_split.Goals as goal
 
 pub returns-then-next-least-clause-best : goal.returns-then-next-least-clause-best

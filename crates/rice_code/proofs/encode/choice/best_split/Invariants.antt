@@ -1,6 +1,5 @@
 use Rattle.std.proofs.Common.{◌-◌, ◌≡◌, ℕ, ◌+◌, ◌*◌, ◌^◌, ◌<◌, ◌≤◌}
-use Rattle.rice_samples.specs.Parameters.{k_max}
-use Rattle.rice_code.specs.code.CodedDataSets.{Split, cost}
+use Rattle.rice_code.proofs.Words.{k_max, Split, cost}
 use Rattle.rice_code.proofs.encode.choice.best_split.Given as goal
 
 abbrev pub invariant-loop-best : goal.invariant-loop-best

@@ -1,6 +1,5 @@
 use Rattle.std.proofs.Common.{arith, ℕ, ◌≡◌, ◌+◌, ◌*◌, ◌/◌, ◌≤◌, ◌∙◌, ap, min}
-use Rattle.std.proofs.Math.Nat.{mul-le-mul_left}
-use Rattle.rice_samples.specs.Parameters.{k_max}
+use Rattle.rice_code.proofs.Words.{mul-le-mul_left, k_max}
 use Rattle.rice_code.proofs.lemmas.cost.PairsAreLonger.{pairs_are_longer}
 use Rattle.rice_code.proofs.lemmas.encode.ChoiceLemmas.{takes_no_compression, takes_second_extension, takes_split}
 use Rattle.rice_code.proofs.encode.choice.choose.Goals as goal

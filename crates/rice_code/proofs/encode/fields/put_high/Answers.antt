@@ -1,7 +1,5 @@
-use Rattle.std.proofs.lemmas.Grind.{common_steps}
+use Rattle.rice_code.proofs.Words.{common_steps, sum_by, drop_more}
 use Rattle.std.proofs.Common.{arith, ◌/◌, ◌^◌, ap}
-use Rattle.std.specs.Prelude.{sum_by}
-use Rattle.std.proofs.lemmas.List.{drop_more}
 use Rattle.rice_code.proofs.encode.fields.put_high.Goals as goal
 
 pub loop-i-preserved : goal.loop-i-preserved

@@ -1,6 +1,5 @@
 use Rattle.std.proofs.Common.{◌≡◌, ◌+◌, ◌-◌, ◌/◌, ◌^◌, ◌≤◌, ◌++◌, length, drop}
-use Rattle.std.specs.Prelude.{flat_map, sum_by}
-use Rattle.rice_bits.specs.Bits.{fundamental_sequence}
+use Rattle.rice_code.proofs.Words.{flat_map, sum_by, fundamental_sequence}
 use Rattle.rice_code.proofs.encode.fields.put_high.Given as goal
 
 abbrev pub invariant-loop-i : goal.invariant-loop-i

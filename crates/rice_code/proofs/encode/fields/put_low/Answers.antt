@@ -1,8 +1,5 @@
-use Rattle.std.proofs.lemmas.Grind.{common_steps}
+use Rattle.rice_code.proofs.Words.{common_steps, drop_more, low_word, word}
 use Rattle.std.proofs.Common.{arith, ◌+◌, ◌∙◌, ap, length}
-use Rattle.std.proofs.lemmas.List.{drop_more}
-use Rattle.rice_bits.specs.Bits.{word}
-use Rattle.rice_bits.proofs.lemmas.bits.JoinedBits.{low_word}
 use Rattle.rice_code.proofs.lemmas.encode.PartsInTurn.{one_less_times}
 use Rattle.rice_code.proofs.encode.fields.put_low.Goals as goal
 

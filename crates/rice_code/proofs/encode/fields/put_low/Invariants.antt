@@ -1,6 +1,5 @@
 use Rattle.std.proofs.Common.{◌≡◌, ◌+◌, ◌-◌, ◌*◌, ◌≤◌, ◌++◌, length, drop}
-use Rattle.std.specs.Prelude.{flat_map}
-use Rattle.rice_bits.specs.Bits.{word}
+use Rattle.rice_code.proofs.Words.{flat_map, word}
 use Rattle.rice_code.proofs.encode.fields.put_low.Given as goal
 
 abbrev pub invariant-loop-i : goal.invariant-loop-i

@@ -1,6 +1,5 @@
-use Rattle.std.proofs.lemmas.Grind.{common_steps}
+use Rattle.rice_code.proofs.Words.{common_steps, sum_by}
 use Rattle.std.proofs.Common.{arith, ◌+◌, ap}
-use Rattle.std.specs.Prelude.{sum_by}
 use Rattle.rice_code.proofs.lemmas.encode.OptionTexts.{pairs_left}
 use Rattle.rice_code.proofs.encode.fields.put_pairs.Goals as goal
 

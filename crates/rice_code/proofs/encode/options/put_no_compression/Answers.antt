@@ -1,11 +1,6 @@
 use Rattle.std.proofs.Common.{◌≡◌, ℕ, ◌≤◌, ◌-◌, ◌*◌, ◌%◌, ◌^◌, ◌++◌, ◌∙◌, arith, length, drop, ap, append_assoc}
-use Rattle.std.specs.Prelude.{flat_map}
-use Rattle.std.proofs.Math.Nat.{pow-le-pow_right}
-use Rattle.rice_bits.specs.Bits.{word}
-use Rattle.rice_samples.specs.Parameters.{id_len}
-use Rattle.rice_code.specs.code.CodedDataSets.{reference_bits, reference_len, sent_residuals}
-use Rattle.rice_code.proofs.lemmas.cost.CostIsLength.{coded_and_reference}
-use Rattle.rice_code.proofs.lemmas.encode.OptionTexts.{sent_are}
+use Rattle.rice_code.proofs.Words.{flat_map, pow-le-pow_right, id_len, word, reference_bits, reference_len, sent_residuals}
+use Rattle.rice_code.proofs.lemmas.{cost.CostIsLength.coded_and_reference, encode.OptionTexts.sent_are}
 use Rattle.rice_code.proofs.encode.options.put_no_compression.Goals as goal
 
 -- the identifier does not wrap

@@ -1,8 +1,5 @@
 use Rattle.std.proofs.Common.{◌+◌, ◌++◌, ◌∙◌, ap, arith, sym, false}
-use Rattle.rice_bits.specs.Bits.{word, fundamental_sequence}
-use Rattle.rice_samples.specs.Parameters.{id_len}
-use Rattle.rice_code.specs.code.CodedDataSets.{reference_bits}
-use Rattle.rice_code.specs.encode.HeldBlocks.{zeros_of_run}
+use Rattle.rice_code.proofs.Words.{word, fundamental_sequence, id_len, reference_bits, zeros_of_run}
 use Rattle.rice_code.proofs.lemmas.encode.OptionTexts.{word_flag_zero, append_flagged, run_text, run_cost}
 use Rattle.rice_code.proofs.encode.options.put_run.Goals as goal
 

@@ -1,6 +1,5 @@
 use Rattle.std.proofs.Common.{◌+◌, ◌/◌, ◌^◌, ◌++◌, ◌∙◌, ap, arith, length}
-use Rattle.rice_bits.specs.Bits.{word, fundamental_sequence}
-use Rattle.rice_code.specs.code.CodedDataSets.{reference_bits, reference_len, sent_residuals}
+use Rattle.rice_code.proofs.Words.{word, fundamental_sequence, reference_bits, reference_len, sent_residuals}
 use Rattle.rice_code.proofs.lemmas.encode.OptionTexts.{sent_are, split_is_joined}
 use Rattle.rice_code.proofs.encode.options.put_split.Goals as goal
 

@@ -1,8 +1,5 @@
 use Rattle.std.proofs.Common.{arith, ◌≡◌, ◌+◌, ◌≤◌, length, ap, sym, subst}
-use Rattle.rice_samples.specs.Parameters.{Parameters}
-use Rattle.rice_code.specs.code.Code.{code_bits, complete_samples}
-use Rattle.rice_code.specs.code.Blocks.{fill_count_of}
-use Rattle.rice_code.specs.encode.Coder.{AddsCode}
+use Rattle.rice_stream.proofs.Words.{Parameters, code_bits, complete_samples, fill_count_of, AddsCode}
 use Rattle.rice_stream.proofs.lemmas.EncodingLemmas.{all_small, has_room, samples_end, standing_of}
 use Rattle.rice_stream.proofs.encoding.Encoding.code_rest_and_fill.Goals as goal
 

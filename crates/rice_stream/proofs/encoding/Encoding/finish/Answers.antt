@@ -1,10 +1,6 @@
 use Rattle.std.proofs.Common.{subst, sym, List, ℕ}
-use Rattle.rice_stream.specs.EncodingState.{Follows}
-use Rattle.rice_bits.specs.Bits.{padded_bits, whole_bytes}
-use Rattle.rice_code.specs.code.Code.{code, output, early_output}
-use Rattle.rice_code.specs.encode.Coder.{complete_code}
-use Rattle.rice_stream.proofs.lemmas.BytesOfGrowingCode.{more_bytes}
-use Rattle.rice_stream.proofs.lemmas.EncodingLemmas.{Follows-trans, part_follows}
+use Rattle.rice_stream.proofs.Words.{Follows, padded_bits, whole_bytes, code, output, early_output, complete_code}
+use Rattle.rice_stream.proofs.lemmas.{BytesOfGrowingCode.more_bytes, EncodingLemmas.Follows-trans, EncodingLemmas.part_follows}
 use Rattle.rice_stream.proofs.encoding.Encoding.finish.Goals as goal
 
 pub returns-in-Ok-clause-did : goal.returns-in-Ok-clause-did

@@ -1,6 +1,5 @@
 use Rattle.std.proofs.Common.{arith, rules, w64, FitsSigned, ◌∙◌, ◌^◌, ◌<◌, ap, sym, subst, length}
-use Rattle.std.proofs.lemmas.Int.{to_z-of_z}
-use Rattle.rice_bits.specs.Bits.{word}
+use Rattle.rice_stream.proofs.Words.{to_z-of_z, word}
 use Rattle.rice_stream.proofs.lemmas.EncodingLemmas.{nothing_held, sink_short, standing_of}
 use Rattle.rice_stream.proofs.lemmas.Seams.{seam_of}
 use Rattle.rice_stream.proofs.encoding.Encoding.seam.Goals as goal

@@ -4,9 +4,8 @@ use Rattle.rice_stream.proofs.input.Input.draw.Goals as goal
 
 -- one byte
 single : (l : List ℕ) → length l ≡ 1 → (x : ℕ) × (l ≡ x ∷ [])
-single [] e = absurd (omega arith)
 single (x ∷ []) e = (x, refl)
-single (x ∷ y ∷ l) e = absurd (omega arith)
+single _ e = absurd (omega arith)
 
 pub returns-then-self-ge-MOST_INPUT-clause-err : goal.returns-then-self-ge-MOST_INPUT-clause-err
 returns-then-self-ge-MOST_INPUT-clause-err g c =

@@ -1,9 +1,5 @@
 use Rattle.std.proofs.Common.{arith, ◌≡◌, ◌≤◌, ◌∙◌, refl, ap, sym, drop, length, []}
-use Rattle.rice_bits.specs.Bits.{bits_in_bytes}
-use Rattle.rice_bits.proofs.lemmas.bits.WordsAndNumbers.{word-nil}
-use Rattle.rice_code.specs.code.Code.{code, code_bits, complete_samples}
-use Rattle.rice_code.specs.CoderSteps.{least_steps, most_steps}
-use Rattle.rice_code.proofs.lemmas.encode.PushedCode.{none_taken}
+use Rattle.rice_stream.proofs.Words.{bits_in_bytes, word-nil, code, code_bits, complete_samples, least_steps, most_steps, none_taken}
 use Rattle.rice_stream.proofs.lemmas.EncodingLemmas.{settled_nothing, code_nothing, sets_nothing}
 use Rattle.rice_stream.proofs.seam.Seam.new.Goals as goal
 
@@ -18,11 +14,7 @@ returns c =
     let least : least_steps s (complete_samples s []) ≡ 0 = ap (least_steps s) (settled_nothing s) ∙ steps.1 in
     let most : most_steps s (complete_samples s []) ≡ 0 = ap (most_steps s) (settled_nothing s) ∙ steps.2 in
     record {
-      taken = none_taken s legal;
-      samples = refl;
-      bits = sym bits;
-      least = omega (arith, least);
-      most = omega (arith, most);
+      counts = record { setting = refl; stands = none_taken s legal; samples = refl; bits = sym bits; least = omega (arith, least); most = omega (arith, most) };
       waiting = word-nil 0 ∙ ap (λ l. drop (bits_in_bytes (length l)) l) (sym none);
       few = omega arith;
       fits = omega arith;

@@ -1,8 +1,6 @@
 use Rattle.std.proofs.Common.{arith, refl, []}
-use Rattle.std.proofs.Math.Nat.{mod-eq_of_lt}
-use Rattle.rice_samples.proofs.lemmas.setting.LevelsOfSamples.{zero_is_sample}
-use Rattle.rice_stream.proofs.lemmas.DecodedSamples.{decoded_nothing}
-use Rattle.rice_stream.proofs.lemmas.SetsRead.{sets-none}
+use Rattle.rice_stream.proofs.Words.{mod-eq_of_lt, zero_is_sample}
+use Rattle.rice_stream.proofs.lemmas.{DecodedSamples.decoded_nothing, SetsRead.sets-none}
 use Rattle.rice_stream.proofs.stand.Stand.at.Goals as goal
 
 pub returns : goal.returns

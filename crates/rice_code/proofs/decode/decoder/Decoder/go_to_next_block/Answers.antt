@@ -1,6 +1,5 @@
 use Rattle.std.proofs.Common.{arith, w64}
-use Rattle.std.proofs.lemmas.Grind.{common_steps}
-use Rattle.std.proofs.lemmas.Int.{to_z-of_z}
+use Rattle.rice_code.proofs.Words.{common_steps, to_z-of_z}
 use Rattle.rice_code.proofs.lemmas.decode.DecoderLemmas.{place_moves}
 use Rattle.rice_code.proofs.decode.decoder.Decoder.go_to_next_block.Goals as goal
 
@@ -10,7 +9,7 @@ invariant_of-self g c =
     let state = c.self.invariant in
     let sample = rw (← c.self.view_is) at c.requires.last in
     rw (to_z-of_z w64 c.args.last c.ranges.last) (place_moves c.args.run c.args.last st.stopped
-    state.legal state.within c.next_place-self-inside.ensures sample (rw (← c.self.view_is) at c.requires.run) state.no_block)
+    state.legal state.within c.place_behind-self-inside.ensures sample (rw (← c.self.view_is) at c.requires.run) state.no_block)
 
 pub returns-clause-block : goal.returns-clause-block
 returns-clause-block g c = grind (arith, common_steps)

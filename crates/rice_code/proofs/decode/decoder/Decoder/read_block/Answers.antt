@@ -1,8 +1,6 @@
 use Rattle.std.proofs.Common.{arith, rules, ◌≡◌, ◌-◌, ap, subst, true, w64}
-use Rattle.std.proofs.lemmas.Grind.{common_steps}
-use Rattle.std.proofs.lemmas.Int.{to_z-of_z}
+use Rattle.rice_code.proofs.Words.{common_steps, to_z-of_z, TakesSet, StopsBy, answer_to, with_mark}
 use mir.Val.{SFits}
-use Rattle.rice_code.specs.decode.Decoder.{TakesSet, StopsBy, answer_to, with_mark}
 use Rattle.rice_code.proofs.lemmas.decode.DecoderLemmas.{answers_block, answers_stop, block_given, run_given, samples_by_bits, stops_by}
 use Rattle.rice_code.proofs.decode.decoder.Decoder.read_block.Goals as goal
 
@@ -13,10 +11,10 @@ returns-else-not-sound-clause-reads g c =
     let b : SFits w64 st.before = search rules in
     let xs = last.new.samples.items in
     let marks = c.mark.ensures.going c.requires.going in
-    let read = rw (c.in-Ok-Residuals.field-0-is, c.if-not-sound.false) at c.in-Ok-Residuals.ensures.ok in
+    let read = rw c.in-Ok-Residuals.field-0-is at c.in-Ok-Residuals.ensures.ok in
     let contents = rw (to_z-of_z w64 st.before b) at last.ensures.contents in
     let is_last = rw (to_z-of_z w64 st.before b) at last.ensures.last in
-    let set = block_given st.before c.in-Ok-Residuals.reference xs read last.ensures.len last.ensures.legal contents in
+    let set = block_given st.before c.in-Ok-Residuals.head xs read c.if-not-sound.false last.ensures.len last.ensures.legal contents in
     let f : SFits w64 last.result = search rules in
     let moves = rw (← c.self.view_is, to_z-of_z w64 last.result f) at c.go_to_next_block.ensures.moves in
     rw (← c.self.view_is, c.go_to_next_block.ensures.block)
@@ -42,9 +40,9 @@ returns-else-not-sound-clause-waiting g c =
     let st = c.self.inside in
     let last = c.restore_block-last in
     let b : SFits w64 st.before = search rules in
-    let read = rw (c.in-Ok-Residuals.field-0-is, c.if-not-sound.false) at c.in-Ok-Residuals.ensures.ok in
+    let read = rw c.in-Ok-Residuals.field-0-is at c.in-Ok-Residuals.ensures.ok in
     let contents = rw (to_z-of_z w64 st.before b) at last.ensures.contents in
-    let set = block_given st.before c.in-Ok-Residuals.reference last.new.samples.items read last.ensures.len last.ensures.legal contents in
+    let set = block_given st.before c.in-Ok-Residuals.head last.new.samples.items read c.if-not-sound.false last.ensures.len last.ensures.legal contents in
     let same : c.mark.new.self.taken ≡ c.args.reader.now.taken = ap (λ r. r.taken) (c.mark.ensures.going c.requires.going) in
     let bound = samples_by_bits c.self.invariant.legal set in
     let waits : c.go_to_next_block.new.self.run ≡ 0 = ap (λ r. r.run) c.go_to_next_block.ensures.moves in

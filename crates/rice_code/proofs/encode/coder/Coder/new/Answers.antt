@@ -1,7 +1,5 @@
-use Rattle.std.proofs.lemmas.Grind.{common_steps}
+use Rattle.rice_code.proofs.Words.{common_steps, IsCoder, HasTaken, CoderState}
 use Rattle.std.proofs.Common.{arith, [], subst, sym}
-use Rattle.rice_code.specs.encode.Coder.{IsCoder, HasTaken}
-use Rattle.rice_code.specs.encode.OpenSegment.{CoderState}
 use Rattle.rice_code.proofs.lemmas.encode.PushedCode.{none_taken}
 use Rattle.rice_code.proofs.encode.coder.Coder.new.Goals as goal
 

@@ -1,7 +1,5 @@
 use Rattle.std.proofs.Common.{◌≡◌, ◌<◌, arith, length, ◌+◌, ◌*◌, subst, ℤ, List}
-use Rattle.rice_samples.specs.Places.{cut}
-use Rattle.rice_code.specs.encode.Coder.{HasTaken}
-use Rattle.rice_code.specs.encode.OpenSegment.{CoderState}
+use Rattle.rice_code.proofs.Words.{cut, HasTaken, CoderState}
 use Rattle.rice_code.proofs.lemmas.encode.PushedCode.{pending_are, few_pending}
 use Rattle.rice_code.proofs.encode.coder.Coder.pending.Goals as goal
 

@@ -1,8 +1,5 @@
 use Rattle.std.proofs.Common.{ℤ, ◌*◌, ◌∙◌, ap, rules, subst, sym, w64}
-use Rattle.std.proofs.lemmas.Int.{to_z-of_z}
-use Rattle.rice_samples.specs.Places.{blocks_left}
-use Rattle.rice_code.specs.encode.Coder.{IsCoder}
-use Rattle.rice_code.specs.encode.OpenSegment.{IsOpen, state_between}
+use Rattle.rice_code.proofs.Words.{to_z-of_z, blocks_left, IsCoder, IsOpen, state_between}
 use Rattle.rice_code.proofs.lemmas.encode.PushedCode.{open_between}
 use Rattle.rice_code.proofs.encode.coder.Coder.resume.Goals as goal
 

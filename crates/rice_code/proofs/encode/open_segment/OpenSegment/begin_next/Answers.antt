@@ -1,6 +1,5 @@
 use Rattle.std.proofs.Common.{ℕ, List, ◌∙◌, ◌*◌, ap, sym, subst, None}
-use Rattle.rice_samples.specs.Places.{blocks_left}
-use Rattle.rice_code.specs.encode.OpenSegment.{CoderState, IsOpen}
+use Rattle.rice_code.proofs.Words.{blocks_left, CoderState, IsOpen}
 use Rattle.rice_code.proofs.lemmas.encode.OpenSegments.{next_is_open}
 use Rattle.rice_code.proofs.encode.open_segment.OpenSegment.begin_next.Goals as goal
 

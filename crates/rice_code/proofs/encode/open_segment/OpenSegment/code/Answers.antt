@@ -1,10 +1,5 @@
 use Rattle.std.proofs.Common.{◌≡◌, ◌+◌, ◌*◌, ◌/◌, ◌^◌, ◌<◌, ◌∙◌, ap, arith, subst, sym, ℕ}
-use Rattle.rice_code.specs.encode.OpenSegment.{CoderState, HasRoomForSegment, HoldsSoundBlocks, blocks_held}
-use Rattle.rice_code.specs.Bounds.{block_bound}
-use Rattle.rice_code.specs.code.SoundBlocks.{AreSoundBlocks}
-use Rattle.rice_code.specs.encode.HeldBlocks.{held_blocks}
-use Rattle.rice_code.specs.CoderSteps.{coding_steps}
-use Rattle.rice_samples.specs.Parameters.{k_max}
+use Rattle.rice_code.proofs.Words.{CoderState, HasRoomForSegment, HoldsSoundBlocks, blocks_held, block_bound, AreSoundBlocks, held_blocks, coding_steps, k_max}
 use Rattle.rice_code.proofs.lemmas.encode.OpenSegments.{few_bits, few_blocks, codes_held, room_behind, segment_meter}
 use Rattle.rice_code.proofs.encode.open_segment.OpenSegment.code.Goals as goal
 

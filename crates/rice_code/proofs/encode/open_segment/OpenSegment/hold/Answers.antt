@@ -1,9 +1,5 @@
 use Rattle.std.proofs.Common.{rules, ◌≡◌, ◌<◌, ◌&&◌, ℕ, Bool, true, false, Option, Some, subst, sym, w64}
-use Rattle.std.specs.Prelude.{IfSome, if◌then◌else◌}
-use Rattle.rice_samples.specs.Parameters.{IsSample, value_count}
-use Rattle.std.proofs.lemmas.Int.{to_z-of_z}
-use Rattle.rice_code.specs.encode.OpenSegment.{CoderState}
-use Rattle.rice_samples.proofs.lemmas.setting.LevelsOfSamples.{pattern_fits}
+use Rattle.rice_code.proofs.Words.{IfSome, if◌then◌else◌, IsSample, value_count, to_z-of_z, pattern_fits, CoderState}
 use Rattle.rice_code.proofs.encode.open_segment.OpenSegment.hold.Goals as goal
 
 -- the reference fits that was there, or the one that is noted

@@ -49,7 +49,9 @@ pub code_next_or_add_to_run-self-requires-clause-sound : goal.code_next_or_add_t
 code_next_or_add_to_run-self-requires-clause-sound g c =
     let h = c.requires.room in
     let r = c.args.self.now.reference in
-    let e : c.new-block.result ≡ next_of h = c.new-block.ensures ∙ (λ j. block_with ((c.reference_of.ensures ∙ ap (reference_at r) (sym h.number)) j) ((c.of-residuals.ensures ∙ ap (λ n. take n c.args.self.now.part) (c.known_or-size.ensures ∙ c.block.ensures.value)) j)) in
+    let e : c.new-block.result ≡ next_of h = c.new-block.ensures ∙
+    (λ j. block_with ((c.reference_of.ensures ∙ ap (reference_at r) (sym h.number)) j)
+    ((c.of-residuals.ensures ∙ ap (λ n. take n c.args.self.now.part) (c.known_or-size.ensures ∙ c.block.ensures.value)) j)) in
     subst (IsSoundData c.args.self.now.setting) (sym e) (sound_next h)
 
 pub code_next_or_add_to_run-self-requires-clause-look : goal.code_next_or_add_to_run-self-requires-clause-look
@@ -61,7 +63,9 @@ code_next_or_add_to_run-self-requires-clause-room g c =
     let s = c.args.self.now.setting in
     let r = c.args.self.now.reference in
     let run = c.args.self.now.run in
-    let e : c.new-block.result ≡ next_of h = c.new-block.ensures ∙ (λ j. block_with ((c.reference_of.ensures ∙ ap (reference_at r) (sym h.number)) j) ((c.of-residuals.ensures ∙ ap (λ n. take n c.args.self.now.part) (c.known_or-size.ensures ∙ c.block.ensures.value)) j)) in
+    let e : c.new-block.result ≡ next_of h = c.new-block.ensures ∙
+    (λ j. block_with ((c.reference_of.ensures ∙ ap (reference_at r) (sym h.number)) j)
+    ((c.of-residuals.ensures ∙ ap (λ n. take n c.args.self.now.part) (c.known_or-size.ensures ∙ c.block.ensures.value)) j)) in
     let Room : ℕ → ℕ → BlockData → Type 0 = λ n m b. HasRoomFor (length (pending_bits s false (reference_at r (n - run)) run) + cost s (shortest s b))
     (length (pending_bits s false (reference_at r (n - run)) run) + cost s (shortest s b) + s.block * (k_max s + 5)) (length c.args.sink.now) m in
     subst (λ b. is_zero_block b ≡ false → Room c.args.self.now.blocks c.args.meter.now b) (sym e)
@@ -88,7 +92,9 @@ returns-clause-ahead g c h =
     let r = c.args.self.now.reference in
     let run = c.args.self.now.run in
     let call = c.code_next_or_add_to_run-self in
-    let e : c.new-block.result ≡ next_of h = c.new-block.ensures ∙ (λ j. block_with ((c.reference_of.ensures ∙ ap (reference_at r) (sym h.number)) j) ((c.of-residuals.ensures ∙ ap (λ n. take n c.args.self.now.part) (c.known_or-size.ensures ∙ c.block.ensures.value)) j)) in
+    let e : c.new-block.result ≡ next_of h = c.new-block.ensures ∙
+    (λ j. block_with ((c.reference_of.ensures ∙ ap (reference_at r) (sym h.number)) j)
+    ((c.of-residuals.ensures ∙ ap (λ n. take n c.args.self.now.part) (c.known_or-size.ensures ∙ c.block.ensures.value)) j)) in
     let put = grows c.args.self.now.setting _ _ _ _ _ _ _ _ (some_block c.args.self.now.setting h.legal.block) call.ensures.joins call.ensures.ends in
     elim (bool_cases (is_zero_block c.new-block.result)) [
       | inl z ↦ ahead_of_zero h.ahead (is_next h) (sym (ap is_zero_block e) ∙ z) (call.ensures.joins z) (omega (arith, put.0, c.len.ensures.value, c.len-2.ensures.value, h.ahead.len))
