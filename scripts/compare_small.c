@@ -8,7 +8,7 @@
 #include <stdlib.h>
 #include <string.h>
 
-enum { MOST_SAMPLES = 700, ROOM = 1 << 14, FILL = 0xa5, STATUSES = 14, EACH_ROOM = 400 /* of so many inputs, one is decoded into each room */ };
+enum { MOST_SAMPLES = 700, ROOM = 1 << 14, FILL = 0xa5, STATUSES = 14, EACH_ROOM = 400 /* of so many inputs, one is coded into each room */ };
 
 uint32_t small_rice_version(void);
 uint32_t small_rice_check(const struct rice_setting *setting);
@@ -114,6 +114,24 @@ static size_t compare_encode(const struct rice_setting *s, size_t size) {
     if (ours.status != RICE_DONE) return 0;
     memcpy(code, ours.bytes, ours.report.written);
     return ours.report.written;
+}
+
+/* Encodes into each room, from none to enough, and the bytes up to each: where output or input ends, whole segments before it are written. */
+static void compare_each_encode(const struct rice_setting *s, size_t size) {
+    begin_call();
+    ours.status = rice_encode(s, samples, size, ours.bytes, ROOM, &ours.report);
+    for (size_t room = 0, most = ours.report.written; room <= most; room++) {
+        begin_call();
+        ours.status = rice_encode(s, samples, size, ours.bytes, room, &ours.report);
+        small.status = small_rice_encode(s, samples, size, small.bytes, room, &small.report);
+        compare("rice_encode into each room");
+    }
+    for (size_t end = 0; end < size; end++) {
+        begin_call();
+        ours.status = rice_encode(s, samples, end, ours.bytes, ROOM, &ours.report);
+        small.status = small_rice_encode(s, samples, end, small.bytes, ROOM, &small.report);
+        compare("rice_encode of the first bytes");
+    }
 }
 
 static bool are_same_seams(const struct rice_feed *a, const struct rice_feed *b) {
@@ -262,6 +280,7 @@ static void try(void) {
     struct rice_setting s = any_setting();
     compare_settings(&s);
     size_t size = any_samples(&s, below(MOST_SAMPLES)), coded = compare_encode(&s, size);
+    if (number % EACH_ROOM == 0) compare_each_encode(&s, size);
     compare_feeds(&s, size);
     coded = any_code(coded);
     compare_decode(&s, coded);
