@@ -18,7 +18,7 @@ struct internal_state {
     size_t block_size;     /* the bytes of a block of this code */
     size_t ahead;          /* the bytes of blocks that are decoded at once where the client has little room */
     size_t held, given;    /* the bytes in `blocks`, and those of them that the client has */
-    bool damaged;          /* the code behind these is */
+    bool damaged;          /* the code after these is */
     uint8_t *kept;         /* the code that was taken, and whose coded data set isn't whole */
     size_t kept_len, kept_room;
     uint8_t blocks[AHEAD]; /* the blocks for which the client had no room */
@@ -109,7 +109,7 @@ static int pull_input(struct aec_stream *strm, struct internal_state *s, uint32_
     return status;
 }
 
-/* Decodes from what is kept and some of the input behind it, until the input can go on alone. */
+/* Decodes from what is kept and some of the input after it, until the input can go on alone. */
 static int pull_kept(struct aec_stream *strm, struct internal_state *s, uint32_t *end) {
     size_t before = s->kept_len, more = least(strm->avail_in, before + MORE_CODE), used;
     int status = keep(s, strm->next_in, more);

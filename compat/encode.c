@@ -63,7 +63,7 @@ EXPORTED int aec_encode_init(struct aec_stream *strm) {
     return AEC_OK;
 }
 
-/* Gives the client the code that waits. Returns whether none is left. */
+/* Gives the client the buffered code. Returns whether none is left. */
 static bool give_code(struct aec_stream *strm) {
     struct internal_state *s = strm->state;
     size_t size = least(s->coded - s->given, strm->avail_out);

@@ -49,7 +49,7 @@ static void from_planes(unsigned char *pixels, const unsigned char *planes, size
     }
 }
 
-/* The bytes of the scanline that begins behind `done` bytes. */
+/* The bytes of the scanline that begins after `done` bytes. */
 static size_t line_at(const struct layout *layout, size_t done, size_t size) {
     return size - done < layout->line ? size - done : layout->line;
 }

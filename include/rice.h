@@ -142,7 +142,7 @@ uint32_t rice_encode(const struct rice_setting *setting, const uint8_t *samples,
                      size_t code_room, struct rice_report *report);
 
 /* Decodes the first `count` samples of the `code_len` bytes of code at `code`. Writes them to `samples`, which has room for
- * `samples_room` bytes. The bits behind their code have no effect. Returns a status of enum rice_status:
+ * `samples_room` bytes. The bits after their code have no effect. Returns a status of enum rice_status:
  *   RICE_DONE                 All `count` samples are written.
  *   RICE_CODE_ENDS, RICE_RUN_PAST_SEGMENT, RICE_RESIDUAL_TOO_LARGE
  *                             All samples before that place are written.
@@ -217,7 +217,7 @@ struct rice_drain {
 uint32_t rice_open(const struct rice_setting *setting, struct rice_drain *drain);
 
 /* Opens a code at the beginning of an interval: after `samples` samples and `bits` bits. rice_pull then gives the samples of
- * the code behind that place. The caller has kept these two numbers:
+ * the code after that place. The caller has kept these two numbers:
  *   - from a drain with `block` and `run` 0: its `samples` and `bits`;
  *   - from a feed with `start` 0: its `samples`, and 8 times the bytes written so far plus `waiting_bits`.
  * Returns RICE_DONE; RICE_BAD_PLACE if `samples` is above 2^62 or `bits` above 2^52, or if intervals are padded and `bits` is

@@ -104,11 +104,11 @@ def encode(path, folder):
 def parts_of(folder):
     """The parts of a file, one after the other: the file in the folder, and where it is a code its type and its number of samples."""
     for line in read(os.path.join(folder, "parts")).decode().splitlines():
-        name, *told = line.split() or [""]
-        kind = next((kind for bits, kind in KINDS.items() if told[1:2] == [str(bits)]), None)
-        if not name or os.path.basename(name) != name or told and not (kind and told[-1].isdigit()):
+        name, *declared = line.split() or [""]
+        kind = next((kind for bits, kind in KINDS.items() if declared[1:2] == [str(bits)]), None)
+        if not name or os.path.basename(name) != name or declared and not (kind and declared[-1].isdigit()):
             raise Damage(f"the list has the line: {line}")
-        yield name, kind, int(told[-1]) if told else 0
+        yield name, kind, int(declared[-1]) if declared else 0
 
 
 def is_part(path):
@@ -162,7 +162,7 @@ def fill_faults(file, path):
 def faults(path):
     """What is wrong with a FITS file: its blocks, and what astropy tells of its headers and of the check sums in them."""
     found = []
-    with warnings.catch_warnings(record=True) as told:
+    with warnings.catch_warnings(record=True) as warned:
         warnings.simplefilter("always", AstropyWarning)
         try:
             with opened(path, checksum=True) as file:
@@ -173,7 +173,7 @@ def faults(path):
         except Exception as error:  # (a damaged header may lead astropy to any)
             warnings.warn(f"{type(error).__name__}: {error}", AstropyWarning)
     texts = {}
-    for warning in told:
+    for warning in warned:
         text = str(warning.message).strip()
         texts.setdefault(text.partition("\n")[0], " ".join(text.split()))
     return found + [Fault("the file", f"astropy says: {text}") for text in texts.values()]

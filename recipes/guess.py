@@ -132,7 +132,7 @@ def end_of(decoder, samples, code, count):
         return f"code ends after {len(samples)} samples"
     byte, bit = divmod(decoder.bits, 8)
     rest = bytes([code[byte] & (255 >> bit)]) + code[byte + 1 :] if byte < len(code) else b""
-    return f"more code behind {count} samples" if any(rest) else None
+    return f"more code after {count} samples" if any(rest) else None
 
 
 def settings(pads, intervals):
@@ -165,7 +165,7 @@ class Search:
             self.furthest = trial
 
     def promising(self, found, front):
-        """The settings that go on behind a front: those whose samples have no fewer bits when they are encoded again, and the best of
+        """The settings that go on after a front: those whose samples have no fewer bits when they are encoded again, and the best of
         the others."""
         good = []
         for setting in found:

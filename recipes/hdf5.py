@@ -150,7 +150,7 @@ def chunk_faults(dataset, layout):
         try:
             chunk_bytes(dataset, layout, place)
         except (ValueError, OSError) as error:
-            # (the code stands behind the number of bytes)
+            # (the code stands after the number of bytes)
             yield fault_of(f"{dataset.name} chunk {place}", error, byte + 4)
 
 

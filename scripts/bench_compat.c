@@ -70,7 +70,7 @@ static void chunk_decode(void) {
     must(SZ_BufftoBuffDecompress(out, &room, code, length, &chunk) == SZ_OK && room == size, "no pixels");
 }
 
-/* Gives a stream its input and its output in pieces, until it leaves room behind the last. */
+/* Gives a stream its input and its output in pieces, until it leaves room after the last. */
 static void in_pieces(struct aec_stream *a, int (*call)(struct aec_stream *, int), const uint8_t *in, size_t in_size, size_t most) {
     size_t given = 0;
     a->avail_in = a->avail_out = 0;

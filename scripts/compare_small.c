@@ -155,7 +155,7 @@ static void compare_feeds(const struct rice_setting *s, size_t size) {
         ours.status = rice_push(&a, samples + begin, end - begin, ours.bytes, room, &ours.report);
         small.status = small_rice_push(&b, samples + begin, end - begin, small.bytes, room, &small.report);
         compare("rice_push");
-        if (!are_same_seams(&a, &b)) fail("the feed behind rice_push");
+        if (!are_same_seams(&a, &b)) fail("the feed after rice_push");
     }
     size_t begin = a.samples * width;
     room = any_room(ROOM);
@@ -219,7 +219,7 @@ static void compare_drains(const struct rice_setting *s, size_t size) {
         ours.status = rice_pull(&a, code + at, piece, ours.bytes, room, &ours.report);
         small.status = small_rice_pull(&b, code + at, piece, small.bytes, room, &small.report);
         compare("rice_pull");
-        if (!are_same_stands(&a, &b)) fail("the drain behind rice_pull");
+        if (!are_same_stands(&a, &b)) fail("the drain after rice_pull");
     }
 }
 

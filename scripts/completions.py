@@ -88,8 +88,8 @@ class Shell:
 
 def options_of(program):
     """The options of a program, by its help."""
-    told = subprocess.run([program, "--help"], capture_output=True, text=True, check=True).stdout
-    lines = [line.split("  ")[0] for line in re.findall(r"(?m)^ +(-.*)$", told)]
+    reported = subprocess.run([program, "--help"], capture_output=True, text=True, check=True).stdout
+    lines = [line.split("  ")[0] for line in re.findall(r"(?m)^ +(-.*)$", reported)]
     return [option for line in lines for option in re.findall(r"--?[A-Za-z0-9][\w-]*", line)]
 
 

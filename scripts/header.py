@@ -53,7 +53,7 @@ def wrong_object(library, declared):
 
 
 def c_types(kind):
-    """The types in C of a parameter of this type of the crate, and what its name has behind it."""
+    """The types in C of a parameter of this type of the crate, and what its name has after it."""
     changes, plain = kind.startswith("&mut "), kind.removeprefix("&mut ").removeprefix("&")
     const = "" if changes else "const "
     if plain == "[u8]":

@@ -125,16 +125,16 @@ def faults_of_decoding(answer, setting, count, given):
     """What is wrong with an answer to a code."""
     yield from faults_of_any(answer, DECODING, given)
     samples, rest = divmod(len(answer.output), setting.width())
-    told = DECODING.fullmatch(answer.errors)
+    reported = DECODING.fullmatch(answer.errors)
     if rest:
         yield "a part of a sample"
     if samples > SAMPLES_PER_BIT * 8 * len(given):
         yield f"{samples} samples from {len(given)} bytes"
     if count is not None and (samples > count or (answer.status == 0 and samples < count)):
         yield f"{samples} samples where {count} were asked for"
-    if told and told["samples"] and int(told["samples"]) != samples:
+    if reported and reported["samples"] and int(reported["samples"]) != samples:
         yield f"{answer.errors!r} with {samples} samples"
-    block = told and (told["run"] or told["large"])
+    block = reported and (reported["run"] or reported["large"])
     if block and int(block) * setting.block != samples:
         yield f"{answer.errors!r} with {samples} samples"
 
@@ -145,14 +145,14 @@ def faults_of_test(words, answer, setting, given):
         file.write(given)
     done = subprocess.run([PROGRAM, "--test", *words, "in"], capture_output=True, text=True)
     samples, bits = len(answer.output) // setting.width(), 8 * len(given)
-    told = FOUND.fullmatch(done.stdout) if answer.status == 0 else TESTED.fullmatch(done.stderr)
-    if done.returncode != answer.status or not told or (done.stdout == "") == (answer.status == 0):
+    reported = FOUND.fullmatch(done.stdout) if answer.status == 0 else TESTED.fullmatch(done.stderr)
+    if done.returncode != answer.status or not reported or (done.stdout == "") == (answer.status == 0):
         yield f"a test with status {done.returncode}, {done.stdout!r} and {done.stderr!r}"
-    elif answer.status == 0 and (int(told["samples"]) != samples or int(told["bits"]) > bits or done.stderr):
+    elif answer.status == 0 and (int(reported["samples"]) != samples or int(reported["bits"]) > bits or done.stderr):
         yield f"a test that found {done.stdout!r}"
-    elif answer.status == 1 and (told["fault"] + "\n" != answer.errors or int(told["block"]) != samples // setting.block):
+    elif answer.status == 1 and (reported["fault"] + "\n" != answer.errors or int(reported["block"]) != samples // setting.block):
         yield f"a test with {done.stderr!r}"
-    elif answer.status == 1 and (int(told["byte"]) != int(told["bit"]) // 8 or int(told["bit"]) >= max(bits, 1)):
+    elif answer.status == 1 and (int(reported["byte"]) != int(reported["bit"]) // 8 or int(reported["bit"]) >= max(bits, 1)):
         yield f"a test with {done.stderr!r}"
 
 

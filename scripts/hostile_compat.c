@@ -179,7 +179,7 @@ static void try_ranges(const struct rice_setting *s, uint32_t count, size_t leng
         must(aec_decode_range(&a, offsets, pos / interval, pos, 0) == AEC_DATA_ERROR, "no such interval");
         must(aec_decode_range(&a, offsets, intervals, pos, 1) == AEC_MEM_ERROR, "no room");
         size_t beyond = 8 * length + 8, inside = 1;
-        must(aec_decode_range(&a, &beyond, 1, 0, 0) == AEC_DATA_ERROR, "a range behind the code");
+        must(aec_decode_range(&a, &beyond, 1, 0, 0) == AEC_DATA_ERROR, "a range after the code");
         if (s->pad) must(aec_decode_range(&a, &inside, 1, 0, 0) == AEC_DATA_ERROR, "a padded interval begins at a byte");
         size_t number = pos / interval, rest = size - number * interval;
         uint8_t *tail = __real_malloc(rest);
@@ -189,7 +189,7 @@ static void try_ranges(const struct rice_setting *s, uint32_t count, size_t leng
         must(aec_buffer_seek(&a, 8 * length + 8) == AEC_MEM_ERROR, "no such place");
         if (s->pad) must(aec_buffer_seek(&a, 1) == AEC_DATA_ERROR, "padded intervals begin at bytes");
         must(aec_buffer_seek(&a, offsets[number]) == AEC_OK && aec_decode(&a, AEC_FLUSH) == AEC_OK && a.avail_out == 0, "no seek");
-        must(!memcmp(tail, samples + number * interval, rest), "other samples behind a seek");
+        must(!memcmp(tail, samples + number * interval, rest), "other samples after a seek");
         aec_decode_end(&a);
         free(from), free(to), free(tail);
         ranges++;

@@ -48,7 +48,7 @@ static bool is_filled(const uint8_t *bytes, size_t size) {
     return true;
 }
 
-/* Whether all is as it was behind what was written, and in the guard bytes. */
+/* Whether all is as it was after what was written, and in the guard bytes. */
 static bool is_kept(const uint8_t *bytes, size_t size, size_t written, bool at_end) {
     return written <= size && is_filled(bytes + written, size - written) && is_filled(at_end ? bytes - GUARD : bytes + size, GUARD);
 }

@@ -78,7 +78,7 @@ static size_t any_code(const struct rice_setting *s) {
     return size;
 }
 
-/* Pulls a piece of so many bytes into so much room, and checks what was left alone. Writes the samples behind `written` bytes. */
+/* Pulls a piece of so many bytes into so much room, and checks what was left alone. Writes the samples after `written` bytes. */
 static uint32_t pull(uint64_t number, struct rice_drain *drain, size_t size, size_t piece, size_t room, size_t written, struct rice_report *report) {
     uint8_t *input = in + AREA - piece, *bytes = out + AREA - room;
     struct rice_drain before = *drain;

@@ -137,8 +137,8 @@ def synopsis_letters(listed):
 
 
 def wrong(listed, program):
-    told = subprocess.run([program, "--help"], capture_output=True, text=True, check=True).stdout
-    found = re.findall(r"(?m)^ +-.*$", told.partition("Options:\n")[2].partition("\n\n")[0])
+    reported = subprocess.run([program, "--help"], capture_output=True, text=True, check=True).stdout
+    found = re.findall(r"(?m)^ +-.*$", reported.partition("Options:\n")[2].partition("\n\n")[0])
     for line in set(found) ^ set(help_lines(listed)):
         yield f"the help {'has' if line in found else 'lacks'}: {line}"
     if found != help_lines(listed):

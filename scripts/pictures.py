@@ -121,7 +121,7 @@ def push():
     box(axes, 586, 58, 130, 34, "bits that wait: 101", fill=MIDDLE, size=9.5)
     arrow(axes, (568, 158), (640, 94))
     box(axes, 740, 158, 110, 34, "stays", fill="white", edge="--")
-    label(axes, 850, 128, "with the caller: give it again,\nwith more samples behind it", size=9, style="italic", align="right")
+    label(axes, 850, 128, "with the caller: give it again,\nwith more samples after it", size=9, style="italic", align="right")
     arrow(axes, (795, 268), (795, 194))
     label(axes, 200, 20, "What is taken depends on the number of samples alone; rice_finish takes the rest.", style="italic")
 

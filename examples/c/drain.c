@@ -80,7 +80,7 @@ static void fill(const struct rice_setting *setting) {
     }
 }
 
-/* Damages the code of one interval: those behind it are decoded as before. */
+/* Damages the code of one interval: those after it are decoded as before. */
 static void damage(const struct rice_setting *setting) {
     size_t last = interval_count / 2, at = intervals[last].bits / 8, width = rice_sample_width(setting);
     memset(code + at, 0xff, intervals[last + 1].bits / 8 - at);

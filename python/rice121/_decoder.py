@@ -33,7 +33,7 @@ class Place(NamedTuple):
 class Decoder:
     """Decodes a code whose bytes come piece by piece: the arrays of all calls are what `decode_all` returns for all of the code.
 
-    It holds the code that gives no samples yet, and samples behind those that were asked for, fewer than a block. `at` is where the code
+    It holds the code that gives no samples yet, and samples after those that were asked for, fewer than a block. `at` is where the code
     begins, by `offsets`: the first byte of the first piece is number `at.bits // 8` of the code.
 
     >>> import rice121
@@ -65,7 +65,7 @@ class Decoder:
         return int(self._drain.bits)
 
     def pull(self, code: Octets = b"", count: Optional[int] = None) -> Array:
-        """Returns an array of the samples that are whole in the code so far, with more code behind it: the next `count`, or fewer
+        """Returns an array of the samples that are whole in the code so far, with more code after it: the next `count`, or fewer
         where there aren't so many.
 
         A byte of code gives up to 3648 samples: `count` keeps the memory small. What is left of the code is taken by the next call.

@@ -74,7 +74,7 @@ class Encoder:
         if self._is_finished:
             raise ValueError("the code is finished")
         octets, feed = samples.reshape(-1).view("u1"), ffi.new("struct rice_feed *", self._feed[0])
-        # (only what the segment that waits lacks is copied)
+        # (only what the pending segment lacks is copied)
         lacks = self._segment() - self._waiting.size if self._waiting.size else 0
         code, waiting = self._pushed_to(feed, numpy.concatenate([self._waiting, octets[:lacks]]))
         if octets.size > lacks:

@@ -121,13 +121,13 @@ def _form(kind: numpy.dtype[Any], three: Optional[bool]) -> _Form:
     raise TypeError(f"{kind} has no samples of one to four bytes: {_advice(kind)}")
 
 
-def _agreed(kind: numpy.dtype[Any], name: str, given: Any, told: Any, default: Any) -> Any:
+def _agreed(kind: numpy.dtype[Any], name: str, given: Any, declared: Any, default: Any) -> Any:
     """Returns what an option is, by what is given and what the type says of it."""
-    if told is None:
+    if declared is None:
         return default if given is None else given
-    if given is not None and given != told:
+    if given is not None and given != declared:
         raise ValueError(f"{name}={given!r} is not what {kind} says")
-    return told if given is None else given
+    return declared if given is None else given
 
 
 def options_for(dtype: DTypeLike, *, bits: Optional[int] = None, block: int = 32, interval: int = 128,
@@ -136,7 +136,7 @@ def options_for(dtype: DTypeLike, *, bits: Optional[int] = None, block: int = 32
     """Returns the options for arrays of a type, which may be u1, u2, u4, i1, i2, i4 in either order of bytes, or V3.
 
     The type gives sign, width and order of the samples, and their bits where these aren't fewer. Samples of three bytes are V3, whose sign
-    and order have to be told, or with `three` the bytes of arrays of u1.
+    and order have to be declared, or with `three` the bytes of arrays of u1.
 
     Raises a TypeError where the type has no samples or there is no such option, a ValueError where an option is not what the type says or
     no number can be, and a RiceError where one is out of its range.

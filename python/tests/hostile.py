@@ -78,7 +78,7 @@ def main():
         first = outcome(lambda: rice121.decode(code, wanted, dtype, **options))
         if first[:2] != (samples, None):
             raise SystemExit(f"hostile.py: code {number}: decode gives other samples than decode_all: {code.hex()} {dtype} {options}")
-        # (what comes behind LIMIT samples is nothing to a Decoder that is asked for so many)
+        # (what comes after LIMIT samples is nothing to a Decoder that is asked for so many)
         if wanted < LIMIT and pulled(code, dtype, options, generator) != (samples, status, place):
             raise SystemExit(f"hostile.py: code {number}: a Decoder gives others than decode_all: {code.hex()} {dtype} {options}")
     print(f"hostile.py: {count} codes:", ", ".join(f"{n} {status.name if status else 'whole'}" for status, n in sorted(seen.items(), key=str)))

@@ -47,8 +47,8 @@ def choices():
     """Each type with options that it has."""
     for dtype, block in itertools.product(TYPES, BLOCKS):
         width = numpy.dtype(dtype).itemsize
-        told = [{"is_signed": sign, "msb": msb} for sign in (False, True) for msb in (False, True)] if dtype == "V3" else [{}]
-        for more, bits, interval in itertools.product(told, {8 * width, 8 * width - 7, 8 * width - 3}, (1, 128)):
+        declared = [{"is_signed": sign, "msb": msb} for sign in (False, True) for msb in (False, True)] if dtype == "V3" else [{}]
+        for more, bits, interval in itertools.product(declared, {8 * width, 8 * width - 7, 8 * width - 3}, (1, 128)):
             yield dtype, {"bits": bits, "block": block, "interval": interval, **more}
 
 

@@ -53,7 +53,7 @@ rules_from_m =
 abbrev pub long_rules : List Rule
 long_rules = samples_rule ∷ long_flag_rule (codes "test") ∷ long_flag_rule (codes "verbose") ∷ []
 
--- a command with these rules behind its own
+-- a command with these rules after its own
 abbrev pub with_rules : App → List Rule → App
 with_rules a [] = a
 with_rules a (rule ∷ rules) = with_rules (with_rule a rule) rules

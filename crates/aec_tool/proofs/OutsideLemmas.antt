@@ -12,7 +12,7 @@ use Rattle.aec_command.specs.Plan.{PlanView}
 use Rattle.aec_tool.specs.Outside.{Outside, Place, HasTakenNothing, Finishes, begun, held, new_mode, source_bytes, source_id, place_of, is_creatable}
 use Rattle.aec_tool.specs.Performs.{EngineOf, Arrives, EmptiesSource, Runs, last_words, losses_with, status_with}
 
--- What holds of what a system tells after a call, where it told something before, holds of all that it tells.
+-- What holds of what a system tells after a call, where it reported something before, holds of all that it tells.
 pub holds_after : (P : Outside → Type 0) (old new : Option Outside) → (old ≡ None → new ≡ None)
     → ((o : Outside) → old ≡ Some o → (x : Outside) × (new ≡ Some x) × P x) → (o : Outside) → new ≡ Some o → P o
 holds_after P None new silent tells o e = let n : new ≡ None = silent refl in let bad : ⊥ = cc in absurd bad
@@ -25,7 +25,7 @@ holds_after P (Some a) new silent tells o e =
 -- what was begun with some permissions was begun with others that are equal
 pub begun_with : (new : Option Outside) (o : Outside) (name : List ℕ) (mode other : Option ℕ) → new ≡ Some (begun o (place_of name mode)) → mode ≡ other
     → new ≡ Some (begun o (place_of name other))
-begun_with new o name mode other told e = told ∙ ap (λ m. Some (begun o (place_of name m))) e
+begun_with new o name mode other reported e = reported ∙ ap (λ m. Some (begun o (place_of name m))) e
 
 -- an outlet that had taken nothing has taken what it took
 pub took_all : (old new : Option Room) → HasTakenNothing old → (bytes : List ℕ) → Appends old new bytes → (x : Room) × (new ≡ Some x) × (x.bytes ≡ bytes)
@@ -56,11 +56,11 @@ finished_bytes_arrive bytes written o new (Err _) e h = (h.0, (h.1, sym e ∙ h.
 
 -- what has arrived of what an outlet took
 pub arrives_of : {old new : Option Room} → HasTakenNothing old → (bytes : List ℕ) → Appends old new bytes
-    → (o : Outside) {told : Option Outside} (kept : Result (Unit {0}) WriteFault) → ((room : Room) → new ≡ Some room → Finishes room.bytes o told kept)
-    → (there : List ℕ) × Arrives (is_ok kept) bytes there × (told ≡ Some (arrived (is_ok kept) o there))
-arrives_of {old} {new} nothing bytes took o {told} kept finishes =
+    → (o : Outside) {reported : Option Outside} (kept : Result (Unit {0}) WriteFault) → ((room : Room) → new ≡ Some room → Finishes room.bytes o reported kept)
+    → (there : List ℕ) × Arrives (is_ok kept) bytes there × (reported ≡ Some (arrived (is_ok kept) o there))
+arrives_of {old} {new} nothing bytes took o {reported} kept finishes =
     let all = took_all old new nothing bytes took in
-    finished_bytes_arrive all.0.bytes bytes o told kept all.2 (finishes all.0 all.1)
+    finished_bytes_arrive all.0.bytes bytes o reported kept all.2 (finishes all.0 all.1)
 
 -- what the engine that the plan asks for did between these devices, and the failures that they counted before and after
 pub record EngineRan (p : PlanView) (left left' : Option (List ℕ)) (taken taken' : Option Room) (reads reads' writes writes' : ℕ) (done : Outcome) : Type 0 where
@@ -81,18 +81,18 @@ pub record IsBegun {Dest : Type 0} (taken : Dest → Option Room) (writes : Dest
   pub empty : HasTakenNothing (taken begins)
 
 -- what an outlet took, or a front of it, has arrived at this place, and then the last words came
-pub record IsFinished (outlet : Option Room) (place : Place) (fault : Option Fault) (kept : Result (Unit {0}) WriteFault) (o : Outside) (told new : Option Outside) (status : ℕ) : Type 0 where
-  pub finishes : (room : Room) → outlet ≡ Some room → Finishes room.bytes (begun o place) told kept
-  pub says : (x : Outside) → told ≡ Some x → new ≡ Some (record x { said = last_words fault (is_ok kept) })
+pub record IsFinished (outlet : Option Room) (place : Place) (fault : Option Fault) (kept : Result (Unit {0}) WriteFault) (o : Outside) (reported new : Option Outside) (status : ℕ) : Type 0 where
+  pub finishes : (room : Room) → outlet ≡ Some room → Finishes room.bytes (begun o place) reported kept
+  pub says : (x : Outside) → reported ≡ Some x → new ≡ Some (record x { said = last_words fault (is_ok kept) })
   pub status_is : status ≡ status_with (last_words fault (is_ok kept))
 
 -- The source was read, what the engine wrote has arrived, and then the last words came.
 pub runs_of : {Source Dest : Type 0} {left : Source → Option (List ℕ)} {reads : Source → ℕ} {taken : Dest → Option Room} {writes : Dest → ℕ}
     {p : PlanView} {o : Outside} {status samples : ℕ} {given : List ℕ} {opened read : Source} {begins written : Dest} {done : Outcome}
-    {kept : Result (Unit {0}) WriteFault} {told new : Option Outside}
+    {kept : Result (Unit {0}) WriteFault} {reported new : Option Outside}
     → IsOpened left reads p.source o given opened → IsBegun taken writes p o begins
     → EngineRan p (left opened) (left read) (taken begins) (taken written) (reads opened) (reads read) (writes begins) (writes written) done
-    → IsFinished (taken written) (place_of p.dest (new_mode (source_id o p.source))) done.fault kept o told new status → samples ≡ done.report.samples
+    → IsFinished (taken written) (place_of p.dest (new_mode (source_id o p.source))) done.fault kept o reported new status → samples ≡ done.report.samples
     → (after : Outside) × (new ≡ Some after) × Runs left reads taken writes p o after status samples
 runs_of {p} {o} {given} {opened} {read} {begins} {written} {done} {kept} source destination ran finished samples_are =
     let place = place_of p.dest (new_mode (source_id o p.source)) in

@@ -30,14 +30,14 @@ judged_of left reads taken writes p o given bits (Some fault) new found judges f
 judged_of left reads taken writes p o given bits None new found judges fresh =
     looked_of reads (is_some p.samples && is_read_again o p.source) bits p.source given o new found judges fresh
 
--- The source was decoded, and what was found is told.
+-- The source was decoded, and what was found is reported.
 pub tests_of : {Source Dest : Type 0} {left : Source → Option (List ℕ)} {reads : Source → ℕ} {taken : Dest → Option Room} {writes : Dest → ℕ}
-    {p : TestView} {o after : Outside} {status samples : ℕ} {given : List ℕ} {opened read : Source} {done : Outcome} (looked : Outside) (found : Result (Option Bool) Fault) (told : Bool)
+    {p : TestView} {o after : Outside} {status samples : ℕ} {given : List ℕ} {opened read : Source} {done : Outcome} (looked : Outside) (found : Result (Option Bool) Fault) (reported : Bool)
     → IsOpened left reads p.source o given opened
     → DecodesBetween p.setting p.samples (left opened) (left read) None None done.report done.fault → Fails done.fault (reads opened) (reads read) 0 0
     → Judges left reads taken writes p o given done.report.bits done.fault (Some looked) found
-    → after ≡ tested p.setting done.report found told looked → status ≡ test_status found told → samples ≡ done.report.samples → Tests left reads taken writes p o after status samples
-tests_of {given} {opened} {read} {done} looked found told source did failures judges outside status_is samples_are = record {
+    → after ≡ tested p.setting done.report found reported looked → status ≡ test_status found reported → samples ≡ done.report.samples → Tests left reads taken writes p o after status samples
+tests_of {given} {opened} {read} {done} looked found reported source did failures judges outside status_is samples_are = record {
   given = given;
   source = source.source;
   opened = opened;
@@ -52,7 +52,7 @@ tests_of {given} {opened} {read} {done} looked found told source did failures ju
   found = found;
   looked = looked;
   judges = judges;
-  told = told;
+  reported = reported;
   outside = outside;
   status_is = status_is;
   samples_are = samples_are;

@@ -68,9 +68,9 @@ pub record Outside : Type 0 where
   -- the message, and the kind of text of the parser, that was written, if one was
   pub said : Option Said
   pub shown : Option ErrorKind
-  -- what was told of a code on standard output
+  -- what was reported of a code on standard output
   pub found : Option Finding
-  -- the closing line, if there was one: whether a code was read, and the samples that it told of
+  -- the closing line, if there was one: whether a code was read, and the samples that it counts
   pub closed : Option (Bool × ℕ)
   -- how often standard output did not take a line, or not all bytes arrived at a destination
   pub losses : ℕ
@@ -87,7 +87,7 @@ pub record IsFresh (o : Outside) : Type 0 where
   pub found : o.found ≡ None
   pub missed : o.missed ≡ None
 
--- what a source gives is told, and it is these bytes
+-- what a source gives is reported, and it is these bytes
 abbrev pub GivesAll : Option (List ℕ) → Option (List ℕ) → Type 0
 GivesAll bytes left = (given : List ℕ) × (bytes ≡ Some given) × (left ≡ Some given)
 
@@ -117,7 +117,7 @@ abbrev pub finding : Outside → Finding → Outside
 finding o it = record o { found = Some it }
 
 abbrev pub closing : Bool → Bool → ℕ → Outside → Outside
-closing told decoded samples o = record o { closed = if told then Some (decoded, samples) else o.closed }
+closing reported decoded samples o = record o { closed = if reported then Some (decoded, samples) else o.closed }
 
 abbrev pub losing : Outside → Outside
 losing o = record o { losses = o.losses + 1 }
@@ -179,7 +179,7 @@ Creates taken place can o new (Ok dest) = (new ≡ Some (begun o place)) × (can
 Creates taken place can o new (Err create.NoMemory) = new ≡ Some (refusing o)
 Creates taken place can o new (Err create.Refused) = (new ≡ Some o) × (can ≡ false)
 
--- What a test found was told, or could not be.
+-- What a test found was reported, or could not be.
 abbrev pub Tells : Finding → Outside → Option Outside → Result (Unit {0}) WriteFault → Type 0
 Tells it o new (Ok _) = new ≡ Some (finding o it)
 Tells it o new (Err _) = new ≡ Some (losing o)

@@ -9,7 +9,7 @@ use Rattle.rice_stream.specs.declared.outcome.Outcome.{Outcome}
 use Rattle.rice_stream.specs.declared.outcome.Report.{Report}
 use Rattle.rice_stream.specs.declared.outcome.Fault.{Fault}
 use Rattle.rice_stream.specs.declared.outcome.Fault.TheVariants.{Read, Write}
-use Rattle.aec_tool.specs.OneBehind.{StopsLooking, has_one_behind}
+use Rattle.aec_tool.specs.OneAfter.{StopsLooking, has_one_after}
 use Rattle.aec_command.specs.Plan.{PlanView}
 use Rattle.aec_command.specs.TestPlan.{TestView}
 use Rattle.aec_tool.specs.Outside.{Outside, Said, CannotOpen, CannotCreate, LacksMemory, Stopped, Faulty, Holds, HasTakenNothing, closing, finding}
@@ -70,9 +70,9 @@ pub record WantsMemory (o after : Outside) (status : ℕ) : Type 0 where
 abbrev pub faulty : Parameters → Report → Fault → Said
 faulty s r fault = Faulty fault (r.samples / s.block) (r.bits - 1) ((r.bits - 1) / 8)
 
--- what a test told, or, where that could not be written, that it could not; and the status
+-- what a test reported, or, where that could not be written, that it could not; and the status
 abbrev pub tested : Parameters → Report → Result (Option Bool) Fault → Bool → Outside → Outside
-tested s r (Err fault) told o = saying o (faulty s r fault)
+tested s r (Err fault) reported o = saying o (faulty s r fault)
 tested s r (Ok more) false o = saying (losing o) (Stopped Write)
 tested s r (Ok more) true o = finding o (record { samples = r.samples; bits = r.bits; more = more })
 
@@ -80,15 +80,15 @@ abbrev pub test_status : Result (Option Bool) Fault → Bool → ℕ
 test_status (Ok more) true = 0
 test_status _ _ = 1
 
--- Whether a 1 is behind so many bits of these bytes was not found out: the source could not be opened once more, or the look at it stopped.
+-- Whether a 1 is after so many bits of these bytes was not found out: the source could not be opened once more, or the look at it stopped.
 abbrev pub LooksInVain : {Source : Type 0} → (Source → ℕ) → List ℕ → List ℕ → Outside → Option Outside → Fault → Type 0
 LooksInVain reads source given o new fault = ((new ≡ Some (missing source o)) × (fault ≡ Read)) ⊎ ((new ≡ Some o) × StopsLooking reads 0 (Some given) fault)
 
--- What was found behind so many bits of the bytes of a source, if that was looked for, once it was opened once more.
+-- What was found after so many bits of the bytes of a source, if that was looked for, once it was opened once more.
 abbrev pub Looks : {Source : Type 0} → (Source → ℕ) → Bool → ℕ → List ℕ → List ℕ → Outside → Option Outside → Result (Option Bool) Fault → Type 0
 Looks reads false bits source given o new found = (new ≡ Some o) × (found ≡ Ok None)
 Looks reads true bits source given o new (Ok None) = ⊥
-Looks reads true bits source given o new (Ok (Some more)) = (new ≡ Some o) × (more ≡ has_one_behind bits given)
+Looks reads true bits source given o new (Ok (Some more)) = (new ≡ Some o) × (more ≡ has_one_after bits given)
 Looks reads true bits source given o new (Err fault) = LooksInVain reads source given o new fault
 
 module _ {Source Dest : Type 0} (left : Source → Option (List ℕ)) (reads : Source → ℕ) (taken : Dest → Option Room) (writes : Dest → ℕ) where
@@ -124,12 +124,12 @@ module _ {Source Dest : Type 0} (left : Source → Option (List ℕ)) (reads : S
     pub status_is : status ≡ status_with (last_words outcome.fault all)
     pub samples_are : samples ≡ outcome.report.samples
 
-  -- what a test found: the fault of the code, or what is behind the samples that were asked for
+  -- what a test found: the fault of the code, or what is after the samples that were asked for
   abbrev pub Judges : TestView → Outside → List ℕ → ℕ → Option Fault → Option Outside → Result (Option Bool) Fault → Type 0
   Judges p o given bits (Some fault) new found = (new ≡ Some o) × (found ≡ Err fault)
   Judges p o given bits None new found = Looks reads (is_some p.samples && is_read_again o p.source) bits p.source given o new found
 
-  -- The source of the plan's name was read, nothing was written, and what was found is told.
+  -- The source of the plan's name was read, nothing was written, and what was found is reported.
   pub record Tests (p : TestView) (o after : Outside) (status samples : ℕ) : Type 0 where
     pub given : List ℕ
     pub source : source_bytes o p.source ≡ Some given
@@ -147,16 +147,16 @@ module _ {Source Dest : Type 0} (left : Source → Option (List ℕ)) (reads : S
     pub looked : Outside
     pub judges : Judges p o given outcome.report.bits outcome.fault (Some looked) found
     -- whether standard output took what was found
-    pub told : Bool
-    pub outside : after ≡ tested p.setting outcome.report found told looked
-    pub status_is : status ≡ test_status found told
+    pub reported : Bool
+    pub outside : after ≡ tested p.setting outcome.report found reported looked
+    pub status_is : status ≡ test_status found reported
     pub samples_are : samples ≡ outcome.report.samples
 
   -- this was done, and the closing line was written, if it is asked for
   abbrev pub Closes : Bool → Bool → (Outside → ℕ → ℕ → Type 0) → Outside → ℕ → Type 0
   Closes verbose decoded did after status = (before : Outside) × (samples : ℕ) × did before status samples × (after ≡ closing verbose decoded samples before)
 
-  -- the destination was written, or why it was not is told
+  -- the destination was written, or why it was not is reported
   abbrev pub Ends : Bool → PlanView → Outside → Outside → ℕ → Type 0
   Ends verbose p o after status = CreatesNothing p o after status ⊎ (WantsMemory o after status ⊎ Closes verbose p.decode (Runs p o) after status)
 

@@ -14,7 +14,7 @@ use Rattle.aec_command.specs.TestPlan.{TestView, test_plan_in, tests}
 use Rattle.aec_tool.specs.Outside.{Outside, Said, LacksMemory, Refused, TestRefused, saying, showing}
 use Rattle.aec_tool.specs.Performs.{OnlySays, Performs, PerformsTest}
 
--- What the parser has to say is passed on: help and version with status 0, and a mistake with status 2. Want of memory is told.
+-- What the parser has to say is passed on: help and version with status 0, and a mistake with status 2. Want of memory is reported.
 pub record Explains (k : ErrorKind) (o after : Outside) (status : ℕ) : Type 0 where
   pub memory : k ≡ kind.OutOfMemory → OnlySays LacksMemory o after status
   pub shows : k ≢ kind.OutOfMemory → after ≡ showing o k
@@ -22,7 +22,7 @@ pub record Explains (k : ErrorKind) (o after : Outside) (status : ℕ) : Type 0 
   pub version : k ≡ kind.DisplayVersion → status ≡ 0
   pub mistake : k ≢ kind.OutOfMemory → k ≢ kind.DisplayHelp → k ≢ kind.DisplayVersion → status ≡ 2
 
--- why there is no plan is told, with status 2
+-- why there is no plan is reported, with status 2
 pub record RefusesPlan (line : Said) (o after : Outside) (status : ℕ) : Type 0 where
   pub outside : after ≡ saying o line
   pub status_is : status ≡ 2

@@ -74,14 +74,14 @@ impl<'a> Job<'a> {
     }
 
     /// Returns the help after a message, with the system's reason, if it gave one.
-    pub fn help_behind(self, message: Message<'a>, reason: Option<io::Error>) -> Option<Help<'a>> {
+    pub fn help_after(self, message: Message<'a>, reason: Option<io::Error>) -> Option<Help<'a>> {
         match message {
             Message::Start(StartFault::NoSource { name }) => reason_for(name, reason),
             Message::Start(StartFault::NoDest { name }) => {
                 reason_for(name, reason).or(Some(Help::SameFile))
             }
-            Message::Stopped(fault) => self.help_behind_fault(fault, reason),
-            Message::Faulty { fault, .. } => self.help_behind_fault(fault, reason),
+            Message::Stopped(fault) => self.help_after_fault(fault, reason),
+            Message::Faulty { fault, .. } => self.help_after_fault(fault, reason),
             Message::Start(StartFault::NoMemory)
             | Message::NotUtf8
             | Message::Refused(_)
@@ -89,7 +89,7 @@ impl<'a> Job<'a> {
         }
     }
 
-    fn help_behind_fault(self, fault: Fault, reason: Option<io::Error>) -> Option<Help<'a>> {
+    fn help_after_fault(self, fault: Fault, reason: Option<io::Error>) -> Option<Help<'a>> {
         match fault {
             Fault::Read => reason_for(self.source, reason),
             Fault::Write => reason_for(self.dest, reason),

@@ -82,7 +82,7 @@ impl<'a, 'r, R: Runtime + AllocGlobal> System<'a> for Host<'a, 'r, R> {
 
     type Dest = FromBufWriter<Counted<'r, R, Sink<Printer<'r, R>, R::File>>>;
 
-    ghost told = { λ _. None };
+    ghost reported = { λ _. None };
 
     fn input(&self) -> (Self::Source, Option<FileId>) {
         let id = known_id(fs::metadata(self.rt, STANDARD_INPUT));
@@ -164,7 +164,7 @@ impl<'a, 'r, R: Runtime + AllocGlobal> System<'a> for Host<'a, 'r, R> {
     fn tell(&mut self, message: Message<'a>) {
         let _ = eprintln!(self.rt; "aec: {message}");
         if let Some(job) = self.job.take() {
-            self.write_help(job.help_behind(message, self.progress.reason()));
+            self.write_help(job.help_after(message, self.progress.reason()));
         }
     }
 

@@ -10,7 +10,7 @@ mod help;
 mod host;
 mod message;
 mod nowhere;
-mod one_behind;
+mod one_after;
 mod perform;
 mod progress;
 mod same_file;

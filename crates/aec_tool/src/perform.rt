@@ -25,9 +25,9 @@ pub struct Done {
 
 /// Performs a plan, writes the closing line if it is requested, and returns the exit status.
 pub fn perform<'a, S: System<'a>>(system: &mut S, plan: &Plan<'a>, verbose: bool) -> u8
-    requires { (o : Outside) → S.told system.old ≡ Some o → IsFresh o }
-    ensures { (o : Outside) → S.told system.old ≡ Some o → (after : Outside) ×
-        (S.told system.new ≡ Some after)
+    requires { (o : Outside) → S.reported system.old ≡ Some o → IsFresh o }
+    ensures { (o : Outside) → S.reported system.old ≡ Some o → (after : Outside) ×
+        (S.reported system.new ≡ Some after)
         × Performs S.Source.left S.Source.failed S.Dest.taken S.Dest.failed
         verbose (plan_view plan.now) o after result }
 {
@@ -45,9 +45,9 @@ pub fn perform<'a, S: System<'a>>(system: &mut S, plan: &Plan<'a>, verbose: bool
 
 /// Writes a message, and returns the status of a failure.
 pub fn fail<'a, S: System<'a>>(system: &mut S, message: Message<'a>) -> u8
-    requires { (o : Outside) → S.told system.old ≡ Some o → o.said ≡ None }
-    ensures says { (o : Outside) → S.told system.old ≡ Some o →
-        S.told system.new ≡ Some (saying o (said_of message.entry)) }
+    requires { (o : Outside) → S.reported system.old ≡ Some o → o.said ≡ None }
+    ensures says { (o : Outside) → S.reported system.old ≡ Some o →
+        S.reported system.new ≡ Some (saying o (said_of message.entry)) }
     ensures status { result ≡ 1 }
 {
     system.tell(message);
@@ -61,8 +61,8 @@ pub fn write_closing_line<'a, S: System<'a>>(
     decode: bool,
     done: Done,
 ) -> u8
-    ensures closes { (o : Outside) → S.told system.old ≡ Some o →
-        S.told system.new ≡ Some (closing verbose decode done.samples o) }
+    ensures closes { (o : Outside) → S.reported system.old ≡ Some o →
+        S.reported system.new ≡ Some (closing verbose decode done.samples o) }
     ensures status { result ≡ done.status }
 {
     if verbose {
@@ -77,7 +77,7 @@ pub fn open<'a, S: System<'a>>(
     name: &str,
 ) -> Result<(S::Source, Option<FileId>), OpenFault>
     ensures sound { IfOk result (λ r. S.Source.failed r.0 ≡ 0) }
-    ensures opens { (o : Outside) → S.told system.now ≡ Some o →
+    ensures opens { (o : Outside) → S.reported system.now ≡ Some o →
         Opens S.Source.left (source_bytes o name.now) (source_id o name.now) result }
 {
     if name == STANDARD {
@@ -88,7 +88,7 @@ pub fn open<'a, S: System<'a>>(
 
 /// Returns whether creating the file of a name would empty the source.
 fn empties_source<'a, S: System<'a>>(system: &S, name: &str, source: Option<FileId>) -> bool
-    ensures { (o : Outside) → S.told system.now ≡ Some o →
+    ensures { (o : Outside) → S.reported system.now ≡ Some o →
         (IsTrue result ↔ ((is_standard name.now ≡ false) × AreOneFile source (o.ids name.now))) }
 {
     name != STANDARD && are_one_file(source, system.find(name))
@@ -100,12 +100,12 @@ fn create<'a, S: System<'a>>(
     name: &'a str,
     mode: Option<u32>,
 ) -> Result<S::Dest, CreateFault>
-    requires { (o : Outside) → S.told system.old ≡ Some o → o.destination ≡ Untouched }
+    requires { (o : Outside) → S.reported system.old ≡ Some o → o.destination ≡ Untouched }
     ensures sound { IfOk result (λ d. S.Dest.failed d ≡ 0) }
-    ensures silent { S.told system.old ≡ None → S.told system.new ≡ None }
-    ensures creates { (o : Outside) → S.told system.old ≡ Some o →
+    ensures silent { S.reported system.old ≡ None → S.reported system.new ≡ None }
+    ensures creates { (o : Outside) → S.reported system.old ≡ Some o →
         Creates S.Dest.taken (place_of name.entry.now mode) (is_creatable o name.entry.now) o
-        (S.told system.new) result }
+        (S.reported system.new) result }
 {
     if name == STANDARD {
         return system.output();
@@ -121,14 +121,14 @@ fn create_and_write<'a, S: System<'a>>(
     source: S::Source,
     id: Option<FileId>,
 ) -> u8
-    requires fresh { (o : Outside) → S.told system.old ≡ Some o → IsFresh o }
+    requires fresh { (o : Outside) → S.reported system.old ≡ Some o → IsFresh o }
     requires sound { S.Source.failed source ≡ 0 }
-    requires bytes { (o : Outside) → S.told system.old ≡ Some o →
+    requires bytes { (o : Outside) → S.reported system.old ≡ Some o →
         GivesAll (source_bytes o plan.now.source.now) (S.Source.left source) }
-    requires id { (o : Outside) → S.told system.old ≡ Some o →
+    requires id { (o : Outside) → S.reported system.old ≡ Some o →
         id ≡ source_id o plan.now.source.now }
-    ensures { (o : Outside) → S.told system.old ≡ Some o → (after : Outside) ×
-        (S.told system.new ≡ Some after)
+    ensures { (o : Outside) → S.reported system.old ≡ Some o → (after : Outside) ×
+        (S.reported system.new ≡ Some after)
         × Ends S.Source.left S.Source.failed S.Dest.taken S.Dest.failed
         verbose (plan_view plan.now) o after result }
 {
@@ -155,16 +155,16 @@ fn transfer<'a, S: System<'a>>(
 ) -> Done
     requires sound { S.Source.failed source ≡ 0 }
     requires unwritten { S.Dest.failed dest ≡ 0 }
-    requires empty { (o : Outside) → S.told system.old ≡ Some o →
+    requires empty { (o : Outside) → S.reported system.old ≡ Some o →
         HasTakenNothing (S.Dest.taken dest) }
-    requires unsaid { (o : Outside) → S.told system.old ≡ Some o → o.said ≡ None }
+    requires unsaid { (o : Outside) → S.reported system.old ≡ Some o → o.said ≡ None }
     ensures { (o : Outside) (given : List ℕ) →
-        S.told system.old ≡ Some (begun o
+        S.reported system.old ≡ Some (begun o
         (place_of plan.now.dest.now (new_mode (source_id o plan.now.source.now)))) →
         source_bytes o plan.now.source.now ≡ Some given → S.Source.left source ≡ Some given →
         (EmptiesSource o (plan_view plan.now) → ⊥) →
         is_creatable o plan.now.dest.now ≡ true → (after : Outside) ×
-        (S.told system.new ≡ Some after)
+        (S.reported system.new ≡ Some after)
         × Runs S.Source.left S.Source.failed S.Dest.taken S.Dest.failed
         (plan_view plan.now) o after result.status result.samples }
 {
@@ -179,9 +179,9 @@ fn transfer<'a, S: System<'a>>(
 
 /// Writes why not all was done, if so, where `kept` says whether all that was written has arrived. Returns the exit status.
 fn tell_end<'a, S: System<'a>>(system: &mut S, outcome: &Outcome, kept: bool) -> u8
-    requires { (o : Outside) → S.told system.old ≡ Some o → o.said ≡ None }
-    ensures says { (o : Outside) → S.told system.old ≡ Some o →
-        S.told system.new ≡ Some (record o { said = last_words outcome.now.fault kept }) }
+    requires { (o : Outside) → S.reported system.old ≡ Some o → o.said ≡ None }
+    ensures says { (o : Outside) → S.reported system.old ≡ Some o →
+        S.reported system.new ≡ Some (record o { said = last_words outcome.now.fault kept }) }
     ensures status { result ≡ status_with (last_words outcome.now.fault kept) }
 {
     match outcome.fault {

@@ -31,9 +31,9 @@ pub fn start<'a, R: Runtime + AllocGlobal>(rt: &R, words: &'a [&'a str]) -> u8 {
 
 /// Runs the command with the given words on a system, and returns its exit status.
 pub fn start_on<'a, S: System<'a>>(system: &mut S, alloc: Global, words: &'a [&'a str]) -> u8
-    requires { (o : Outside) → S.told system.old ≡ Some o → IsFresh o }
-    ensures { (o : Outside) → S.told system.old ≡ Some o → (after : Outside) ×
-        (S.told system.new ≡ Some after)
+    requires { (o : Outside) → S.reported system.old ≡ Some o → IsFresh o }
+    ensures { (o : Outside) → S.reported system.old ≡ Some o → (after : Outside) ×
+        (S.reported system.new ≡ Some after)
         × Starts S.Source.left S.Source.failed S.Dest.taken S.Dest.failed
         (texts words.entry.now) o after result }
 {
@@ -45,9 +45,9 @@ pub fn start_on<'a, S: System<'a>>(system: &mut S, alloc: Global, words: &'a [&'
 
 /// Does what the matches ask for, and returns the exit status.
 fn follow<'a, S: System<'a>>(system: &mut S, matches: &ArgMatches<'a>) -> u8
-    requires { (o : Outside) → S.told system.old ≡ Some o → IsFresh o }
-    ensures { (o : Outside) → S.told system.old ≡ Some o → (after : Outside) ×
-        (S.told system.new ≡ Some after)
+    requires { (o : Outside) → S.reported system.old ≡ Some o → IsFresh o }
+    ensures { (o : Outside) → S.reported system.old ≡ Some o → (after : Outside) ×
+        (S.reported system.new ≡ Some after)
         × Follows S.Source.left S.Source.failed S.Dest.taken S.Dest.failed
         (found_of matches.now) o after result }
 {
@@ -66,9 +66,9 @@ fn follow<'a, S: System<'a>>(system: &mut S, matches: &ArgMatches<'a>) -> u8
 
 /// Writes why there is no plan, and returns the status of a command line that is refused.
 fn refuse_plan<'a, S: System<'a>>(system: &mut S, message: Message<'a>) -> u8
-    requires { (o : Outside) → S.told system.old ≡ Some o → o.said ≡ None }
-    ensures says { (o : Outside) → S.told system.old ≡ Some o →
-        S.told system.new ≡ Some (saying o (said_of message.entry)) }
+    requires { (o : Outside) → S.reported system.old ≡ Some o → o.said ≡ None }
+    ensures says { (o : Outside) → S.reported system.old ≡ Some o →
+        S.reported system.new ≡ Some (saying o (said_of message.entry)) }
     ensures status { result ≡ 2 }
 {
     system.tell(message);
@@ -77,9 +77,9 @@ fn refuse_plan<'a, S: System<'a>>(system: &mut S, message: Message<'a>) -> u8
 
 /// Passes on what the parser has to say, and returns the exit status.
 fn refuse<'a, S: System<'a>>(system: &mut S, error: &Error) -> u8
-    requires { (o : Outside) → S.told system.old ≡ Some o → IsFresh o }
-    ensures { (o : Outside) → S.told system.old ≡ Some o → (after : Outside) ×
-        (S.told system.new ≡ Some after)
+    requires { (o : Outside) → S.reported system.old ≡ Some o → IsFresh o }
+    ensures { (o : Outside) → S.reported system.old ≡ Some o → (after : Outside) ×
+        (S.reported system.new ≡ Some after)
         × Explains (kind_of error.now) o after result }
 {
     match error.kind() {

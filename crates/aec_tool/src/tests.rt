@@ -4,4 +4,4 @@ mod commands;
 mod plans;
 mod runtime_in_memory;
 mod told_commands;
-mod told_system;
+mod reporting_system;

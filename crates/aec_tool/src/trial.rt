@@ -10,7 +10,7 @@ use crate::finding::Finding;
 use crate::help::Job;
 use crate::message::{Message, StartFault};
 use crate::nowhere::Nowhere;
-use crate::one_behind::look_behind;
+use crate::one_after::look_after;
 use crate::perform::{Done, STANDARD, fail, open, write_closing_line};
 use crate::same_file::FileId;
 use crate::system::System;
@@ -20,9 +20,9 @@ use rice_stream::{Fault, Outcome, Report, decode};
 
 /// Performs the plan of a test, writes the closing line if it is requested, and returns the exit status.
 pub fn perform_test<'a, S: System<'a>>(system: &mut S, plan: &TestPlan<'a>, verbose: bool) -> u8
-    requires { (o : Outside) → S.told system.old ≡ Some o → IsFresh o }
-    ensures { (o : Outside) → S.told system.old ≡ Some o → (after : Outside) ×
-        (S.told system.new ≡ Some after)
+    requires { (o : Outside) → S.reported system.old ≡ Some o → IsFresh o }
+    ensures { (o : Outside) → S.reported system.old ≡ Some o → (after : Outside) ×
+        (S.reported system.new ≡ Some after)
         × PerformsTest S.Source.left S.Source.failed S.Dest.taken S.Dest.failed
         verbose (test_view plan.now) o after result }
 {
@@ -48,14 +48,14 @@ fn test<'a, S: System<'a>>(
     source: S::Source,
     id: Option<FileId>,
 ) -> Done
-    requires fresh { (o : Outside) → S.told system.old ≡ Some o → IsFresh o }
+    requires fresh { (o : Outside) → S.reported system.old ≡ Some o → IsFresh o }
     requires sound { S.Source.failed source ≡ 0 }
-    requires bytes { (o : Outside) → S.told system.old ≡ Some o →
+    requires bytes { (o : Outside) → S.reported system.old ≡ Some o →
         GivesAll (source_bytes o plan.now.source.now) (S.Source.left source) }
-    requires id { (o : Outside) → S.told system.old ≡ Some o →
+    requires id { (o : Outside) → S.reported system.old ≡ Some o →
         id ≡ source_id o plan.now.source.now }
-    ensures { (o : Outside) → S.told system.old ≡ Some o → (after : Outside) ×
-        (S.told system.new ≡ Some after)
+    ensures { (o : Outside) → S.reported system.old ≡ Some o → (after : Outside) ×
+        (S.reported system.new ≡ Some after)
         × Tests S.Source.left S.Source.failed S.Dest.taken S.Dest.failed
         (test_view plan.now) o after result.status result.samples }
 {
@@ -82,11 +82,11 @@ fn test<'a, S: System<'a>>(
 
 /// Writes what was found to standard output, and returns the exit status.
 fn tell_finding<'a, S: System<'a>>(system: &mut S, it: Finding) -> u8
-    requires unsaid { (o : Outside) → S.told system.old ≡ Some o → o.said ≡ None }
-    requires untold { (o : Outside) → S.told system.old ≡ Some o → o.found ≡ None }
-    ensures { (o : Outside) → S.told system.old ≡ Some o →
-        ((S.told system.new ≡ Some (finding o it)) × (result ≡ 0)) ⊎
-        ((S.told system.new ≡ Some (saying (losing o) (Stopped faults.Write))) × (result ≡ 1)) }
+    requires unsaid { (o : Outside) → S.reported system.old ≡ Some o → o.said ≡ None }
+    requires unreported { (o : Outside) → S.reported system.old ≡ Some o → o.found ≡ None }
+    ensures { (o : Outside) → S.reported system.old ≡ Some o →
+        ((S.reported system.new ≡ Some (finding o it)) × (result ≡ 0)) ⊎
+        ((S.reported system.new ≡ Some (saying (losing o) (Stopped faults.Write))) × (result ≡ 1)) }
 {
     match system.report(it) {
         Ok(()) => SUCCESS,
@@ -107,30 +107,30 @@ fn at_place<'a>(setting: &Setting, report: &Report, fault: Fault) -> Message<'a>
     }
 }
 
-/// Returns the fault of a code, or whether a 1 is left behind the samples that were asked for, if that is looked for.
+/// Returns the fault of a code, or whether a 1 is left after the samples that were asked for, if that is looked for.
 fn judge<'a, S: System<'a>>(
     system: &mut S,
     plan: &TestPlan<'a>,
     id: Option<FileId>,
     outcome: &Outcome,
 ) -> Result<Option<bool>, Fault>
-    requires fresh { (o : Outside) → S.told system.old ≡ Some o → IsFresh o }
-    requires id { (o : Outside) → S.told system.old ≡ Some o →
+    requires fresh { (o : Outside) → S.reported system.old ≡ Some o → IsFresh o }
+    requires id { (o : Outside) → S.reported system.old ≡ Some o →
         id ≡ source_id o plan.now.source.now }
-    ensures silent { S.told system.old ≡ None → S.told system.new ≡ None }
-    ensures judges { (o : Outside) (given : List ℕ) → S.told system.old ≡ Some o →
+    ensures silent { S.reported system.old ≡ None → S.reported system.new ≡ None }
+    ensures judges { (o : Outside) (given : List ℕ) → S.reported system.old ≡ Some o →
         source_bytes o plan.now.source.now ≡ Some given →
         Judges S.Source.left S.Source.failed S.Dest.taken S.Dest.failed
         (test_view plan.now) o given outcome.now.report.bits outcome.now.fault
-        (S.told system.new) result }
+        (S.reported system.new) result }
 {
     match outcome.fault {
         Some(fault) => Err(fault),
-        None => look_for_one_behind(system, plan, id, outcome.report.bits),
+        None => look_for_one_after(system, plan, id, outcome.report.bits),
     }
 }
 
-/// Returns whether the source can be opened once more, to look behind the samples that were asked for.
+/// Returns whether the source can be opened once more, to look after the samples that were asked for.
 fn is_looked_for(plan: &TestPlan<'_>, id: Option<FileId>) -> bool
     ensures { (o : Outside) → id ≡ source_id o plan.now.source.now →
         result ≡ (is_some plan.now.samples && is_read_again o plan.now.source.now) }
@@ -141,21 +141,21 @@ fn is_looked_for(plan: &TestPlan<'_>, id: Option<FileId>) -> bool
     }
 }
 
-/// Returns whether a 1 is left behind the first `bits` bits of the source, if that is looked for.
-fn look_for_one_behind<'a, S: System<'a>>(
+/// Returns whether a 1 is left after the first `bits` bits of the source, if that is looked for.
+fn look_for_one_after<'a, S: System<'a>>(
     system: &mut S,
     plan: &TestPlan<'a>,
     id: Option<FileId>,
     bits: u64,
 ) -> Result<Option<bool>, Fault>
-    requires fresh { (o : Outside) → S.told system.old ≡ Some o → IsFresh o }
-    requires id { (o : Outside) → S.told system.old ≡ Some o →
+    requires fresh { (o : Outside) → S.reported system.old ≡ Some o → IsFresh o }
+    requires id { (o : Outside) → S.reported system.old ≡ Some o →
         id ≡ source_id o plan.now.source.now }
-    ensures silent { S.told system.old ≡ None → S.told system.new ≡ None }
-    ensures looks { (o : Outside) (given : List ℕ) → S.told system.old ≡ Some o →
+    ensures silent { S.reported system.old ≡ None → S.reported system.new ≡ None }
+    ensures looks { (o : Outside) (given : List ℕ) → S.reported system.old ≡ Some o →
         source_bytes o plan.now.source.now ≡ Some given →
         Looks S.Source.failed (is_some plan.now.samples && is_read_again o plan.now.source.now)
-        bits plan.now.source.now given o (S.told system.new) result }
+        bits plan.now.source.now given o (S.reported system.new) result }
 {
     if !is_looked_for(plan, id) {
         return Ok(None);
@@ -164,6 +164,6 @@ fn look_for_one_behind<'a, S: System<'a>>(
         Ok(source) => source,
         Err(_) => return Err(Fault::Read),
     };
-    let more = look_behind(source, bits)?;
+    let more = look_after(source, bits)?;
     Ok(Some(more))
 }

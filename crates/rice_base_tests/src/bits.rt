@@ -314,8 +314,8 @@ fn devices_over_writers() -> Result<(), Fail> {
 #[test]
 fn devices_over_buffers(rt: HostRuntime) -> Result<(), Fail> {
     let mut cases = Cases::new();
-    let behind = FailingWriter { bytes_before: 10 };
-    let mut outlet = FromBufWriter::new(BufWriter::with_capacity(rt.alloc(), 4, behind)?);
+    let after = FailingWriter { bytes_before: 10 };
+    let mut outlet = FromBufWriter::new(BufWriter::with_capacity(rt.alloc(), 4, after)?);
     cases.check(outlet.put(&[1, 2]) == Ok(2));
     cases.check(outlet.put(&[3, 4, 5]) == Ok(2));
     cases.check(outlet.put(&[5]) == Ok(1));

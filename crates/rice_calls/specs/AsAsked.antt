@@ -77,7 +77,7 @@ pub record BeginsAsAsked (asked : Asked) (setting : RiceSetting) (feed_old feed_
   pub ok : IfOk asked (λ s. Begins s setting feed_new status)
   pub refused : IfErr asked (λ fault. (status ≡ status_number (refusal_status fault)) × (feed_new ≡ feed_old))
 
--- With as much room as the samples of the piece can take, and the bits that wait, it does not want for it.
+-- With as much room as the samples of the piece can take, and the bits that are buffered, it does not want for it.
 pub record PushesAsAsked (asked : Asked) (samples old new : List ℕ) (feed_old feed_new : RiceFeed) (r : RiceReport) (status : ℕ) : Type 0 where
   pub ok : IfOk asked (λ s. (xs : List ℤ) → IsSeam s feed_old.seam xs → PushesInto s xs samples old new feed_old feed_new r status)
   pub room : IfOk asked (λ s. push_room s feed_old.seam.waiting_bits (length samples / width s) ≤ length old → status ≢ status_number NoRoom)

@@ -4,7 +4,7 @@ use Rattle.rice_samples.specs.Parameters.{Parameters, IsLegal, width}
 use Rattle.rice_samples.specs.bytes.Spelling.{spellings}
 use Rattle.rice_stream.specs.Feeding.{IsSeam}
 use Rattle.rice_code.specs.code.Code.{output}
-use Rattle.rice_stream.specs.Laws.{IsPlace, place_at, place_behind}
+use Rattle.rice_stream.specs.Laws.{IsPlace, place_at, place_after}
 use Rattle.rice_stream.specs.Pulling.{Origin, IsStand}
 use Rattle.rice_stream.specs.declared.seam.Seam.{Seam}
 use Rattle.rice_calls.specs.declared.pulling.RiceDrain.{RiceDrain}
@@ -39,7 +39,7 @@ RoomSuffices = (s : Parameters) → IsLegal s → (input old new : List ℕ) (r 
     (EncodesInto s input old new r status → code_room s (length input / width s) ≤ length old → status ≢ status_number NoRoom)
     × ((count : ℕ) → DecodesInto s (Some count) input old new r status → count * width s ≤ length old → status ≢ status_number NoRoom)
 
--- So it is with as much as the samples of a piece can take, and the bits that wait.
+-- So it is with as much as the samples of a piece can take, and the bits that fill no byte.
 abbrev pub PushRoomSuffices : Type 0
 PushRoomSuffices = (s : Parameters) → IsLegal s → (xs : List ℤ) (input old new : List ℕ) (r : RiceReport) (status : ℕ) →
     ((feed_old feed_new : RiceFeed) → IsSeam s feed_old.seam xs → PushesInto s xs input old new feed_old feed_new r status →
@@ -58,32 +58,32 @@ pub record Pull : Type 0 where
 
 -- What a call of `rice_pull` says of a piece that begins with byte `bits / 8` of the code.
 abbrev pub IsPulled : Parameters → List ℕ → RiceDrain → Pull → List ℕ → Type 0
-IsPulled s code drain p behind =
-    (drop (drain.stand.bits / 8) code ≡ p.piece ++ behind) ×
+IsPulled s code drain p after =
+    (drop (drain.stand.bits / 8) code ≡ p.piece ++ after) ×
     ((o : Origin) (front : List Bool) (given : List ℤ) → IsStand s o drain.stand front given → PullsInto s o front given p.piece p.old p.new drain p.drain p.report p.status)
 
 -- Pieces of a code were pulled one after the other. Each ends anywhere, and has any room.
 abbrev pub ArePulled : Parameters → List ℕ → RiceDrain → List Pull → Type 0
 ArePulled s code drain [] = ⊤
-ArePulled s code drain (p ∷ ps) = ((behind : List ℕ) × IsPulled s code drain p behind) × ArePulled s code p.drain ps
+ArePulled s code drain (p ∷ ps) = ((after : List ℕ) × IsPulled s code drain p after) × ArePulled s code p.drain ps
 
 -- where the last of them ended
 abbrev pub last_drain : RiceDrain → List Pull → RiceDrain
 last_drain drain [] = drain
 last_drain drain (p ∷ ps) = last_drain p.drain ps
 
--- The calls wrote these bytes to the front of the caller's memory, a part each, which the report counts, and no byte behind them.
+-- The calls wrote these bytes to the front of the caller's memory, a part each, which the report counts, and no byte after them.
 abbrev pub WriteInParts : List Pull → List ℕ → Type 0
 WriteInParts [] bytes = bytes ≡ []
 WriteInParts (p ∷ ps) bytes = (part : List ℕ) × (rest : List ℕ) × (bytes ≡ part ++ rest) × (p.report.written ≡ length part) × StandsInFront part p.old p.new × WriteInParts ps rest
 
--- how a call that decodes the whole code ends, where a pull of a piece that has these bytes behind it ends so
+-- how a call that decodes the whole code ends, where a pull of a piece that has these bytes after it ends so
 abbrev pub EndsAll : Status → List ℕ → Status → Type 0
-EndsAll OnlyZeros behind ended = (behind ≡ []) × (ended ≡ Done)
-EndsAll MoreCode behind ended = (behind ≡ []) × (ended ≡ CodeEnds)
-EndsAll RunPastSegment behind ended = ended ≡ RunPastSegment
-EndsAll ResidualTooLarge behind ended = ended ≡ ResidualTooLarge
-EndsAll _ behind ended = ⊥
+EndsAll OnlyZeros after ended = (after ≡ []) × (ended ≡ Done)
+EndsAll MoreCode after ended = (after ≡ []) × (ended ≡ CodeEnds)
+EndsAll RunPastSegment after ended = ended ≡ RunPastSegment
+EndsAll ResidualTooLarge after ended = ended ≡ ResidualTooLarge
+EndsAll _ after ended = ⊥
 
 -- and the place that it tells: that of the pull, or, where the code is cut, the number of samples
 abbrev pub place_all : Status → RiceReport → ℕ
@@ -95,14 +95,14 @@ place_all _ r = r.place
 -- the place and those of all pulls, one after the other, and ended as they did.
 abbrev pub PullsAreDecoding : Type 0
 PullsAreDecoding = (s : Parameters) (code : List ℕ) (o : Origin) (before : List ℤ) (setting : RiceSetting) (first : RiceDrain) (opened : ℕ) (pulls : List Pull) (last : Pull)
-    (behind old new : List ℕ) (report : RiceReport) (status : ℕ) (paused ended : Status) →
-    IsPlace s code o before → OpensDrain s o setting first opened → ArePulled s code first pulls → IsPulled s code (last_drain first pulls) last behind → last.status ≡ status_number paused
-    → EndsAll paused behind ended →
+    (after old new : List ℕ) (report : RiceReport) (status : ℕ) (paused ended : Status) →
+    IsPlace s code o before → OpensDrain s o setting first opened → ArePulled s code first pulls → IsPulled s code (last_drain first pulls) last after → last.status ≡ status_number paused
+    → EndsAll paused after ended →
     DecodesInto s None code old new report status → width s * last.report.samples ≤ length old →
     (bytes : List ℕ) × WriteInParts (pulls ++ last ∷ []) bytes × StandsInFront (spellings s before ++ bytes) old new ×
     (status ≡ status_number ended) × (report.samples ≡ last.report.samples) × (report.place ≡ place_all paused last.report)
 
--- Pieces were pulled until there were n samples behind the place, and no block more; and a call decoded the code with the count of these and
+-- Pieces were pulled until there were n samples after the place, and no block more; and a call decoded the code with the count of these and
 -- of the samples before the place, and with room for their bytes. Then that call wrote the bytes of the samples before the place and the
 -- first n of the pulls', and all is done, with as many bits.
 abbrev pub EnoughIsDecoding : Type 0
@@ -129,12 +129,12 @@ pub record Push : Type 0 where
   pub old : List ℕ
   pub new : List ℕ
 
--- Pieces of an input were fed one after the other, and all was done. Each begins behind the samples that the feed before it counts, and ends
+-- Pieces of an input were fed one after the other, and all was done. Each begins after the samples that the feed before it counts, and ends
 -- anywhere.
 abbrev pub AreFed : Parameters → List ℕ → RiceFeed → List Push → Type 0
 AreFed s input feed [] = ⊤
 AreFed s input feed (p ∷ ps) =
-    ((behind : List ℕ) × (drop (width s * feed.seam.samples) input ≡ p.piece ++ behind)) × (p.status ≡ status_number Done) ×
+    ((after : List ℕ) × (drop (width s * feed.seam.samples) input ≡ p.piece ++ after)) × (p.status ≡ status_number Done) ×
     ((xs : List ℤ) → IsSeam s feed.seam xs → PushesInto s xs p.piece p.old p.new feed p.feed p.report p.status) × AreFed s input p.feed ps
 
 -- where the last of them ended
@@ -152,4 +152,4 @@ abbrev pub FeedsTellPlaces : Type 0
 FeedsTellPlaces = (s : Parameters) (input : List ℕ) (setting : RiceSetting) (first : RiceFeed) (begun : ℕ) (pushes : List Push) →
     Begins s setting first begun → AreFed s input first pushes → (last_feed first pushes).seam.start ≡ 0 →
     (xs : List ℤ) × (rest : List ℕ) × (input ≡ spellings s xs ++ rest) ×
-    ((ys : List ℤ) → IsPlace s (output s (xs ++ ys)) (place_behind (last_feed first pushes).seam (written_by pushes)) xs)
+    ((ys : List ℤ) → IsPlace s (output s (xs ++ ys)) (place_after (last_feed first pushes).seam (written_by pushes)) xs)

@@ -8,7 +8,7 @@ use Rattle.rice_code.specs.Bounds.{padded_bound, added_bound, set_bound}
 abbrev pub code_room : Parameters → ℕ → ℕ
 code_room s samples = div_ceil (padded_bound s samples) 8
 
--- the bytes that a call which is fed so many samples never passes, where so many bits of code wait
+-- the bytes that a call which is fed so many samples never passes, where so many bits of code fill no byte
 abbrev pub push_room : Parameters → ℕ → ℕ → ℕ
 push_room s waiting samples = div_ceil (waiting + added_bound s samples) 8
 

@@ -33,7 +33,7 @@ pub fn pulls_to_a_count_are_decoding()
 {}
 
 /// At the end of an interval, a drain and a feed report the place where the next begins.
-pub fn places_of_intervals_are_told()
+pub fn places_of_intervals_are_reported()
     ensures drains { DrainsTellPlaces }
     ensures feeds { FeedsTellPlaces }
 {}

@@ -46,7 +46,7 @@ pub use Rattle.rice_code.specs.Bounds.{amortised_step_bound, bit_bound, block_bo
 pub use Rattle.rice_code.specs.CoderSteps.{coding_steps, least_looks, least_looks_at, least_steps, most_looks, most_looks_at, most_steps, segment_steps}
 pub use Rattle.rice_code.specs.Laws.{AddedCodeIsBounded, AreIntervals, BeginsInterval, CodesDiffer, DamageStaysInItsInterval, DecodingBeginsAfresh, IntervalsAreDecodedAlone, IntervalsAreJoined}
 pub use Rattle.rice_code.specs.Laws.{IntervalsBeginAfresh, IsOutputOf, IsWantedSet, MakeBlocks, NoCodeIsShorter, NoOutputIsShorter, NoSetsAreShorter, OwnBytesAreRecognised, PaddedIntervalsAreJoined}
-pub use Rattle.rice_code.specs.Laws.{RefusedBytesAreNoOutput, RunIsNeverLonger, SetsAreBounded, SplitIsPaid, count_behind}
+pub use Rattle.rice_code.specs.Laws.{RefusedBytesAreNoOutput, RunIsNeverLonger, SetsAreBounded, SplitIsPaid, count_after}
 pub use Rattle.rice_code.specs.code.Blocks.{BlockData, block_data, blocks_from, blocks_of, fill_count, fill_count_of, is_zero_block, zero_block}
 pub use Rattle.rice_code.specs.code.Choice.{IsBestSplit, best_split, other_options, shortest}
 pub use Rattle.rice_code.specs.code.Code.{bits_from, code, code_bits, code_from, complete_samples, data_set_at, data_sets, output, sets_from, sets_of}

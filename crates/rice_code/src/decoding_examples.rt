@@ -20,7 +20,7 @@ pub fn decodes_a_run()
 {}
 
 /// Zeros after the code are a clean end, however many there are.
-pub fn decodes_zeros_behind_the_code()
+pub fn decodes_zeros_after_the_code()
     ensures { Decoded defaults (bits_of (0x00 ∷ 0x58 ∷ 0x00 ∷ 0x00 ∷
         [])) None (replicate 8 (pos 5)) Ended 32 }
 {}

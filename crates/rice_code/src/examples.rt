@@ -30,7 +30,7 @@ pub fn ties()
     // Of two equally short splits, the smaller one is chosen.
     ensures of_splits { CodesTo defaults (numbers_from 0 8) (0x20 ∷ 0x09 ∷ 0x24 ∷ 0x92 ∷ []) 31 }
     // If second extension and a split are equally short, second extension is chosen.
-    ensures behind_a_run { CodesTo defaults (replicate 11 (pos 5) ++
+    ensures after_a_run { CodesTo defaults (replicate 11 (pos 5) ++
         pos 4 ∷ pos 4 ∷ pos 3 ∷ pos 3 ∷ pos 2 ∷ []) (0x00 ∷ 0x58 ∷ 0xC9 ∷ 0x20 ∷ []) 27 }
     ensures unprocessed { CodesTo unprocessed_defaults (pos 0 ∷ pos 0 ∷
         repetition_of 3 (pos 0 ∷ pos 1 ∷ [])) (0x19 ∷ 0x24 ∷ []) 14 }
@@ -151,7 +151,7 @@ pub fn padding()
 
 /// The whole bytes of the code of whole segments: without padding, the last bits are buffered.
 pub fn early_outputs()
-    ensures waits { early_output (record defaults { interval = 1 }) (replicate 8 (pos 5)) ≡
+    ensures buffered { early_output (record defaults { interval = 1 }) (replicate 8 (pos 5)) ≡
         0x00 ∷ [] }
     ensures four_bits { early_output (record defaults { bits = 4; interval = 1 }) (replicate 8 (pos 5)) ≡
         0x05 ∷ [] }

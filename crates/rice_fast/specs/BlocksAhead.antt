@@ -18,22 +18,22 @@ pub record HasBits (below bits : ℕ) (s : Parameters) : Type 0 where
 
 -- The first `len` bits are a sound coded data set at block b, which takes so many turns to search, and these are the levels of the samples
 -- of its one block, after sample p.
-pub record BlockAhead (waiting : List Bool) (s : Parameters) (b : ℕ) (p : ℤ) (levels : List ℕ) (len searched : ℕ) : Type 0 where
+pub record BlockAhead (buffered : List Bool) (s : Parameters) (b : ℕ) (p : ℤ) (levels : List ℕ) (len searched : ℕ) : Type 0 where
   pub set : CodedDataSet
   pub form : IsForm s b set
   pub run_sound : RunIsSound s b set
   pub residuals_sound : ResidualsAreSound s set
-  pub within : len ≤ length waiting
-  pub bits : take len waiting ≡ bits_of_set s set
+  pub within : len ≤ length buffered
+  pub bits : take len buffered ≡ bits_of_set s set
   pub turns_are : turns set ≡ searched
   pub few : searched ≤ len
   pub legal : All (λ l. l < value_count s) levels
   pub gives : GivesBlock s b p (values_at s levels) 0 (blocks_in s b set)
 
 -- The same, and the bytes begin with the spellings of these samples, of which the last has level l.
-pub record SpelledAhead (waiting : List Bool) (s : Parameters) (b : ℕ) (p : ℤ) (l len searched : ℕ) (bytes : List ℕ) : Type 0 where
+pub record SpelledAhead (buffered : List Bool) (s : Parameters) (b : ℕ) (p : ℤ) (l len searched : ℕ) (bytes : List ℕ) : Type 0 where
   pub levels : List ℕ
-  pub ahead : BlockAhead waiting s b p levels len searched
+  pub ahead : BlockAhead buffered s b p levels len searched
   pub from : ℕ
   pub last_is : l ≡ last_number from levels
   pub legal : l < value_count s

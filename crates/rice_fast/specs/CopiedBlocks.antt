@@ -11,11 +11,11 @@ pub record IsCopied (s : Parameters) (width : ℕ) : Type 0 where
   pub whole : s.bits ≡ 8 * width
 
 -- The first `count` bytes are those of words of `width` bytes after an identifier, in the order of the setting.
-pub record WordsAhead (waiting : List Bool) (s : Parameters) (width count : ℕ) (bytes : List ℕ) : Type 0 where
+pub record WordsAhead (buffered : List Bool) (s : Parameters) (width count : ℕ) (bytes : List ℕ) : Type 0 where
   pub words : List ℕ
   pub counted : width * length words ≡ count
   pub fit : All (λ v. v < 2 ^ (8 * width)) words
-  pub bits : flat_map (word (8 * width)) words ≡ take (8 * count) (drop (id_len s) waiting)
+  pub bits : flat_map (word (8 * width)) words ≡ take (8 * count) (drop (id_len s) buffered)
   pub spelled : take count bytes ≡ flat_map (ordered_bytes s.msb width) words
 
 -- the bits of a block without compression
@@ -23,7 +23,7 @@ abbrev pub copied_bits : Parameters → ℕ → ℕ
 copied_bits s width = id_len s + 8 * (width * s.block)
 
 -- A block without compression is buffered, and the bytes begin with those of its samples.
-pub record CopiedBlock (waiting : List Bool) (s : Parameters) (width : ℕ) (bytes : List ℕ) : Type 0 where
-  pub there : copied_bits s width ≤ length waiting
-  pub id : word (id_len s) (2 ^ id_len s - 1) ≡ take (id_len s) waiting
-  pub words : WordsAhead waiting s width (width * s.block) bytes
+pub record CopiedBlock (buffered : List Bool) (s : Parameters) (width : ℕ) (bytes : List ℕ) : Type 0 where
+  pub there : copied_bits s width ≤ length buffered
+  pub id : word (id_len s) (2 ^ id_len s - 1) ≡ take (id_len s) buffered
+  pub words : WordsAhead buffered s width (width * s.block) bytes

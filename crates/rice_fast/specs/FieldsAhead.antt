@@ -12,9 +12,9 @@ use Rattle.rice_fast.specs.BlocksAhead.{BlockAhead}
 use Rattle.rice_fast.specs.PartsOfResiduals.{HaveParts}
 use Rattle.rice_fast.specs.declared.fields.Fields.{Fields}
 
--- Behind the first `skip` bits, up to bit `len`, stands the reference sample of block b, if it has one. Its first sample is restored after
+-- After the first `skip` bits, up to bit `len`, stands the reference sample of block b, if it has one. Its first sample is restored after
 -- level `from`, or, without a reference, after the sample at level `before`. The first residuals, `omitted` of them, have no bits.
-pub record HeadAhead (waiting : List Bool) (s : Parameters) (b before skip from omitted len : ℕ) : Type 0 where
+pub record HeadAhead (buffered : List Bool) (s : Parameters) (b before skip from omitted len : ℕ) : Type 0 where
   pub reference : Option ℕ
   pub is : IsReference s b reference
   pub place : reference_place reference ≡ replicate omitted 0
@@ -24,29 +24,29 @@ pub record HeadAhead (waiting : List Bool) (s : Parameters) (b before skip from 
   pub same : IfNone reference (value_at s from ≡ value_at s before)
   pub part : ℕ
   pub len_is : len ≡ skip + part
-  pub bits : reference_bits s reference ≡ take part (drop skip waiting)
+  pub bits : reference_bits s reference ≡ take part (drop skip buffered)
   pub short : len ≤ skip + s.bits
 
 -- The first `omitted` numbers are zeros, and the fundamental sequences of the others are the `len` bits after the first `skip`.
-pub record HighsAhead (waiting : List Bool) (skip omitted : ℕ) (highs : List ℕ) (len : ℕ) : Type 0 where
+pub record HighsAhead (buffered : List Bool) (skip omitted : ℕ) (highs : List ℕ) (len : ℕ) : Type 0 where
   pub zeros : take omitted highs ≡ replicate omitted 0
-  pub spelled : flat_map fundamental_sequence (drop omitted highs) ≡ take len (drop skip waiting)
-  pub within : skip + len ≤ length waiting
+  pub spelled : flat_map fundamental_sequence (drop omitted highs) ≡ take len (drop skip buffered)
+  pub within : skip + len ≤ length buffered
 
 -- The first `omitted` numbers are zeros, and the words of k bits of the others stand after the first `skip` bits.
-pub record LowsAhead (waiting : List Bool) (skip omitted k : ℕ) (lows : List ℕ) : Type 0 where
+pub record LowsAhead (buffered : List Bool) (skip omitted k : ℕ) (lows : List ℕ) : Type 0 where
   pub zeros : take omitted lows ≡ replicate omitted 0
   pub low : All (λ l. l < 2 ^ k) lows
-  pub spelled : flat_map (word k) (drop omitted lows) ≡ take ((length lows - omitted) * k) (drop skip waiting)
+  pub spelled : flat_map (word k) (drop omitted lows) ≡ take ((length lows - omitted) * k) (drop skip buffered)
 
 -- The codewords of the pairs of these numbers are the `len` bits after the first `skip`, and a search for the pairs takes so many turns. The
 -- first number is 0, if it stands at the place of a reference sample.
-pub record PairsAhead (waiting : List Bool) (skip references : ℕ) (numbers : List ℕ) (len searched : ℕ) : Type 0 where
+pub record PairsAhead (buffered : List Bool) (skip references : ℕ) (numbers : List ℕ) (len searched : ℕ) : Type 0 where
   pub zeros : take references numbers ≡ replicate references 0
-  pub spelled : flat_map fundamental_sequence (pair_codes numbers) ≡ take len (drop skip waiting)
+  pub spelled : flat_map fundamental_sequence (pair_codes numbers) ≡ take len (drop skip buffered)
   pub turns_are : sum numbers ≡ searched
   pub few : searched ≤ len
-  pub within : skip + len ≤ length waiting
+  pub within : skip + len ≤ length buffered
 
 -- The samples of the first `rows` rows of a block: sixteen each, but for what the last one lacks.
 abbrev pub rows_len : (size rows : ℕ) → ℕ
@@ -58,12 +58,12 @@ len_of size f = f.words + (size - f.omitted) * f.k
 
 -- A buffered block has these fields. Its residuals have these high parts, and low parts that are buffered and fit in lanes of `bits` bits: levels
 -- with these are the block's.
-pub record AreFields (waiting : List Bool) (s : Parameters) (b before size bits : ℕ) (highs : List ℕ) (f : Fields) : Type 0 where
+pub record AreFields (buffered : List Bool) (s : Parameters) (b before size bits : ℕ) (highs : List ℕ) (f : Fields) : Type 0 where
   pub begins : f.from < value_count s
   pub few : f.omitted ≤ 1
   pub narrow : f.k ≤ bits
   pub whole : f.k ≡ bits → highs ≡ replicate 80 0
   pub places : length highs ≡ 80
-  pub there : f.words ≤ length waiting
-  pub block : (lows levels : List ℕ) → length lows ≡ size → LowsAhead waiting f.words f.omitted f.k lows → HaveParts s f.from f.k (take size highs) lows levels
-      → len_of size f ≤ length waiting → BlockAhead waiting s b (value_at s before) levels (len_of size f) f.turns
+  pub there : f.words ≤ length buffered
+  pub block : (lows levels : List ℕ) → length lows ≡ size → LowsAhead buffered f.words f.omitted f.k lows → HaveParts s f.from f.k (take size highs) lows levels
+      → len_of size f ≤ length buffered → BlockAhead buffered s b (value_at s before) levels (len_of size f) f.turns

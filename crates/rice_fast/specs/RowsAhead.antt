@@ -17,11 +17,11 @@ pub record SpellsParts (s : Parameters) (p k count : ℕ) (highs lows : List ℕ
 
 -- The bytes begin with the spellings of the first `count` samples of a block with these fields and high parts. The last of them has level
 -- `last`.
-pub record RowsAhead (waiting : List Bool) (s : Parameters) (f : Fields) (highs : List ℕ) (count last : ℕ) (bytes : List ℕ) : Type 0 where
+pub record RowsAhead (buffered : List Bool) (s : Parameters) (f : Fields) (highs : List ℕ) (count last : ℕ) (bytes : List ℕ) : Type 0 where
   pub levels : List ℕ
   pub lows : List ℕ
   pub len : length lows ≡ count
-  pub words : 0 < count → LowsAhead waiting f.words f.omitted f.k lows
+  pub words : 0 < count → LowsAhead buffered f.words f.omitted f.k lows
   pub near : HaveParts s f.from f.k (take count highs) lows levels
   pub last_is : last ≡ last_number f.from levels
   pub legal : last < value_count s

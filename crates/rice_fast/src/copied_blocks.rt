@@ -11,7 +11,7 @@ use rice_bits::{BitReader, Intake};
 use rice_samples::{Setting, bytes_of_patterns, level_of_pattern};
 
 /// The bits after a block that are looked at with it, at most.
-const BEHIND: u64 = 128;
+const AFTER: u64 = 128;
 
 /// Returns the number of bits of an identifier, which the compiler knows.
 #[inline(always)]
@@ -80,11 +80,11 @@ fn is_copied_ahead<I: Intake, const WIDTH: usize>(
 ) -> bool
     requires copied { IsCopied setting.now WIDTH }
     requires size { size ≡ setting.now.block }
-    ensures there { result ≡ true → copied_bits setting.now WIDTH + 128 ≤ length reader.now.waiting }
+    ensures there { result ≡ true → copied_bits setting.now WIDTH + 128 ≤ length reader.now.buffered }
     ensures id { result ≡ true → word (id_len setting.now) (2 ^ id_len setting.now - 1)
-        ≡ take (id_len setting.now) reader.now.waiting }
+        ≡ take (id_len setting.now) reader.now.buffered }
 {
-    if reader.waiting() < copied_len::<WIDTH>(setting, size) as u64 + BEHIND {
+    if reader.buffered() < copied_len::<WIDTH>(setting, size) as u64 + AFTER {
         return false;
     }
     reader.first_number_ahead(known_id_len::<WIDTH>(setting) as u32) == known_id::<WIDTH>(setting)
@@ -101,9 +101,9 @@ fn write_copied_ahead<I: Intake, const WIDTH: usize>(
 )
     requires copied { IsCopied setting.now WIDTH }
     requires size { size ≡ setting.now.block }
-    requires there { copied_bits setting.now WIDTH + 128 ≤ length reader.now.waiting }
+    requires there { copied_bits setting.now WIDTH + 128 ≤ length reader.now.buffered }
     requires room { WIDTH * setting.now.block + 15 ≤ length bytes.old }
-    ensures { WordsAhead reader.now.waiting setting.now WIDTH (WIDTH * setting.now.block) bytes.new }
+    ensures { WordsAhead reader.now.buffered setting.now WIDTH (WIDTH * setting.now.block) bytes.new }
 {
     let count = block_bytes::<WIDTH>(setting, size);
     let head = known_id_len::<WIDTH>(setting);
@@ -123,12 +123,12 @@ fn last_copied<I: Intake, const WIDTH: usize>(
 ) -> u32
     requires copied { IsCopied setting.now WIDTH }
     requires size { size ≡ setting.now.block }
-    requires there { copied_bits setting.now WIDTH ≤ length reader.now.waiting }
+    requires there { copied_bits setting.now WIDTH ≤ length reader.now.buffered }
     ensures below { result < value_count setting.now }
     ensures last { word (8 * WIDTH) (pattern setting.now (value_at setting.now result))
         ≡ take (8 * WIDTH)
         (drop (id_len setting.now + 8 * (WIDTH * setting.now.block - WIDTH))
-        reader.now.waiting) }
+        reader.now.buffered) }
 {
     let before = known_id_len::<WIDTH>(setting) + 8 * (block_bytes::<WIDTH>(setting, size) - WIDTH);
     level_of_pattern(setting, reader.number_ahead(before, 8 * WIDTH as u32))
@@ -145,7 +145,7 @@ pub fn write_copied_block<I: Intake, const WIDTH: usize>(
 ) -> Option<WrittenBlock>
     requires size { size ≡ setting.now.block }
     ensures { IfSome result (λ r. (b : ℕ) (p : ℤ) →
-        SpelledAhead reader.now.waiting setting.now b p r.last r.len r.turns bytes.new) }
+        SpelledAhead reader.now.buffered setting.now b p r.last r.len r.turns bytes.new) }
 {
     let _block = setting.block();
     if !is_copied::<WIDTH>(setting) {

@@ -64,8 +64,8 @@ fn head_ahead<I: Intake, const REFERENCE: bool>(
     requires reference { REFERENCE ≡ is_reference setting.now block }
     requires before { before < value_count setting.now }
     requires skip { skip ≤ 6 }
-    requires there { 38 ≤ length reader.now.waiting }
-    ensures { HeadAhead reader.now.waiting setting.now block before skip result.from result.omitted result.len }
+    requires there { 38 ≤ length reader.now.buffered }
+    ensures { HeadAhead reader.now.buffered setting.now block before skip result.from result.omitted result.len }
 {
     if REFERENCE {
         let bits = setting.bits();
@@ -100,9 +100,9 @@ pub fn fields_ahead<L: SampleLanes, I: Intake, const SIZE: usize, const REFERENC
     requires size { size ≡ setting.now.block }
     requires reference { REFERENCE ≡ is_reference setting.now block }
     requires before { before < value_count setting.now }
-    ensures { IfSome result (λ f. AreFields reader.now.waiting setting.now block before size L.bits highs.new f) }
+    ensures { IfSome result (λ f. AreFields reader.now.buffered setting.now block before size L.bits highs.new f) }
 {
-    if reader.waiting() < LOOK {
+    if reader.buffered() < LOOK {
         return None;
     }
     let id = reader.first_number_ahead(L::ID_LEN);
@@ -134,10 +134,10 @@ fn split_fields_ahead<L: SampleLanes, I: Intake, const SIZE: usize, const REFERE
     requires size { size ≡ setting.now.block }
     requires reference { REFERENCE ≡ is_reference setting.now block }
     requires before { before < value_count setting.now }
-    requires there { 102 ≤ length reader.now.waiting }
+    requires there { 102 ≤ length reader.now.buffered }
     requires split { k + 2 < 2 ^ L.ID_LEN }
-    requires id { word (id_len setting.now) (k + 1) ≡ take (id_len setting.now) reader.now.waiting }
-    ensures { IfSome result (λ f. AreFields reader.now.waiting setting.now block before size L.bits highs.new f) }
+    requires id { word (id_len setting.now) (k + 1) ≡ take (id_len setting.now) reader.now.buffered }
+    ensures { IfSome result (λ f. AreFields reader.now.buffered setting.now block before size L.bits highs.new f) }
 {
     let _taken = reader.taken();
     let _block = setting.block();
@@ -173,9 +173,9 @@ fn uncompressed_fields_ahead<L: SampleLanes, I: Intake, const REFERENCE: bool>(
     requires size { size ≡ setting.now.block }
     requires reference { REFERENCE ≡ is_reference setting.now block }
     requires before { before < value_count setting.now }
-    requires there { 102 ≤ length reader.now.waiting }
-    requires id { word (id_len setting.now) (2 ^ id_len setting.now - 1) ≡ take (id_len setting.now) reader.now.waiting }
-    ensures { AreFields reader.now.waiting setting.now block before size L.bits highs.new result }
+    requires there { 102 ≤ length reader.now.buffered }
+    requires id { word (id_len setting.now) (2 ^ id_len setting.now - 1) ≡ take (id_len setting.now) reader.now.buffered }
+    ensures { AreFields reader.now.buffered setting.now block before size L.bits highs.new result }
 {
     let _block = setting.block();
     let head = head_ahead::<I, REFERENCE>(setting, block, before, L::ID_LEN as usize, reader);
@@ -203,9 +203,9 @@ fn pair_fields_ahead<L: SampleLanes, I: Intake, const SIZE: usize, const REFEREN
     requires size { size ≡ setting.now.block }
     requires reference { REFERENCE ≡ is_reference setting.now block }
     requires before { before < value_count setting.now }
-    requires there { 102 ≤ length reader.now.waiting }
-    requires id { word (id_len setting.now) 0 ≡ take (id_len setting.now) reader.now.waiting }
-    ensures { IfSome result (λ f. AreFields reader.now.waiting setting.now block before size L.bits highs.new f) }
+    requires there { 102 ≤ length reader.now.buffered }
+    requires id { word (id_len setting.now) 0 ≡ take (id_len setting.now) reader.now.buffered }
+    ensures { IfSome result (λ f. AreFields reader.now.buffered setting.now block before size L.bits highs.new f) }
 {
     let _taken = reader.taken();
     let _block = setting.block();

@@ -59,16 +59,16 @@ fn high_parts_of_row_ahead<I: Intake>(
     count: usize,
     bytes: usize,
 ) -> Option<Sequences>
-    requires skip { skip ≤ length reader.now.waiting }
+    requires skip { skip ≤ length reader.now.buffered }
     requires omitted { omitted ≤ 1 }
     requires count { (omitted < count) × (count ≤ 16) }
     requires bytes { (1 ≤ bytes) × (bytes ≤ 7) }
     ensures some { IfSome result (λ s.
-        HighsAhead reader.now.waiting skip omitted (take count s.numbers) s.len) }
+        HighsAhead reader.now.buffered skip omitted (take count s.numbers) s.len) }
     ensures lanes { IfSome result (λ s. length s.numbers ≡ 16) }
 {
     let _taken = reader.taken();
-    if reader.waiting() < skip as u64 + 64 {
+    if reader.buffered() < skip as u64 + 64 {
         return None;
     }
     let sequences = reader.sequences_ahead(skip, bytes, count - omitted)?;
@@ -93,9 +93,9 @@ pub fn high_parts_ahead<I: Intake, const SIZE: usize, const REFERENCE: bool, con
     highs: &mut [u8; 80],
 ) -> Option<usize>
     requires size { (omitted < size) × (size ≤ 64) }
-    requires skip { skip ≤ length reader.now.waiting }
+    requires skip { skip ≤ length reader.now.buffered }
     requires omitted { omitted ≤ 1 }
-    ensures some { IfSome result (λ n. HighsAhead reader.now.waiting skip omitted
+    ensures some { IfSome result (λ n. HighsAhead reader.now.buffered skip omitted
         (take size highs.new) n) }
 {
     let _taken = reader.taken();

@@ -36,10 +36,10 @@ pub trait SampleLanes: Lanes {
     /// Returns the words of `width` bits after the first `skip` buffered bits, one in each lane.
     fn words_ahead<I: Intake>(reader: &BitReader<I>, skip: usize, width: u32) -> Self
         requires width { width ≤ Self.bits }
-        requires there { skip + LOOK ≤ length reader.now.waiting }
+        requires there { skip + LOOK ≤ length reader.now.buffered }
         ensures fit { All (λ v. v < 2 ^ width) (Self.numbers result) }
         ensures bits { flat_map (word width) (Self.numbers result)
-            ≡ take (Self.COUNT * width) (drop skip reader.now.waiting) };
+            ≡ take (Self.COUNT * width) (drop skip reader.now.buffered) };
 
     /// Returns the first of these bytes, one in each lane.
     fn of_bytes(from: &[u8]) -> Self

@@ -45,7 +45,7 @@ fn write_fields_ahead<
     requires size { size ≡ setting.now.block }
     requires reference { REFERENCE ≡ is_reference setting.now block }
     requires before { before < value_count setting.now }
-    ensures { IfSome result (λ r. SpelledAhead reader.now.waiting setting.now block
+    ensures { IfSome result (λ r. SpelledAhead reader.now.buffered setting.now block
         (value_at setting.now before) r.last r.len r.turns bytes.new) }
 {
     let _taken = reader.taken();
@@ -54,7 +54,7 @@ fn write_fields_ahead<
     let fields = fields_ahead::<L, I, SIZE, REFERENCE>(
         setting, size, block, before, reader, &mut highs,
     )?;
-    if reader.waiting() < (fields.words + size * fields.k as usize) as u64 + L::LOOK {
+    if reader.buffered() < (fields.words + size * fields.k as usize) as u64 + L::LOOK {
         return None;
     }
     let last = write_rows::<L, I, SIZE, WIDTH, REFERENCE>(
@@ -82,7 +82,7 @@ fn write_block_ahead<L: SampleLanes, I: Intake, const SIZE: usize, const WIDTH: 
     requires size { size ≡ setting.now.block }
     requires place { block < setting.now.interval }
     requires before { before < value_count setting.now }
-    ensures { IfSome result (λ r. SpelledAhead reader.now.waiting setting.now block
+    ensures { IfSome result (λ r. SpelledAhead reader.now.buffered setting.now block
         (value_at setting.now before) r.last r.len r.turns bytes.new) }
 {
     if !setting.preprocess() {

@@ -67,9 +67,9 @@ pub fn pairs_ahead<I: Intake, const SIZE: usize, const REFERENCE: bool>(
 ) -> Option<Pairs>
     requires size { (2 ≤ size) × (size ≤ 64) }
     requires even { size % 2 ≡ 0 }
-    requires skip { skip ≤ length reader.now.waiting }
+    requires skip { skip ≤ length reader.now.buffered }
     requires references { references ≤ 1 }
-    ensures { IfSome result (λ p. PairsAhead reader.now.waiting skip references (take size residuals.new) p.len p.turns) }
+    ensures { IfSome result (λ p. PairsAhead reader.now.buffered skip references (take size residuals.new) p.len p.turns) }
 {
     let mut codes = [0; 80];
     let len = high_parts_ahead::<I, SIZE, REFERENCE, true>(reader, size / 2, skip, 0, &mut codes)?;

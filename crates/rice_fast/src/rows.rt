@@ -46,8 +46,8 @@ fn low_parts_of_row<L: SampleLanes, I: Intake>(
     requires omitted { omitted ≤ 1 }
     requires count { (1 ≤ count) × (count ≤ L.COUNT) }
     requires split { k ≤ L.bits }
-    requires there { skip + L.LOOK ≤ length reader.now.waiting }
-    ensures row { LowsAhead reader.now.waiting skip omitted k (take count (L.numbers result)) }
+    requires there { skip + L.LOOK ≤ length reader.now.buffered }
+    ensures row { LowsAhead reader.now.buffered skip omitted k (take count (L.numbers result)) }
     ensures low { All (λ l. l < 2 ^ k) (L.numbers result) }
 {
     placed(L::words_ahead(reader, skip, k), omitted, count)
@@ -202,8 +202,8 @@ pub fn write_rows<
     requires few { fields.now.omitted ≤ 1 }
     requires narrow { fields.now.k ≤ L.bits }
     requires whole { fields.now.k ≡ L.bits → highs.now ≡ replicate 80 0 }
-    requires there { fields.now.words + size * fields.now.k + L.LOOK ≤ length reader.now.waiting }
-    ensures { IfSome result (λ l. RowsAhead reader.now.waiting setting.now fields.now highs.now size l bytes.new) }
+    requires there { fields.now.words + size * fields.now.k + L.LOOK ≤ length reader.now.buffered }
+    ensures { IfSome result (λ l. RowsAhead reader.now.buffered setting.now fields.now highs.now size l bytes.new) }
 {
     let _taken = reader.taken();
     let mut last = fields.from;

@@ -107,7 +107,7 @@ pub fn segments_of_an_interval()
 
 /// Samples are buffered until their segment is complete.
 pub fn whole_segments()
-    ensures waits { cut defaults 15 ≡ 0 }
+    ensures buffered { cut defaults 15 ≡ 0 }
     ensures whole { cut defaults 16 ≡ 16 }
     ensures longer { cut (record defaults { interval = 130 }) 1040 ≡ 1040 }
     ensures short_of_it { cut (record defaults { interval = 130 }) 1039 ≡ 1024 }

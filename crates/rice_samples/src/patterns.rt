@@ -79,7 +79,7 @@ pub(crate) fn store_word(word: u32, msb: bool, bytes: &mut [u8])
         2 => bytes.copy_from_slice(&[a, b]),
         3 if msb => bytes.copy_from_slice(&[c, b, a]),
         3 => {
-            // Two at one stroke and one more.
+            // Two at once and one more.
             bytes[..2].copy_from_slice(&[a, b]);
             bytes[2] = c;
         }

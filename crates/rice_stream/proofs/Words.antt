@@ -14,8 +14,8 @@ pub use Rattle.rice_bits.proofs.lemmas.device.OutletLemmas.{Appends-kept, Append
 pub use Rattle.rice_bits.specs.Bits.{bits_in_bytes, bits_to_byte, padded_bits, word}
 unfoldable pub use Rattle.rice_bits.specs.Bits.{bits_of, whole_bytes}
 pub use Rattle.rice_bits.specs.{Limits.most_at_once, declared.device.slice.SliceIn.SliceIn, declared.read.fault.BitFault.BitFault, device.OutletRoom.Appends, device.OutletRoom.Room}
-pub use Rattle.rice_bits.specs.{read.Window.most_waiting}
-pub use Rattle.rice_bits.specs.read.Reader.{Draws, Reader, Stops, Takes, is_blank, new_reader}
+pub use Rattle.rice_bits.specs.{read.Window.most_buffered}
+pub use Rattle.rice_bits.specs.read.Reader.{Refills, Reader, Stops, Takes, is_blank, new_reader}
 pub use Rattle.rice_samples.proofs.lemmas.{bytes.ReadSamples.reads_before, bytes.ReadSamples.reads_then}
 pub use Rattle.rice_samples.proofs.lemmas.{setting.CutLemmas.cut_is_greatest, setting.CutLemmas.cut_is_start}
 pub use Rattle.rice_samples.proofs.lemmas.bytes.SpellingLengths.{length-spelling, length-spellings, narrow_width, some_width, spellings-append}
@@ -49,7 +49,7 @@ pub use Rattle.rice_code.specs.decode.DecoderState.{DecoderState, IsDecoderState
 pub use Rattle.rice_code.specs.encode.Coder.{AddsCode, CompletesNone, HasTaken, IsAlignedWith, PushesSamples, complete_code}
 pub use Rattle.rice_fast.proofs.lemmas.encode.TakenBytes.{one_sample}
 pub use Rattle.rice_fast.specs.encode.Standing.{HasRoomAt, Standing}
-pub use Rattle.rice_stream.specs.{DecodingState.Advances, DecodingState.AnswersBytes, DevicesInCalls.TakesPart, WaitingBytes.Refills, WaitingBytes.with_last, declared.outcome.Fault.Fault}
+pub use Rattle.rice_stream.specs.{DecodingState.Advances, DecodingState.AnswersBytes, DevicesInCalls.TakesPart, BufferedBytes.FillsBuffer, BufferedBytes.with_last, declared.outcome.Fault.Fault}
 pub use Rattle.rice_stream.specs.{declared.outcome.Report.Report, declared.seam.Seam.Seam, declared.stand.Pause.Pause, declared.stand.Stand.Stand, declared.takes.Taken.Taken}
 pub use Rattle.rice_stream.specs.Decodes.{CountsSteps, DecodesBetween, DecodesBytes, EndsDecoding, EndsInTurns, Reports, RunsOut, at_most, ended_fault, refusal_fault, wanted_of}
 pub use Rattle.rice_stream.specs.DecodingState.{AreOfRun, DecodedSoFar, DecodingProgress, Gains, HasRead, HasSets, FailsInRun, WritesRun, repeated}
@@ -57,11 +57,11 @@ pub use Rattle.rice_stream.specs.DevicesInCalls.{Call, Fails, IsWithinLimit, Pas
 pub use Rattle.rice_stream.specs.Encodes.{EncodesBetween, EncodesWithin, EndsEncoding, LeavesEarly, ReportsAll, ReportsTaken, SpellsSoFar}
 pub use Rattle.rice_stream.specs.EncodingState.{Beginning, CountsSamples, EncodingProgress, EncodingValue, FailsAt, Follows, FollowsBetween, HoldsCode, IsEncodingOf, MeetsFailure, PushFails, Pushes}
 pub use Rattle.rice_stream.specs.EncodingState.{Sees, TakesAll, TakesSamples, WritesRest, afresh, whole_part}
-pub use Rattle.rice_stream.specs.Feeding.{AreAll, EncodesMore, EncodesRest, IsSeam, TakesPiece, behind, bytes_in_all, encoding_at, samples_to_take}
-pub use Rattle.rice_stream.specs.Laws.{AreFed, ArePulled, EndsCode, EnoughBehindIsDecoding, EnoughIsDecoding, FeedingIsEncoding, FrontIsPlace, GiveInParts, IsPlace, IsPulled, Piece, Pull}
-pub use Rattle.rice_stream.specs.Laws.{PullsAreDecoding, ReturnsBytes, ReturnsBytesAndFill, SeamsTellPlaces, SeekingIsDecoding, StandsTellPlaces, TakeInParts, last_seam, last_stand, place_behind}
+pub use Rattle.rice_stream.specs.Feeding.{AreAll, EncodesMore, EncodesRest, IsSeam, TakesPiece, after, bytes_in_all, encoding_at, samples_to_take}
+pub use Rattle.rice_stream.specs.Laws.{AreFed, ArePulled, EndsCode, EnoughAfterIsDecoding, EnoughIsDecoding, FeedingIsEncoding, FrontIsPlace, GiveInParts, IsPlace, IsPulled, Piece, Pull}
+pub use Rattle.rice_stream.specs.Laws.{PullsAreDecoding, ReturnsBytes, ReturnsBytesAndFill, SeamsTellPlaces, SeekingIsDecoding, StandsTellPlaces, TakeInParts, last_seam, last_stand, place_after}
 pub use Rattle.rice_stream.specs.Pulling.{DecodesMore, GivesMore, GivesNext, GoesOnAt, HasRoomForBlock, IsReadFrom, IsStand, MayBegin, Origin, PausesAt, TakesNext, WritesRunAt, ahead, bits_ahead}
-pub use Rattle.rice_stream.specs.Pulling.{bytes_told, pause_for, stand_at, state_of}
+pub use Rattle.rice_stream.specs.Pulling.{bytes_reported, pause_for, stand_at, state_of}
 pub use Rattle.rice_stream.specs.TakenBytes.{ShowsCode, TakesSpelled, standing_between}
 pub use Rattle.rice_stream.specs.declared.outcome.Fault.TheVariants.{CodeEnds, Read, ResidualTooLarge, RunPastSegment, SampleCut, SampleOutOfRange, TooLong, Write}
 pub use Rattle.std.proofs.lemmas.List.{nil_from_length}

@@ -5,7 +5,7 @@ use Rattle.rice_bits.specs.Limits.{most_bits_read}
 use Rattle.rice_bits.specs.Limits.{most_bytes_read, most_at_once}
 use Rattle.rice_bits.specs.device.OutletRoom.{Room}
 use Rattle.rice_bits.specs.read.Reader.{Reader}
-use Rattle.rice_bits.specs.read.Window.{most_waiting}
+use Rattle.rice_bits.specs.read.Window.{most_buffered}
 use Rattle.rice_code.specs.Bounds.{decoder_step_bound}
 use Rattle.rice_code.specs.Limits.{most_samples_of_bit}
 use Rattle.rice_code.specs.code.Decoded.{Decoded, AreTaken, BeginsUnsound}
@@ -109,8 +109,8 @@ pub record Reports {I : Type 0} (r : Report) (f : Option Fault) (left : Option (
   pub fault_is : f ≡ fault
   pub left_is : left ≡ reader.left
   pub failed_is : failed ≡ reader.failed
-  pub ahead : length reader.waiting ≤ most_waiting
-  pub limit : reader.taken + length reader.waiting ≤ most_bits_read
+  pub ahead : length reader.buffered ≤ most_buffered
+  pub limit : reader.taken + length reader.buffered ≤ most_bits_read
 
 -- how many samples of a block are wanted after the first `written`
 abbrev pub wanted_of : Option ℕ → ℕ → ℕ → ℕ

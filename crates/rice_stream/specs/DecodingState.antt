@@ -4,7 +4,7 @@ use Rattle.std.specs.Prelude.{◌≡◌, ℕ, ◌+◌, ◌*◌, ◌<◌, ◌≤�
 use Rattle.rice_bits.specs.Limits.{most_bits_read}
 use Rattle.rice_bits.specs.device.OutletRoom.{Room, Appends}
 use Rattle.rice_bits.specs.read.Reader.{Reader}
-use Rattle.rice_bits.specs.read.Reader.{Draws}
+use Rattle.rice_bits.specs.read.Reader.{Refills}
 use Rattle.rice_code.specs.Limits.{most_samples_of_bit}
 use Rattle.rice_code.specs.code.Blocks.{blocks_from, zero_block}
 use Rattle.rice_code.specs.code.Decoded.{AreTaken, Decoded, DecodedFrom, Ending, IsWanted, cut_to}
@@ -57,11 +57,11 @@ pub record IsAtBlock (s : Parameters) (p : DecoderState) (blocks : ℕ) (given :
   pub previous : p.before ≡ last_of (pos 0) given
   pub going : p.stopped ≡ None
 
--- These bits were taken of the bytes that the intake has given since it had `start` left, and these bits wait.
-pub record HasRead (start left : Option (List ℕ)) (waiting : List Bool) (taken : ℕ) (front : List Bool) : Type 0 where
+-- These bits were taken of the bytes that the intake has given since it had `start` left, and these bits are buffered.
+pub record HasRead (start left : Option (List ℕ)) (buffered : List Bool) (taken : ℕ) (front : List Bool) : Type 0 where
   pub bytes : List ℕ
   pub gave : Consumes start left bytes
-  pub bits : bits_of bytes ≡ front ++ waiting
+  pub bits : bits_of bytes ≡ front ++ buffered
   pub count : taken ≡ length front
 
 -- These bits are sound coded data sets with their padding, which have `blocks` blocks.
@@ -86,7 +86,7 @@ pub record HasSteps (steps taken written in_run turns : ℕ) : Type 0 where
 -- One block more was given, for which these bits were taken.
 pub record Gains {I : Type 0} (s : Parameters) (old new : Reader I) (steps steps_new : ℕ) (front : List Bool) (sets : List CodedDataSet) (blocks run : ℕ) (given samples : List ℤ) : Type 0 where
   pub bits : List Bool
-  pub draws : Draws old.left new.left old.waiting new.waiting bits
+  pub refills : Refills old.left new.left old.buffered new.buffered bits
   pub taken : new.taken ≡ old.taken + length bits
   pub going : new.refusal ≡ None
   pub failures : new.failed ≡ old.failed
@@ -110,7 +110,7 @@ pub record DecodingProgress {I : Type 0} (s : Parameters) (asked : Option ℕ) (
   pub reads : r.failed ≡ start.failed
   pub idle : asked ≡ Some 0 → r ≡ start
   pub limit : r.taken ≤ most_bits_read
-  pub has_read : HasRead start.left r.left r.waiting r.taken front
+  pub has_read : HasRead start.left r.left r.buffered r.taken front
   pub has_sets : HasSets s sets front (blocks + p.run)
   pub before : begun ≤ blocks
   pub decoded : DecodedSoFar s front begun blocks p.run given
@@ -132,13 +132,13 @@ pub record WritesRun (s : Parameters) (asked : Option ℕ) (written : ℕ) (p q 
   pub run : q.run + blocks ≡ p.run
   pub put : Appends old new (spellings s (replicate count p.before))
 
--- The outlet failed behind `count` samples, those of whole blocks of a run, in the block after them. All of these are wanted.
+-- The outlet failed after `count` samples, those of whole blocks of a run, in the block after them. All of these are wanted.
 pub record FailsInRun (s : Parameters) (asked : Option ℕ) (written : ℕ) (p : DecoderState) (old new : Option Room) (count : ℕ) : Type 0 where
   pub blocks : ℕ
   pub count_is : count ≡ s.block * blocks
   pub within : blocks < p.run
   pub wanted : IfSome asked (λ n. written + count + s.block ≤ n)
-  -- the decoder before and behind that block
+  -- the decoder before and after that block
   pub middle : DecoderState
   pub last : DecoderState
   pub passes : RepeatsBlocks blocks p middle
@@ -159,5 +159,5 @@ pub record AnswersBytes {I : Type 0} (old new : Reader I) (steps steps_new : ℕ
   pub spelled : answer ≡ Ok Block → take (width p.setting * length samples) bytes ≡ spellings p.setting samples
   pub setting : q.setting ≡ p.setting
   pub counted : AreCounted steps steps_new old.taken new.taken
-  -- the samples that are given and those that then wait are bounded by the bits
+  -- the samples that are given and those that are then pending are bounded by the bits
   pub by_bits : length samples + q.run * q.setting.block ≤ p.run * p.setting.block + most_samples_of_bit * (new.taken - old.taken)

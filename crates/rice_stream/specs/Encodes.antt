@@ -47,7 +47,7 @@ module _ (s : Parameters) where
     pub reports : ReportsTaken s r xs
 
   -- The outlet failed after the last of these samples: all before it is written, and not all that it completes.
-  pub record FailsBehind (c : Call) (r : Report) (xs : List ℤ) : Type 0 where
+  pub record FailsAfter (c : Call) (r : Report) (xs : List ℤ) : Type 0 where
     pub given : BeginsWith s c.given xs
     pub some : 1 ≤ length xs
     pub reports : ReportsTaken s r xs
@@ -71,7 +71,7 @@ module _ (s : Parameters) where
   EndsEncoding (Some (SampleCut index)) c r xs = Spells s c.given xs TooFew × IsAtEnd c.left × (index ≡ length xs) × LeavesEarly c r xs
   EndsEncoding (Some Read) c r xs = SpellsSoFar c.given xs × LeavesEarly c r xs
   EndsEncoding (Some TooLong) c r xs = ((front : List ℕ) × PassesLimit most_input c.given front × SpellsSoFar front xs) × LeavesEarly c r xs
-  EndsEncoding (Some Write) c r xs = (length c.given < r.samples * width s + most_at_once) × (FailsBehind c r xs ⊎ FailsAtEnd c r xs)
+  EndsEncoding (Some Write) c r xs = (length c.given < r.samples * width s + most_at_once) × (FailsAfter c r xs ⊎ FailsAtEnd c r xs)
   EndsEncoding (Some _) c r xs = ⊥
 
   -- What the call did, for each outcome.

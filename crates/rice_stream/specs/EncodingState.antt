@@ -11,7 +11,7 @@ use Rattle.rice_samples.specs.bytes.Spelling.{Reads, EndsSpelling, IsNoSpelling,
 use Rattle.rice_code.specs.CoderSteps.{least_steps, most_steps}
 use Rattle.rice_code.specs.encode.OpenSegment.{CoderState}
 use Rattle.rice_fast.specs.encode.Standing.{Standing}
-use Rattle.rice_stream.specs.{WaitingBytes.WaitingBytes, DevicesInCalls.StopsBetween, declared.encoding.Encoding.Encoding}
+use Rattle.rice_stream.specs.{BufferedBytes.BufferedBytes, DevicesInCalls.StopsBetween, declared.encoding.Encoding.Encoding}
 use Rattle.rice_stream.specs.{declared.outcome.Fault.Fault, declared.outcome.Fault.TheVariants.Write, declared.outcome.Fault.TheVariants.SampleOutOfRange}
 
 -- An encoding whose coder puts the code of a segment only when it is whole.
@@ -159,11 +159,11 @@ abbrev pub PushesBytes : {C T : Type 0} → (C → List Bool → ℕ → Standin
 PushesBytes stands s taken taken_new e e_new bytes result = (v : EncodingValue) (old : Beginning) (xs : List ℤ) → Sees stands e v → IsEncodingOf s old taken v xs
     → (v_new : EncodingValue) × Sees stands e_new v_new × Pushes s old taken_new v_new xs bytes result
 
--- Bytes were given so far: those of samples, whose code is written as far as it is whole, and those that wait.
-pub record EncodingProgress (s : Parameters) (left_old left : Option (List ℕ)) (taken_old taken : Option Room) (v : EncodingValue) (r : WaitingBytes) : Type 0 where
+-- Bytes were given so far: those of samples, whose code is written as far as it is whole, and those that are buffered.
+pub record EncodingProgress (s : Parameters) (left_old left : Option (List ℕ)) (taken_old taken : Option Room) (v : EncodingValue) (r : BufferedBytes) : Type 0 where
   pub bytes : List ℕ
   pub samples : List ℤ
-  pub reads : Reads s bytes samples r.waiting
+  pub reads : Reads s bytes samples r.buffered
   pub count : r.given ≡ length bytes
   pub gave : Consumes left_old left bytes
   pub holds : IsEncodingOf s (afresh taken_old) taken v samples

@@ -31,7 +31,7 @@ pub record IsSeam (s : Parameters) (seam : Seam) (xs : List ℤ) : Type 0 where
 abbrev pub IsSomeSeam : Parameters → Seam → Type 0
 IsSomeSeam s seam = (xs : List ℤ) × IsSeam s seam xs
 
--- an encoding stands there, but for the bits that wait
+-- an encoding stands there, but for the bits that fill no byte
 pub record StandsAt {C : Type 0} (stands : C → List Bool → ℕ → Standing → Type 0) (s : Parameters) (seam : Seam) (e : Encoding C) : Type 0 where
   pub coder : (bits : List Bool) (steps : ℕ) → stands e.coder bits steps (standing_between s seam.start seam.previous bits steps)
   pub sink : e.sink ≡ []
@@ -40,8 +40,8 @@ pub record StandsAt {C : Type 0} (stands : C → List Bool → ℕ → Standing 
   pub bits : e.bits ≡ seam.bits
 
 -- an outlet takes what follows the whole bytes of the code of these samples
-abbrev pub behind : Parameters → List ℤ → Option Room → Beginning
-behind s xs now = record { before = early_output s xs; state = now }
+abbrev pub after : Parameters → List ℤ → Option Room → Beginning
+after s xs now = record { before = early_output s xs; state = now }
 
 -- the bytes of these samples, and others after them
 abbrev pub bytes_in_all : Parameters → List ℤ → List ℕ → ℕ
@@ -61,7 +61,7 @@ module _ (s : Parameters) (xs : List ℤ) (bytes : List ℕ) (old new : Option R
     pub reads : Reads s bytes more rest
     pub all : length (xs ++ more) ≡ samples_to_take s xs bytes
     pub stands : IsSeam s seam (xs ++ more)
-    pub writes : Follows (behind s xs old) new (early_output s (xs ++ more))
+    pub writes : Follows (after s xs old) new (early_output s (xs ++ more))
 
   -- The bytes spell these samples, and then they end so. The code of the complete segments is written.
   pub record MeetsEnd (end : SpellingEnd) (more : List ℤ) (index : ℕ) : Type 0 where
@@ -70,14 +70,14 @@ module _ (s : Parameters) (xs : List ℤ) (bytes : List ℕ) (old new : Option R
     pub reads : Reads s bytes more rest
     pub ends : EndsSpelling s rest end
     pub index_is : index ≡ length (xs ++ more)
-    pub writes : Follows (behind s xs old) new (early_output s (xs ++ more))
+    pub writes : Follows (after s xs old) new (early_output s (xs ++ more))
 
   -- the last of these samples completes a segment, and the outlet fails before all of its code is written
   pub record WantsRoom (more : List ℤ) (last : ℤ) : Type 0 where
     pub limit : bytes_in_all s xs bytes ≤ most_input
     pub rest : List ℕ
     pub reads : Reads s bytes (more ++ last ∷ []) rest
-    pub writes : FollowsBetween (behind s xs old) new (early_output s (xs ++ more)) (early_output s ((xs ++ more) ++ last ∷ []))
+    pub writes : FollowsBetween (after s xs old) new (early_output s (xs ++ more)) (early_output s ((xs ++ more) ++ last ∷ []))
 
   -- the samples so far and these bytes pass the limit, and nothing is done
   pub record PassesAll : Type 0 where
@@ -100,12 +100,12 @@ module _ (s : Parameters) (xs : List ℤ) (bytes : List ℕ) (old new : Option R
 
   -- what becomes of the last piece
   abbrev pub EncodesRest : Report → Option Fault → Type 0
-  EncodesRest r None = (more : List ℤ) × AreAll more × ReportsAll s r (xs ++ more) × Follows (behind s xs old) new (output s (xs ++ more))
+  EncodesRest r None = (more : List ℤ) × AreAll more × ReportsAll s r (xs ++ more) × Follows (after s xs old) new (output s (xs ++ more))
   EncodesRest r (Some (SampleOutOfRange index)) = (more : List ℤ) × MeetsEnd NoSpelling more index × ReportsTaken s r (xs ++ more)
   EncodesRest r (Some (SampleCut index)) = (more : List ℤ) × MeetsEnd TooFew more index × ReportsTaken s r (xs ++ more)
   EncodesRest r (Some Write) =
       ((more : List ℤ) × (last : ℤ) × WantsRoom more last × ReportsTaken s r ((xs ++ more) ++ last ∷ []))
-      ⊎ ((more : List ℤ) × AreAll more × ReportsAll s r (xs ++ more) × FollowsBetween (behind s xs old) new (early_output s (xs ++ more)) (output s (xs ++ more)))
+      ⊎ ((more : List ℤ) × AreAll more × ReportsAll s r (xs ++ more) × FollowsBetween (after s xs old) new (early_output s (xs ++ more)) (output s (xs ++ more)))
   EncodesRest r (Some TooLong) = PassesAll × ReportsTaken s r xs
   EncodesRest r (Some _) = ⊥
 

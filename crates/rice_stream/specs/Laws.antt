@@ -32,11 +32,11 @@ pub record Piece : Type 0 where
   pub old : Option Room
   pub new : Option Room
 
--- Pieces of an input were fed one after the other. Each begins behind the samples that the seam before it counts, and ends anywhere.
+-- Pieces of an input were fed one after the other. Each begins after the samples that the seam before it counts, and ends anywhere.
 abbrev pub AreFed : Parameters → List ℕ → Seam → List Piece → Type 0
 AreFed s input seam [] = ⊤
 AreFed s input seam (p ∷ ps) =
-    ((behind : List ℕ) × (drop (width s * seam.samples) input ≡ p.bytes ++ behind)) ×
+    ((after : List ℕ) × (drop (width s * seam.samples) input ≡ p.bytes ++ after)) ×
     EncodesOn s seam p.bytes p.old p.new (Ok p.seam) × AreFed s input p.seam ps
 
 -- where the last of them ended
@@ -68,37 +68,37 @@ pub record Pull : Type 0 where
 
 -- What a call of `decode_more` says of a piece that begins with the byte of the code in which the stand's next bit is.
 abbrev pub IsPulled : Parameters → List ℕ → Stand → Pull → List ℕ → Type 0
-IsPulled s code stand p behind = (drop (stand.bits / 8) code ≡ p.piece ++ behind) × DecodesOn s stand p.piece p.old p.new p.stand p.pause
+IsPulled s code stand p after = (drop (stand.bits / 8) code ≡ p.piece ++ after) × DecodesOn s stand p.piece p.old p.new p.stand p.pause
 
 -- Pieces of a code were pulled one after the other. Each ends anywhere, and has any room.
 abbrev pub ArePulled : Parameters → List ℕ → Stand → List Pull → Type 0
 ArePulled s code stand [] = ⊤
-ArePulled s code stand (p ∷ ps) = ((behind : List ℕ) × IsPulled s code stand p behind) × ArePulled s code p.stand ps
+ArePulled s code stand (p ∷ ps) = ((after : List ℕ) × IsPulled s code stand p after) × ArePulled s code p.stand ps
 
 -- where the last of them ended
 abbrev pub last_stand : Stand → List Pull → Stand
 last_stand stand [] = stand
 last_stand stand (p ∷ ps) = last_stand p.stand ps
 
--- The calls wrote the bytes of these samples to the front of the caller's memory, a part each, by which the stand's count has grown, and no byte behind them.
+-- The calls wrote the bytes of these samples to the front of the caller's memory, a part each, by which the stand's count has grown, and no byte after them.
 abbrev pub GiveInParts : Parameters → Stand → List Pull → List ℤ → Type 0
 GiveInParts s stand [] xs = xs ≡ []
 GiveInParts s stand (p ∷ ps) xs =
     (part : List ℤ) × (rest : List ℤ) × (xs ≡ part ++ rest) × (p.stand.samples ≡ stand.samples + length part) × (p.new ≡ spellings s part ++ drop (width s * length part) p.old) ×
     GiveInParts s p.stand ps rest
 
--- how a code ends where the pull of a piece pauses that has these bytes behind it
+-- how a code ends where the pull of a piece pauses that has these bytes after it
 abbrev pub EndsCode : Pause → List ℕ → Ending → Type 0
-EndsCode pauses.Blank behind ending = (behind ≡ []) × (ending ≡ Ended)
-EndsCode pauses.Cut behind ending = (behind ≡ []) × (ending ≡ CutOff)
-EndsCode pauses.RunPastSegment behind ending = ending ≡ Past
-EndsCode pauses.ResidualTooLarge behind ending = ending ≡ Large
-EndsCode _ behind ending = ⊥
+EndsCode pauses.Blank after ending = (after ≡ []) × (ending ≡ Ended)
+EndsCode pauses.Cut after ending = (after ≡ []) × (ending ≡ CutOff)
+EndsCode pauses.RunPastSegment after ending = ending ≡ Past
+EndsCode pauses.ResidualTooLarge after ending = ending ≡ Large
+EndsCode _ after ending = ⊥
 
 -- Pieces were pulled from the front of a code, and the last of them to where the code ends. Then the samples of all calls, one after the other, are those that the code decodes to, and it ends so.
 abbrev pub PullsAreDecoding : Type 0
-PullsAreDecoding = (s : Parameters) (code : List ℕ) (first : Stand) (pulls : List Pull) (last : Pull) (behind : List ℕ) (ending : Ending) →
-    IsStand s at_front first [] [] → ArePulled s code first pulls → IsPulled s code (last_stand first pulls) last behind → EndsCode last.pause behind ending →
+PullsAreDecoding = (s : Parameters) (code : List ℕ) (first : Stand) (pulls : List Pull) (last : Pull) (after : List ℕ) (ending : Ending) →
+    IsStand s at_front first [] [] → ArePulled s code first pulls → IsPulled s code (last_stand first pulls) last after → EndsCode last.pause after ending →
     (xs : List ℤ) × (used : ℕ) × GiveInParts s first (pulls ++ last ∷ []) xs × Decoded s (bits_of code) None xs ending used
 
 -- Pieces were pulled from the front of a code until there were n samples, and no block more. Then the first n are those that the code decodes to with the count n, which is reached.
@@ -117,16 +117,16 @@ abbrev pub FrontIsPlace : Type 0
 FrontIsPlace = (s : Parameters) (code : List ℕ) → IsPlace s code at_front []
 
 -- Pieces were pulled from such a place, and the last of them to where the code ends. Then the samples of all calls are those that the
--- whole code decodes to behind the samples before it, and it ends so.
+-- whole code decodes to after the samples before it, and it ends so.
 abbrev pub SeekingIsDecoding : Type 0
-SeekingIsDecoding = (s : Parameters) (code : List ℕ) (o : Origin) (before : List ℤ) (first : Stand) (pulls : List Pull) (last : Pull) (behind : List ℕ) (ending : Ending) →
-    IsPlace s code o before → IsStand s o first [] [] → ArePulled s code first pulls → IsPulled s code (last_stand first pulls) last behind → EndsCode last.pause behind ending →
+SeekingIsDecoding = (s : Parameters) (code : List ℕ) (o : Origin) (before : List ℤ) (first : Stand) (pulls : List Pull) (last : Pull) (after : List ℕ) (ending : Ending) →
+    IsPlace s code o before → IsStand s o first [] [] → ArePulled s code first pulls → IsPulled s code (last_stand first pulls) last after → EndsCode last.pause after ending →
     (xs : List ℤ) × (used : ℕ) × GiveInParts s first (pulls ++ last ∷ []) xs × Decoded s (bits_of code) None (before ++ xs) ending used
 
 -- Pieces were pulled from there until there were n samples, and no block more. Then the first n are those that the whole code decodes to
--- behind the samples before them, with the count of all these, which is reached.
-abbrev pub EnoughBehindIsDecoding : Type 0
-EnoughBehindIsDecoding = (s : Parameters) (code : List ℕ) (o : Origin) (before : List ℤ) (first : Stand) (pulls : List Pull) (n : ℕ) →
+-- after the samples before them, with the count of all these, which is reached.
+abbrev pub EnoughAfterIsDecoding : Type 0
+EnoughAfterIsDecoding = (s : Parameters) (code : List ℕ) (o : Origin) (before : List ℤ) (first : Stand) (pulls : List Pull) (n : ℕ) →
     IsPlace s code o before → IsStand s o first [] [] → ArePulled s code first pulls → o.samples + n ≤ (last_stand first pulls).samples → (last_stand first pulls).samples < o.samples + n + s.block →
     (xs : List ℤ) × GiveInParts s first pulls xs × Decoded s (bits_of code) (Some (o.samples + n)) (before ++ take n xs) Reached (last_stand first pulls).bits
 
@@ -141,8 +141,8 @@ StandsTellPlaces = (s : Parameters) (code : List ℕ) (o : Origin) (before : Lis
     (xs : List ℤ) × GiveInParts s first pulls xs × IsPlace s code (place_at (last_stand first pulls)) (before ++ xs)
 
 -- the place that a seam tells, where so many bytes were written
-abbrev pub place_behind : Seam → ℕ → Origin
-place_behind seam written = record { bits = 8 * written + seam.waiting_bits; samples = seam.samples }
+abbrev pub place_after : Seam → ℕ → Origin
+place_after seam written = record { bits = 8 * written + seam.waiting_bits; samples = seam.samples }
 
 -- Where pieces of an input were fed up to the end of an interval, the seam tells, with the number of bytes written so far, the place at which
 -- the next begins in the code of all samples, whatever the others are.
@@ -150,4 +150,4 @@ abbrev pub SeamsTellPlaces : Type 0
 SeamsTellPlaces = (s : Parameters) (input : List ℕ) (seam : Seam) (pieces : List Piece) →
     IsSeam s seam [] → AreFed s input seam pieces → (last_seam seam pieces).start ≡ 0 →
     (xs : List ℤ) × (bytes rest : List ℕ) × (input ≡ spellings s xs ++ rest) × TakeInParts pieces bytes ×
-    ((ys : List ℤ) → IsPlace s (output s (xs ++ ys)) (place_behind (last_seam seam pieces) (length bytes)) xs)
+    ((ys : List ℤ) → IsPlace s (output s (xs ++ ys)) (place_after (last_seam seam pieces) (length bytes)) xs)

@@ -8,4 +8,4 @@ pub mod Feeding
 pub mod Laws
 pub mod Pulling
 pub mod TakenBytes
-pub mod WaitingBytes
+pub mod BufferedBytes

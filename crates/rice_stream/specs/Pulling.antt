@@ -77,7 +77,7 @@ PausesAt s old piece room new rest count pauses.RunPastSegment = HasRoomForBlock
 PausesAt s old piece room new rest count pauses.ResidualTooLarge = HasRoomForBlock s count room × (new.run ≡ 0) × (used : ℕ) × EndsWith s None new.block rest Large used
 PausesAt s old piece room new rest count pauses.TooLong = PieceIsRefused old new piece count
 
--- Whole blocks were given, and the stand is behind the last coded data set that they take. The memory of the caller has their bytes in front.
+-- Whole blocks were given, and the stand is after the last coded data set that they take. The memory of the caller has their bytes in front.
 pub record DecodesMore (s : Parameters) (o : Origin) (front : List Bool) (given : List ℤ) (piece : List ℕ) (old : Stand) (out_old out : List ℕ) (new : Stand) (pause : Pause) : Type 0 where
   pub bits : List Bool
   pub rest : List Bool
@@ -96,20 +96,20 @@ DecodesOn s old piece out_old out new pause = (o : Origin) (front : List Bool) (
 abbrev pub state_of : Parameters → Stand → DecoderState
 state_of s stand = record { setting = s; block = stand.block; before = stand.previous; run = stand.run; stopped = None }
 
--- the bytes, if they are told
-abbrev pub bytes_told : Option (List ℕ) → List ℕ
-bytes_told None = []
-bytes_told (Some bytes) = bytes
+-- the bytes, if they are reported
+abbrev pub bytes_reported : Option (List ℕ) → List ℕ
+bytes_reported None = []
+bytes_reported (Some bytes) = bytes
 
 -- the bits that are still to come, of a reader that tells its bytes
 abbrev pub ahead : {I : Type 0} → Reader I → List Bool
-ahead r = r.waiting ++ bits_of (bytes_told r.left)
+ahead r = r.buffered ++ bits_of (bytes_reported r.left)
 
 -- a reader of a piece that has come to where decoding stands
 pub record IsReadFrom {I : Type 0} (stand : Stand) (r : Reader I) : Type 0 where
   pub going : r.refusal ≡ None
   pub failed : r.failed ≡ 0
-  pub told : IsSome r.left
+  pub reported : IsSome r.left
   pub taken : r.taken ≤ stand.bits
   pub limit : stand.bits + length (ahead r) ≤ most_bits_read
 
@@ -146,7 +146,7 @@ pub record GoesOnAt {I : Type 0} (s : Parameters) (stand next : Stand) (q : Deco
 abbrev pub stand_at : (samples bits steps : ℕ) → DecoderState → Stand
 stand_at samples bits steps q = record { samples = samples; bits = bits; steps = steps; previous = q.before; block = q.block; run = q.run }
 
--- the decoder gave blocks with these samples, and decoding stands behind them then
+-- the decoder gave blocks with these samples, and decoding stands after them then
 pub record GivesMore {I : Type 0} (s : Parameters) (stand next : Stand) (q : DecoderState) (old new : Reader I) (samples : List ℤ) : Type 0 where
   pub goes_on : GoesOnAt s stand next q old new
   pub gives : (o : Origin) (front : List Bool) (given : List ℤ) → IsStand s o stand front given → GivesNext s o front given next old new samples

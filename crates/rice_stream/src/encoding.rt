@@ -34,7 +34,7 @@ pub struct Encoding<C: TakesBytes> {
 }
 
 impl<C: TakesBytes> Encoding<C> {
-    /// Returns an encoding that goes on after the code of whole segments, but for the bits that wait.
+    /// Returns an encoding that goes on after the code of whole segments, but for the bits that fill no byte.
     ///
     /// They are put by `put_bits_of_seam`, once it lies where it is kept: else it would be copied there, which takes longer than
     /// short pieces.
@@ -53,7 +53,7 @@ impl<C: TakesBytes> Encoding<C> {
         }
     }
 
-    /// Puts the bits that wait.
+    /// Puts the bits that fill no byte.
     pub(crate) fn put_bits_of_seam(&mut self, seam: &Seam)
         requires { (s : Parameters) × (xs : List ℤ) × IsSeam s seam.now xs ×
             StandsAt C.stands s seam.now self.old }
@@ -64,7 +64,7 @@ impl<C: TakesBytes> Encoding<C> {
         self.sink.put(seam.waiting, seam.waiting_bits, &mut aside);
     }
 
-    /// Returns where the code ends, if the samples so far make whole segments. The bits that wait are then in the seam alone.
+    /// Returns where the code ends, if the samples so far make whole segments. The bits that fill no byte are then in the seam alone.
     pub(crate) fn seam(&mut self) -> Seam
         requires { (v : EncodingValue) × Sees C.stands self.old v × (s : Parameters) × (old : Beginning) × (now : Option Room) ×
             (xs : List ℤ) × IsEncodingOf s old now v xs × (cut s (length xs) ≡ length xs) }
@@ -73,14 +73,14 @@ impl<C: TakesBytes> Encoding<C> {
             width s * length xs ≤ most_input → IsSeam s result xs }
     {
         let waiting_bits = self.sink.len() as u32;
-        let waiting = take_waiting_number(&mut self.sink);
+        let buffered = take_waiting_number(&mut self.sink);
         Seam {
             samples: self.samples,
             bits: self.bits,
             steps: self.meter.steps(),
             previous: self.coder.previous(),
             start: self.coder.start(),
-            waiting,
+            buffered,
             waiting_bits,
         }
     }
@@ -150,7 +150,7 @@ impl<C: TakesBytes> Encoding<C> {
         Ok(())
     }
 
-    /// Codes the samples that wait, fills the last byte, and returns the report. The sink then holds the rest of the code.
+    /// Codes the pending samples, fills the last byte, and returns the report. The sink then holds the rest of the code.
     fn code_rest_and_fill(&mut self) -> Report
         requires { (v : EncodingValue) × Sees C.stands self.old v × (s : Parameters) × (old : Beginning) × (now : Option Room) ×
             (xs : List ℤ) × IsEncodingOf s old now v xs × (length xs ≤ most_input) }
@@ -168,7 +168,7 @@ impl<C: TakesBytes> Encoding<C> {
         report
     }
 
-    /// Codes the samples that wait, fills the last byte, and writes the rest of the code.
+    /// Codes the pending samples, fills the last byte, and writes the rest of the code.
     pub(crate) fn finish<O: Outlet>(&mut self, outlet: &mut O) -> Outcome
         requires ready { (v : EncodingValue) × Sees C.stands self.old v × (s : Parameters) × (old : Beginning) × (xs : List ℤ) ×
             IsEncodingOf s old (O.taken outlet.old) v xs × (length xs ≤ most_input) }
@@ -188,7 +188,7 @@ impl<C: TakesBytes> Encoding<C> {
 
     /// Returns what was done up to a fault.
     pub(crate) fn stopped(&self, fault: Fault) -> Outcome
-        ensures told { (v : EncodingValue) (s : Parameters) (xs : List ℤ) → Sees C.stands self.now v →
+        ensures reported { (v : EncodingValue) (s : Parameters) (xs : List ℤ) → Sees C.stands self.now v →
             CountsSamples s v xs → ReportsTaken s result.report xs }
         ensures fault { result.fault ≡ Some fault }
     {
@@ -240,20 +240,20 @@ pub(crate) fn encode_by<C: TakesBytes, I: Intake, O: Outlet>(
     encoding.put_bits_of_seam(&seam);
     let mut input = Input::new();
     'encode_all: loop {
-        let count = match input.draw(intake) {
+        let count = match input.refill(intake) {
             Ok(count) => count,
             Err(fault) => return encoding.stopped(fault),
         };
         if count == 0 {
-            if input.waiting().is_empty() {
+            if input.buffered().is_empty() {
                 return encoding.finish(outlet);
             }
             let index = encoding.taken();
             return encoding.stopped(Fault::SampleCut { index });
         }
-        if let Err(fault) = encoding.push_bytes(setting, input.waiting(), outlet) {
+        if let Err(fault) = encoding.push_bytes(setting, input.buffered(), outlet) {
             return encoding.stopped(fault);
         }
-        input.keep_last(input.waiting().len() % width);
+        input.keep_last(input.buffered().len() % width);
     }
 }

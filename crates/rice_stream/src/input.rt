@@ -1,10 +1,10 @@
-//! The bytes of samples that wait for a coder.
+//! The bytes of samples that are buffered for a coder.
 ghost use Rattle.std.specs.Io.KnownBytes.{IsAtEnd, Keeps};
 ghost use Rattle.std.specs.Prelude.{◌≡◌, ◌+◌, ◌-◌, ◌^◌, ◌<◌, ◌≤◌, length, take, drop, IfOk, IfErr, OnErr};
 ghost use Rattle.rice_bits.specs.Limits.{most_at_once};
 ghost use Rattle.rice_bits.specs.device.Failures.{CountsFailure};
 ghost use Rattle.rice_samples.specs.Limits.{most_input};
-ghost use Rattle.rice_stream.specs.WaitingBytes.{nothing_waits, with_last, Draws, StopsDrawing, CountsReads, Refills};
+ghost use Rattle.rice_stream.specs.BufferedBytes.{nothing_buffered, with_last, Refills, StopsRefilling, CountsReads, FillsBuffer};
 
 use crate::outcome::Fault;
 use rice_bits::{Intake, ReadFault};
@@ -18,12 +18,12 @@ const PIECE: usize = 4096;
 
 /// Bytes of samples that an intake gave, and no coder has taken.
 ///
-/// It requests at most 4,096 bytes at a time, less those that wait, and at most 2^48 in all. After 2^48 bytes it requests one more (own
+/// It requests at most 4,096 bytes at a time, less those that are buffered, and at most 2^48 in all. After 2^48 bytes it requests one more (own
 /// rule).
 #[derive(Drop)]
 pub struct Input {
     buffer: [u8; PIECE],
-    /// The number of bytes that wait, at the front of the buffer.
+    /// The number of bytes that are buffered, at the front of the buffer.
     end: usize,
     given: u64,
 }
@@ -32,50 +32,50 @@ impl Model for Input {
     ghost use Rattle.std.specs.Prelude.{◌≡◌, ◌≤◌, length, take};
     ghost use Rattle.rice_bits.specs.Limits.{most_at_once};
     ghost use Rattle.rice_samples.specs.Limits.{most_input};
-    ghost use Rattle.rice_stream.specs.WaitingBytes.{WaitingBytes};
+    ghost use Rattle.rice_stream.specs.BufferedBytes.{BufferedBytes};
 
-    ghost Value = { WaitingBytes };
+    ghost Value = { BufferedBytes };
 
-    ghost view = { λ r. record { waiting = take r.end r.buffer; given = r.given } };
+    ghost view = { λ r. record { buffered = take r.end r.buffer; given = r.given } };
 
     ghost invariant = { λ r. (r.end ≤ most_at_once) × (length r.buffer ≡ most_at_once) × (r.given ≤ most_input) };
 }
 
-/// Returns the number of bytes to request next, with `given` read so far and `waiting` left in the buffer.
-fn bytes_to_ask_for(given: u64, waiting: usize) -> usize
-    requires { waiting < 4 }
+/// Returns the number of bytes to request next, with `given` read so far and `buffered` left in the buffer.
+fn bytes_to_ask_for(given: u64, buffered: usize) -> usize
+    requires { buffered < 4 }
     ensures some { 0 < result }
-    ensures most { result + waiting ≤ most_at_once }
+    ensures most { result + buffered ≤ most_at_once }
     ensures limit { given < most_input → given + result ≤ most_input }
     ensures last { most_input ≤ given → result ≡ 1 }
 {
     if given < MOST_INPUT {
-        (MOST_INPUT - given).min((PIECE - waiting) as u64) as usize
+        (MOST_INPUT - given).min((PIECE - buffered) as u64) as usize
     } else {
         1
     }
 }
 
-/// Puts the next bytes, at most `most`, after those that wait in the buffer, and returns their number.
-fn fill_after_waiting<I: Intake>(
+/// Puts the next bytes, at most `most`, after those that are buffered in the buffer, and returns their number.
+fn fill_after_buffered<I: Intake>(
     intake: &mut I,
     buffer: &mut [u8],
-    waiting: usize,
+    buffered: usize,
     most: usize,
 ) -> Result<usize, ReadFault>
     requires some { 0 < most }
-    requires room { waiting + most ≤ length buffer.old }
+    requires room { buffered + most ≤ length buffer.old }
     requires countable { I.failed intake.old + 1 < 2 ^ 64 }
     ensures count { IfOk result (λ n. n ≤ most) }
     ensures bytes { IfOk result (λ n.
-        Refills (I.left intake.old) (I.left intake.new) buffer.old buffer.new waiting n) }
+        FillsBuffer (I.left intake.old) (I.left intake.new) buffer.old buffer.new buffered n) }
     ensures end { IfOk result (λ n. n ≡ 0 → IsAtEnd (I.left intake.new)) }
     ensures err { OnErr result (Keeps (I.left intake.old) (I.left intake.new)) }
-    ensures kept { take waiting buffer.new ≡ take waiting buffer.old }
+    ensures kept { take buffered buffer.new ≡ take buffered buffer.old }
     ensures len { length buffer.new ≡ length buffer.old }
     ensures failures { CountsFailure (I.failed intake.old) (I.failed intake.new) result }
 {
-    intake.fill(&mut buffer[waiting..waiting + most])
+    intake.fill(&mut buffer[buffered..buffered + most])
 }
 
 /// Moves the last `count` bytes before `end` to the front.
@@ -91,7 +91,7 @@ fn move_to_front(buffer: &mut [u8], end: usize, count: usize)
 impl Input {
     /// Returns an input that was given nothing.
     pub fn new() -> Self
-        ensures { result ≡ nothing_waits }
+        ensures { result ≡ nothing_buffered }
     {
         Input {
             buffer: [0; PIECE],
@@ -100,41 +100,41 @@ impl Input {
         }
     }
 
-    /// Returns the bytes that wait.
+    /// Returns the bytes that are buffered.
     #[inline]
-    pub fn waiting(&self) -> &[u8]
-        ensures { result.now ≡ self.now.waiting }
+    pub fn buffered(&self) -> &[u8]
+        ensures { result.now ≡ self.now.buffered }
     {
         &self.buffer[..self.end]
     }
 
     /// Removes all bytes but the last `count`.
     pub fn keep_last(&mut self, count: usize)
-        requires { count ≤ length self.old.waiting }
+        requires { count ≤ length self.old.buffered }
         ensures { self.new ≡ with_last count self.old }
     {
         move_to_front(&mut self.buffer, self.end, count);
         self.end = count;
     }
 
-    /// Requests bytes, which then wait after the others, and returns their number: 0 at the end of the intake.
+    /// Requests bytes, which are then buffered after the others, and returns their number: 0 at the end of the intake.
     ///
     /// # Errors
     ///
     /// Returns `Fault::Read` if the intake fails, and `Fault::TooLong` if it gives a byte after 2^48.
-    pub fn draw<I: Intake>(&mut self, intake: &mut I) -> Result<usize, Fault>
-        requires few { length self.old.waiting < 4 }
+    pub fn refill<I: Intake>(&mut self, intake: &mut I) -> Result<usize, Fault>
+        requires few { length self.old.buffered < 4 }
         requires countable { I.failed intake.old + 1 < 2 ^ 64 }
-        ensures ok { IfOk result (λ n. Draws self.old self.new (I.left intake.old) (I.left intake.new) n) }
+        ensures ok { IfOk result (λ n. Refills self.old self.new (I.left intake.old) (I.left intake.new) n) }
         ensures end { IfOk result (λ n. n ≡ 0 → IsAtEnd (I.left intake.new)) }
         ensures err { IfErr result (λ fault.
-            StopsDrawing fault self.old self.new (I.left intake.old) (I.left intake.new)) }
-        ensures waits { length self.new.waiting ≤ most_at_once }
+            StopsRefilling fault self.old self.new (I.left intake.old) (I.left intake.new)) }
+        ensures buffered { length self.new.buffered ≤ most_at_once }
         ensures limit { self.new.given ≤ most_input }
         ensures failures { CountsReads (I.failed intake.old) (I.failed intake.new) result }
     {
         let most = bytes_to_ask_for(self.given, self.end);
-        let count = match fill_after_waiting(intake, &mut self.buffer, self.end, most) {
+        let count = match fill_after_buffered(intake, &mut self.buffer, self.end, most) {
             Ok(count) => count,
             Err(_) => return Err(Fault::Read),
         };

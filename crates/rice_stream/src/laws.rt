@@ -1,5 +1,5 @@
 //! Theorems on encoding and decoding together, and on each whole and piece by piece.
-ghost use Rattle.rice_stream.specs.Laws.{ReturnsBytes, ReturnsBytesAndFill, FeedingIsEncoding, PullsAreDecoding, EnoughIsDecoding, FrontIsPlace, SeekingIsDecoding, EnoughBehindIsDecoding, StandsTellPlaces, SeamsTellPlaces};
+ghost use Rattle.rice_stream.specs.Laws.{ReturnsBytes, ReturnsBytesAndFill, FeedingIsEncoding, PullsAreDecoding, EnoughIsDecoding, FrontIsPlace, SeekingIsDecoding, EnoughAfterIsDecoding, StandsTellPlaces, SeamsTellPlaces};
 
 /// With the number of samples, decoding what was encoded returns the same bytes.
 pub fn returns_bytes()
@@ -31,11 +31,11 @@ pub fn pulls_to_a_count_are_decoding()
 pub fn pulls_from_an_interval_are_decoding()
     ensures front { FrontIsPlace }
     ensures all { SeekingIsDecoding }
-    ensures enough { EnoughBehindIsDecoding }
+    ensures enough { EnoughAfterIsDecoding }
 {}
 
 /// At the end of an interval, a stand and a seam report the place where the next begins.
-pub fn places_of_intervals_are_told()
+pub fn places_of_intervals_are_reported()
     ensures stands { StandsTellPlaces }
     ensures seams { SeamsTellPlaces }
 {}

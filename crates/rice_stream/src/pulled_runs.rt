@@ -10,10 +10,10 @@ use rice_bits::{BitReader, Meter, SliceIn};
 use rice_code::Decoder;
 use rice_samples::Setting;
 
-/// Returns where decoding stands behind `samples` samples more. The reader had taken `before` bits at `stand`, and the steps of those
+/// Returns where decoding stands after `samples` samples more. The reader had taken `before` bits at `stand`, and the steps of those
 /// that it took since are ticked.
 #[inline(always)]
-pub(crate) fn stand_behind(
+pub(crate) fn stand_after(
     stand: &Stand,
     samples: u64,
     before: u64,
@@ -70,7 +70,7 @@ pub(crate) fn write_next_of_run(
     let blocks = blocks_at_once(setting, Some(fit), 0, decoder.run());
     decoder.pass_blocks_of_run(blocks);
     let count = block * blocks as u64;
-    let stand = stand_behind(stand, count, reader.taken(), decoder, reader, &meter);
+    let stand = stand_after(stand, count, reader.taken(), decoder, reader, &meter);
     let len = width * count as usize;
     spell_copies_of_sample(setting, sample, count as usize, &mut samples[at..at + len]);
     (stand, len)

@@ -10,7 +10,7 @@ ghost use Rattle.rice_stream.specs.Pulling.{DecodesOn, GivesAtStand, HasComeTo, 
 use crate::block_bytes::next_bytes;
 use crate::block_pass::{BlockPass, FastPass};
 use crate::decoding::known_width;
-use crate::pulled_runs::{stand_behind, write_next_of_run};
+use crate::pulled_runs::{stand_after, write_next_of_run};
 use crate::stand::{Pause, Stand};
 use rice_bits::{BitReader, Meter, SliceIn};
 use rice_code::{CodeFault, Decoder, Step, known_or};
@@ -170,7 +170,7 @@ fn skip_bits(reader: &mut BitReader<SliceIn<'_>>, piece: &[u8], skipped: u32) ->
     requires fresh { reader.old ≡ new_reader reader.old.intake (Some piece.now) 0 }
     ensures going { result ≡ true → reader.new.refusal ≡ None }
     ensures failed { result ≡ true → reader.new.failed ≡ 0 }
-    ensures told { result ≡ true → IsSome reader.new.left }
+    ensures reported { result ≡ true → IsSome reader.new.left }
     ensures bits { result ≡ true → ahead reader.new ≡ drop skipped (bits_of piece.now) }
     ensures taken { result ≡ true → reader.new.taken ≤ skipped }
     ensures aligned { result ≡ true → 0 < length piece.now → reader.new.taken ≡ skipped }
@@ -209,7 +209,7 @@ fn give_next_block<P: BlockPass<SIZE, WIDTH>, const SIZE: usize, const WIDTH: us
         Step::Block => {}
         Step::Done => return Ok(None),
     }
-    let next = stand_behind(stand, size, before, decoder, reader, &meter);
+    let next = stand_after(stand, size, before, decoder, reader, &meter);
     Ok(Some(next))
 }
 

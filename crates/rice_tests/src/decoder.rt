@@ -210,7 +210,7 @@ fn has_eights(setting: &Setting) -> bool
     setting.bits() <= 8 && setting.block() == 8
 }
 
-/// Asks the fast decoder for the bytes of a block of which all bits wait.
+/// Asks the fast decoder for the bytes of a block whose bits are all buffered.
 fn pass_eight_bytes<I: Intake>(
     setting: &Setting,
     decoder: &mut Decoder,
@@ -234,7 +234,7 @@ fn pass_eight_bytes<I: Intake>(
     pass::<Bytes, _, 8, 1>(decoder, setting, reader, meter, bytes)
 }
 
-/// A block of which all bits wait is given as bytes.
+/// A block whose bits are all buffered is given as bytes.
 #[test]
 fn bytes_of_a_block() -> Result<(), Fail> {
     let mut cases = Cases::new();
@@ -247,7 +247,7 @@ fn bytes_of_a_block() -> Result<(), Fail> {
     let mut decoder = Decoder::new(setting);
     let mut meter = Meter::new();
     let mut bytes = [0; 320];
-    // Nothing waits before the first bit is taken.
+    // Nothing is buffered before the first bit is taken.
     cases.check(!pass_eight_bytes(&setting, &mut decoder, &mut reader, &mut meter, &mut bytes));
     let mut samples = ArrayVec::new();
     let first = next(&mut decoder, &mut reader, &mut meter, &mut samples);

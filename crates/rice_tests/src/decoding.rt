@@ -81,7 +81,7 @@ fn codes_are_decoded(rt: HostRuntime) -> Result<(), Fail> {
 
 /// The same, of codes that leave the pass over a block in each of its ways: by a long sequence, far samples, a pair with a number above 63,
 /// a run, a residual too large, a value at the reference place, padding, a count that ends in a block, or the end of a piece. Zeros are
-/// behind each, so that the pass is tried. The last lines are not predicted. Debian's `aec` gives the same samples.
+/// after each, so that the pass is tried. The last lines are not predicted. Debian's `aec` gives the same samples.
 const SELDOM: &str =
     "24 | r64        | 4C8A72CA340000000000000032ED77513E80 00*64 | | | 646263656464616262617F7F807F7F7F7C7E7D7D7977787B |  | 24 | 138 | 162 | 162
     24 | r64        | 4C8A72CAC020380D01D640787C1F6BBA89F4 00*64 | | | 6462636564646162FA060602F0E0F0000507060602000206 |  | 24 | 143 | 167 | 167

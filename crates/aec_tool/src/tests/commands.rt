@@ -17,7 +17,7 @@ fn input_of(name: &str) -> &'static [u8] {
 }
 
 /// Fails unless a start with the words of each line, this input and so much room in standard output and in each file has done what
-/// stands behind: its status, how many files it made, and what it wrote to standard output, to a file and to standard error. An
+/// stands after: its status, how many files it made, and what it wrote to standard output, to a file and to standard error. An
 /// empty word is `''`.
 fn expect_each(rt: HostRuntime, lines: &str) -> Result<(), Fail> {
     for line in lines.lines() {
@@ -31,15 +31,15 @@ fn expect(rt: HostRuntime, line: &str) -> Result<(), Fail> {
     let words = columns.next();
     let input = input_of(columns.next());
     let room = columns.next().parse::<usize>()?;
-    let told = told(rt, words, input, room)?;
-    if told.as_str() == columns.next() {
+    let reported = reported(rt, words, input, room)?;
+    if reported.as_str() == columns.next() {
         return Ok(());
     }
-    Err(Fail::new(format_args!("{line}: {told}")))
+    Err(Fail::new(format_args!("{line}: {reported}")))
 }
 
 /// Returns what a start with these words has done.
-fn told(rt: HostRuntime, words: &str, input: &[u8], room: usize) -> Result<String, Fail> {
+fn reported(rt: HostRuntime, words: &str, input: &[u8], room: usize) -> Result<String, Fail> {
     let mut all = Vec::new(rt.alloc());
     all.push("aec")?;
     for word in words.split_whitespace() {
@@ -48,7 +48,7 @@ fn told(rt: HostRuntime, words: &str, input: &[u8], room: usize) -> Result<Strin
     let record = Record::new(rt.alloc(), room);
     let memory = Memory::new(rt, input, &record);
     let status = start(&memory, all.as_slice());
-    record.told(rt.alloc(), status)
+    record.reported(rt.alloc(), status)
 }
 
 const REFUSED: &str =
@@ -92,7 +92,7 @@ fn reads_and_writes_files(rt: HostRuntime) -> Result<(), Fail> {
     expect_each(rt, FILES)
 }
 
-// The root is no regular file, and of standard input nothing is told.
+// The root is no regular file, and nothing is reported of standard input.
 const ONE_FILE: &str =
     r#"in.bin in.bin | equal | 100 | 1, 0 files, "", "", "aec: cannot create in.bin\n"
     in.bin ./in.bin | equal | 100 | 1, 0 files, "", "", "aec: cannot create ./in.bin\n"
@@ -111,7 +111,7 @@ fn tells_that_what_was_found_was_not_written(rt: HostRuntime) -> Result<(), Fail
     expect_each(rt, FINDING)
 }
 
-// The code has 59 bits, and zeros behind them. Where a file is gone, nobody can tell what is behind.
+// The code has 59 bits, and zeros after them. Where a file is gone, nobody can tell what is after.
 const GONE: &str =
     r#"-Nn7 --test --samples 8 in.bin | code | 100 | 0, 0 files, "8 samples, 59 bits; no 1 is left\n", "", ""
     -Nn7 --test --samples 8 once.bin | code | 100 | 1, 0 files, "", "", "aec: read failed (block 1, bit 58, byte 7 of the code)\n"

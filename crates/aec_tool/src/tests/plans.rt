@@ -85,7 +85,7 @@ fn expect(
     Err(Fail::new(format_args!("{words}: {taken} bytes, {outcome:?}")))
 }
 
-/// Tries a line: the options, the bytes that the intake gives, `!` where it fails behind them, and the outlet's room. Behind these
+/// Tries a line: the options, the bytes that the intake gives, `!` where it fails after them, and the outlet's room. After these
 /// stand the bytes that are written, the report's samples and bits, and the fault. What was encoded without one is decoded again.
 fn expect_line(alloc: Global, line: &str) -> Result<(), Fail> {
     let mut columns = Columns::of(line);

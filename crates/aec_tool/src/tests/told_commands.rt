@@ -2,7 +2,7 @@
 use crate::finding::Finding;
 use crate::message::Message;
 use crate::start_up::start_on;
-use crate::tests::told_system::Told;
+use crate::tests::reporting_system::Reported;
 use std::test::Fail;
 
 // Eight samples, all 5, and their code.
@@ -32,7 +32,7 @@ fn reads_the_source_and_writes_the_destination(rt: HostRuntime) -> Result<(), Fa
         (&["aec", "out", "in"], None, b"", 1),
     ];
     for (words, place, bytes, wanted) in cases {
-        let mut system = Told::new(rt.alloc(), b"", "in", SAMPLES, "locked");
+        let mut system = Reported::new(rt.alloc(), b"", "in", SAMPLES, "locked");
         let status = start_on(&mut system, rt.alloc(), words);
         let held = system
             .held
@@ -48,7 +48,7 @@ fn reads_the_source_and_writes_the_destination(rt: HostRuntime) -> Result<(), Fa
 
 #[test]
 fn tells_what_a_test_found(rt: HostRuntime) -> Result<(), Fail> {
-    let mut system = Told::new(rt.alloc(), b"", "in", CODE, "locked");
+    let mut system = Reported::new(rt.alloc(), b"", "in", CODE, "locked");
     let status = start_on(&mut system, rt.alloc(), TEST);
     let wanted = Finding {
         samples: 8,
@@ -63,7 +63,7 @@ fn tells_what_a_test_found(rt: HostRuntime) -> Result<(), Fail> {
 
 #[test]
 fn tells_that_the_source_of_a_test_is_gone(rt: HostRuntime) -> Result<(), Fail> {
-    let mut system = Told::new(rt.alloc(), b"", "in", CODE, "locked");
+    let mut system = Reported::new(rt.alloc(), b"", "in", CODE, "locked");
     system.opens_once = true;
     let status = start_on(&mut system, rt.alloc(), TEST);
     let said = match system.said {
@@ -98,7 +98,7 @@ fn closes_with_the_side_of_the_code(rt: HostRuntime) -> Result<(), Fail> {
         ),
     ];
     for (words, file, decode) in cases {
-        let mut system = Told::new(rt.alloc(), b"", "in", file, "locked");
+        let mut system = Reported::new(rt.alloc(), b"", "in", file, "locked");
         let status = start_on(&mut system, rt.alloc(), words);
         if system.closed != Some((decode, 8)) || status != 0 {
             return Err(Fail::new(format_args!("{status}, {:?}", system.closed)));

@@ -12,7 +12,7 @@ use Rattle.rice_bits.specs.declared.read.window.Window.{Window}
 -- a reader of the bits that an intake gives
 pub record Reader (I : Type 0) : Type 0 where
   -- the bits that were given and not yet taken
-  pub waiting : List Bool
+  pub buffered : List Bool
   -- how many bits were taken
   pub taken : ℕ
   -- no 1 was taken since the mark
@@ -27,13 +27,13 @@ pub record Reader (I : Type 0) : Type 0 where
 
 -- a reader that has taken nothing of an intake that tells so much
 abbrev pub new_reader : {I : Type 0} → I → Option (List ℕ) → ℕ → Reader I
-new_reader intake left failed = record { waiting = []; taken = 0; blank = true; refusal = None; intake = intake; left = left; failed = failed }
+new_reader intake left failed = record { buffered = []; taken = 0; blank = true; refusal = None; intake = intake; left = left; failed = failed }
 
 -- no bit is a 1
 abbrev pub is_blank : List Bool → Bool
 is_blank bits = list_all not bits
 
--- Bytes were drawn from an intake in one call, of at most 4,096 bytes, where no bit waited; or none were drawn.
+-- Bytes were read from an intake in one call, of at most 4,096 bytes, where no bit was buffered; or none were read.
 pub record Supplies (old_left new_left : Option (List ℕ)) (old new : List Bool) : Type 0 where
   pub given : List ℕ
   pub consumed : Consumes old_left new_left given
@@ -41,8 +41,8 @@ pub record Supplies (old_left new_left : Option (List ℕ)) (old new : List Bool
   pub at_once : length given ≤ most_at_once
   pub needed : 0 < length given → old ≡ []
 
--- Bytes were drawn from an intake, and these bits taken of the bits that waited and those of the bytes.
-pub record Draws (old_left new_left : Option (List ℕ)) (old new bits : List Bool) : Type 0 where
+-- Bytes were read from an intake, and these bits taken of the buffered bits and those of the bytes.
+pub record Refills (old_left new_left : Option (List ℕ)) (old new bits : List Bool) : Type 0 where
   pub given : List ℕ
   pub consumed : Consumes old_left new_left given
   pub split : old ++ bits_of given ≡ bits ++ new
@@ -51,8 +51,8 @@ pub record Draws (old_left new_left : Option (List ℕ)) (old new bits : List Bo
 
 -- What an intake did where a reader refuses: it ended, it failed, or it gave the byte past the limit.
 abbrev pub Refuses : BitFault → Option (List ℕ) → Option (List ℕ) → ℕ → ℕ → ℕ → Bool → Type 0
-Refuses (End told) old_left new_left old_failed new_failed taken blank =
-    Consumes old_left new_left [] × IsAtEnd new_left × (new_failed ≡ old_failed) × (told ≡ blank)
+Refuses (End reported) old_left new_left old_failed new_failed taken blank =
+    Consumes old_left new_left [] × IsAtEnd new_left × (new_failed ≡ old_failed) × (reported ≡ blank)
 Refuses Read old_left new_left old_failed new_failed taken blank =
     Consumes old_left new_left [] × (new_failed ≡ old_failed + 1)
 Refuses TooLong old_left new_left old_failed new_failed taken blank =
@@ -60,7 +60,7 @@ Refuses TooLong old_left new_left old_failed new_failed taken blank =
 
 -- A reader took these bits.
 pub record Takes {I : Type 0} (old new : Reader I) (bits : List Bool) : Type 0 where
-  pub draws : Draws old.left new.left old.waiting new.waiting bits
+  pub refills : Refills old.left new.left old.buffered new.buffered bits
   pub taken : new.taken ≡ old.taken + length bits
   pub blank : new.blank ≡ (old.blank && is_blank bits)
   pub going : new.refusal ≡ None
@@ -70,11 +70,11 @@ pub record Takes {I : Type 0} (old new : Reader I) (bits : List Bool) : Type 0 w
 pub record Stops {I : Type 0} (old new : Reader I) (bits : List Bool) (fault : BitFault) : Type 0 where
   -- what was still to come before the call of the intake that is refused
   pub middle : Option (List ℕ)
-  pub draws : Draws old.left middle old.waiting [] bits
+  pub refills : Refills old.left middle old.buffered [] bits
   pub refuses : Refuses fault middle new.left old.failed new.failed new.taken new.blank
   pub taken : new.taken ≡ old.taken + length bits
   pub blank : new.blank ≡ (old.blank && is_blank bits)
-  pub waiting : new.waiting ≡ []
+  pub buffered : new.buffered ≡ []
   pub refusal : new.refusal ≡ Some fault
 
 -- what holds of the fields of each reader

@@ -5,8 +5,8 @@ use Rattle.rice_bits.specs.Bits.{bits_of}
 use Rattle.rice_bits.specs.declared.read.window.Window.{Window}
 
 -- the bits of the most bytes that are asked for at a time
-abbrev pub most_waiting : ℕ
-most_waiting = 8 * most_at_once
+abbrev pub most_buffered : ℕ
+most_buffered = 8 * most_at_once
 
 -- the bytes of a window's buffer: eight more than are asked for, so that eight can be loaded from each byte on
 abbrev pub buffer_len : ℕ
@@ -20,11 +20,11 @@ window_bits w = slice_range (bits_of w.buffer) w.at w.end
 unfoldable pub window_passed : Window → List Bool
 window_passed w = slice_range (bits_of w.buffer) w.marked w.at
 
--- how many bits were given and do not wait
+-- how many bits were given and are not buffered
 abbrev pub window_taken : Window → ℕ
 window_taken w = 8 * w.given - (w.end - w.at)
 
--- how many of the bits that wait are in the eight bytes that the next of them is in
+-- how many of the bits that are buffered are in the eight bytes that the next of them is in
 abbrev pub bits_near : Window → ℕ
 bits_near w = min (64 - w.at % 8) (length (window_bits w))
 
@@ -32,14 +32,14 @@ pub record IsWindow (w : Window) : Type 0 where
   pub size : length w.buffer ≡ buffer_len
   pub marked : w.marked ≤ w.at
   pub ordered : w.at ≤ w.end
-  pub fits : w.end ≤ most_waiting
+  pub fits : w.end ≤ most_buffered
   pub whole : w.end % 8 ≡ 0
   pub held : w.end - w.at ≤ 8 * w.given
   pub limit : w.given ≤ most_bytes_read
   -- eight zeros follow the bytes
-  pub behind : take 8 (drop (w.end / 8) w.buffer) ≡ replicate 8 0
+  pub after : take 8 (drop (w.end / 8) w.buffer) ≡ replicate 8 0
 
--- Bits were taken from the front of those that wait.
+-- Bits were taken from the front of those that are buffered.
 pub record Passes (old new : Window) (bits : List Bool) : Type 0 where
   pub split : window_bits old ≡ bits ++ window_bits new
   pub passed : window_passed new ≡ window_passed old ++ bits

@@ -4,7 +4,7 @@ ghost use Rattle.std.specs.Int.{to_be_bytes, to_le_bytes, w64};
 ghost use Rattle.std.specs.List.{slice_index};
 ghost use Rattle.rice_bits.specs.Bits.{bits_of, word};
 
-use crate::bits::digits::digits_behind;
+use crate::bits::digits::digits_after;
 use std::simd::prelude::*;
 
 /// Returns the first `count` bytes.
@@ -170,5 +170,5 @@ pub fn number_from(bytes: &[u8], at: usize, width: u32) -> u64
     ensures below { result < 2 ^ width }
     ensures bits { word width result ≡ take width (drop at (bits_of bytes.now)) }
 {
-    digits_behind(load(bytes, at / 8), (at % 8) as u32, width)
+    digits_after(load(bytes, at / 8), (at % 8) as u32, width)
 }

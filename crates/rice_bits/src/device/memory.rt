@@ -63,7 +63,7 @@ impl Intake for MemoryIn<'_> {
         ensures place_kept { OnErr result (memory_before_failure self.new ≡
             memory_before_failure self.old) }
         ensures piece { memory_in_piece self.new ≡ memory_in_piece self.old }
-        ensures behind { IfOk result (λ m. drop m buf.new ≡ drop m buf.old) }
+        ensures after { IfOk result (λ m. drop m buf.new ≡ drop m buf.old) }
     {
         let mut count = buf.len().min(self.rest.len()).min(self.piece);
         if let Some(before) = self.before_failure {
@@ -209,7 +209,7 @@ impl Intake for ZeroIn {
         ensures never_fails { IsOk result }
         ensures exact { IfOk result (λ m. m ≡ min (length buf.old) (zeros_left self.old)) }
         ensures rest { IfOk result (λ m. zeros_left self.new + m ≡ zeros_left self.old) }
-        ensures behind { IfOk result (λ m. drop m buf.new ≡ drop m buf.old) }
+        ensures after { IfOk result (λ m. drop m buf.new ≡ drop m buf.old) }
     {
         let count = self.rest.min(buf.len() as u64) as usize;
         buf[..count].fill(0);

@@ -42,7 +42,7 @@ impl Intake for SliceIn<'_> {
         ensures failures { CountsFailure 0 0 result }
         ensures never_fails { IsOk result }
         ensures exact { IfOk result (λ m. m ≡ min (length buf.old) (length (slice_left self.old))) }
-        ensures behind { IfOk result (λ m. drop m buf.new ≡ drop m buf.old) }
+        ensures after { IfOk result (λ m. drop m buf.new ≡ drop m buf.old) }
     {
         let count = buf.len().min(self.rest.len());
         let (front, rest) = self.rest.split_at(count);

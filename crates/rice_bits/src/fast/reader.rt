@@ -19,19 +19,19 @@ impl<I: Intake> BitReader<I> {
 
     /// Returns the number of buffered bits: those that it can return without a call of the intake.
     #[inline]
-    pub fn waiting(&self) -> u64
-        ensures { result ≡ length self.now.waiting }
+    pub fn buffered(&self) -> u64
+        ensures { result ≡ length self.now.buffered }
     {
-        self.window.waiting() as u64
+        self.window.buffered() as u64
     }
 
     /// Returns the number of the `width` buffered bits after the first `skip`, most significant first. It takes none.
     #[inline(always)]
     pub fn number_ahead(&self, skip: usize, width: u32) -> u32
         requires width { width ≤ 32 }
-        requires there { skip + width ≤ length self.now.waiting }
+        requires there { skip + width ≤ length self.now.buffered }
         ensures below { result < 2 ^ width }
-        ensures bits { word width result ≡ take width (drop skip self.now.waiting) }
+        ensures bits { word width result ≡ take width (drop skip self.now.buffered) }
     {
         number_from(&self.window.buffer, self.window.at + skip, width) as u32
     }
@@ -40,9 +40,9 @@ impl<I: Intake> BitReader<I> {
     #[inline(always)]
     pub fn first_number_ahead(&self, width: u32) -> u32
         requires width { width ≤ 32 }
-        requires there { 57 ≤ length self.now.waiting }
+        requires there { 57 ≤ length self.now.buffered }
         ensures below { result < 2 ^ width }
-        ensures bits { word width result ≡ take width self.now.waiting }
+        ensures bits { word width result ≡ take width self.now.buffered }
     {
         front_digits(self.window.first_bits_ahead(), width) as u32
     }
@@ -53,9 +53,9 @@ impl<I: Intake> BitReader<I> {
     pub fn sequences_ahead(&self, skip: usize, bytes: usize, count: usize) -> Option<Sequences>
         requires bytes { (1 ≤ bytes) × (bytes ≤ 7) }
         requires count { (1 ≤ count) × (count ≤ 16) }
-        requires there { skip + 64 ≤ length self.now.waiting }
+        requires there { skip + 64 ≤ length self.now.buffered }
         ensures { IfSome result (λ s.
-            BeginWithSequences (drop skip self.now.waiting) count s.numbers s.len) }
+            BeginWithSequences (drop skip self.now.buffered) count s.numbers s.len) }
     {
         let front = at_least_57_bits_from(&self.window.buffer, self.window.at + skip);
         first_sequences(front, bytes, count)
@@ -65,11 +65,11 @@ impl<I: Intake> BitReader<I> {
     #[inline(always)]
     pub fn words_ahead(&self, skip: usize, width: u32) -> u8x16
         requires width { width ≤ 8 }
-        requires there { skip + 128 ≤ length self.now.waiting }
+        requires there { skip + 128 ≤ length self.now.buffered }
         ensures len { length result ≡ 16 }
         ensures fit { All (λ v. v < 2 ^ width) result }
         ensures bits { flat_map (word width) result
-            ≡ take (16 * width) (drop skip self.now.waiting) }
+            ≡ take (16 * width) (drop skip self.now.buffered) }
     {
         sixteen_words_from(&self.window.buffer, self.window.at + skip, width)
     }
@@ -78,11 +78,11 @@ impl<I: Intake> BitReader<I> {
     #[inline(always)]
     pub fn eight_words_ahead(&self, skip: usize, width: u32) -> u16x8
         requires width { width ≤ 9 }
-        requires there { skip + 128 ≤ length self.now.waiting }
+        requires there { skip + 128 ≤ length self.now.buffered }
         ensures len { length result ≡ 8 }
         ensures fit { All (λ v. v < 2 ^ width) result }
         ensures bits { flat_map (word width) result
-            ≡ take (8 * width) (drop skip self.now.waiting) }
+            ≡ take (8 * width) (drop skip self.now.buffered) }
     {
         eight_words_from(&self.window.buffer, self.window.at + skip, width)
     }
@@ -91,11 +91,11 @@ impl<I: Intake> BitReader<I> {
     #[inline(always)]
     pub fn wide_words_ahead(&self, skip: usize, width: u32) -> u32x8
         requires width { (1 ≤ width) × (width ≤ 24) }
-        requires there { skip + 8 * width + 64 ≤ length self.now.waiting }
+        requires there { skip + 8 * width + 64 ≤ length self.now.buffered }
         ensures len { length result ≡ 8 }
         ensures fit { All (λ v. v < 2 ^ width) result }
         ensures bits { flat_map (word width) result
-            ≡ take (8 * width) (drop skip self.now.waiting) }
+            ≡ take (8 * width) (drop skip self.now.buffered) }
     {
         wide_words_from(&self.window.buffer, self.window.at + skip, width)
     }
@@ -104,9 +104,9 @@ impl<I: Intake> BitReader<I> {
     #[inline(always)]
     pub fn pass(&mut self, count: usize, meter: &mut Meter)
         requires going { self.old.refusal ≡ None }
-        requires there { count ≤ length self.old.waiting }
+        requires there { count ≤ length self.old.buffered }
         requires meter { meter.old + count < step_limit }
-        ensures takes { Takes self.old self.new (take count self.old.waiting) }
+        ensures takes { Takes self.old self.new (take count self.old.buffered) }
         ensures idle { self.new.intake ≡ self.old.intake }
         ensures left { self.new.left ≡ self.old.left }
         ensures limit { self.new.taken ≤ most_bits_read }

@@ -4,7 +4,7 @@ ghost use Rattle.std.specs.Io.KnownBytes.{Consumes};
 ghost use Rattle.rice_bits.specs.Limits.{step_limit, most_bits_read, most_bytes_read, most_at_once};
 ghost use Rattle.rice_bits.specs.Bits.{fundamental_sequence, bits_to_byte, word};
 ghost use Rattle.rice_bits.specs.read.Reader.{Supplies, Refuses, is_blank, new_reader};
-ghost use Rattle.rice_bits.specs.read.Window.{IsWindow, buffer_len, most_waiting, window_bits, window_passed, window_taken};
+ghost use Rattle.rice_bits.specs.read.Window.{IsWindow, buffer_len, most_buffered, window_bits, window_passed, window_taken};
 
 use crate::bits::digits::join;
 use crate::device::Intake;
@@ -40,7 +40,7 @@ impl<I: Intake> Model for BitReader<I> {
 
     ghost Value = { Reader I };
 
-    ghost view = { λ s. record { waiting = window_bits s.window; taken = window_taken s.window; blank = s.blank_before && is_blank (window_passed s.window); refusal = s.refusal; intake = s.intake; left = I.left s.intake; failed = I.failed s.intake } };
+    ghost view = { λ s. record { buffered = window_bits s.window; taken = window_taken s.window; blank = s.blank_before && is_blank (window_passed s.window); refusal = s.refusal; intake = s.intake; left = I.left s.intake; failed = I.failed s.intake } };
 
     ghost invariant = { λ s. IsReader (I.failed s.intake) s.window s.refusal };
 }
@@ -82,8 +82,8 @@ fn ask_intake<I: Intake>(
     Ok(count)
 }
 
-/// Draws bytes from the intake if no bit waits.
-fn draw_if_empty<I: Intake>(
+/// Refills the window from the intake if no bit is buffered.
+fn refill_if_empty<I: Intake>(
     intake: &mut I,
     window: &mut Window,
     blank_before: &mut bool,
@@ -104,7 +104,7 @@ fn draw_if_empty<I: Intake>(
         (I.failed intake.new) (window_taken window.old)
         (blank_before.old && is_blank (window_passed window.old))) }
 {
-    if window.waiting() > 0 {
+    if window.buffered() > 0 {
         return Ok(());
     }
     // Other bytes may take the place of the bits that were taken.
@@ -151,10 +151,10 @@ impl<I: Intake> BitReader<I> {
     #[inline]
     pub fn taken(&self) -> u64
         ensures value { result ≡ self.now.taken }
-        ensures limit { result + length self.now.waiting ≤ most_bits_read }
+        ensures limit { result + length self.now.buffered ≤ most_bits_read }
         // At most 4,096 bytes are asked for at a time.
-        ensures waiting { length self.now.waiting ≤ most_waiting }
-        ensures aligned { (result + length self.now.waiting) % 8 ≡ 0 }
+        ensures buffered { length self.now.buffered ≤ most_buffered }
+        ensures aligned { (result + length self.now.buffered) % 8 ≡ 0 }
     {
         self.window.taken()
     }
@@ -187,23 +187,23 @@ impl<I: Intake> BitReader<I> {
         ensures taken { OnOk result (self.new.taken ≡ self.old.taken + width) }
         ensures most { self.new.taken ≤ self.old.taken + width }
         ensures limit { self.new.taken ≤ most_bits_read }
-        // The intake is not called where enough bits wait.
-        ensures idle { width ≤ length self.old.waiting → self.new.intake ≡ self.old.intake }
+        // The intake is not called where enough bits are buffered.
+        ensures idle { width ≤ length self.old.buffered → self.new.intake ≡ self.old.intake }
         ensures steps { meter.new + self.old.taken ≡ meter.old + self.new.taken }
     {
-        if let Some(value) = self.take_if_more_wait(width, meter) {
+        if let Some(value) = self.take_if_more_buffered(width, meter) {
             return Ok(value);
         }
-        let value = self.take_with_draws(width, meter);
+        let value = self.take_with_refills(width, meter);
         match self.refusal {
             None => Ok(value),
             Some(fault) => Err(fault),
         }
     }
 
-    /// Takes the next `width` bits if more wait.
+    /// Takes the next `width` bits if more are buffered.
     #[inline]
-    fn take_if_more_wait(&mut self, width: u32, meter: &mut Meter) -> Option<u32>
+    fn take_if_more_buffered(&mut self, width: u32, meter: &mut Meter) -> Option<u32>
         requires width { width ≤ 32 }
         requires meter { meter.old + width < step_limit }
         ensures some { IfSome result (λ v. (v < 2 ^ width) ×
@@ -214,15 +214,15 @@ impl<I: Intake> BitReader<I> {
         ensures steps { meter.new + self.old.taken ≡ meter.old + self.new.taken }
         ensures limit { self.new.taken ≤ most_bits_read }
     {
-        let number = self.window.take_if_more_wait(width)?;
+        let number = self.window.take_if_more_buffered(width)?;
         meter.tick(width as u64);
         Some(number as u32)
     }
 
-    /// Takes the next `width` bits, and calls the intake when too few wait. If it leaves a refusal, the result means
+    /// Takes the next `width` bits, and calls the intake when too few are buffered. If it leaves a refusal, the result means
     /// nothing.
     #[inline(never)]
-    fn take_with_draws(&mut self, width: u32, meter: &mut Meter) -> u32
+    fn take_with_refills(&mut self, width: u32, meter: &mut Meter) -> u32
         requires width { width ≤ 32 }
         requires meter { meter.old + width < step_limit }
         ensures ok { self.new.refusal ≡ None → (result < 2 ^ width) ×
@@ -235,8 +235,8 @@ impl<I: Intake> BitReader<I> {
         ensures taken { self.new.refusal ≡ None → self.new.taken ≡ self.old.taken + width }
         ensures most { self.new.taken ≤ self.old.taken + width }
         ensures limit { self.new.taken ≤ most_bits_read }
-        // The intake is not called where enough bits wait.
-        ensures idle { width ≤ length self.old.waiting → self.new.intake ≡ self.old.intake }
+        // The intake is not called where enough bits are buffered.
+        ensures idle { width ≤ length self.old.buffered → self.new.intake ≡ self.old.intake }
         ensures steps { meter.new + self.old.taken ≡ meter.old + self.new.taken }
     {
         if self.refusal.is_some() {
@@ -271,14 +271,14 @@ impl<I: Intake> BitReader<I> {
         ensures stopped { IfSome self.old.refusal (λ f. (result ≡ Err f) × (self.new ≡ self.old)) }
         ensures taken { IfOk result (λ m. self.new.taken ≡ self.old.taken + m + 1) }
         ensures most { self.new.taken ≤ most_bits_read }
-        // The intake is not called where a 1 waits.
-        ensures idle { is_blank self.old.waiting ≡ false → self.new.intake ≡ self.old.intake }
+        // The intake is not called where a 1 is buffered.
+        ensures idle { is_blank self.old.buffered ≡ false → self.new.intake ≡ self.old.intake }
         ensures steps { meter.new + self.old.taken ≡ meter.old + self.new.taken }
     {
         if let Some(zeros) = self.take_fs_if_soon(meter) {
             return Ok(zeros);
         }
-        let zeros = self.take_fs_with_draws(meter);
+        let zeros = self.take_fs_with_refills(meter);
         match self.refusal {
             None => Ok(zeros),
             Some(fault) => Err(fault),
@@ -305,7 +305,7 @@ impl<I: Intake> BitReader<I> {
 
     /// Takes a fundamental sequence, and calls the intake if no 1 is buffered. If it leaves a refusal, the result means nothing.
     #[inline(never)]
-    fn take_fs_with_draws(&mut self, meter: &mut Meter) -> u64
+    fn take_fs_with_refills(&mut self, meter: &mut Meter) -> u64
         requires meter { meter.old + (most_bits_read - self.old.taken) < step_limit }
         ensures ok { self.new.refusal ≡ None →
             Takes self.old self.new (fundamental_sequence result) }
@@ -316,8 +316,8 @@ impl<I: Intake> BitReader<I> {
         ensures stopped { IsSome self.old.refusal → self.new ≡ self.old }
         ensures taken { self.new.refusal ≡ None → self.new.taken ≡ self.old.taken + result + 1 }
         ensures most { self.new.taken ≤ most_bits_read }
-        // The intake is not called where a 1 waits.
-        ensures idle { is_blank self.old.waiting ≡ false → self.new.intake ≡ self.old.intake }
+        // The intake is not called where a 1 is buffered.
+        ensures idle { is_blank self.old.buffered ≡ false → self.new.intake ≡ self.old.intake }
         ensures steps { meter.new + self.old.taken ≡ meter.old + self.new.taken }
     {
         if self.refusal.is_some() {
@@ -342,11 +342,11 @@ impl<I: Intake> BitReader<I> {
         ensures zeros { IfOk result (λ r. r.1 ≡ false → (0 < r.0) ×
             Takes self.old self.new (replicate r.0 false)) }
         ensures err { IfErr result (Stops self.old self.new []) }
-        ensures idle { 0 < length self.old.waiting → self.new.intake ≡ self.old.intake }
+        ensures idle { 0 < length self.old.buffered → self.new.intake ≡ self.old.intake }
         ensures steps { meter.new + self.old.taken ≡ meter.old + self.new.taken }
         ensures limit { self.new.taken ≤ most_bits_read }
     {
-        if let Err(refusal) = draw_if_empty(
+        if let Err(refusal) = refill_if_empty(
             &mut self.intake,
             &mut self.window,
             &mut self.blank_before,
@@ -359,7 +359,7 @@ impl<I: Intake> BitReader<I> {
             self.window.pass(count);
             return Ok((count - 1, true));
         }
-        let zeros = AHEAD.min(self.window.waiting()) as u64;
+        let zeros = AHEAD.min(self.window.buffered()) as u64;
         meter.tick(zeros);
         self.window.pass(zeros);
         Ok((zeros, false))
@@ -370,10 +370,10 @@ impl<I: Intake> BitReader<I> {
     pub fn align(&mut self, meter: &mut Meter)
         requires meter { meter.old + bits_to_byte self.old.taken < step_limit }
         ensures bits { (bits : List Bool) × (length bits ≡ bits_to_byte self.old.taken) ×
-            (self.old.waiting ≡ bits ++ self.new.waiting) }
+            (self.old.buffered ≡ bits ++ self.new.buffered) }
         ensures rest { self.new ≡
             record self.old {
-              waiting = self.new.waiting;
+              buffered = self.new.buffered;
               taken = self.old.taken +
                   bits_to_byte self.old.taken;
             } }
@@ -381,7 +381,7 @@ impl<I: Intake> BitReader<I> {
     {
         // The bits of the gap do not count: those before it are looked at now, and the mark passes it.
         self.blank_before = self.window.is_blank(self.blank_before);
-        let gap = (self.window.waiting() % 8) as u64;
+        let gap = (self.window.buffered() % 8) as u64;
         self.window.pass(gap);
         self.window.mark();
         meter.tick(gap);
@@ -396,11 +396,11 @@ impl<I: Intake> BitReader<I> {
         ensures count { IfOk result (λ r. (0 < r.1) × (r.1 ≤ most) × (r.0 < 2 ^ r.1)) }
         ensures ok { IfOk result (λ r. Takes self.old self.new (word r.1 r.0)) }
         ensures err { IfErr result (Stops self.old self.new []) }
-        ensures idle { 0 < length self.old.waiting → self.new.intake ≡ self.old.intake }
+        ensures idle { 0 < length self.old.buffered → self.new.intake ≡ self.old.intake }
         ensures steps { meter.new + self.old.taken ≡ meter.old + self.new.taken }
         ensures limit { self.new.taken ≤ most_bits_read }
     {
-        if let Err(fault) = draw_if_empty(
+        if let Err(fault) = refill_if_empty(
             &mut self.intake,
             &mut self.window,
             &mut self.blank_before,
@@ -408,7 +408,7 @@ impl<I: Intake> BitReader<I> {
             self.refusal = Some(fault);
             return Err(fault);
         }
-        let count = most.min(self.window.waiting() as u32);
+        let count = most.min(self.window.buffered() as u32);
         let digits = self.window.take_first_bits(count);
         meter.tick(count as u64);
         Ok((digits, count))

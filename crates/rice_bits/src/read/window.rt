@@ -3,7 +3,7 @@ ghost use Rattle.std.specs.Prelude.{◌≡◌, ◌+◌, ◌-◌, ◌*◌, ◌^�
 ghost use Rattle.rice_bits.specs.Limits.{most_bytes_read, most_at_once};
 ghost use Rattle.rice_bits.specs.Bits.{bits_of, fundamental_sequence, word};
 ghost use Rattle.rice_bits.specs.read.Reader.{is_blank};
-ghost use Rattle.rice_bits.specs.read.Window.{buffer_len, most_waiting};
+ghost use Rattle.rice_bits.specs.read.Window.{buffer_len, most_buffered};
 
 use crate::bits::digits::front_digits;
 use crate::bits::eight_bytes::{at_least_57_bits_from, number_from, store_zeros};
@@ -70,10 +70,10 @@ impl Window {
 
     /// Returns the number of buffered bits.
     #[inline]
-    pub fn waiting(&self) -> usize
+    pub fn buffered(&self) -> usize
         requires { IsWindow self.now }
         ensures value { result ≡ length (window_bits self.now) }
-        ensures piece { result ≤ most_waiting }
+        ensures piece { result ≤ most_buffered }
     {
         self.end - self.at
     }
@@ -137,7 +137,7 @@ impl Window {
 
     /// Takes the first `width` bits if more are buffered.
     #[inline]
-    pub fn take_if_more_wait(&mut self, width: u32) -> Option<u64>
+    pub fn take_if_more_buffered(&mut self, width: u32) -> Option<u64>
         requires window { IsWindow self.old }
         requires width { width ≤ 32 }
         ensures window { IsWindow self.new }
@@ -180,11 +180,11 @@ impl Window {
             ≡ replicate (min 57 (length (window_bits self.now))) false) }
     {
         // After one zero more, the zeros before the 1 are as many as the bits up to and including it.
-        let behind_zero = self.first_bits_ahead() >> 1;
-        if behind_zero == 0 {
+        let after_zero = self.first_bits_ahead() >> 1;
+        if after_zero == 0 {
             return None;
         }
-        Some(behind_zero.leading_zeros() as u64)
+        Some(after_zero.leading_zeros() as u64)
     }
 
     /// Takes the first `count` bits, whatever they are.

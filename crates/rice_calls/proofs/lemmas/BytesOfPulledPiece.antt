@@ -16,7 +16,7 @@ written_fits s old new piece room count rest pauses.ResidualTooLarge at = let h 
 written_fits s old new piece room count rest pauses.TooLong at = let e : width s * count ≡ 0 = ap (λ n. width s * n) at.none ∙ omega arith in omega arith
 
 module _ (s : Parameters) (o : Origin) (front : List Bool) (given : List ℤ) (piece : List ℕ) (old new : Stand) (out_old out : List ℕ) (pause : Pause) where
-  -- behind a piece stand as many samples more as it gave
+  -- after a piece stand as many samples more as it gave
   pub more_samples : IsStand s o old front given → (d : DecodesMore s o front given piece old out_old out new pause) → new.samples ≡ old.samples + length d.samples
   more_samples h d = omega (arith, h.samples, d.stands.samples, length-append given d.samples)
 

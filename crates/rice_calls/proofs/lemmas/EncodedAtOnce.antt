@@ -12,7 +12,7 @@ use Rattle.rice_code.specs.code.Code.{early_output}
 use Rattle.rice_stream.specs.DevicesInCalls.{Call, StopsBetween}
 use Rattle.rice_stream.specs.Encodes.{Encodes, ReportsTaken}
 use Rattle.rice_stream.specs.EncodingState.{Follows, FollowsBetween}
-use Rattle.rice_stream.specs.Feeding.{behind, AreAll, EncodesRest, MeetsEnd}
+use Rattle.rice_stream.specs.Feeding.{after, AreAll, EncodesRest, MeetsEnd}
 use Rattle.rice_stream.proofs.lemmas.FedPieces.{nothing_early}
 use Rattle.rice_stream.specs.declared.outcome.Fault.{Fault}
 use Rattle.rice_stream.specs.declared.outcome.Fault.TheVariants.{Read, Write, TooLong, SampleOutOfRange, SampleCut, CodeEnds, RunPastSegment, ResidualTooLarge}
@@ -31,11 +31,11 @@ record EncodedBy (s : Parameters) (input bytes : List ℕ) (r : Report) (fault :
 
 module _ (s : Parameters) (legal : IsLegal s) (input : List ℕ) (few : length input ≤ most_input) (name : ℕ) (old : List ℕ) (room : Room) (r : Report) where
   -- what follows the code of no samples is all
-  all_written : {bytes : List ℕ} → Follows (behind s [] (Some (begun name old))) (Some room) bytes → room.bytes ≡ bytes
+  all_written : {bytes : List ℕ} → Follows (after s [] (Some (begun name old))) (Some room) bytes → room.bytes ≡ bytes
   all_written f = f.took.bytes ∙ sym (f.split ∙ ap (λ l. l ++ f.more) (nothing_early s legal))
 
   -- and so is what stops before its end
-  stops_so : {from to : List ℕ} → FollowsBetween (behind s [] (Some (begun name old))) (Some room) from to → StopsBetween from to room.bytes
+  stops_so : {from to : List ℕ} → FollowsBetween (after s [] (Some (begun name old))) (Some room) from to → StopsBetween from to room.bytes
   stops_so {from} {to} f = subst (λ l. StopsBetween from to l) (sym (all_written f.took)) f.stops
 
   -- a call that is given all of the bytes

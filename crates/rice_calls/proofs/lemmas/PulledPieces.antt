@@ -59,8 +59,8 @@ engines [] = []
 engines (p ∷ ps) = engine p ∷ engines ps
 
 -- a pull of C is one of the engine below
-one_pulled : (s : Parameters) (code : List ℕ) (drain : RiceDrain) (p : Pull) (behind : List ℕ) → IsPulled s code drain p behind → stream.IsPulled s code drain.stand (engine p) behind
-one_pulled s code drain p behind h = (
+one_pulled : (s : Parameters) (code : List ℕ) (drain : RiceDrain) (p : Pull) (after : List ℕ) → IsPulled s code drain p after → stream.IsPulled s code drain.stand (engine p) after
+one_pulled s code drain p after h = (
   h.0,
   λ o front given k.
       (let d = h.1 o front given k in
@@ -81,11 +81,11 @@ engines-push : (pulls : List Pull) (last : Pull) → engines pulls ++ engine las
 engines-push [] last = refl
 engines-push (p ∷ ps) last = ap (λ l. engine p ∷ l) (engines-push ps last)
 
--- one pull more is pulled behind the others
-pulled-push : (s : Parameters) (code : List ℕ) (drain : RiceDrain) (pulls : List Pull) (last : Pull) (behind : List ℕ) → ArePulled s code drain pulls
-    → IsPulled s code (last_drain drain pulls) last behind → ArePulled s code drain (pulls ++ last ∷ [])
-pulled-push s code drain [] last behind h k = ((behind, k), tt)
-pulled-push s code drain (p ∷ ps) last behind h k = (h.0, pulled-push s code p.drain ps last behind h.1 k)
+-- one pull more is pulled after the others
+pulled-push : (s : Parameters) (code : List ℕ) (drain : RiceDrain) (pulls : List Pull) (last : Pull) (after : List ℕ) → ArePulled s code drain pulls
+    → IsPulled s code (last_drain drain pulls) last after → ArePulled s code drain (pulls ++ last ∷ [])
+pulled-push s code drain [] last after h k = ((after, k), tt)
+pulled-push s code drain (p ∷ ps) last after h k = (h.0, pulled-push s code p.drain ps last after h.1 k)
 
 -- what they gave stands in the caller's memory
 wrote_in_parts : {s : Parameters} (code : List ℕ) {o : Origin} {front : List Bool} {given : List ℤ} (drain : RiceDrain) (pulls : List Pull) (xs : List ℤ)
@@ -116,20 +116,20 @@ ending_of statuses.ResidualTooLarge = Large
 ending_of _ = Reached
 
 -- a status that ends a code is a pause that does
-ends_code : (paused ended : Status) (behind : List ℕ) → EndsAll paused behind ended → EndsCode (pause_of (status_number paused)) behind (ending_of paused)
-ends_code statuses.OnlyZeros ended behind h = (h.0, refl)
-ends_code statuses.MoreCode ended behind h = (h.0, refl)
-ends_code statuses.RunPastSegment ended behind h = refl
-ends_code statuses.ResidualTooLarge ended behind h = refl
-ends_code _ ended behind h = absurd h
+ends_code : (paused ended : Status) (after : List ℕ) → EndsAll paused after ended → EndsCode (pause_of (status_number paused)) after (ending_of paused)
+ends_code statuses.OnlyZeros ended after h = (h.0, refl)
+ends_code statuses.MoreCode ended after h = (h.0, refl)
+ends_code statuses.RunPastSegment ended after h = refl
+ends_code statuses.ResidualTooLarge ended after h = refl
+ends_code _ ended after h = absurd h
 
 -- a code that ends was decoded past the samples asked for
-never_reached_so : (paused ended : Status) (behind : List ℕ) → EndsAll paused behind ended → ending_of paused ≡ Reached → ⊥
-never_reached_so statuses.OnlyZeros ended behind h e = absurd cc
-never_reached_so statuses.MoreCode ended behind h e = absurd cc
-never_reached_so statuses.RunPastSegment ended behind h e = absurd cc
-never_reached_so statuses.ResidualTooLarge ended behind h e = absurd cc
-never_reached_so _ ended behind h e = absurd h
+never_reached_so : (paused ended : Status) (after : List ℕ) → EndsAll paused after ended → ending_of paused ≡ Reached → ⊥
+never_reached_so statuses.OnlyZeros ended after h e = absurd cc
+never_reached_so statuses.MoreCode ended after h e = absurd cc
+never_reached_so statuses.RunPastSegment ended after h e = absurd cc
+never_reached_so statuses.ResidualTooLarge ended after h e = absurd cc
+never_reached_so _ ended after h e = absurd h
 
 -- the last report is of the pause: of all samples, and its place
 record PausedLast (s : Parameters) (paused : Status) (xs : List ℤ) (last : RiceReport) : Type 0 where
@@ -137,18 +137,18 @@ record PausedLast (s : Parameters) (paused : Status) (xs : List ℤ) (last : Ric
   place : last.place ≡ pause_place (pause_of (status_number paused)) (length xs / s.block)
 
 -- what the status and the place of the whole call tell
-tells_end : {s : Parameters} (paused ended : Status) (behind : List ℕ) {xs : List ℤ} (fault : Option Fault) (last : RiceReport) → 1 ≤ s.block
-    → EndsAll paused behind ended → FaultOf s xs (ending_of paused) fault → PausedLast s paused xs last
+tells_end : {s : Parameters} (paused ended : Status) (after : List ℕ) {xs : List ℤ} (fault : Option Fault) (last : RiceReport) → 1 ≤ s.block
+    → EndsAll paused after ended → FaultOf s xs (ending_of paused) fault → PausedLast s paused xs last
     → (status_number (fault_status fault) ≡ status_number ended) × (fault_place fault ≡ place_all paused last)
-tells_end statuses.OnlyZeros ended behind fault last j h
+tells_end statuses.OnlyZeros ended after fault last j h
     f at_pause = (ap (λ (v : Option Fault). status_number (fault_status v)) f ∙ ap status_number (sym h.1), ap fault_place f ∙ sym at_pause.place)
-tells_end statuses.MoreCode ended behind fault last j h
+tells_end statuses.MoreCode ended after fault last j h
     f at_pause = (ap (λ (v : Option Fault). status_number (fault_status v)) f ∙ ap status_number (sym h.1), ap fault_place f ∙ sym at_pause.samples)
-tells_end {s} statuses.RunPastSegment ended behind fault last j h f at_pause =
+tells_end {s} statuses.RunPastSegment ended after fault last j h f at_pause =
     (ap (λ (v : Option Fault). status_number (fault_status v)) f.2 ∙ ap status_number (sym h), ap fault_place f.2 ∙ sym (at_pause.place ∙ ap (λ n. n / s.block) f.1 ∙ mul-div_cancel_left f.0 j))
-tells_end {s} statuses.ResidualTooLarge ended behind fault last j h f at_pause =
+tells_end {s} statuses.ResidualTooLarge ended after fault last j h f at_pause =
     (ap (λ (v : Option Fault). status_number (fault_status v)) f.2 ∙ ap status_number (sym h), ap fault_place f.2 ∙ sym (at_pause.place ∙ ap (λ n. n / s.block) f.1 ∙ mul-div_cancel_left f.0 j))
-tells_end _ ended behind fault last j h f at_pause = absurd h
+tells_end _ ended after fault last j h f at_pause = absurd h
 
 -- a drain stands for some bits and samples after each pull
 stands_at : (s : Parameters) (code : List ℕ) (o : Origin) (front : List Bool) (given : List ℤ) (drain : RiceDrain) (pulls : List Pull)
@@ -165,9 +165,9 @@ record TellsDrain (s : Parameters) (p : Pull) : Type 0 where
   pub place : p.report.place ≡ pause_place (pause_of p.status) (p.drain.stand.samples / s.block)
 
 -- the report of a pull tells where its drain stands
-tells_drain : {s : Parameters} (code : List ℕ) {o : Origin} {front : List Bool} {given : List ℤ} (drain : RiceDrain) (p : Pull) (behind : List ℕ)
-    → IsStand s o drain.stand front given → IsPulled s code drain p behind → TellsDrain s p
-tells_drain {s} code {o} {front} {given} drain p behind h pulled =
+tells_drain : {s : Parameters} (code : List ℕ) {o : Origin} {front : List Bool} {given : List ℤ} (drain : RiceDrain) (p : Pull) (after : List ℕ)
+    → IsStand s o drain.stand front given → IsPulled s code drain p after → TellsDrain s p
+tells_drain {s} code {o} {front} {given} drain p after h pulled =
     let d = pulled.1 o front given h in
     record {
       samples = ap (λ (r : Report). r.samples) d.counts;
@@ -200,35 +200,35 @@ never_full {s} {code} {xs} {ending} {used} {report} legal whole early d room ful
 
 -- pulls up to the end of a code give what one call gives
 pub pulls_are_decoding : PullsAreDecoding
-pulls_are_decoding s code o before setting first opened pulls last behind old new report status paused ended place opens pulled last_pulled paused_is ends d room =
+pulls_are_decoding s code o before setting first opened pulls last after old new report status paused ended place opens pulled last_pulled paused_is ends d room =
     let begins = opens.none in
     let legal = begins.state.legal in
     let j : 1 ≤ s.block = grind (arith, legal.block) in
     let at = same_last first pulls in
-    let last_one = one_pulled s code (last_drain first pulls) last behind last_pulled in
-    let how = subst (λ (n : ℕ). EndsCode (pause_of n) behind (ending_of paused)) (sym paused_is) (ends_code paused ended behind ends) in
-    let p = seek_all (engines pulls) (engine last) behind (ending_of paused) place begins (all_pulled s code first pulls pulled)
-    (subst (λ (v : Stand). stream.IsPulled s code v (engine last) behind) (sym at) last_one) how in
+    let last_one = one_pulled s code (last_drain first pulls) last after last_pulled in
+    let how = subst (λ (n : ℕ). EndsCode (pause_of n) after (ending_of paused)) (sym paused_is) (ends_code paused ended after ends) in
+    let p = seek_all (engines pulls) (engine last) after (ending_of paused) place begins (all_pulled s code first pulls pulled)
+    (subst (λ (v : Stand). stream.IsPulled s code v (engine last) after) (sym at) last_one) how in
     let xs = before ++ p.samples in
     let bytes = spellings s p.samples in
     let stands = stands_at s code o [] [] first pulls begins pulled in
-    let end = tells_drain code (last_drain first pulls) last behind stands.2 last_pulled in
+    let end = tells_drain code (last_drain first pulls) last after stands.2 last_pulled in
     let count : last.report.samples ≡ length xs = end.samples ∙ p.count in
-    let write = never_full legal p.decoded (never_reached_so paused ended behind ends) d
+    let write = never_full legal p.decoded (never_reached_so paused ended after ends) d
     (let fits : width s * length xs ≤ length old = (omega (arith, room, ap (λ n. width s * n) count)) in fits) in
     let same = decodes_as legal d.decodes.samples d.decodes.ending
     p.decoded p.limit (inl refl) (record { code_is = d.takes.gave; left_is = d.takes.left_is }) d.decodes.ends (record { read = d.writes.reads; write = write }) in
-    let told = tells_end {s = s} paused ended behind d.fault last.report j ends same.fault_is (record {
+    let reported = tells_end {s = s} paused ended after d.fault last.report j ends same.fault_is (record {
       samples = count;
       place = end.place ∙ (λ i. pause_place (pause_of (paused_is i)) (p.count i / s.block));
     }) in (
       bytes,
-      wrote_in_parts code first (pulls ++ last ∷ []) p.samples begins (pulled-push s code first pulls last behind pulled last_pulled)
+      wrote_in_parts code first (pulls ++ last ∷ []) p.samples begins (pulled-push s code first pulls last after pulled last_pulled)
           (subst (λ (l : List stream.Pull). stream.GiveInParts s first.stand l p.samples) (engines-push pulls last) p.parts),
       subst (λ (l : List ℕ). StandsInFront l old new) (same.written ∙ spellings-append s before p.samples) d.writes.front,
-      d.tells.status ∙ told.0,
+      d.tells.status ∙ reported.0,
       same.samples ∙ sym count,
-      d.tells.place ∙ told.1,
+      d.tells.place ∙ reported.1,
     )
 
 -- and up to a number of samples
@@ -264,6 +264,6 @@ pub drains_tell_places : DrainsTellPlaces
 drains_tell_places s code o before setting first opened pulls place opens pulled at_start no_run =
     let begins = opens.none in
     let at = same_last first pulls in
-    let told = stands_tell_places s code o before first.stand (engines pulls) place begins (all_pulled s code first pulls pulled)
+    let reported = stands_tell_places s code o before first.stand (engines pulls) place begins (all_pulled s code first pulls pulled)
     (ap (λ (v : Stand). v.block) at ∙ at_start) (ap (λ (v : Stand). v.run) at ∙ no_run) in
-    (told.0, wrote_in_parts code first pulls told.0 begins pulled told.1, subst (λ (v : Stand). IsPlace s code (place_at v) (before ++ told.0)) at told.2)
+    (reported.0, wrote_in_parts code first pulls reported.0 begins pulled reported.1, subst (λ (v : Stand). IsPlace s code (place_at v) (before ++ reported.0)) at reported.2)

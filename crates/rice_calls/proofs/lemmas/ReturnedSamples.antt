@@ -20,7 +20,7 @@ use Rattle.rice_calls.specs.SufficientRoom.{code_room}
 use Rattle.rice_calls.specs.Statuses.{status_number, fault_status}
 use Rattle.rice_calls.proofs.lemmas.RoomOfCallSuffices.{encode_wants, decode_wants, write_of, none_of}
 
--- with the room that is told, encoding never wants more
+-- with the room that is reported, encoding never wants more
 pub encode_suffices : (s : Parameters) (input old new : List ℕ) (r : RiceReport) (status : ℕ) → IsLegal s → EncodesInto s input old new r status
     → code_room s (length input / width s) ≤ length old → status ≢ 9
 encode_suffices s input old new r status legal e room full =

@@ -1,4 +1,4 @@
--- The room that is told of a call suffices: one that wants room had less.
+-- The room that is reported for a call suffices: one that wants room had less.
 use Rattle.std.proofs.Common.{◌≡◌, ◌≢◌, ℕ, ◌+◌, ◌*◌, ◌/◌, ◌<◌, ◌≤◌, cond, Bool, true, false, List, [], ◌∷◌, ◌++◌}
 use Rattle.std.proofs.Common.{length, take, replicate, Option, Some, None, inl, inr, ◌⊎◌, refl, ◌∙◌, ap, arith, length-append, ℤ, pos}
 use Rattle.std.specs.Prelude.{All}
@@ -22,7 +22,7 @@ use Rattle.rice_code.proofs.lemmas.code.SoundBlocks.{code_is_bounded}
 use Rattle.rice_samples.proofs.lemmas.setting.LevelsOfSamples.{zero_is_sample}
 use Rattle.rice_samples.proofs.lemmas.bytes.SpellingLengths.{length-spellings}
 use Rattle.rice_stream.specs.DevicesInCalls.{Call, StopsBetween}
-use Rattle.rice_stream.specs.Encodes.{Encodes, FailsBehind, FailsAtEnd}
+use Rattle.rice_stream.specs.Encodes.{Encodes, FailsAfter, FailsAtEnd}
 use Rattle.rice_stream.specs.Decodes.{Decodes}
 use Rattle.rice_stream.specs.declared.outcome.Report.{Report}
 use Rattle.rice_stream.specs.declared.outcome.Fault.{Fault}
@@ -65,7 +65,7 @@ few_whole bits = omega (arith, length-bits_of (whole_bytes bits), ap length (bit
 code_fits : (s : Parameters) (xs : List ℤ) → IsLegal s → All (IsSample s) xs → length (code s xs) ≤ padded_bound s (length xs)
 code_fits s xs legal samples = omega (arith, padding_is_bounded s legal xs samples, code_is_bounded s legal 0 (pos 0) xs (zero_is_sample s legal.bits_from) samples)
 
--- so its bytes are within the room that is told
+-- so its bytes are within the room that is reported
 pub output_fits : (s : Parameters) (xs : List ℤ) (n : ℕ) → IsLegal s → All (IsSample s) xs → length xs ≤ n → length (output s xs) ≤ code_room s n
 output_fits s xs n legal samples le =
     let c = code s xs in
@@ -108,12 +108,12 @@ few_samples s xs given rest input left legal split gave =
           | inr le ↦ le
         ]
 
--- encoding that wants room had less than is told
+-- encoding that wants room had less than is reported
 pub encode_wants : (s : Parameters) (c : Call) (r : Report) (input left : List ℕ) → IsLegal s → Consumes (Some input) (Some left) c.given
     → Encodes s c r (Some Write) → length c.written < code_room s (length input / width s)
 encode_wants s c r input left legal gave e = by_end e.ends.1
   where
-    by_end : FailsBehind s c r e.samples ⊎ FailsAtEnd s c r e.samples → length c.written < code_room s (length input / width s)
+    by_end : FailsAfter s c r e.samples ⊎ FailsAtEnd s c r e.samples → length c.written < code_room s (length input / width s)
     by_end (inl h) = omega (
       arith,
       stops_short _ _ c.written h.stops,

@@ -1,4 +1,4 @@
--- The room that is told of a piece which is fed suffices.
+-- The room that is reported for a piece suffices.
 use Rattle.std.proofs.Common.{◌≡◌, ℕ, ◌+◌, ◌-◌, ◌*◌, ◌/◌, ◌<◌, ◌≤◌, false, List, [], ◌∷◌, ◌++◌, length, take, replicate, Option}
 use Rattle.std.proofs.Common.{Some, None, Result, Ok, Err, inl, inr, sym, ◌∙◌, ap, subst, arith, append_assoc, append-nil, length-append, ℤ}
 use Rattle.std.specs.Prelude.{All}
@@ -15,7 +15,7 @@ use Rattle.rice_code.specs.code.Code.{code, output, early_output}
 use Rattle.rice_code.proofs.lemmas.cost.AddedCodeBound.{added_code_is_bounded}
 use Rattle.rice_code.proofs.lemmas.encode.PushedCode.{between_all}
 use Rattle.rice_stream.specs.EncodingState.{FollowsBetween}
-use Rattle.rice_stream.specs.Feeding.{IsSeam, behind, WantsRoom, AreAll, EncodesMore, EncodesRest}
+use Rattle.rice_stream.specs.Feeding.{IsSeam, after, WantsRoom, AreAll, EncodesMore, EncodesRest}
 use Rattle.rice_stream.specs.declared.outcome.Fault.{Fault}
 use Rattle.rice_stream.specs.declared.outcome.Fault.TheVariants.{Read, Write, TooLong, SampleOutOfRange, SampleCut, CodeEnds, RunPastSegment, ResidualTooLarge}
 use Rattle.rice_stream.specs.declared.outcome.Report.{Report}
@@ -55,7 +55,7 @@ module _ (s : Parameters) (legal : IsLegal s) (seam : Seam) (xs : List ℤ) (h :
 
   -- an outlet that stopped short of bytes that are so few
   module _ (input old : List ℕ) (name : ℕ) (room : Room) where
-    short : (from to : List ℕ) → (f : FollowsBetween (behind s xs (Some (begun name old))) (Some room) from to) → 8 * length to ≤ length (code s xs) + added_bound s (length input / width s) + 7 →
+    short : (from to : List ℕ) → (f : FollowsBetween (after s xs (Some (begun name old))) (Some room) from to) → 8 * length to ≤ length (code s xs) + added_bound s (length input / width s) + 7 →
         length room.bytes < push_room s seam.waiting_bits (length input / width s)
     short from to f few =
         let all : length f.written ≡ length (early_output s xs) + length f.took.more = ap length f.took.split ∙ length-append (early_output s xs) f.took.more in
@@ -70,7 +70,7 @@ module _ (s : Parameters) (legal : IsLegal s) (seam : Seam) (xs : List ℤ) (h :
         short _ _ w.writes (omega (arith, adds_early ys (length input / width s) w.reads.legal few, same))
 
     rest_wants : (more : List ℤ) → AreAll s xs input (Some (begun name old)) (Some room) more
-        → FollowsBetween (behind s xs (Some (begun name old))) (Some room) (early_output s (xs ++ more)) (output s (xs ++ more)) →
+        → FollowsBetween (after s xs (Some (begun name old))) (Some room) (early_output s (xs ++ more)) (output s (xs ++ more)) →
         length room.bytes < push_room s seam.waiting_bits (length input / width s)
     rest_wants more a f =
         let few = few_samples s more input [] input [] legal (a.spelled ∙ sym (append-nil _)) (sym (append-nil input)) in
@@ -101,7 +101,7 @@ module _ (s : Parameters) (legal : IsLegal s) (seam : Seam) (xs : List ℤ) (h :
     finish_wants r (Some (RunPastSegment block)) e w = absurd w
     finish_wants r (Some (ResidualTooLarge block)) e w = absurd w
 
--- the room that is told suffices for the code of a piece
+-- the room that is reported suffices for the code of a piece
 pub push_room_suffices : PushRoomSuffices
 push_room_suffices s legal xs input old new r status = (
   λ before after h p enough no.

@@ -8,12 +8,12 @@ use Rattle.rice_code.specs.{code.Choice.shortest, code.CodedDataSets.CodedDataSe
 
 -- What is sent at block b: a run where one starts, nothing inside it, and else the shortest option. A zero block goes into a run and nowhere else (own rule).
 abbrev pub data_set_at : Parameters → ℕ → Bool → BlockData → List BlockData → List CodedDataSet
-data_set_at s b behind_zero c cs = if is_zero_block c then (if behind_zero && not (begins_segment s b) then [] else zero_run s b c.reference (c ∷ cs) ∷ []) else shortest s c ∷ []
+data_set_at s b after_zero c cs = if is_zero_block c then (if after_zero && not (begins_segment s b) then [] else zero_run s b c.reference (c ∷ cs) ∷ []) else shortest s c ∷ []
 
--- the coded data sets of blocks, from block b on; `behind_zero`: the block before is one of zeros
+-- the coded data sets of blocks, from block b on; `after_zero`: the block before is one of zeros
 abbrev pub data_sets : Parameters → ℕ → Bool → List BlockData → List CodedDataSet
-data_sets s b behind_zero [] = []
-data_sets s b behind_zero (c ∷ cs) = data_set_at s b behind_zero c cs ++ data_sets s (b + 1) (is_zero_block c) cs
+data_sets s b after_zero [] = []
+data_sets s b after_zero (c ∷ cs) = data_set_at s b after_zero c cs ++ data_sets s (b + 1) (is_zero_block c) cs
 
 -- the coded data sets of samples, from block b on, which begins a segment, after the sample p
 abbrev pub sets_from : Parameters → ℕ → ℤ → List ℤ → List CodedDataSet

@@ -32,8 +32,8 @@ pub record TakesSet {I : Type 0} (old new : Reader I) (old_steps new_steps : ℕ
 pub record Skips {I : Type 0} (old new : Reader I) (count : ℕ) : Type 0 where
   pub bits : List Bool
   pub len : length bits ≡ count
-  pub split : old.waiting ≡ bits ++ new.waiting
-  pub same : new ≡ record old { waiting = new.waiting; taken = old.taken + count }
+  pub split : old.buffered ≡ bits ++ new.buffered
+  pub same : new ≡ record old { buffered = new.buffered; taken = old.taken + count }
 
 -- A reader took a sound coded data set and its padding, and these are the samples of its first block.
 pub record GivesSet {I : Type 0} (old new : Reader I) (old_steps new_steps : ℕ) (s : Parameters) (b : ℕ) (p : ℤ) (samples : List ℤ) (run : ℕ) : Type 0 where
@@ -56,7 +56,7 @@ pub record SetRefused {I : Type 0} (old new : Reader I) (old_steps new_steps : �
 -- A reader took all that was left, where the intake has ended, and no data set begins with it. `blank`: no bit of it was a 1.
 pub record SetEnds {I : Type 0} (old new : Reader I) (old_steps new_steps : ℕ) (s : Parameters) (b : ℕ) (blank : Bool) : Type 0 where
   pub cut : SetCut old new old_steps new_steps s b (bit_faults.End blank)
-  pub told : is_blank cut.bits ≡ blank
+  pub reported : is_blank cut.bits ≡ blank
 
 -- why a decoder at block b stops, whatever the intake is
 abbrev pub StopsBy : {I : Type 0} → Reader I → Reader I → ℕ → ℕ → Parameters → ℕ → Result Step CodeFault → Type 0

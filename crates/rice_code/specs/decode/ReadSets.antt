@@ -20,7 +20,7 @@ pub record PartsRead {I : Type 0} (old new : Reader I) (most k : ℕ) (small : B
   pub as_many_lows : length lows ≡ count
   pub low : All (λ v. v < 2 ^ k) lows
   pub takes : Takes old new (flat_map fundamental_sequence highs ++ flat_map (word k) lows)
-  pub told : small ≡ true → All (λ m. m ≤ most) highs × (residuals ≡ joined_parts k highs lows)
+  pub reported : small ≡ true → All (λ m. m ≤ most) highs × (residuals ≡ joined_parts k highs lows)
   pub refused : small ≡ false → All (λ m. m ≤ most) highs → ⊥
 
 -- A reader took all that was left and refused, and the parts of no `count` residuals begin with it.
@@ -49,7 +49,7 @@ pub record BlockRead {I : Type 0} (old new : Reader I) (old_steps new_steps : �
   pub form : IsForm s b (option contents)
   pub reference_is : contents.reference ≡ head.reference
   pub takes : Takes old new (set_tail s (option contents))
-  pub told : head.sound ≡ true → ResidualsAreSound s (option contents) × AllFit s contents × (contents.residuals ≡ residuals)
+  pub reported : head.sound ≡ true → ResidualsAreSound s (option contents) × AllFit s contents × (contents.residuals ≡ residuals)
   pub refused : head.sound ≡ false → ResidualsAreSound s (option contents) → ⊥
   pub steps : new_steps + old.taken ≡ old_steps + new.taken + turns (option contents)
 
@@ -66,7 +66,7 @@ pub record DescribesBlock (s : Parameters) (b : ℕ) (head : BlockSummary) (resi
   pub block : IsBlock s b contents
   pub reference_is : contents.reference ≡ head.reference
   pub run : RunIsSound s b set
-  pub told : head.sound ≡ true → ResidualsAreSound s set × IsZeroAtReference contents × AllFit s contents × (contents.residuals ≡ residuals)
+  pub reported : head.sound ≡ true → ResidualsAreSound s set × IsZeroAtReference contents × AllFit s contents × (contents.residuals ≡ residuals)
   pub refused : head.sound ≡ false → ResidualsAreSound s set → ⊥
 
 -- what is known of a coded data set by its head and residuals

@@ -36,10 +36,10 @@ abbrev pub WordRow : {I : Type 0} → ℕ → Reader I → Reader I → ℕ → 
 WordRow width old new count numbers = Row (word width) (λ v. v < 2 ^ width) old new count [] numbers
 
 -- A reader took a fundamental sequence for each of `count` numbers. If `small`, all are at most `most` and known.
-pub record CountRow {I : Type 0} (old new : Reader I) (most : ℕ) (small : Bool) (count : ℕ) (told : List ℕ) : Type 0 where
+pub record CountRow {I : Type 0} (old new : Reader I) (most : ℕ) (small : Bool) (count : ℕ) (reported : List ℕ) : Type 0 where
   pub values : List ℕ
   pub len : length values ≡ count
-  pub told_are : small ≡ true → (told ≡ values) × All (λ m. m ≤ most) values
+  pub reported_are : small ≡ true → (reported ≡ values) × All (λ m. m ≤ most) values
   pub refused : small ≡ false → All (λ m. m ≤ most) values → ⊥
   pub takes : Takes old new (flat_map fundamental_sequence values)
 

@@ -51,8 +51,8 @@ pub(crate) fn answer_of(fault: BitFault) -> Result<Step, CodeFault>
     }
 }
 
-/// Returns the place of the block that stands `count` blocks behind block `block`, if none between them begins an interval.
-pub(crate) fn place_behind(setting: &Setting, block: u64, count: u32) -> u64
+/// Returns the place of the block that stands `count` blocks after block `block`, if none between them begins an interval.
+pub(crate) fn place_of_block_after(setting: &Setting, block: u64, count: u32) -> u64
     requires block { block < setting.now.interval }
     requires within { block + count ≤ setting.now.interval }
     ensures { result ≡ place_after setting.now block count }
@@ -179,7 +179,7 @@ impl Decoder {
         ensures setting { self.new.setting ≡ self.old.setting }
         ensures stopped { self.new.stopped ≡ self.old.stopped }
     {
-        let next = place_behind(&self.setting, self.block, count);
+        let next = place_of_block_after(&self.setting, self.block, count);
         self.run -= count;
         self.block = next;
     }
@@ -211,7 +211,7 @@ impl Decoder {
         ensures setting { self.new.setting ≡ self.old.setting }
         // Steps are at least the bits taken, and at most twice as many.
         ensures steps { AreCounted meter.old meter.new reader.old.taken reader.new.taken }
-        // The samples that are given and those that then wait are bounded by the bits.
+        // The samples that are given and those that are then pending are bounded by the bits.
         ensures waiting { length samples.new.items + self.new.run * self.new.setting.block
             ≤ self.old.run * self.old.setting.block
             + most_samples_of_bit * (reader.new.taken - reader.old.taken) }
@@ -224,7 +224,7 @@ impl Decoder {
         if self.run > 0 {
             self.before = restore_zero_block(&self.setting, self.block, self.before, None, samples);
             self.run -= 1;
-            self.block = place_behind(&self.setting, self.block, 1);
+            self.block = place_of_block_after(&self.setting, self.block, 1);
             return Ok(Step::Block);
         }
         self.read_block(reader, meter, samples)
@@ -280,7 +280,7 @@ impl Decoder {
     }
 
     /// Goes to the next block, after a coded data set that was taken: `last` is the last sample of its first block, and `run` zero blocks
-    /// follow. Skips the padding behind the data set.
+    /// follow. Skips the padding after the data set.
     #[inline]
     pub fn go_to_next_block<I: Intake>(
         &mut self,
@@ -309,7 +309,7 @@ impl Decoder {
         skip_padding(&self.setting, self.block + 1 + run as u64, reader, meter);
         self.run = run;
         self.before = last;
-        self.block = place_behind(&self.setting, self.block, 1);
+        self.block = place_of_block_after(&self.setting, self.block, 1);
         Ok(Step::Block)
     }
 

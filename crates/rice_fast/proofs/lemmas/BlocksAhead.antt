@@ -1,4 +1,4 @@
--- A block that waits by each option, from its fields.
+-- A buffered block by each option, from its fields.
 use Rattle.std.proofs.Common.{◌≡◌, ℕ, zero, suc, ◌+◌, ◌-◌, ◌*◌, ◌/◌, ◌^◌, ◌<◌, ◌≤◌, ◌==◌, Bool, true, false, inl, inr, List, [], ◌∷◌, ◌++◌}
 use Rattle.std.proofs.Common.{length, take, drop, refl, sym, ◌∙◌, ap, subst, arith, replicate, Option, None, Some}
 use Rattle.std.specs.Prelude.{All, flat_map, slice_index_or, sum, ◌&&◌}
@@ -47,7 +47,7 @@ four-parts bits {b} {c} {d} k l m n p q r t =
 abbrev contents_of : Option ℕ → List ℕ → BlockData
 contents_of r ds = record { reference = r; residuals = ds }
 
--- levels are restored from these residuals behind the head of a block
+-- levels are restored from these residuals after the head of a block
 record IsRestoredFrom (s : Parameters) (from : ℕ) (ds levels : List ℕ) : Type 0 where
   some : 1 ≤ s.block
   bits : 1 ≤ s.bits
@@ -62,7 +62,7 @@ record ContentsAhead (s : Parameters) (b before : ℕ) (r : Option ℕ) (sent le
   fit : AllFit s (contents_of r (reference_place r ++ sent))
   gives : GivesBlock s b (value_at s before) (values_at s levels) 0 (contents_of r (reference_place r ++ sent) ∷ [])
 
-contents_ahead : {waiting : List Bool} {s : Parameters} {b before skip from omitted len : ℕ} (sent : List ℕ) {levels : List ℕ} → (head : HeadAhead waiting s b before skip from omitted len)
+contents_ahead : {buffered : List Bool} {s : Parameters} {b before skip from omitted len : ℕ} (sent : List ℕ) {levels : List ℕ} → (head : HeadAhead buffered s b before skip from omitted len)
     → IsRestoredFrom s from (reference_place head.reference ++ sent) levels → ContentsAhead s b before head.reference sent levels
 contents_ahead {s} {b} {before} {from} sent {levels} head restored =
     let r = head.reference in
@@ -133,17 +133,17 @@ zeros-joined (suc n) k (x ∷ xs) (y ∷ ys) same few e f =
     λ j. first j ∷ rest j
 
 -- the fields of a block, and levels that have residuals with its parts
-pub record PartsOfBlock (waiting : List Bool) (s : Parameters) (size words omitted k from : ℕ) (highs lows levels : List ℕ) : Type 0 where
+pub record PartsOfBlock (buffered : List Bool) (s : Parameters) (size words omitted k from : ℕ) (highs lows levels : List ℕ) : Type 0 where
   pub some : 2 ≤ size
   pub size_is : size ≡ s.block
   pub bits : 1 ≤ s.bits
   pub highs_are : length highs ≡ size
   pub lows_are : length lows ≡ size
-  pub ahead : LowsAhead waiting words omitted k lows
+  pub ahead : LowsAhead buffered words omitted k lows
   pub near : HaveParts s from k highs lows levels
-  pub within : words + (size - omitted) * k ≤ length waiting
+  pub within : words + (size - omitted) * k ≤ length buffered
 
-restored_from : {waiting : List Bool} {s : Parameters} {size words omitted k from : ℕ} {highs lows levels ds : List ℕ} → PartsOfBlock waiting s size words omitted k from highs lows levels
+restored_from : {buffered : List Bool} {s : Parameters} {size words omitted k from : ℕ} {highs lows levels ds : List ℕ} → PartsOfBlock buffered s size words omitted k from highs lows levels
     → joined_parts k highs lows ≡ ds → IsRestoredFrom s from ds levels
 restored_from parts joined = record {
   some = omega (arith, parts.some, parts.size_is);
@@ -154,11 +154,11 @@ restored_from parts joined = record {
 }
 
 -- a block by split k
-pub split_ahead : {waiting : List Bool} {s : Parameters} {b before size from omitted head n k : ℕ} {highs lows levels : List ℕ} → k ≤ k_max s
-    → word (id_len s) (k + 1) ≡ take (id_len s) waiting → HeadAhead waiting s b before (id_len s) from omitted head → HighsAhead waiting head omitted highs n
-    → PartsOfBlock waiting s size (head + n) omitted k from highs lows levels
-    → BlockAhead waiting s b (value_at s before) levels (head + n + (size - omitted) * k) 0
-split_ahead {waiting} {s} {b} {before} {size} {omitted} {head = head_len} {n} {k} {highs} {lows} {levels} small id head high parts =
+pub split_ahead : {buffered : List Bool} {s : Parameters} {b before size from omitted head n k : ℕ} {highs lows levels : List ℕ} → k ≤ k_max s
+    → word (id_len s) (k + 1) ≡ take (id_len s) buffered → HeadAhead buffered s b before (id_len s) from omitted head → HighsAhead buffered head omitted highs n
+    → PartsOfBlock buffered s size (head + n) omitted k from highs lows levels
+    → BlockAhead buffered s b (value_at s before) levels (head + n + (size - omitted) * k) 0
+split_ahead {buffered} {s} {b} {before} {size} {omitted} {head = head_len} {n} {k} {highs} {lows} {levels} small id head high parts =
     let r = head.reference in
     let a = head.part in
     let m = (size - omitted) * k in
@@ -173,8 +173,8 @@ split_ahead {waiting} {s} {b} {before} {size} {omitted} {head = head_len} {n} {k
     let joined : joined_parts k highs lows ≡ reference_place r ++ sent =
     zeros-joined omitted k highs lows same (omega (arith, few, parts.some, parts.highs_are)) high.zeros parts.ahead.zeros ∙ ap (λ xs. xs ++ sent) (sym head.place) in
     let contents = contents_ahead sent head (restored_from parts joined) in
-    let first : flat_map fundamental_sequence ms ≡ take n (drop (id_len s + a) waiting) = high.spelled ∙ ap (λ h. take n (drop h waiting)) head_is in
-    let second : flat_map (word k) ls ≡ take m (drop (id_len s + a + n) waiting) = parts.ahead.spelled ∙ (λ j. take ((parts.lows_are j - omitted) * k) (drop (head_is j + n) waiting)) in
+    let first : flat_map fundamental_sequence ms ≡ take n (drop (id_len s + a) buffered) = high.spelled ∙ ap (λ h. take n (drop h buffered)) head_is in
+    let second : flat_map (word k) ls ≡ take m (drop (id_len s + a + n) buffered) = parts.ahead.spelled ∙ (λ j. take ((parts.lows_are j - omitted) * k) (drop (head_is j + n) buffered)) in
     let spelled : flat_map (λ d. fundamental_sequence (d / 2 ^ k)) (sent_from r (reference_place r ++ sent)) ++ flat_map (word k) (sent_from r (reference_place r ++ sent))
     ≡ flat_map fundamental_sequence ms ++ flat_map (word k) ls =
     ap (λ xs. flat_map (λ d. fundamental_sequence (d / 2 ^ k)) xs ++ flat_map (word k) xs) (coded-placed r sent) ∙ (λ j. high_pieces k ms ls as_many low j ++ low_pieces k ms ls as_many j) in
@@ -186,8 +186,8 @@ split_ahead {waiting} {s} {b} {before} {size} {omitted} {head = head_len} {n} {k
       residuals_sound = contents.fit;
       within = parts.within;
       bits =
-          ap (λ l. take l waiting) all
-          ∙ (four-parts waiting (id_len s) a n m id head.bits first second
+          ap (λ l. take l buffered) all
+          ∙ (four-parts buffered (id_len s) a n m id head.bits first second
           ∙ ap (λ xs. word (id_len s) (k + 1) ++ (reference_bits s r ++ xs)) (sym spelled));
       turns_are = refl;
       few = omega arith;
@@ -196,11 +196,11 @@ split_ahead {waiting} {s} {b} {before} {size} {omitted} {head = head_len} {n} {k
     }
 
 -- a block without compression
-pub uncompressed_ahead : {waiting : List Bool} {s : Parameters} {b before size from omitted head : ℕ} {lows levels : List ℕ}
-    → word (id_len s) (2 ^ id_len s - 1) ≡ take (id_len s) waiting → HeadAhead waiting s b before (id_len s) from omitted head
-    → PartsOfBlock waiting s size head omitted s.bits from (take size (replicate 80 0)) lows levels → size ≤ 64
-    → BlockAhead waiting s b (value_at s before) levels (head + (size - omitted) * s.bits) 0
-uncompressed_ahead {waiting} {s} {b} {before} {size} {omitted} {head = head_len} {lows} {levels} id head parts most =
+pub uncompressed_ahead : {buffered : List Bool} {s : Parameters} {b before size from omitted head : ℕ} {lows levels : List ℕ}
+    → word (id_len s) (2 ^ id_len s - 1) ≡ take (id_len s) buffered → HeadAhead buffered s b before (id_len s) from omitted head
+    → PartsOfBlock buffered s size head omitted s.bits from (take size (replicate 80 0)) lows levels → size ≤ 64
+    → BlockAhead buffered s b (value_at s before) levels (head + (size - omitted) * s.bits) 0
+uncompressed_ahead {buffered} {s} {b} {before} {size} {omitted} {head = head_len} {lows} {levels} id head parts most =
     let r = head.reference in
     let a = head.part in
     let m = (size - omitted) * s.bits in
@@ -211,7 +211,7 @@ uncompressed_ahead {waiting} {s} {b} {before} {size} {omitted} {head = head_len}
     ap (λ hs. joined_parts s.bits hs lows) zeros
     ∙ (no_highs size s.bits lows parts.lows_are ∙ (split_at omitted (replicate omitted 0) lows parts.ahead.zeros ∙ ap (λ z. z ++ sent) (sym head.place))) in
     let contents = contents_ahead sent head (restored_from parts joined) in
-    let words : flat_map (word s.bits) sent ≡ take m (drop (id_len s + a) waiting) = parts.ahead.spelled ∙ (λ j. take ((parts.lows_are j - omitted) * s.bits) (drop (head_is j) waiting)) in
+    let words : flat_map (word s.bits) sent ≡ take m (drop (id_len s + a) buffered) = parts.ahead.spelled ∙ (λ j. take ((parts.lows_are j - omitted) * s.bits) (drop (head_is j) buffered)) in
     let all : head_len + m ≡ id_len s + a + m = omega (arith, head_is) in
     record {
       set = NoCompression (contents_of r (reference_place r ++ sent));
@@ -220,8 +220,8 @@ uncompressed_ahead {waiting} {s} {b} {before} {size} {omitted} {head = head_len}
       residuals_sound = tt;
       within = parts.within;
       bits =
-          ap (λ l. take l waiting) all
-          ∙ (three-parts waiting (id_len s) a m id head.bits words
+          ap (λ l. take l buffered) all
+          ∙ (three-parts buffered (id_len s) a m id head.bits words
           ∙ ap (λ xs. word (id_len s) (2 ^ id_len s - 1) ++ (reference_bits s r ++ flat_map (word s.bits) xs)) (sym (coded-placed r sent)));
       turns_are = refl;
       few = omega arith;
@@ -230,12 +230,12 @@ uncompressed_ahead {waiting} {s} {b} {before} {size} {omitted} {head = head_len}
     }
 
 -- a block by second extension
-pub pairs_block_ahead : {waiting : List Bool} {s : Parameters} {b before size from omitted head n v searched : ℕ} {numbers lows levels : List ℕ}
-    → word (id_len s) 0 ≡ take (id_len s) waiting → v < 2 → 0 < v → word 1 v ≡ take 1 (drop (id_len s) waiting)
-    → HeadAhead waiting s b before (id_len s + 1) from omitted head → PairsAhead waiting head omitted numbers n searched
-    → PartsOfBlock waiting s size (head + n) omitted 0 from numbers lows levels
-    → BlockAhead waiting s b (value_at s before) levels (head + n + (size - omitted) * 0) searched
-pairs_block_ahead {waiting} {s} {b} {before} {size} {omitted} {head = head_len} {n} {v} {numbers} {lows} {levels} id lt pos bit head pairs parts =
+pub pairs_block_ahead : {buffered : List Bool} {s : Parameters} {b before size from omitted head n v searched : ℕ} {numbers lows levels : List ℕ}
+    → word (id_len s) 0 ≡ take (id_len s) buffered → v < 2 → 0 < v → word 1 v ≡ take 1 (drop (id_len s) buffered)
+    → HeadAhead buffered s b before (id_len s + 1) from omitted head → PairsAhead buffered head omitted numbers n searched
+    → PartsOfBlock buffered s size (head + n) omitted 0 from numbers lows levels
+    → BlockAhead buffered s b (value_at s before) levels (head + n + (size - omitted) * 0) searched
+pairs_block_ahead {buffered} {s} {b} {before} {size} {omitted} {head = head_len} {n} {v} {numbers} {lows} {levels} id lt pos bit head pairs parts =
     let r = head.reference in
     let a = head.part in
     let head_is = head.len_is in
@@ -243,7 +243,7 @@ pairs_block_ahead {waiting} {s} {b} {before} {size} {omitted} {head = head_len} 
     let placed : numbers ≡ reference_place r ++ sent = split_at omitted (replicate omitted 0) numbers pairs.zeros ∙ ap (λ z. z ++ sent) (sym head.place) in
     let joined : joined_parts 0 numbers lows ≡ reference_place r ++ sent = no_lows numbers lows (parts.lows_are ∙ sym parts.highs_are) parts.ahead.low ∙ placed in
     let contents = contents_ahead sent head (restored_from parts joined) in
-    let codes : flat_map fundamental_sequence (pair_codes numbers) ≡ take n (drop (id_len s + 1 + a) waiting) = pairs.spelled ∙ ap (λ h. take n (drop h waiting)) head_is in
+    let codes : flat_map fundamental_sequence (pair_codes numbers) ≡ take n (drop (id_len s + 1 + a) buffered) = pairs.spelled ∙ ap (λ h. take n (drop h buffered)) head_is in
     let all : head_len + n + (size - omitted) * 0 ≡ id_len s + 1 + a + n = omega (arith, head_is) in
     record {
       set = SecondExtension (contents_of r (reference_place r ++ sent));
@@ -252,8 +252,8 @@ pairs_block_ahead {waiting} {s} {b} {before} {size} {omitted} {head = head_len} 
       residuals_sound = (contents.zero, contents.fit);
       within = parts.within;
       bits =
-          ap (λ l. take l waiting) all
-          ∙ (four-parts waiting (id_len s) 1 a n id (sym (one_bit v lt pos) ∙ bit) head.bits codes
+          ap (λ l. take l buffered) all
+          ∙ (four-parts buffered (id_len s) 1 a n id (sym (one_bit v lt pos) ∙ bit) head.bits codes
           ∙ ap (λ xs. word (id_len s) 0 ++ true ∷ (reference_bits s r ++ flat_map fundamental_sequence (pair_codes xs))) placed);
       turns_are = ap sum (sym placed) ∙ pairs.turns_are;
       few = omega (arith, pairs.few);

@@ -16,7 +16,7 @@ use Rattle.rice_fast.specs.BlocksAhead.{GivesBytes, SpelledAhead}
 -- the bits of a block that waited are taken, at a step for each and for each turn of a search, and what fills the data set is skipped
 pub record TakesBlock {I : Type 0} (start marked middle new : Reader I) (first steps last len searched : ℕ) (p : DecoderState) : Type 0 where
   pub mark : marked ≡ with_mark start
-  pub bits : Takes marked middle (take len marked.waiting)
+  pub bits : Takes marked middle (take len marked.buffered)
   pub steps_are : steps ≡ first + len + searched
   pub filled : Skips middle new (padding p.setting (p.block + 1 + 0) middle.taken)
   pub counted : last + middle.taken ≡ steps + new.taken
@@ -24,7 +24,7 @@ pub record TakesBlock {I : Type 0} (start marked middle new : Reader I) (first s
 
 -- the bytes of such a block
 pub bytes_given : {I : Type 0} {start marked middle new : Reader I} {first steps last : ℕ} {p q : DecoderState} {len l searched : ℕ} {bytes : List ℕ}
-    → IsLegal p.setting → SpelledAhead start.waiting p.setting p.block p.before l len searched bytes → TakesBlock start marked middle new first steps last len searched p
+    → IsLegal p.setting → SpelledAhead start.buffered p.setting p.block p.before l len searched bytes → TakesBlock start marked middle new first steps last len searched p
     → q ≡ record p { block = next_block_place p.setting p.block; before = value_at p.setting l; run = 0 }
     → GivesBytes start new first last p q bytes
 bytes_given {start} {marked} {middle} {new} {first} {steps} {last} {p} {q} {len} {l} {searched} {bytes} legal spelled takes moves =
@@ -34,9 +34,9 @@ bytes_given {start} {marked} {middle} {new} {first} {steps} {last} {p} {q} {len}
     let samples = values_at s levels in
     let many : length samples ≡ length levels = length-values s levels in
     let size : length levels ≡ s.block = sym many ∙ ahead.gives.len in
-    let same : marked.waiting ≡ start.waiting = ap (λ r. r.waiting) takes.mark in
-    let bits : take len marked.waiting ≡ bits_of_set s ahead.set = ap (take len) same ∙ ahead.bits in
-    let taken_len : length (take len marked.waiting) ≡ len = ap (λ w. length (take len w)) same ∙ length-take-le len start.waiting ahead.within in
+    let same : marked.buffered ≡ start.buffered = ap (λ r. r.buffered) takes.mark in
+    let bits : take len marked.buffered ≡ bits_of_set s ahead.set = ap (take len) same ∙ ahead.bits in
+    let taken_len : length (take len marked.buffered) ≡ len = ap (λ w. length (take len w)) same ∙ length-take-le len start.buffered ahead.within in
     let taken = takes.bits.taken in
     let set : TakesSet marked middle first steps s p.block p.before samples 0 = record {
       set = ahead.set;
@@ -60,9 +60,9 @@ bytes_given {start} {marked} {middle} {new} {first} {steps} {last} {p} {q} {len}
       by_bits = rw none (omega (arith, bound, takes.further));
     }
 
--- a block behind the place and the sample at which a decoder stands
-pub spelled_at : {waiting : List Bool} {s : Parameters} {b : ℕ} {x : ℤ} (p : DecoderState) {l len searched : ℕ} {bytes : List ℕ} → p.setting ≡ s → b ≡ p.block → x ≡ p.before
-    → SpelledAhead waiting s b x l len searched bytes → SpelledAhead waiting p.setting p.block p.before l len searched bytes
-spelled_at {waiting} {s} {b} {x} p {l} {len} {searched} {bytes} setting block before spelled =
-    subst (λ x. SpelledAhead waiting p.setting p.block x l len searched bytes) before
-    (subst (λ b. SpelledAhead waiting p.setting b x l len searched bytes) block (subst (λ s. SpelledAhead waiting s b x l len searched bytes) (sym setting) spelled))
+-- a block after the place and the sample at which a decoder stands
+pub spelled_at : {buffered : List Bool} {s : Parameters} {b : ℕ} {x : ℤ} (p : DecoderState) {l len searched : ℕ} {bytes : List ℕ} → p.setting ≡ s → b ≡ p.block → x ≡ p.before
+    → SpelledAhead buffered s b x l len searched bytes → SpelledAhead buffered p.setting p.block p.before l len searched bytes
+spelled_at {buffered} {s} {b} {x} p {l} {len} {searched} {bytes} setting block before spelled =
+    subst (λ x. SpelledAhead buffered p.setting p.block x l len searched bytes) before
+    (subst (λ b. SpelledAhead buffered p.setting b x l len searched bytes) block (subst (λ s. SpelledAhead buffered s b x l len searched bytes) (sym setting) spelled))

@@ -87,20 +87,20 @@ text-at f k (suc i) (v ∷ ws) each h =
     ∙ (ap (take k) (sym (drop-drop (k * i) k (f v ++ flat_map f ws)) ∙ ap (drop (k * i)) (drop_at (f v) (flat_map f ws) k (each v))) ∙ text-at f k i ws each (omega (arith, h)))
 
 -- no words at all
-pub no_words : (waiting : List Bool) (s : Parameters) (w : ℕ) (bytes : List ℕ) → WordsAhead waiting s w (16 * 0) bytes
-no_words waiting s w bytes = record { words = []; counted = omega arith; fit = All-nil (λ v. v < 2 ^ (8 * w)); bits = refl; spelled = refl }
+pub no_words : (buffered : List Bool) (s : Parameters) (w : ℕ) (bytes : List ℕ) → WordsAhead buffered s w (16 * 0) bytes
+no_words buffered s w bytes = record { words = []; counted = omega arith; fit = All-nil (λ v. v < 2 ^ (8 * w)); bits = refl; spelled = refl }
 
--- the words of sixteen bytes more wait behind others, and their bytes are written behind those of the others
-pub words_more : {waiting : List Bool} {s : Parameters} {w : ℕ} (i : ℕ) {old patterns spelled : List ℕ} → WordsAhead waiting s w (16 * i) old
+-- the words of sixteen bytes more are buffered after others, and their bytes are written after those of the others
+pub words_more : {buffered : List Bool} {s : Parameters} {w : ℕ} (i : ℕ) {old patterns spelled : List ℕ} → WordsAhead buffered s w (16 * i) old
     → OrdersWords s.msb w patterns spelled → length patterns ≡ 16 → length spelled ≡ 16 → 16 * i + 16 ≤ length old
-    → flat_map (word 8) patterns ≡ take 128 (drop (id_len s + 128 * i) waiting) → WordsAhead waiting s w (16 * (i + 1)) (put_chunk (16 * i) old spelled)
-words_more {waiting} {s} {w} i {old} {spelled} h o sixteen len room read =
+    → flat_map (word 8) patterns ≡ take 128 (drop (id_len s + 128 * i) buffered) → WordsAhead buffered s w (16 * (i + 1)) (put_chunk (16 * i) old spelled)
+words_more {buffered} {s} {w} i {old} {spelled} h o sixteen len room read =
     let here : 16 * (i + 1) ≡ 16 * i + 16 = omega arith in
     let bits_here : 8 * (16 * (i + 1)) ≡ 8 * (16 * i) + 128 = omega arith in
     let at : id_len s + 128 * i ≡ id_len s + 8 * (16 * i) = omega arith in
-    let rest = drop (id_len s) waiting in
+    let rest = drop (id_len s) buffered in
     let more : flat_map (word (8 * w)) o.words ≡ take 128 (drop (8 * (16 * i)) rest) = o.bits
-    ∙ (read ∙ ap (take 128) (ap (λ n. drop n waiting) at ∙ sym (drop-drop (8 * (16 * i)) (id_len s) waiting))) in
+    ∙ (read ∙ ap (take 128) (ap (λ n. drop n buffered) at ∙ sym (drop-drop (8 * (16 * i)) (id_len s) buffered))) in
     record {
       words = h.words ++ o.words;
       counted = ap (λ n. w * n) (length-append h.words o.words)
@@ -112,8 +112,8 @@ words_more {waiting} {s} {w} i {old} {spelled} h o sixteen len room read =
     }
 
 -- and so many of them as a block has
-pub block_words : (waiting : List Bool) (s : Parameters) (w n : ℕ) (bytes : List ℕ) → IsCopied s w → WordsAhead waiting s w n bytes → w * s.block ≤ n → WordsAhead waiting s w (w * s.block) bytes
-block_words waiting s w n bytes copied h le =
+pub block_words : (buffered : List Bool) (s : Parameters) (w n : ℕ) (bytes : List ℕ) → IsCopied s w → WordsAhead buffered s w n bytes → w * s.block ≤ n → WordsAhead buffered s w (w * s.block) bytes
+block_words buffered s w n bytes copied h le =
     let count = s.block in
     let few : count ≤ length h.words = within w (some_bytes s w copied) count (length h.words) (omega (arith, le, h.counted)) in
     let digits : 8 * (w * count) ≡ 8 * w * count = omega arith in
@@ -124,7 +124,7 @@ block_words waiting s w n bytes copied h le =
       fit = All-take (λ v. v < 2 ^ (8 * w)) count h.words h.fit;
       bits =
           sym (first-texts (word (8 * w)) (8 * w) count h.words (λ v. length-word (8 * w) v) few) ∙ (ap (λ m. take m (flat_map (word (8 * w)) h.words)) (sym digits)
-          ∙ (ap (take (8 * (w * count))) h.bits ∙ take-take (8 * (w * count)) (8 * n) (drop (id_len s) waiting) part));
+          ∙ (ap (take (8 * (w * count))) h.bits ∙ take-take (8 * (w * count)) (8 * n) (drop (id_len s) buffered) part));
       spelled =
           sym (take-take (w * count) n bytes le) ∙ (ap (take (w * count)) h.spelled ∙ first-texts (ordered_bytes s.msb w) w count h.words (λ v. length-ordered s.msb w v copied.widths) few);
     }
@@ -154,12 +154,12 @@ record PatternsOfSamples (s : Parameters) (w i : ℕ) (words : List ℕ) (sample
   same : map (pattern s) samples ≡ words
 
 -- the sample at a level is the last one if it has its word
-last_is_at : (waiting : List Bool) {s : Parameters} (w : ℕ) {i l : ℕ} (p : ℤ) {words : List ℕ} (samples : List ℤ) → WholeBytes s w → PatternsOfSamples s w i words samples
-    → flat_map (word (8 * w)) words ≡ take (8 * (w * suc i)) (drop (id_len s) waiting)
-    → l < value_count s → word (8 * w) (pattern s (value_at s l)) ≡ take (8 * w) (drop (id_len s + 8 * (w * suc i - w)) waiting) → value_at s l ≡ last_of p samples
-last_is_at waiting {s} w {i} {l} p {words} samples bytes of_samples bits small last =
+last_is_at : (buffered : List Bool) {s : Parameters} (w : ℕ) {i l : ℕ} (p : ℤ) {words : List ℕ} (samples : List ℤ) → WholeBytes s w → PatternsOfSamples s w i words samples
+    → flat_map (word (8 * w)) words ≡ take (8 * (w * suc i)) (drop (id_len s) buffered)
+    → l < value_count s → word (8 * w) (pattern s (value_at s l)) ≡ take (8 * w) (drop (id_len s + 8 * (w * suc i - w)) buffered) → value_at s l ≡ last_of p samples
+last_is_at buffered {s} w {i} {l} p {words} samples bytes of_samples bits small last =
     let n = 8 * w in
-    let rest = drop (id_len s) waiting in
+    let rest = drop (id_len s) buffered in
     let z = slice_index_or words i 0 in
     let x = slice_index_or samples i (pos 0) in
     let inside : i < length words = omega (arith, of_samples.words_are) in
@@ -169,13 +169,13 @@ last_is_at waiting {s} w {i} {l} p {words} samples bytes of_samples bits small l
     let read : word n z ≡ take n (drop (n * i) rest) =
     sym (text-at (word n) n i words (λ v. length-word n v) inside)
     ∙ (ap (λ b. take n (drop (n * i) b)) (bits ∙ ap (λ m. take m rest) all) ∙ (ap (take n) (drop-take (n * i) n rest) ∙ take-take n n (drop (n * i) rest) (omega arith))) in
-    let same : word n (pattern s (value_at s l)) ≡ word n z = last ∙ (ap (λ m. take n (drop m waiting)) at ∙ (ap (take n) (sym (drop-drop (n * i) (id_len s) waiting)) ∙ sym read)) in
+    let same : word n (pattern s (value_at s l)) ≡ word n z = last ∙ (ap (λ m. take n (drop m buffered)) at ∙ (ap (take n) (sym (drop-drop (n * i) (id_len s) buffered)) ∙ sym read)) in
     let sample = sample_at s l small in
     let fits : pattern s (value_at s l) < 2 ^ n = subst (λ m. pattern s (value_at s l) < 2 ^ m) bytes.whole (pattern_fits s (value_at s l) bytes.some sample) in
-    let told : pattern s (value_at s l) ≡ z = sym (number_of-word n (pattern s (value_at s l)) fits) ∙ (ap number_of same ∙ number_of-word n z (of_samples.fit i 0 inside)) in
+    let reported : pattern s (value_at s l) ≡ z = sym (number_of-word n (pattern s (value_at s l)) fits) ∙ (ap number_of same ∙ number_of-word n z (of_samples.fit i 0 inside)) in
     let pat : pattern s x ≡ z = sym (get_or-map (pattern s) samples i (pos 0) 0 within) ∙ ap (λ ws. slice_index_or ws i 0) of_samples.same in
     let end : length samples - 1 ≡ i = omega (arith, of_samples.len) in
-    same_pattern s (value_at s l) x bytes.some sample (of_samples.legal i (pos 0) within) (told ∙ sym pat) ∙ sym
+    same_pattern s (value_at s l) x bytes.some sample (of_samples.legal i (pos 0) within) (reported ∙ sym pat) ∙ sym
     (last_at p (pos 0) samples (omega (arith, of_samples.len)) ∙ ap (λ m. slice_index_or samples m (pos 0)) end)
 
 -- the samples of a block
@@ -203,11 +203,11 @@ last_level : (s : Parameters) (p : ℤ) (xs : List ℤ) → last_number (level s
 last_level s p [] = refl
 last_level s p (x ∷ xs) = last_level s x xs
 
--- a copied block that waits, and the bytes of its samples, of which the last has level `l`
-pub copied_ahead : {waiting : List Bool} {s : Parameters} {w l : ℕ} {bytes : List ℕ} → IsLegal s → IsCopied s w → CopiedBlock waiting s w bytes → l < value_count s
-    → word (8 * w) (pattern s (value_at s l)) ≡ take (8 * w) (drop (id_len s + 8 * (w * s.block - w)) waiting)
-    → (b : ℕ) (p : ℤ) → SpelledAhead waiting s b p l (copied_bits s w) 0 bytes
-copied_ahead {waiting} {s} {w} {l} {bytes} legal copied h small read b p =
+-- a copied block that is buffered, and the bytes of its samples, of which the last has level `l`
+pub copied_ahead : {buffered : List Bool} {s : Parameters} {w l : ℕ} {bytes : List ℕ} → IsLegal s → IsCopied s w → CopiedBlock buffered s w bytes → l < value_count s
+    → word (8 * w) (pattern s (value_at s l)) ≡ take (8 * w) (drop (id_len s + 8 * (w * s.block - w)) buffered)
+    → (b : ℕ) (p : ℤ) → SpelledAhead buffered s b p l (copied_bits s w) 0 bytes
+copied_ahead {buffered} {s} {w} {l} {bytes} legal copied h small read b p =
     let words = h.words in
     let given = samples_in s w words.words legal copied words.fit in
     let samples = given.samples in
@@ -215,10 +215,10 @@ copied_ahead {waiting} {s} {w} {l} {bytes} legal copied h small read b p =
     let count : length words.words ≡ s.block = counted_words s w (length words.words) copied words.counted in
     let many : length samples ≡ s.block = given.len ∙ count in
     let one : suc (s.block - 1) ≡ s.block = (let some = legal.block.0 in omega (arith, some)) in
-    let last_is = last_is_at waiting {s = s} w p samples (record { some = legal.bits_from; whole = copied.whole })
+    let last_is = last_is_at buffered {s = s} w p samples (record { some = legal.bits_from; whole = copied.whole })
     (record { words_are = count ∙ sym one; len = many ∙ sym one; fit = words.fit; legal = given.legal; same = given.patterns })
-    (words.bits ∙ ap (λ n. take (8 * (w * n)) (drop (id_len s) waiting)) (sym one)) small
-    (read ∙ ap (λ n. take (8 * w) (drop (id_len s + 8 * (w * n - w)) waiting)) (sym one)) in
+    (words.bits ∙ ap (λ n. take (8 * (w * n)) (drop (id_len s) buffered)) (sym one)) small
+    (read ∙ ap (λ n. take (8 * w) (drop (id_len s + 8 * (w * n - w)) buffered)) (sym one)) in
     let reference : IsReference s b None = record { there = sym (ap (λ v. v && (place s b == 0)) copied.preprocess); fits = tt } in
     let c : BlockData = record { reference = None; residuals = words.words } in
     let back : values_at s levels ≡ samples = at_levels s samples given.legal in
@@ -236,7 +236,7 @@ copied_ahead {waiting} {s} {w} {l} {bytes} legal copied h small read b p =
         run_sound = tt;
         residuals_sound = tt;
         within = h.there;
-        bits = take-add (id_len s) (8 * (w * s.block)) waiting ∙ (λ j. sym h.id j ++ (sym words.bits ∙ ap (λ n. flat_map (word n) words.words) (sym copied.whole)) j);
+        bits = take-add (id_len s) (8 * (w * s.block)) buffered ∙ (λ j. sym h.id j ++ (sym words.bits ∙ ap (λ n. flat_map (word n) words.words) (sym copied.whole)) j);
         turns_are = refl;
         few = omega arith;
         legal = levels_fit s samples given.legal;

@@ -1,4 +1,4 @@
--- The head of a block that waits, and its high parts in rows of sixteen.
+-- The head of a buffered block, and its high parts in rows of sixteen.
 use Rattle.std.proofs.Common.{◌≡◌, ℕ, zero, suc, ◌+◌, ◌-◌, ◌*◌, ◌/◌, ◌%◌, ◌^◌, ◌<◌, ◌≤◌, Bool, true, List, ◌++◌, length, take, drop, take-take, replicate, refl, sym, ◌∙◌, ap, subst, arith, Some}
 use Rattle.std.specs.Prelude.{flat_map, min}
 use Rattle.std.proofs.Math.Seq.{take-add, take-append-add}
@@ -12,10 +12,10 @@ use Rattle.rice_samples.specs.predict.Residuals.{pattern}
 use Rattle.rice_fast.specs.FieldsAhead.{HeadAhead, HighsAhead, rows_len}
 
 -- a reference sample
-pub head_behind_reference : {waiting : List Bool} {s : Parameters} {b before skip from v bits : ℕ} → is_reference s b ≡ true
-    → bits ≡ s.bits → v < 2 ^ bits → word bits v ≡ take bits (drop skip waiting)
-    → from < value_count s → pattern s (value_at s from) ≡ v → HeadAhead waiting s b before skip from 1 (skip + bits)
-head_behind_reference {waiting} {s} {skip} {v} {bits} there bits_are fits value begins pat =
+pub head_after_reference : {buffered : List Bool} {s : Parameters} {b before skip from v bits : ℕ} → is_reference s b ≡ true
+    → bits ≡ s.bits → v < 2 ^ bits → word bits v ≡ take bits (drop skip buffered)
+    → from < value_count s → pattern s (value_at s from) ≡ v → HeadAhead buffered s b before skip from 1 (skip + bits)
+head_after_reference {buffered} {s} {skip} {v} {bits} there bits_are fits value begins pat =
     record {
       reference = Some v;
       is = record { there = sym there; fits = subst (λ w. v < 2 ^ w) bits_are fits };
@@ -26,41 +26,41 @@ head_behind_reference {waiting} {s} {skip} {v} {bits} there bits_are fits value 
       same = tt;
       part = s.bits;
       len_is = ap (λ n. skip + n) bits_are;
-      bits = (λ j. word (sym bits_are j) v) ∙ (value ∙ (λ j. take (bits_are j) (drop skip waiting)));
+      bits = (λ j. word (sym bits_are j) v) ∙ (value ∙ (λ j. take (bits_are j) (drop skip buffered)));
       short = omega (arith, bits_are);
     }
 
--- bits that follow one another, behind others
-pub behind-both : (waiting : List Bool) (skip l n : ℕ) → take l (drop skip waiting) ++ take n (drop (skip + l) waiting) ≡ take (l + n) (drop skip waiting)
-behind-both waiting skip l n = sym (take-add l n (drop skip waiting) ∙ ap (λ bits. take l (drop skip waiting) ++ take n bits) (drop-drop l skip waiting))
+-- bits that follow one another, after others
+pub after-both : (buffered : List Bool) (skip l n : ℕ) → take l (drop skip buffered) ++ take n (drop (skip + l) buffered) ≡ take (l + n) (drop skip buffered)
+after-both buffered skip l n = sym (take-add l n (drop skip buffered) ∙ ap (λ bits. take l (drop skip buffered) ++ take n bits) (drop-drop l skip buffered))
 
--- the first numbers of a row of lanes, without the zeros behind them
+-- the first numbers of a row of lanes, without the zeros after them
 pub first_of : (count many : ℕ) (xs row : List ℕ) → count ≤ length xs → row ≡ take count xs ++ replicate (many - count) 0 → take count row ≡ take count xs
 first_of count many xs row h e =
     let len : length (take count xs) ≡ count = length-take-le count xs h in
     ap (take count) e ∙ (take-append-le count (take count xs) (replicate (many - count) 0) (omega (arith, len)) ∙ take-take count count xs (omega arith))
 
 -- a row of fundamental sequences
-pub row-highs : {waiting : List Bool} {skip : ℕ} (o : ℕ) {n : ℕ} (count : ℕ) {numbers row : List ℕ} → o ≤ 1 → o < count → skip + 64 ≤ length waiting
-    → BeginWithSequences (drop skip waiting) (count - o) numbers n → row ≡ take count (replicate o 0 ++ numbers) → HighsAhead waiting skip o row n
-row-highs {waiting} {skip} zero {n} count {numbers} few some there found is =
+pub row-highs : {buffered : List Bool} {skip : ℕ} (o : ℕ) {n : ℕ} (count : ℕ) {numbers row : List ℕ} → o ≤ 1 → o < count → skip + 64 ≤ length buffered
+    → BeginWithSequences (drop skip buffered) (count - o) numbers n → row ≡ take count (replicate o 0 ++ numbers) → HighsAhead buffered skip o row n
+row-highs {buffered} {skip} zero {n} count {numbers} few some there found is =
     let short = found.few in
     record {
       zeros = refl;
-      spelled = ap (flat_map fundamental_sequence) is ∙ subst (λ c. flat_map fundamental_sequence (take c numbers) ≡ take n (drop skip waiting)) (omega arith) found.spelled;
+      spelled = ap (flat_map fundamental_sequence) is ∙ subst (λ c. flat_map fundamental_sequence (take c numbers) ≡ take n (drop skip buffered)) (omega arith) found.spelled;
       within = omega (arith, there, short);
     }
-row-highs {waiting} {skip} (suc zero) {n} (suc m) {numbers} few some there found is =
+row-highs {buffered} {skip} (suc zero) {n} (suc m) {numbers} few some there found is =
     let short = found.few in
     record {
       zeros = ap (take 1) is;
-      spelled = ap (λ xs. flat_map fundamental_sequence (drop 1 xs)) is ∙ subst (λ c. flat_map fundamental_sequence (take c numbers) ≡ take n (drop skip waiting)) (omega arith) found.spelled;
+      spelled = ap (λ xs. flat_map fundamental_sequence (drop 1 xs)) is ∙ subst (λ c. flat_map fundamental_sequence (take c numbers) ≡ take n (drop skip buffered)) (omega arith) found.spelled;
       within = omega (arith, there, short);
     }
 row-highs (suc zero) zero few some there found is = absurd (omega (arith, some))
 row-highs (suc (suc o)) count few some there found is = absurd (omega (arith, few))
 
--- a row that is stored behind those before it
+-- a row that is stored after those before it
 pub stored_row : (row count : ℕ) (numbers old new : List ℕ) → count ≤ 16 → 16 * row ≤ length old → length numbers ≡ 16
     → take (16 * (row + 1)) new ≡ take (16 * row) old ++ numbers → take (16 * row + count) new ≡ take (16 * row) old ++ take count numbers
 stored_row row count numbers old new most room len value =
@@ -70,15 +70,15 @@ stored_row row count numbers old new most room len value =
     ∙ (ap (take (16 * row + count)) value ∙ (ap (λ n. take (n + count) (front ++ numbers)) (sym front_len) ∙ take-append-add front numbers count))
 
 -- one row more of fundamental sequences
-pub highs-row : {waiting : List Bool} {skip omitted len n : ℕ} {highs row : List ℕ} → omitted ≤ length highs → HighsAhead waiting skip omitted highs len
-    → HighsAhead waiting (skip + len) 0 row n → HighsAhead waiting skip omitted (highs ++ row) (len + n)
-highs-row {waiting} {skip} {omitted} {len} {n} {highs} {row} few before more =
+pub highs-row : {buffered : List Bool} {skip omitted len n : ℕ} {highs row : List ℕ} → omitted ≤ length highs → HighsAhead buffered skip omitted highs len
+    → HighsAhead buffered (skip + len) 0 row n → HighsAhead buffered skip omitted (highs ++ row) (len + n)
+highs-row {buffered} {skip} {omitted} {len} {n} {highs} {row} few before more =
     let within = more.within in
     record {
       zeros = take-append-le omitted highs row few ∙ before.zeros;
       spelled =
           ap (flat_map fundamental_sequence) (drop-append-le omitted highs row few)
-          ∙ (flat_map-append fundamental_sequence (drop omitted highs) row ∙ ((λ j. before.spelled j ++ more.spelled j) ∙ behind-both waiting skip len n));
+          ∙ (flat_map-append fundamental_sequence (drop omitted highs) row ∙ ((λ j. before.spelled j ++ more.spelled j) ∙ after-both buffered skip len n));
       within = omega (arith, within);
     }
 
@@ -86,7 +86,7 @@ highs-row {waiting} {skip} {omitted} {len} {n} {highs} {row} few before more =
 pub rows_before : (size row : ℕ) → 16 * row < size → rows_len size row ≡ 16 * row
 rows_before size row lt = omega (arith, lt)
 
--- behind its last row all samples of a block are in rows
+-- after its last row all samples of a block are in rows
 pub rows_end : (size row : ℕ) → (size + 15) / 16 ≤ row → rows_len size row ≡ size
 rows_end size row least = omega (arith, least)
 

@@ -21,14 +21,14 @@ use Rattle.rice_fast.specs.FieldsAhead.{LowsAhead}
 use Rattle.rice_fast.specs.PartsOfResiduals.{HaveParts, residuals_at}
 use Rattle.rice_fast.specs.RowsAhead.{RowsAhead, SpellsParts}
 use Rattle.rice_fast.specs.declared.fields.Fields.{Fields}
-use Rattle.rice_fast.proofs.lemmas.HighParts.{behind-both, first_of}
+use Rattle.rice_fast.proofs.lemmas.HighParts.{after-both, first_of}
 use Rattle.rice_fast.proofs.lemmas.Residuals.{first_residuals, residuals-append}
 
--- a row of words: those of the first lanes, behind the numbers that are omitted
-pub lanes_lows : {waiting : List Bool} {skip k many : ℕ} (o count : ℕ) (words : List ℕ) {row : List ℕ} → o ≤ 1 → 1 ≤ count → count ≤ many → length words ≡ many
-    → All (λ l. l < 2 ^ k) words → flat_map (word k) words ≡ take (many * k) (drop skip waiting) → row ≡ take count (replicate o 0 ++ words) ++ replicate (many - count) 0
-    → LowsAhead waiting skip o k (take count row) × All (λ l. l < 2 ^ k) row
-lanes_lows {waiting} {skip} {k} {many} zero count words {row} few some most len low bits is =
+-- a row of words: those of the first lanes, after the numbers that are omitted
+pub lanes_lows : {buffered : List Bool} {skip k many : ℕ} (o count : ℕ) (words : List ℕ) {row : List ℕ} → o ≤ 1 → 1 ≤ count → count ≤ many → length words ≡ many
+    → All (λ l. l < 2 ^ k) words → flat_map (word k) words ≡ take (many * k) (drop skip buffered) → row ≡ take count (replicate o 0 ++ words) ++ replicate (many - count) 0
+    → LowsAhead buffered skip o k (take count row) × All (λ l. l < 2 ^ k) row
+lanes_lows {buffered} {skip} {k} {many} zero count words {row} few some most len low bits is =
     let first : take count row ≡ take count words = first_of count many words row (omega (arith, len, most)) is in
     let n : length (take count row) - 0 ≡ count = omega (arith, ap length first, length-take-le count words (omega (arith, len, most))) in (
       record {
@@ -36,13 +36,13 @@ lanes_lows {waiting} {skip} {k} {many} zero count words {row} few some most len 
         low = subst (All (λ l. l < 2 ^ k)) (sym first) (All-take (λ l. l < 2 ^ k) count words low);
         spelled =
             ap (flat_map (word k)) first
-            ∙ (words-front k count words (omega (arith, len, most)) ∙ (ap (take (count * k)) bits ∙ (take-take (count * k) (many * k) (drop skip waiting) (mul-le-mul_right k most)
-            ∙ ap (λ m. take (m * k) (drop skip waiting)) (sym n))));
+            ∙ (words-front k count words (omega (arith, len, most)) ∙ (ap (take (count * k)) bits ∙ (take-take (count * k) (many * k) (drop skip buffered) (mul-le-mul_right k most)
+            ∙ ap (λ m. take (m * k) (drop skip buffered)) (sym n))));
       },
       subst (All (λ l. l < 2 ^ k)) (sym is) (All-append (λ l. l < 2 ^ k) (take count words) (replicate (many - count) 0) (All-take (λ l. l < 2 ^ k) count words low)
           (All-replicate (λ l. l < 2 ^ k) (many - count) 0 (pow_pos k))),
     )
-lanes_lows {waiting} {skip} {k} {many} (suc zero) (suc m) words {row} few some most len low bits is =
+lanes_lows {buffered} {skip} {k} {many} (suc zero) (suc m) words {row} few some most len low bits is =
     let first : take (suc m) row ≡ 0 ∷ take m words = first_of (suc m) many (0 ∷ words) row (omega (arith, len, most)) is in
     let n : length (take (suc m) row) - 1 ≡ m = omega (arith, ap length first, length-take-le m words (omega (arith, len, most))) in
     let all = All-cons (λ l. l < 2 ^ k) 0 (take m words) (pow_pos k) (All-take (λ l. l < 2 ^ k) m words low) in (
@@ -51,8 +51,8 @@ lanes_lows {waiting} {skip} {k} {many} (suc zero) (suc m) words {row} few some m
         low = subst (All (λ l. l < 2 ^ k)) (sym first) all;
         spelled =
             ap (λ xs. flat_map (word k) (drop 1 xs)) first
-            ∙ (words-front k m words (omega (arith, len, most)) ∙ (ap (take (m * k)) bits ∙ (take-take (m * k) (many * k) (drop skip waiting) (mul-le-mul_right k (omega (arith, most)))
-            ∙ ap (λ c. take (c * k) (drop skip waiting)) (sym n))));
+            ∙ (words-front k m words (omega (arith, len, most)) ∙ (ap (take (m * k)) bits ∙ (take-take (m * k) (many * k) (drop skip buffered) (mul-le-mul_right k (omega (arith, most)))
+            ∙ ap (λ c. take (c * k) (drop skip buffered)) (sym n))));
       },
       subst (All (λ l. l < 2 ^ k)) (sym is) (All-append (λ l. l < 2 ^ k) (0 ∷ take m words) (replicate (many - suc m) 0) all (All-replicate (λ l. l < 2 ^ k) (many - suc m) 0 (pow_pos k))),
     )
@@ -60,9 +60,9 @@ lanes_lows (suc zero) zero words few some most len low bits is = absurd (omega (
 lanes_lows (suc (suc o)) count words few some most len low bits is = absurd (omega (arith, few))
 
 -- one row more of words
-lows-row : {waiting : List Bool} {skip omitted k at : ℕ} {lows : List ℕ} (row : List ℕ) → omitted ≤ length lows → LowsAhead waiting skip omitted k lows
-    → at ≡ skip + (length lows - omitted) * k → LowsAhead waiting at 0 k row → LowsAhead waiting skip omitted k (lows ++ row)
-lows-row {waiting} {skip} {omitted} {k} {at} {lows} row few before place more =
+lows-row : {buffered : List Bool} {skip omitted k at : ℕ} {lows : List ℕ} (row : List ℕ) → omitted ≤ length lows → LowsAhead buffered skip omitted k lows
+    → at ≡ skip + (length lows - omitted) * k → LowsAhead buffered at 0 k row → LowsAhead buffered skip omitted k (lows ++ row)
+lows-row {buffered} {skip} {omitted} {k} {at} {lows} row few before place more =
     let part = length lows - omitted in
     let count = length row in
     let plain : count - 0 ≡ count = omega arith in
@@ -74,8 +74,8 @@ lows-row {waiting} {skip} {omitted} {k} {at} {lows} row few before place more =
       spelled =
           ap (flat_map (word k)) (drop-append-le omitted lows row few)
           ∙ (flat_map-append (word k) (drop omitted lows) row
-          ∙ ((λ j. before.spelled j ++ (more.spelled ∙ (ap (λ n. take (n * k) (drop at waiting)) plain ∙ ap (λ m. take (count * k) (drop m waiting)) place)) j)
-          ∙ (behind-both waiting skip (part * k) (count * k) ∙ ap (λ n. take n (drop skip waiting)) all)));
+          ∙ ((λ j. before.spelled j ++ (more.spelled ∙ (ap (λ n. take (n * k) (drop at buffered)) plain ∙ ap (λ m. take (count * k) (drop m buffered)) place)) j)
+          ∙ (after-both buffered skip (part * k) (count * k) ∙ ap (λ n. take n (drop skip buffered)) all)));
     }
 
 -- what the first parts join to is the first of all joined parts
@@ -175,8 +175,8 @@ whole_row {many} {count} lows few len none blank row = record {
 }
 
 -- before the first row no sample is spelled
-pub no_rows : (waiting : List Bool) (s : Parameters) (f : Fields) (highs bytes : List ℕ) → f.from < value_count s → RowsAhead waiting s f highs 0 f.from bytes
-no_rows waiting s f highs bytes begins =
+pub no_rows : (buffered : List Bool) (s : Parameters) (f : Fields) (highs bytes : List ℕ) → f.from < value_count s → RowsAhead buffered s f highs 0 f.from bytes
+no_rows buffered s f highs bytes begins =
     let none : width s * 0 ≡ 0 = omega arith in
     record {
       levels = [];
@@ -193,7 +193,7 @@ no_rows waiting s f highs bytes begins =
     nothing true = refl
     nothing false = refl
 
--- where the words of a row begin: those before it are passed, and behind the first row none is omitted
+-- where the words of a row begin: those before it are passed, and after the first row none is omitted
 pub record RowPlace (f : Fields) (at omitted place : ℕ) : Type 0 where
   pub few : omitted ≤ 1
   pub first : at ≡ 0 → omitted ≡ f.omitted
@@ -207,7 +207,7 @@ first_place f few =
     let words_of : (0 - f.omitted) * f.k ≡ 0 * f.k = ap (λ n. n * f.k) none in
     record { few = few; first = λ _. refl; later = λ some. absurd (omega (arith, some)); begins = omega (arith, words_of) }
 
--- behind a row that is at its place, the next is at its own
+-- after a row that is at its place, the next is at its own
 pub next_place : {f : Fields} {at omitted place : ℕ} (count : ℕ) → f.omitted ≤ 1 → 1 ≤ count → RowPlace f at omitted place →
     RowPlace f (at + count) 0 (place + (count - omitted) * f.k)
 next_place {f} {at} {omitted} {place} count few some here = record {
@@ -240,15 +240,15 @@ zeros_of_row at many {highs} inside zeros is =
     ∙ (ap (λ xs. take many (drop at xs)) zeros ∙ (ap (take many) (drop-replicate at 80 0) ∙ take-replicate many (80 - at) 0 (omega (arith, inside)))))
 
 -- one row more
-pub one_row_more : {waiting : List Bool} {s : Parameters} {f : Fields} {at omitted place count last l : ℕ} {highs row bytes : List ℕ} (now : List ℕ) → f.omitted ≤ 1 → 1 ≤ count
-    → at + count ≤ length highs → RowPlace f at omitted place → RowsAhead waiting s f highs at last bytes → length row ≡ count → LowsAhead waiting place omitted f.k row
+pub one_row_more : {buffered : List Bool} {s : Parameters} {f : Fields} {at omitted place count last l : ℕ} {highs row bytes : List ℕ} (now : List ℕ) → f.omitted ≤ 1 → 1 ≤ count
+    → at + count ≤ length highs → RowPlace f at omitted place → RowsAhead buffered s f highs at last bytes → length row ≡ count → LowsAhead buffered place omitted f.k row
     → SpellsParts s last f.k count (take count (drop at highs)) row l (drop (width s * at) now) → take (width s * at) now ≡ take (width s * at) bytes
-    → RowsAhead waiting s f highs (at + count) l now
-one_row_more {waiting} {s} {f} {at} {omitted} {place} {count} {last} {l} {highs} {row} {bytes} now few some room here before row_len more spelled front =
+    → RowsAhead buffered s f highs (at + count) l now
+one_row_more {buffered} {s} {f} {at} {omitted} {place} {count} {last} {l} {highs} {row} {bytes} now few some room here before row_len more spelled front =
     let part = take count (drop at highs) in
     let levels = before.levels ++ spelled.levels in
-    let behind : length (drop at highs) ≡ length highs - at = length-drop at highs in
-    let many : length spelled.levels ≡ count = spelled.near.len ∙ length-take-le count (drop at highs) (omega (arith, behind, room)) in
+    let after : length (drop at highs) ≡ length highs - at = length-drop at highs in
+    let many : length spelled.levels ≡ count = spelled.near.len ∙ length-take-le count (drop at highs) (omega (arith, after, room)) in
     let end : length spelled.levels ≡ suc (count - 1) = omega (arith, many, some) in
     let last_level : l ≡ last_number last spelled.levels = spelled.last_is ∙ sym (last_at last (count - 1) spelled.levels end) in
     let whole : take count spelled.levels ≡ spelled.levels = take_all count spelled.levels (omega (arith, many)) in
@@ -275,16 +275,16 @@ one_row_more {waiting} {s} {f} {at} {omitted} {place} {count} {last} {l} {highs}
           ∙ ((λ j. (front ∙ before.spelled) j ++ (spelled.spelled ∙ ap (λ ls. spellings s (values_at s ls)) whole) j) ∙ spelled_both s before.levels spelled.levels));
     }
   where
-    words : (n : ℕ) → RowPlace f n omitted place → (lows : List ℕ) → length lows ≡ n → (0 < n → LowsAhead waiting f.words f.omitted f.k lows) → LowsAhead waiting f.words f.omitted f.k (lows ++ row)
+    words : (n : ℕ) → RowPlace f n omitted place → (lows : List ℕ) → length lows ≡ n → (0 < n → LowsAhead buffered f.words f.omitted f.k lows) → LowsAhead buffered f.words f.omitted f.k (lows ++ row)
     words zero here [] e h =
         let none : 0 - f.omitted ≡ 0 = omega arith in
         let words_of : (0 - f.omitted) * f.k ≡ 0 * f.k = ap (λ n. n * f.k) none in
         let start : place ≡ f.words = here.begins ∙ omega (arith, words_of) in
-        subst (λ p. LowsAhead waiting p f.omitted f.k row) start (subst (λ o. LowsAhead waiting place o f.k row) (here.first refl) more)
+        subst (λ p. LowsAhead buffered p f.omitted f.k row) start (subst (λ o. LowsAhead buffered place o f.k row) (here.first refl) more)
     words zero here (x ∷ lows) e h = absurd (omega (arith, e))
     words (suc n) here lows e h =
         let later : omitted ≡ 0 = here.later (omega arith) in
-        lows-row row (omega (arith, few, e)) (h (omega arith)) (here.begins ∙ ap (λ m. f.words + (m - f.omitted) * f.k) (sym e)) (subst (λ o. LowsAhead waiting place o f.k row) later more)
+        lows-row row (omega (arith, few, e)) (h (omega arith)) (here.begins ∙ ap (λ m. f.words + (m - f.omitted) * f.k) (sym e)) (subst (λ o. LowsAhead buffered place o f.k row) later more)
 
 -- the greatest level fits a lane
 pub greatest_fits : (s : Parameters) (k : ℕ) {values : ℕ} → s.bits ≤ k → 1 ≤ values → values ≡ value_count s → values - 1 < 2 ^ k

@@ -21,7 +21,7 @@ use Rattle.rice_fast.specs.declared.encode.coder.BlockCoder.{BlockCoder}
 abbrev pub to_follow : Parameters → ℕ → Option ℕ → ℕ → ℕ → List BlockData → List Bool
 to_follow s start r n run more = bits_of_sets s (data_sets s (start + (n - run)) false (pending_zeros s (reference_at r (n - run)) run ++ more))
 
--- The code of the first blocks of a segment is put behind `from`, but for the zero blocks that are pending: `bits` bits, in `steps` steps.
+-- The code of the first blocks of a segment is put after `from`, but for the zero blocks that are pending: `bits` bits, in `steps` steps.
 pub record IsAhead (s : Parameters) (start : ℕ) (r : Option ℕ) (run bits steps : ℕ) (blocks : List BlockData) (sink from : List Bool) : Type 0 where
   pub sound : AreSoundBlocks s start blocks
   pub few : length blocks ≤ blocks_left s start
@@ -35,7 +35,7 @@ pub record IsAhead (s : Parameters) (start : ℕ) (r : Option ℕ) (run bits ste
 abbrev pub coder_with : BlockCoder → List ℕ → CoderState
 coder_with c residuals = record { setting = c.setting; residuals = residuals; reference = c.reference; previous = value_at c.setting c.previous; start = c.start }
 
--- The open segment has these residuals: those of whole blocks, whose code is put behind `from`, and those of `row`, at most a block.
+-- The open segment has these residuals: those of whole blocks, whose code is put after `from`, and those of `row`, at most a block.
 pub record HoldsOpen (c : BlockCoder) (row : List ℕ) (sink : List Bool) (meter : ℕ) (residuals : List ℕ) (from : List Bool) (meter_from : ℕ) : Type 0 where
   pub opens : IsOpen (coder_with c residuals) (c.setting.block * c.end)
   pub ends : c.end ≡ blocks_left c.setting c.start
@@ -46,7 +46,7 @@ pub record HoldsOpen (c : BlockCoder) (row : List ℕ) (sink : List Bool) (meter
   pub steps_ahead : meter ≡ meter_from + c.steps_ahead
   pub ahead : IsAhead c.setting c.start c.reference c.run c.bits_ahead c.steps_ahead (held_blocks c.setting c.reference c.blocks residuals) sink from
 
--- The coder with its residuals in `row`, its sink and its meter stand for a coder that puts nothing before its segment is whole, behind these samples.
+-- The coder with its residuals in `row`, its sink and its meter stand for a coder that puts nothing before its segment is whole, after these samples.
 pub record StandsWith (c : BlockCoder) (row : List ℕ) (sink : List Bool) (meter : ℕ) (m : Standing) (xs : List ℤ) : Type 0 where
   pub coded : IsCoder m.coder
   pub legal : AllByRecursion (IsSample m.coder.setting) xs
@@ -54,7 +54,7 @@ pub record StandsWith (c : BlockCoder) (row : List ℕ) (sink : List Bool) (mete
   pub coder : state_after_all m.coder xs ≡ coder_with c residuals
   pub holds : HoldsOpen c row sink meter residuals m.sink (m.meter + length xs)
 
--- The coder stands for it behind samples that may make the segment whole,
+-- The coder stands for it after samples that may make the segment whole,
 pub record StandsAfter (c : BlockCoder) (sink : List Bool) (meter : ℕ) (m : Standing) (xs : List ℤ) : Type 0 where
   pub room : length c.part ≡ 64
   pub held : c.held ≤ c.setting.block
@@ -73,7 +73,7 @@ pub record StandsFor (c : BlockCoder) (sink : List Bool) (meter : ℕ) (m : Stan
 abbrev pub whole_part : BlockCoder → List ℕ
 whole_part c = take c.setting.block c.part
 
--- There is room for the block whose residuals are all held behind those that are coded.
+-- There is room for the block whose residuals are all held after those that are coded.
 pub record HasRoomForBlock (c : BlockCoder) (sink : List Bool) (meter : ℕ) : Type 0 where
   pub blocks : List BlockData
   pub from : List Bool
@@ -125,4 +125,4 @@ pub record GoesOn (c : BlockCoder) (bytes : List ℕ) : Type 0 where
 pub record PushesOpen (m m_new : Standing) (samples : List ℤ) (bits : ℕ) : Type 0 where
   pub pushes : PushesSamples m.coder m_new.coder samples m.sink m_new.sink bits m.meter m_new.meter
   pub whole : 0 < bits → m_new.coder.residuals ≡ []
-  pub waits : bits ≡ 0 → m_new.sink ≡ m.sink
+  pub buffered : bits ≡ 0 → m_new.sink ≡ m.sink

@@ -27,7 +27,7 @@ pub record TakesSpelled (m m_new : Standing) (bytes : List ℕ) (count bits : �
   pub pushes : PushesSamples m.coder m_new.coder samples m.sink m_new.sink bits m.meter m_new.meter
   pub before_last : (n : ℕ) → n < count → CompletesNone m.coder (take n samples)
   pub whole : 0 < bits → m_new.coder.residuals ≡ []
-  pub waits : bits ≡ 0 → m_new.sink ≡ m.sink
+  pub buffered : bits ≡ 0 → m_new.sink ≡ m.sink
 
 -- These are the residuals of the samples that the bytes spell: of the first one after the sample at level `before`, of each other after the one before it.
 pub record HasResidualsOf (s : Parameters) (bytes : List ℕ) (before : ℕ) (residuals : List ℕ) (last : ℕ) : Type 0 where

@@ -44,7 +44,7 @@ struct Before {
 /// Takes samples by their bytes, and appends the code of each whole segment (CCSDS 121.0-B-3, sections 3 to 5). A segment has 64 blocks, or
 /// fewer at the end of a reference interval.
 ///
-/// Each block is coded as soon as it is whole, so that the sink and the meter are ahead of those of a coder that waits for the segment.
+/// Each block is coded as soon as it is whole, so that the sink and the meter are ahead of those of a coder that codes whole segments.
 /// In contracts `StandsFor` says which coder this is.
 #[derive(Drop)]
 pub struct BlockCoder {
@@ -116,7 +116,7 @@ impl BlockCoder {
         self.setting.value_at((self.previous as u64).min(greatest))
     }
 
-    /// Returns the number of steps, of which those of a coder that waits for the segment are counted.
+    /// Returns the number of steps, of which those of a coder that codes whole segments are counted.
     pub fn steps(&self, meter: &Meter) -> u64
         ensures { (sink : List Bool) (m : Standing) → StandsFor self.now sink meter.now m →
             result ≡ m.meter }

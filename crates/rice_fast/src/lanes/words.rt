@@ -22,9 +22,9 @@ static ONES: [u32; 16] = [
 #[inline(always)]
 fn words_one_by_one<I: Intake>(reader: &BitReader<I>, skip: usize, width: u32) -> Words
     requires width { width ≤ 32 }
-    requires there { skip + 256 ≤ length reader.now.waiting }
+    requires there { skip + 256 ≤ length reader.now.buffered }
     ensures fit { All (λ v. v < 2 ^ width) result.lanes }
-    ensures bits { flat_map (word width) result.lanes ≡ take (8 * width) (drop skip reader.now.waiting) }
+    ensures bits { flat_map (word width) result.lanes ≡ take (8 * width) (drop skip reader.now.buffered) }
 {
     let _taken = reader.taken();
     let mut words = [0; 8];

@@ -7,7 +7,7 @@ use Rattle.rice_samples.specs.bytes.Spelling.{ordered_bytes}
 abbrev pub in_order : Bool → List ℕ → List ℕ
 in_order turned bytes = if turned then reverse bytes else bytes
 
--- the bytes of the first `count` words of `width` bytes each in that order, each word with `more` zeros behind it
+-- the bytes of the first `count` words of `width` bytes each in that order, each word with `more` zeros after it
 abbrev pub words_in_order : Bool → (width more count : ℕ) → List ℕ → List ℕ
 words_in_order turned width more zero bytes = []
 words_in_order turned width more (suc count) bytes =

@@ -90,7 +90,7 @@ fn levels_of_words<L: Lanes>(setting: &Setting, width: u32, words: L) -> L
     words.plus(L::splat(offset)).and(L::splat(greatest))
 }
 
-/// Returns the first twelve bytes with a 0 behind each three. These are in the opposite order if the most significant comes first.
+/// Returns the first twelve bytes with a 0 after each three. These are in the opposite order if the most significant comes first.
 #[inline(always)]
 fn first_threes(bytes: u8x16, msb: bool) -> u8x16
     requires { length bytes ≡ 16 }

@@ -1,28 +1,28 @@
 -- Bytes in the buffer of an input.
 use Rattle.std.proofs.Common.{◌≡◌, ℕ, ◌+◌, ◌-◌, ◌≤◌, List, ◌++◌, length, take, drop, ap, arith, sym, ◌∙◌, length-drop, Option, Result, Ok, Err}
-use Rattle.rice_stream.proofs.Words.{IfOk, Consumes, copy_within, drop-take, length-take-le, take-append-le, take-paste, take-append-add, Refills}
+use Rattle.rice_stream.proofs.Words.{IfOk, Consumes, copy_within, drop-take, length-take-le, take-append-le, take-paste, take-append-add, FillsBuffer}
 use borrow.Rule.Slice.PartMut.{put_mid, post_of}
 
--- behind the bytes that wait stand those that were read
+-- after the bytes that are buffered stand those that were read
 pub front_is : (w n k : ℕ) (old buf : List ℕ) → w ≤ length old → n ≤ length buf → take (w + n) (put_mid w k old buf) ≡ take w old ++ take n buf
 front_is w n k old buf h few =
     ap (λ m. take (m + n) (put_mid w k old buf)) (sym (length-take-le w old h)) ∙ take-append-add (take w old) (buf ++ post_of w k old) n
     ∙ ap (λ l. take w old ++ l) (take-append-le n buf (post_of w k old) few)
 
--- the bytes that wait are moved to the front
-pub front_is_carried : (filled waiting : ℕ) (old new : List ℕ) → new ≡ copy_within old (filled - waiting) filled 0 → waiting ≤ filled → filled ≤ length old
-    → take waiting new ≡ drop (filled - waiting) (take filled old)
-front_is_carried filled waiting old new e h within =
-    let i = filled - waiting in
-    let n : 0 + (filled - i) ≡ waiting = omega arith in
+-- the bytes that are buffered are moved to the front
+pub front_is_carried : (filled buffered : ℕ) (old new : List ℕ) → new ≡ copy_within old (filled - buffered) filled 0 → buffered ≤ filled → filled ≤ length old
+    → take buffered new ≡ drop (filled - buffered) (take filled old)
+front_is_carried filled buffered old new e h within =
+    let i = filled - buffered in
+    let n : 0 + (filled - i) ≡ buffered = omega arith in
     let few : filled - i ≤ length (drop i old) = omega (arith, length-drop i old) in
     let end : i + (filled - i) ≡ filled = omega arith in
-    ap (take waiting) e ∙ ap (λ m. take m (copy_within old i filled 0)) (sym n) ∙ take-paste old 0 (drop i old) (filled - i) (omega arith) few
+    ap (take buffered) e ∙ ap (λ m. take m (copy_within old i filled 0)) (sym n) ∙ take-paste old 0 (drop i old) (filled - i) (omega arith) few
     ∙ sym (drop-take i (filled - i) old) ∙ ap (λ m. drop i (take m old)) end
 
--- what was read lies behind what waited
+-- what was read lies after what waited
 pub refills_by_read : {E : Type 0} (left left_new : Option (List ℕ)) {w : ℕ} (k : ℕ) (old buf : List ℕ) (r : Result ℕ E) → w ≤ length old → IfOk r (λ n. n ≤ length buf)
-    → IfOk r (λ n. Consumes left left_new (take n buf)) → IfOk r (λ n. Refills left left_new old (put_mid w k old buf) w n)
+    → IfOk r (λ n. Consumes left left_new (take n buf)) → IfOk r (λ n. FillsBuffer left left_new old (put_mid w k old buf) w n)
 refills_by_read left left_new {w} k old buf (Ok n) within few gave = record {
   given = take n buf;
   length_is = length-take-le n buf few;

@@ -76,13 +76,13 @@ pub decoded_with_set : {s : Parameters} {front : List Bool} (skipped : List Bool
     → DecodedSoFar s front begun b 0 all → begun ≤ b → SoundSet s b d →
     length skipped ≡ padding s (block_after s b d) (length front + length (bits_of_set s d)) → GivesBlock s b (last_of (pos 0) all) xs run (blocks_in s b d)
     → DecodedSoFar s (front ++ (bits_of_set s d ++ skipped)) (b + 1) (b + 1) run (all ++ xs)
-decoded_with_set {s} {front} skipped {b} {run} {all} {xs} d legal behind before sound skips gives =
+decoded_with_set {s} {front} skipped {b} {run} {all} {xs} d legal after before sound skips gives =
     let p = last_of (pos 0) all in
     let more_one : s.block * b + s.block ≡ s.block * (b + 1) = omega arith in
     let all_sound = subst (AreSoundBlocks s b) (sym gives.blocks_are) (blocks_are_sound s b d legal (sound.form, sound.run, sound.residuals)) in
     record {
-      len = length-append all xs ∙ (λ i. behind.len i + gives.len i) ∙ more_one;
-      legal = All-append (IsSample s) all xs behind.legal gives.legal;
+      len = length-append all xs ∙ (λ i. after.len i + gives.len i) ∙ more_one;
+      legal = All-append (IsSample s) all xs after.legal gives.legal;
       sound = all_sound.1;
       goes_on = λ (wanted : Option ℕ) (more : List ℤ) (rest : List Bool) (ys : List ℤ) (ending : Ending) (used : ℕ) follows.
           on wanted more rest ys ending used follows.begun_wanted (subst (λ (q : ℤ). AreOfRun s (b + 1) q run more) (last_append (pos 0) all xs) follows.of_run) follows.next;
@@ -117,11 +117,11 @@ decoded_with_set {s} {front} skipped {b} {run} {all} {xs} d legal behind before 
         let back : DecodedFrom s (b + 0) (length front) (last_of (pos 0) (all ++ [])) (t ++ (skipped ++ rest)) wanted (cut_to s wanted b zs ++ ys) ending (length set + used) =
         subst (λ (l : List ℤ). DecodedFrom s (b + 0) (length front) (last_of (pos 0) l) (t ++ (skipped ++ rest)) wanted (cut_to s wanted b zs ++ ys) ending (length set + used)) (sym again)
         (subst (λ (n : ℕ). DecodedFrom s n (length front) p (t ++ (skipped ++ rest)) wanted (cut_to s wanted b zs ++ ys) ending (length set + used)) at here) in
-        let all_of = behind.goes_on wanted [] (t ++ (skipped ++ rest)) (cut_to s wanted b zs ++ ys) ending (length set + used)
+        let all_of = after.goes_on wanted [] (t ++ (skipped ++ rest)) (cut_to s wanted b zs ++ ys) ending (length set + used)
         (record { begun_wanted = λ i lt. goes i (omega arith); of_run = none; next = back }) in
         let samples : cut_to s wanted 0 (all ++ []) ++ (cut_to s wanted b zs ++ ys) ≡ cut_to s wanted 0 ((all ++ xs) ++ more) ++ ys =
         ap (λ l. cut_to s wanted 0 l ++ (cut_to s wanted b zs ++ ys)) again ∙ sym (append_assoc (cut_to s wanted 0 all) (cut_to s wanted b zs) ys)
-        ∙ ap (λ l. l ++ ys) (sym (cut_more s wanted b all zs behind.len) ∙ ap (cut_to s wanted 0) (sym (append_assoc all xs more))) in
+        ∙ ap (λ l. l ++ ys) (sym (cut_more s wanted b all zs after.len) ∙ ap (cut_to s wanted 0) (sym (append_assoc all xs more))) in
         let count : length front + (length set + used) ≡ length (front ++ set) + used = (let n = position in omega arith) in
         let bits : front ++ (t ++ (skipped ++ rest)) ≡ (front ++ set) ++ rest = ap (λ l. front ++ l) (sym (append_assoc t skipped rest)) ∙ sym (append_assoc front set rest) in
         subst (λ (l : List Bool). Decoded s l wanted (cut_to s wanted 0 ((all ++ xs) ++ more) ++ ys) ending (length (front ++ set) + used)) bits
@@ -131,13 +131,13 @@ decoded_with_set {s} {front} skipped {b} {run} {all} {xs} d legal behind before 
 -- a block of a run was given
 pub decoded_with_run_block : {s : Parameters} {front : List Bool} {begun b run left : ℕ} {all xs : List ℤ} → DecodedSoFar s front begun b run all
     → GivesBlock s b (last_of (pos 0) all) xs left (replicate run (zero_block s None)) → DecodedSoFar s front begun (b + 1) left (all ++ xs)
-decoded_with_run_block {s} {front} {begun} {b} {run} {left} {all} {xs} behind gives =
+decoded_with_run_block {s} {front} {begun} {b} {run} {left} {all} {xs} after gives =
     let more_one : s.block * b + s.block ≡ s.block * (b + 1) = omega arith in
     let some : run ≡ suc left = count in
-    let all_sound = subst (λ (n : ℕ). AreSoundBlocks s b (replicate n (zero_block s None))) some behind.sound in
+    let all_sound = subst (λ (n : ℕ). AreSoundBlocks s b (replicate n (zero_block s None))) some after.sound in
     record {
-      len = length-append all xs ∙ (λ i. behind.len i + gives.len i) ∙ more_one;
-      legal = All-append (IsSample s) all xs behind.legal gives.legal;
+      len = length-append all xs ∙ (λ i. after.len i + gives.len i) ∙ more_one;
+      legal = All-append (IsSample s) all xs after.legal gives.legal;
       sound = all_sound.1;
       goes_on = λ (wanted : Option ℕ) (more : List ℤ) (rest : List Bool) (ys : List ℤ) (ending : Ending) (used : ℕ) follows.
           on wanted more rest ys ending used follows.begun_wanted (subst (λ (q : ℤ). AreOfRun s (b + 1) q left more) (last_append (pos 0) all xs) follows.of_run) follows.next;
@@ -169,7 +169,7 @@ decoded_with_run_block {s} {front} {begun} {b} {run} {left} {all} {xs} behind gi
         subst (λ (m : ℕ). DecodedFrom s m (length front) (last_of (pos 0) (all ++ zs)) rest wanted ys ending used) place
         (subst (λ (l : List ℤ). DecodedFrom s (b + 1 + left) (length front) (last_of (pos 0) l) rest wanted ys ending used) both next) in
         subst (λ (l : List ℤ). Decoded s (front ++ rest) wanted (cut_to s wanted 0 l ++ ys) ending (length front + used)) (sym both)
-        (behind.goes_on wanted zs rest ys ending used (record { begun_wanted = goes; of_run = of_run; next = there }))
+        (after.goes_on wanted zs rest ys ending used (record { begun_wanted = goes; of_run = of_run; next = there }))
 
 -- what the bits end with is all
 pub at_end : (s : Parameters) (b position : ℕ) (p : ℤ) (rest : List Bool) (wanted : Option ℕ) (ending : Ending) (used : ℕ)
@@ -197,9 +197,9 @@ at_end s b position p rest wanted ending used ends =
 ends_after_run : {s : Parameters} {front : List Bool} (rest : List Bool) {begun b run : ℕ} {all more : List ℤ} (wanted : Option ℕ) (ending : Ending) (used : ℕ)
     → DecodedSoFar s front begun b run all → ((i : ℕ) → i < begun → IsWanted s wanted i) → AreOfRun s b (last_of (pos 0) all) run more →
     EndsWith s wanted (b + run) rest ending used → Decoded s (front ++ rest) wanted (cut_to s wanted 0 (all ++ more)) ending (length front + used)
-ends_after_run {s} {front} rest {b} {run} {all} {more} wanted ending used behind goes of_run ends =
+ends_after_run {s} {front} rest {b} {run} {all} {more} wanted ending used after goes of_run ends =
     subst (λ (l : List ℤ). Decoded s (front ++ rest) wanted l ending (length front + used)) (append-nil (cut_to s wanted 0 (all ++ more)))
-    (behind.goes_on wanted more rest [] ending used (record {
+    (after.goes_on wanted more rest [] ending used (record {
       begun_wanted = goes;
       of_run = of_run;
       next = at_end s (b + run) (length front) (last_of (pos 0) (all ++ more)) rest wanted ending used ends;
@@ -209,21 +209,21 @@ ends_after_run {s} {front} rest {b} {run} {all} {more} wanted ending used behind
 pub ends_here : {s : Parameters} {front : List Bool} (rest : List Bool) {begun b : ℕ} {all : List ℤ} (wanted : Option ℕ) (ending : Ending) (used : ℕ)
     → DecodedSoFar s front begun b 0 all → ((i : ℕ) → i < begun → IsWanted s wanted i) → EndsWith s wanted b rest ending used →
     Decoded s (front ++ rest) wanted (cut_to s wanted 0 all) ending (length front + used)
-ends_here {s} {front} rest {begun} {b} {all} wanted ending used behind goes ends =
+ends_here {s} {front} rest {begun} {b} {all} wanted ending used after goes ends =
     let none : AreOfRun s b (last_of (pos 0) all) 0 [] = record { len = omega arith; legal = λ k d lt. absurd (omega arith); blocks = refl } in
     let at : b ≡ b + 0 = omega arith in
     subst (λ (l : List ℤ). Decoded s (front ++ rest) wanted (cut_to s wanted 0 l) ending (length front + used)) (append-nil all)
-    (ends_after_run rest wanted ending used behind goes none (subst (λ (n : ℕ). EndsWith s wanted n rest ending used) at ends))
+    (ends_after_run rest wanted ending used after goes none (subst (λ (n : ℕ). EndsWith s wanted n rest ending used) at ends))
 
 -- it ends with the samples that were asked for, all of which were given
 pub ends_reached : {s : Parameters} {front : List Bool} (rest : List Bool) {begun b run : ℕ} {all : List ℤ} (n : ℕ) → IsLegal s → DecodedSoFar s front begun b run all
     → ((i : ℕ) → i < begun → IsWanted s (Some n) i) → n ≤ s.block * b →
     Decoded s (front ++ rest) (Some n) (cut_to s (Some n) 0 all) Reached (length front + 0)
-ends_reached {s} {front} rest {begun} {b} {run} {all} n legal behind goes enough =
+ends_reached {s} {front} rest {begun} {b} {run} {all} n legal after goes enough =
     let j : 1 ≤ s.block = let k : 2 ≤ s.block = grind (arith, legal.block) in omega arith in
     let p = last_of (pos 0) all in
-    let hp = last_legal s (pos 0) all (zero_is_sample s legal.bits_from) (recursion_from_All (IsSample s) all behind.legal) in
-    let made = blocks_have_samples s b p (replicate run (zero_block s None)) legal j hp behind.sound in
+    let hp = last_legal s (pos 0) all (zero_is_sample s legal.bits_from) (recursion_from_All (IsSample s) all after.legal) in
+    let made = blocks_have_samples s b p (replicate run (zero_block s None)) legal j hp after.sound in
     let count = length-replicate run (zero_block s None) in
     let of_run : AreOfRun s b p run made.0 = record {
       len = made.1 ∙ ap (λ m. s.block * m) count;
@@ -232,5 +232,5 @@ ends_reached {s} {front} rest {begun} {b} {run} {all} n legal behind goes enough
     } in
     let far : s.block * b ≤ s.block * (b + run) = mul-le-mul_left s.block (omega arith) in
     let ends : EndsWith s (Some n) (b + run) rest Reached 0 = (omega arith, refl) in
-    let cut : take (n - s.block * 0) (all ++ made.0) ≡ take (n - s.block * 0) all = take-append-le (n - s.block * 0) all made.0 (omega (arith, behind.len)) in
-    subst (λ (l : List ℤ). Decoded s (front ++ rest) (Some n) l Reached (length front + 0)) cut (ends_after_run rest (Some n) Reached 0 behind goes of_run ends)
+    let cut : take (n - s.block * 0) (all ++ made.0) ≡ take (n - s.block * 0) all = take-append-le (n - s.block * 0) all made.0 (omega (arith, after.len)) in
+    subst (λ (l : List ℤ). Decoded s (front ++ rest) (Some n) l Reached (length front + 0)) cut (ends_after_run rest (Some n) Reached 0 after goes of_run ends)

@@ -2,8 +2,8 @@
 use Rattle.std.proofs.Common.{◌≡◌, ◌≢◌, ℕ, zero, suc, ◌+◌, ◌-◌, ◌*◌, ◌/◌, ◌%◌, ◌<◌, ◌≤◌, ◌==◌, ◌⊎◌, cond, min, Bool, true, false, List, []}
 use Rattle.std.proofs.Common.{◌∷◌, ◌++◌, length, take, refl, ap, arith, sym, ◌∙◌, subst, append_assoc, append-nil, length-append, Option, Some, None, ℤ, pos, inl, inr}
 use Rattle.rice_stream.proofs.Words.{◌^◌, Err, sum_by, All, Contains, IfSome, Consumes, IsAtEnd, most_at_once, Room, Appends, Consumes-nil, Consumes-trans, Appends-nil, Appends-trans, mod-lt, afresh}
-use Rattle.rice_stream.proofs.Words.{mod-eq_of_lt, mod_self, mul-div_cancel_left, mul-le-mul_left, cases_lt, nat_tests, take-length, take-append_seam, length-take-le, length-take, Reader, Draws}
-use Rattle.rice_stream.proofs.Words.{is_blank, new_reader, most_waiting, BitFault, bits_of-nil, bits_of-append, length-bits_of, Parameters, IsLegal, place, last_of, spellings, Decoded, Ending}
+use Rattle.rice_stream.proofs.Words.{mod-eq_of_lt, mod_self, mul-div_cancel_left, mul-le-mul_left, cases_lt, nat_tests, take-length, take-append_seam, length-take-le, length-take, Reader, Refills}
+use Rattle.rice_stream.proofs.Words.{is_blank, new_reader, most_buffered, BitFault, bits_of-nil, bits_of-append, length-bits_of, Parameters, IsLegal, place, last_of, spellings, Decoded, Ending}
 use Rattle.rice_stream.proofs.Words.{EndsWith, Reached, Ended, CutOff, Past, Large, BeginsUnsound, IsWanted, cut_to, last_append, place_step, CodedDataSet, bits_of_set, turns, StopsBy, SetEnds}
 use Rattle.rice_stream.proofs.Words.{SetRefused, with_mark, DecoderState, state_after_block, next_block_place, IsForm, SetCut, CodeFault, AreCounted, spellings-append, bits_of, Call, StopsBetween}
 use Rattle.rice_stream.proofs.Words.{CountsSteps, DecodesBetween, EndsInTurns, Reports, EndsDecoding, DecodesBytes, RunsOut, at_most, wanted_of, ended_fault, refusal_fault, DecodedSoFar, Gains}
@@ -68,14 +68,14 @@ pub block_is_wanted : (asked : Option ℕ) (written : ℕ) {size count block : �
 block_is_wanted asked written e f some none = some (e ∙ ap (wanted_of asked written) f ∙ none)
 
 -- more bits were taken
-has_read-append : {start left left_new : Option (List ℕ)} {waiting waiting_new front bits : List Bool} {taken taken_new : ℕ}
-    → HasRead start left waiting taken front → Draws left left_new waiting waiting_new bits → taken_new ≡ taken + length bits
-    → HasRead start left_new waiting_new taken_new (front ++ bits)
-has_read-append {start = start} {left = left} {left_new = left_new} {waiting = waiting} {waiting_new = waiting_new} {front = front} {bits = bits} r d e = record {
+has_read-append : {start left left_new : Option (List ℕ)} {buffered buffered_new front bits : List Bool} {taken taken_new : ℕ}
+    → HasRead start left buffered taken front → Refills left left_new buffered buffered_new bits → taken_new ≡ taken + length bits
+    → HasRead start left_new buffered_new taken_new (front ++ bits)
+has_read-append {start = start} {left = left} {left_new = left_new} {buffered = buffered} {buffered_new = buffered_new} {front = front} {bits = bits} r d e = record {
   bytes = r.bytes ++ d.given;
   gave = Consumes-trans start left left_new r.bytes d.given r.gave d.consumed;
-  bits = bits_of-append r.bytes d.given ∙ ap (λ l. l ++ bits_of d.given) r.bits ∙ append_assoc front waiting (bits_of d.given) ∙ ap (λ l. front ++ l) d.split
-      ∙ sym (append_assoc front bits waiting_new);
+  bits = bits_of-append r.bytes d.given ∙ ap (λ l. l ++ bits_of d.given) r.bits ∙ append_assoc front buffered (bits_of d.given) ∙ ap (λ l. front ++ l) d.split
+      ∙ sym (append_assoc front bits buffered_new);
   count = e ∙ ap (λ n. n + length bits) r.count ∙ sym (length-append front bits);
 }
 
@@ -120,7 +120,7 @@ progress_with_block {s = s} {asked = asked} {start = start} {out_old = out_old} 
       reads = gained.failures ∙ runs.reads;
       idle = λ none. absurd (some (ap (λ asked. wanted_of asked written s.block) none ∙ nothing_wanted written s.block));
       limit = grows.counted.limit;
-      has_read = has_read-append runs.has_read gained.draws gained.taken;
+      has_read = has_read-append runs.has_read gained.refills gained.taken;
       has_sets = gained.has_sets;
       before = gained.before;
       decoded = gained.decoded;
@@ -170,13 +170,13 @@ call_ends_so {s = s} {asked = asked} {start = start} {left = left} {out_old = ou
     ))
 
 -- what is given ahead of the bits that were taken is limited
-given_is_limited : {start left : Option (List ℕ)} {waiting front : List Bool} {taken : ℕ} → (read : HasRead start left waiting taken front)
-    → length waiting ≤ most_waiting → taken + length waiting ≤ 2 ^ 52
+given_is_limited : {start left : Option (List ℕ)} {buffered front : List Bool} {taken : ℕ} → (read : HasRead start left buffered taken front)
+    → length buffered ≤ most_buffered → taken + length buffered ≤ 2 ^ 52
     → (length read.bytes ≤ taken / 8 + most_at_once) × (length read.bytes ≤ 2 ^ 49)
-given_is_limited {waiting = waiting} {front = front} read few limit =
+given_is_limited {buffered = buffered} {front = front} read few limit =
     let a = length-bits_of read.bytes in
     let b = ap length read.bits in
-    let c = length-append front waiting in
+    let c = length-append front buffered in
     (omega (arith, read.count), omega (arith, read.count))
 
 -- the coded data sets so far are wanted
@@ -190,14 +190,14 @@ at_set : {I : Type 0} {s : Parameters} {asked : Option ℕ} {start : Reader I} {
 at_set {s = s} runs none = subst (λ (n : ℕ). DecodedSoFar s runs.front runs.begun runs.blocks n runs.given) none runs.decoded
 
 -- the steps where decoding ends with bits that are no sound coded data set
-counts_steps : {s : Parameters} {rep : Report} {sets : List CodedDataSet} {front : List Bool} {blocks : ℕ} (waiting : List Bool) (bytes : List ℕ) (last : List Bool) {ending : Ending} (in_last : ℕ)
-    → HasSets s sets front blocks → bits_of bytes ≡ (front ++ last) ++ waiting → EndsInTurns s blocks last ending in_last → rep.bits ≡ length (front ++ last)
+counts_steps : {s : Parameters} {rep : Report} {sets : List CodedDataSet} {front : List Bool} {blocks : ℕ} (buffered : List Bool) (bytes : List ℕ) (last : List Bool) {ending : Ending} (in_last : ℕ)
+    → HasSets s sets front blocks → bits_of bytes ≡ (front ++ last) ++ buffered → EndsInTurns s blocks last ending in_last → rep.bits ≡ length (front ++ last)
     → rep.steps ≡ rep.bits + rep.samples + sum_by turns sets + in_last → CountsSteps s (bits_of bytes) rep ending
-counts_steps {s = s} {sets = sets} {front = front} waiting bytes last {ending} in_last has bits ends count steps = record {
+counts_steps {s = s} {sets = sets} {front = front} buffered bytes last {ending} in_last has bits ends count steps = record {
   sets = sets;
   front = front;
   last = last;
-  rest = waiting;
+  rest = buffered;
   parts = bits;
   lie = has.lie;
   sound = has.sound;
@@ -208,12 +208,12 @@ counts_steps {s = s} {sets = sets} {front = front} waiting bytes last {ending} i
 }
 
 -- and those where it ends with a whole one
-whole_steps : {s : Parameters} {rep : Report} {sets : List CodedDataSet} {front : List Bool} {blocks : ℕ} (waiting : List Bool) (bytes : List ℕ)
-    → HasSets s sets front blocks → bits_of bytes ≡ front ++ waiting → rep.bits ≡ length front
+whole_steps : {s : Parameters} {rep : Report} {sets : List CodedDataSet} {front : List Bool} {blocks : ℕ} (buffered : List Bool) (bytes : List ℕ)
+    → HasSets s sets front blocks → bits_of bytes ≡ front ++ buffered → rep.bits ≡ length front
     → rep.steps ≡ rep.bits + rep.samples + sum_by turns sets → CountsSteps s (bits_of bytes) rep Reached
-whole_steps {front = front} waiting bytes has bits count steps =
+whole_steps {front = front} buffered bytes has bits count steps =
     let whole = append-nil front in
-    counts_steps waiting bytes [] 0 has (bits ∙ ap (λ l. l ++ waiting) (sym whole)) (refl, refl) (count ∙ ap length (sym whole)) (omega (arith, steps))
+    counts_steps buffered bytes [] 0 has (bits ∙ ap (λ l. l ++ buffered) (sym whole)) (refl, refl) (count ∙ ap length (sym whole)) (omega (arith, steps))
 
 -- the samples that were asked for are reached
 pub reached_ends : {I : Type 0} {s : Parameters} {asked : Option ℕ} {start : Reader I} {out_old out : Option Room} {p : DecoderState} {r : Reader I}
@@ -228,7 +228,7 @@ reached_ends {s = s} {asked = Some n} {p = p} {r = r} {rep = rep} {left = left} 
     let ys = cut_to s (Some n) 0 runs.given in
     let k = length-take (n - s.block * 0) runs.given in
     let enough : n ≤ s.block * runs.blocks = omega (arith, none, so.count, k, runs.decoded.len) in
-    let decoded = ends_reached r.waiting n legal runs.decoded (begun_wanted runs) enough in
+    let decoded = ends_reached r.buffered n legal runs.decoded (begun_wanted runs) enough in
     let used : length runs.front + 0 ≡ r.taken = omega (arith, read.count) in
     let all : Decoded s (bits_of read.bytes) (Some n) ys Reached (length runs.front + 0) = subst (λ (l : List Bool). Decoded s l (Some n) ys Reached (length runs.front + 0)) (sym read.bits) decoded in
     let few = given_is_limited read tells.ahead tells.limit in
@@ -236,7 +236,7 @@ reached_ends {s = s} {asked = Some n} {p = p} {r = r} {rep = rep} {left = left} 
       gave = read.gave;
       took = so.put;
       ahead = omega (arith, few.0, tells.bits_are);
-      steps = whole_steps r.waiting read.bytes runs.has_sets read.bits (tells.bits_are ∙ read.count) (omega (arith, runs.has_steps.count, tells.steps_are, tells.bits_are, tells.samples_are));
+      steps = whole_steps r.buffered read.bytes runs.has_sets read.bits (tells.bits_are ∙ read.count) (omega (arith, runs.has_steps.count, tells.steps_are, tells.bits_are, tells.samples_are));
     } tells.left_is tells.fault_is (λ _. few.1)
     ((length runs.front + 0, all, record { written = refl; samples = tells.samples_are ∙ so.count; bits = tells.bits_are ∙ sym used }), inl refl)
 
@@ -302,15 +302,15 @@ runs_dry : {I : Type 0} {s : Parameters} {asked : Option ℕ} {start : Reader I}
     → (runs : DecodingProgress s asked start out_old out p r steps written) → wanted_of asked written s.block ≢ 0 → p.run ≡ 0
     → (cut : SetCut (with_mark r) new steps steps_new s runs.blocks why) → is_blank cut.bits ≡ blank
     → AreCounted steps steps_new r.taken new.taken → Reports rep f left failed new written steps_new fault → RunsDry s asked start cut.stops.middle new rep (cut_to s asked 0 runs.given) written blank
-runs_dry {s = s} {asked = asked} {p = p} {r = r} {new = new} {steps = steps} {steps_new = steps_new} {written = written} {rep = rep} blank runs some none cut told counted tells =
+runs_dry {s = s} {asked = asked} {p = p} {r = r} {new = new} {steps = steps} {steps_new = steps_new} {written = written} {rep = rep} blank runs some none cut known counted tells =
     let bits = cut.bits in
     let front = runs.front ++ bits in
     let so = runs.has_written in
-    let read = has_read-append runs.has_read cut.stops.draws cut.stops.taken in
+    let read = has_read-append runs.has_read cut.stops.refills cut.stops.taken in
     let ys = cut_to s asked 0 runs.given in
     let goes = goes_on s asked runs.blocks written runs.given runs.decoded.len so.count some in
     let out_of = ends_here bits asked (ending_of blank) (length bits) (at_set runs none) (begun_wanted runs)
-    (ends_out s asked runs.blocks bits blank goes told cut.none) in
+    (ends_out s asked runs.blocks bits blank goes known cut.none) in
     let whole : bits_of read.bytes ≡ front = read.bits ∙ append-nil front in
     let used : length runs.front + length bits ≡ new.taken = sym (read.count ∙ length-append runs.front bits) in
     let size = length-bits_of read.bytes in
@@ -328,7 +328,7 @@ runs_dry {s = s} {asked = asked} {p = p} {r = r} {new = new} {steps = steps} {st
       samples = tells.samples_are ∙ so.count;
       count = so.count;
       sets = λ more. counts_steps (bits_of more) (read.bytes ++ more) bits in_last has (bits_of-append read.bytes more ∙ ap (λ l. l ++ bits_of more) whole)
-          (turns_out s runs.blocks bits blank in_last told cut.none (omega (arith, counted.most, cut.stops.taken)) (λ zeros. omega (arith, cut.steps zeros, cut.stops.taken)))
+          (turns_out s runs.blocks bits blank in_last known cut.none (omega (arith, counted.most, cut.stops.taken)) (λ zeros. omega (arith, cut.steps zeros, cut.stops.taken)))
           (tells.bits_are ∙ read.count) (omega (arith, counted.least, cut.stops.taken, runs.has_steps.count, tells.bits_are, tells.samples_are, tells.steps_are));
     }
 
@@ -340,7 +340,7 @@ pub ended_ends : {I : Type 0} {s : Parameters} {asked : Option ℕ} {start : Rea
 unfolding ending_of
 ended_ends {s = s} {asked = asked} {start = start} {new = new} {written = written} {rep = rep} {left = left} blank runs some none ends counted tells =
     let stops = ends.cut.stops in
-    let dry = runs_dry blank runs some none ends.cut ends.told counted tells in
+    let dry = runs_dry blank runs some none ends.cut ends.reported counted tells in
     let read = dry.read in
     let ys = cut_to s asked 0 runs.given in
     let gave = subst (λ (l : List ℕ). Consumes start.left new.left l) (append-nil read.bytes) (Consumes-trans start.left stops.middle new.left read.bytes [] read.gave stops.refuses.0) in
@@ -424,13 +424,13 @@ refused_ends {s = s} {asked = asked} {start = start} {p = p} {r = r} {new = new}
     let so = runs.has_written in
     let j : 1 ≤ s.block = let k : 2 ≤ s.block = grind (arith, at_block.legal.block) in omega arith in
     let set = bits_of_set s refused.set in
-    let rest = set ++ new.waiting in
-    let read = has_read-append runs.has_read refused.takes.draws refused.takes.taken in
-    let whole : bits_of read.bytes ≡ runs.front ++ rest = read.bits ∙ append_assoc runs.front set new.waiting in
+    let rest = set ++ new.buffered in
+    let read = has_read-append runs.has_read refused.takes.refills refused.takes.taken in
+    let whole : bits_of read.bytes ≡ runs.front ++ rest = read.bits ∙ append_assoc runs.front set new.buffered in
     let goes = goes_on s asked b written runs.given runs.decoded.len so.count at_block.wanted in
     let so_far = all_written s asked b written runs.given runs.decoded.len so.count goes in
     let ys = cut_to s asked 0 runs.given in
-    let refuses : BeginsUnsound s b rest (length set) P = record { refused = refused.set; more = new.waiting; form = refused.form; unsound = refused.unsound; begins = refl; bits = refl } in
+    let refuses : BeginsUnsound s b rest (length set) P = record { refused = refused.set; more = new.buffered; form = refused.form; unsound = refused.unsound; begins = refl; bits = refl } in
     let alone : BeginsUnsound s b set (length set) P = record { refused = refused.set; more = []; form = refused.form; unsound = refused.unsound; begins = sym (append-nil set); bits = refl } in
     let here = ends_here rest asked ending (length set) (at_set runs at_block.run) (begun_wanted runs) (by_rule asked rest (length set) goes refuses) in
     let used : length runs.front + length set ≡ rep.bits = sym (reported.reports.bits_are ∙ read.count ∙ length-append runs.front set) in
@@ -443,7 +443,7 @@ refused_ends {s = s} {asked = asked} {start = start} {p = p} {r = r} {new = new}
       gave = read.gave;
       took = so.put;
       ahead = omega (arith, few.0, reported.reports.bits_are);
-      steps = counts_steps new.waiting read.bytes set (turns refused.set) has read.bits (by_turns set (turns refused.set) alone refl) (reported.reports.bits_are ∙ read.count)
+      steps = counts_steps new.buffered read.bytes set (turns refused.set) has read.bits (by_turns set (turns refused.set) alone refl) (reported.reports.bits_are ∙ read.count)
           (omega (arith, refused.steps, runs.has_steps.count, reported.reports.bits_are, reported.reports.samples_are, reported.reports.steps_are));
     } reported.reports.left_is reported.reports.fault_is (λ _. few.1)
     (ends _ ys (length runs.front + length set, decodes, record { written = refl; samples = reported.reports.samples_are ∙ so.count; bits = sym used })
@@ -468,7 +468,7 @@ write_ends {s = s} {asked = asked} {out_old = out_old} {out = out} {out_new = ou
     let goes = goes_on s asked b written runs.given runs.decoded.len so.count some in
     let so_far = all_written s asked b written runs.given runs.decoded.len so.count goes in
     let front = runs.front ++ gives.bits in
-    let read = has_read-append runs.has_read gives.draws gives.taken in
+    let read = has_read-append runs.has_read gives.refills gives.taken in
     let taken : rep.bits ≡ length front = tells.bits_are ∙ read.count in
     let most : count ≤ s.block = omega (arith, is, most_wanted asked written s.block) in
     let piece : take count xs ≡ cut_to s asked b xs = ap (λ n. take n xs) is ∙ wanted_part s asked b written xs so_far.0 gives.len in
@@ -478,7 +478,7 @@ write_ends {s = s} {asked = asked} {out_old = out_old} {out = out} {out_new = ou
     let wanted : (i : ℕ) → i < gives.begun → IsWanted s (Some (length ys)) i = λ i lt. below s.block i b (length ys) written count size so_far.0
     (λ none. some (sym is ∙ none)) (omega (arith, lt, gives.before)) in
     let bound : length ys ≤ s.block * (b + 1) = up_to s.block b (length ys) written count size so_far.0 most in
-    let here = ends_reached new.waiting (length ys) legal gives.decoded wanted bound in
+    let here = ends_reached new.buffered (length ys) legal gives.decoded wanted bound in
     let exact : cut_to s (Some (length ys)) 0 (runs.given ++ xs) ≡ ys = exactly asked in
     let used : length front + 0 ≡ rep.bits = omega (arith, taken) in
     let decoded : Decoded s (bits_of read.bytes) (Some (length ys)) ys Reached rep.bits = subst
@@ -496,7 +496,7 @@ write_ends {s = s} {asked = asked} {out_old = out_old} {out = out} {out_new = ou
       gave = read.gave;
       took = Follows-all out_old out_new _ between.took;
       ahead = omega (arith, few.0, tells.bits_are);
-      steps = whole_steps new.waiting read.bytes gives.has_sets read.bits taken (omega (arith, runs.has_steps.count, gives.counted, tells.steps_are, tells.bits_are, tells.samples_are));
+      steps = whole_steps new.buffered read.bytes gives.has_sets read.bits taken (omega (arith, runs.has_steps.count, gives.counted, tells.steps_are, tells.bits_are, tells.samples_are));
     } tells.left_is tells.fault_is (λ _. few.1) (
       record {
         block = b;

@@ -78,14 +78,14 @@ pub gains_set : {I : Type 0} {s : Parameters} {r new : Reader I} {steps steps_ne
     → IsLegal s → place s b ≡ c → p ≡ last_of (pos 0) given → ((b n : ℕ) → padding s b (r.taken + n) ≡ padding s b (length front + n)) → begun ≤ b
     → HasSets s sets front b → DecodedSoFar s front begun b 0 given
     → GivesSet (with_mark r) new steps steps_new s c p xs run → Gains s r new steps steps_new front sets b run given xs
-gains_set {I = I} {s} {r} {new} {b} {c} {begun} {run} {p} {front} {sets} {given} {xs} legal here previous taken before has behind gives =
+gains_set {I = I} {s} {r} {new} {b} {c} {begun} {run} {p} {front} {sets} {given} {xs} legal here previous taken before has so_far gives =
     let j : 1 ≤ s.block = let k : 2 ≤ s.block = grind (arith, legal.block) in omega arith in
     let e = same_place s b c legal.interval_from here in
     let set = gives.set in
     let d = set.set in
     let t = bits_of_set s d in
     let skips = gives.skips in
-    let draws = set.takes.draws in
+    let refills = set.takes.refills in
     let pads : length skips.bits ≡ padding s (block_after s b d) (length front + length t) =
     skips.len ∙ ap (λ n. padding s (block_after s c d) n) set.takes.taken ∙ taken (block_after s c d) (length t)
     ∙ ap (λ v. cond (s.pad && v == 0) (bits_to_byte (length front + length t)) 0) (next_place s c b d e) in
@@ -98,11 +98,11 @@ gains_set {I = I} {s} {r} {new} {b} {c} {begun} {run} {p} {front} {sets} {given}
     let after : b + 1 + run ≡ b + length (blocks_in s b d) = omega (arith, count, length-replicate run (zero_block s None)) in
     record {
       bits = bits;
-      draws = record {
-        given = draws.given;
-        consumed = subst (λ (l : Option (List ℕ)). Consumes r.left l draws.given) (sym (ap (λ (v : Reader I). v.left) skips.same)) draws.consumed;
-        needed = λ given. omega (arith, draws.needed given, length-append t skips.bits);
-        split = draws.split ∙ ap (λ l. t ++ l) skips.split ∙ sym (append_assoc t skips.bits new.waiting);
+      refills = record {
+        given = refills.given;
+        consumed = subst (λ (l : Option (List ℕ)). Consumes r.left l refills.given) (sym (ap (λ (v : Reader I). v.left) skips.same)) refills.consumed;
+        needed = λ given. omega (arith, refills.needed given, length-append t skips.bits);
+        split = refills.split ∙ ap (λ l. t ++ l) skips.split ∙ sym (append_assoc t skips.bits new.buffered);
       };
       taken = new_taken;
       going = ap (λ (v : Reader I). v.refusal) skips.same ∙ set.takes.going;
@@ -110,7 +110,7 @@ gains_set {I = I} {s} {r} {new} {b} {c} {begun} {run} {p} {front} {sets} {given}
       len = block.len;
       begun = b + 1;
       before = omega arith;
-      decoded = decoded_with_set skips.bits d legal behind before (record { form = form; run = run_sound; residuals = set.residuals_sound }) pads
+      decoded = decoded_with_set skips.bits d legal so_far before (record { form = form; run = run_sound; residuals = set.residuals_sound }) pads
           (subst (λ (q : ℤ). GivesBlock s b q xs run (blocks_in s b d)) previous block);
       more_sets = sets ++ d ∷ [];
       has_sets = sets-push skips.bits d has form run_sound set.residuals_sound pads after;
@@ -129,20 +129,20 @@ pub record TakesNone {I : Type 0} (r new : Reader I) (steps steps_new : ℕ) : T
 pub gains_run : {I : Type 0} {s : Parameters} {r new : Reader I} {steps steps_new b c begun run run_new : ℕ} {p : ℤ} {front : List Bool} {sets : List CodedDataSet} {given xs : List ℤ}
     → IsLegal s → place s b ≡ c → p ≡ last_of (pos 0) given → r.refusal ≡ None → begun ≤ b → HasSets s sets front (b + run) → DecodedSoFar s front begun b run given → TakesNone r new steps steps_new
     → GivesBlock s c p xs run_new (replicate run (zero_block s None)) → Gains s r new steps steps_new front sets b run_new given xs
-gains_run {I = I} {s} {r} {b} {c} {begun} {run} {run_new} {p} {front} {sets} {given} {xs} legal here previous going before has behind none gives =
+gains_run {I = I} {s} {r} {b} {c} {begun} {run} {run_new} {p} {front} {sets} {given} {xs} legal here previous going before has so_far none gives =
     let j : 1 ≤ s.block = let k : 2 ≤ s.block = grind (arith, legal.block) in omega arith in
     let block = run_gives_there b run j (same_place s b c legal.interval_from here) gives in
-    let all = decoded_with_run_block behind (subst (λ (q : ℤ). GivesBlock s b q xs run_new (replicate run (zero_block s None))) previous block) in
+    let all = decoded_with_run_block so_far (subst (λ (q : ℤ). GivesBlock s b q xs run_new (replicate run (zero_block s None))) previous block) in
     let nothing : r.taken ≡ r.taken + 0 = omega arith in
     let count : suc (length (replicate run_new (zero_block s None))) ≡ length (replicate run (zero_block s None)) = ap length block.blocks_are in
     let after : b + run ≡ b + 1 + run_new = omega (arith, count, length-replicate run (zero_block s None), length-replicate run_new (zero_block s None)) in
     record {
       bits = [];
-      draws = record {
+      refills = record {
         given = [];
         consumed = subst (λ (v : Reader I). Consumes r.left v.left []) (sym none.reader) (Consumes-nil r.left);
         needed = λ given. absurd (omega arith);
-        split = ap (λ l. r.waiting ++ l) bits_of-nil ∙ append-nil r.waiting ∙ ap (λ (v : Reader I). v.waiting) (sym none.reader);
+        split = ap (λ l. r.buffered ++ l) bits_of-nil ∙ append-nil r.buffered ∙ ap (λ (v : Reader I). v.buffered) (sym none.reader);
       };
       taken = ap (λ (v : Reader I). v.taken) none.reader ∙ nothing;
       going = ap (λ (v : Reader I). v.refusal) none.reader ∙ going;
@@ -170,8 +170,8 @@ gains_block {s = s} {p = p} {q = q} {r = r} {new = new} {steps = steps} {steps_n
       | inr k ↦ let set = subst (λ (t : Parameters). GivesSet (with_mark r) new steps steps_new t p.block p.before xs q.run) at.setting k.gives in
           let end : runs.blocks + p.run ≡ runs.blocks = omega (arith, k.none) in
           let has = subst (λ (n : ℕ). HasSets s runs.sets runs.front n) end runs.has_sets in
-          let behind = subst (λ (n : ℕ). DecodedSoFar s runs.front runs.begun runs.blocks n runs.given) k.none runs.decoded in
-          gains_set legal at.here at.previous (λ b n. ap (λ m. padding s b (m + n)) runs.has_read.count) runs.before has behind set
+          let so_far = subst (λ (n : ℕ). DecodedSoFar s runs.front runs.begun runs.blocks n runs.given) k.none runs.decoded in
+          gains_set legal at.here at.previous (λ b n. ap (λ m. padding s b (m + n)) runs.has_read.count) runs.before has so_far set
     ]
 
 -- of the block only its place matters where the decoder stops
@@ -183,7 +183,7 @@ cut_there {s} {b} {c} e cut = record { bits = cut.bits; stops = cut.stops; none 
 pub ends_there : {I : Type 0} {old new : Reader I} {first last : ℕ} {s : Parameters} {b c : ℕ} {blank : Bool} → place s c ≡ place s b
     → SetEnds old new first last s c blank → SetEnds old new first last s b blank
 unfolding cut_there
-ends_there {old} {new} {first} {last} {s} {b} {c} e ends = record { cut = cut_there e ends.cut; told = ends.told }
+ends_there {old} {new} {first} {last} {s} {b} {c} e ends = record { cut = cut_there e ends.cut; reported = ends.reported }
 
 -- decoding stops at a block with the same place in its interval
 record StopsThere {I : Type 0} (old new : Reader I) (first last : ℕ) (s : Parameters) (b c : ℕ) (fault : CodeFault) : Type 0 where

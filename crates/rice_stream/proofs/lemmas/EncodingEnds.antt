@@ -5,7 +5,7 @@ use Rattle.rice_stream.proofs.Words.{All, Err, IsAtEnd, mul-le-mul_left, mul-le-
 use Rattle.rice_stream.proofs.Words.{Reads, spellings, AtEnd, TooFew, code_bits, output, early_output, complete_samples, reads_then, reads_before, length-spellings, some_width, narrow_width, Fails}
 use Rattle.rice_stream.proofs.Words.{IsWithinLimit, PassesLimit, StopsBetween, Beginning, afresh, CountsSamples, TakesAll, WritesRest, EncodingProgress, Pushes, PushFails, EncodesBetween}
 use Rattle.rice_stream.proofs.Words.{EndsEncoding, EncodesWithin, ReportsTaken, ReportsAll, LeavesEarly, SpellsSoFar, EncodingValue, Report, Fault, Read, Write, TooLong, SampleOutOfRange, SampleCut}
-use Rattle.rice_stream.specs.WaitingBytes.{WaitingBytes, with_last, Draws, PassesInput, StopsDrawing, CountsReads}
+use Rattle.rice_stream.specs.BufferedBytes.{BufferedBytes, with_last, Refills, PassesInput, StopsRefilling, CountsReads}
 use Rattle.rice_stream.proofs.lemmas.EncodingBounds.{Settles, early_bounded, all_bounded}
 use Rattle.rice_stream.proofs.lemmas.EncodingLemmas.{Follows-all, settled_by}
 
@@ -47,13 +47,13 @@ given_ahead s bytes rest xs samples split few e =
     at : (w n k b m : ℕ) → m ≡ w * n + b → k ≡ n → b ≤ 4096 → m ≤ k * w + 4096
     at w n k b m e h few = let p = ap (λ v. v * w) h in omega arith
 
--- bytes came, which wait
-pub draws_on : {s : Parameters} {left_old left left_new : Option (List ℕ)} {taken_old taken : Option Room} {v : EncodingValue} {r r_new : WaitingBytes} {n : ℕ}
-    → EncodingProgress s left_old left taken_old taken v r → Draws r r_new left left_new n → EncodingProgress s left_old left_new taken_old taken v r_new
-draws_on {s} {left_old} {left} {left_new} {r = r} p d = record {
+-- bytes came, which are buffered
+pub refills_on : {s : Parameters} {left_old left left_new : Option (List ℕ)} {taken_old taken : Option Room} {v : EncodingValue} {r r_new : BufferedBytes} {n : ℕ}
+    → EncodingProgress s left_old left taken_old taken v r → Refills r r_new left left_new n → EncodingProgress s left_old left_new taken_old taken v r_new
+refills_on {s} {left_old} {left} {left_new} {r = r} p d = record {
   bytes = p.bytes ++ d.bytes;
   samples = p.samples;
-  reads = subst (Reads s (p.bytes ++ d.bytes) p.samples) (sym d.waiting) (reads_before s p.samples p.bytes r.waiting d.bytes p.reads);
+  reads = subst (Reads s (p.bytes ++ d.bytes) p.samples) (sym d.buffered) (reads_before s p.samples p.bytes r.buffered d.bytes p.reads);
   count = omega (arith, p.count, d.given, d.number, length-append p.bytes d.bytes);
   gave = Consumes-trans left_old left left_new p.bytes d.bytes p.gave d.gave;
   holds = p.holds;
@@ -69,34 +69,34 @@ rest_is s bytes rest xs r few =
     let front : length bytes - length bytes % w ≡ length (spellings s xs) = omega (arith, size, left, length-spellings s xs) in
     (omega (arith, size, left), ap (λ n. drop n bytes) front ∙ ap (drop (length (spellings s xs))) r.split ∙ drop_at (spellings s xs) rest (length (spellings s xs)) refl)
 
--- the samples of those that wait are taken
-pub takes_on : {s : Parameters} {left_old left : Option (List ℕ)} {taken_old taken taken_new : Option Room} {v v_new : EncodingValue} {r r_new : WaitingBytes}
-    → (p : EncodingProgress s left_old left taken_old taken v r) → (t : TakesAll s (afresh taken_old) taken_new v_new p.samples r.waiting)
-    → r_new ≡ with_last (length r.waiting % width s) r → EncodingProgress s left_old left taken_old taken_new v_new r_new
+-- the samples of those that are buffered are taken
+pub takes_on : {s : Parameters} {left_old left : Option (List ℕ)} {taken_old taken taken_new : Option Room} {v v_new : EncodingValue} {r r_new : BufferedBytes}
+    → (p : EncodingProgress s left_old left taken_old taken v r) → (t : TakesAll s (afresh taken_old) taken_new v_new p.samples r.buffered)
+    → r_new ≡ with_last (length r.buffered % width s) r → EncodingProgress s left_old left taken_old taken_new v_new r_new
 takes_on {s} {r = r} {r_new = r_new} p t kept =
-    let rest = (rest_is s r.waiting t.rest t.more t.reads t.few).1 in
+    let rest = (rest_is s r.buffered t.rest t.more t.reads t.few).1 in
     record {
       bytes = p.bytes;
       samples = p.samples ++ t.more;
-      reads = subst (Reads s p.bytes (p.samples ++ t.more)) (sym (ap (λ r. r.waiting) kept ∙ rest)) (reads_then s p.bytes r.waiting t.rest p.samples t.more p.reads t.reads);
+      reads = subst (Reads s p.bytes (p.samples ++ t.more)) (sym (ap (λ r. r.buffered) kept ∙ rest)) (reads_then s p.bytes r.buffered t.rest p.samples t.more p.reads t.reads);
       count = ap (λ r. r.given) kept ∙ p.count;
       gave = p.gave;
       holds = t.holds;
     }
 
--- the samples so far, and those that wait, are at most as many as the bytes that were given
-pub few_given : {s : Parameters} {left_old left : Option (List ℕ)} {taken_old taken : Option Room} {v : EncodingValue} {r : WaitingBytes}
-    → (p : EncodingProgress s left_old left taken_old taken v r) → length p.samples + length r.waiting ≤ r.given
+-- the samples so far, and those that are buffered, are at most as many as the bytes that were given
+pub few_given : {s : Parameters} {left_old left : Option (List ℕ)} {taken_old taken : Option Room} {v : EncodingValue} {r : BufferedBytes}
+    → (p : EncodingProgress s left_old left taken_old taken v r) → length p.samples + length r.buffered ≤ r.given
 few_given {s} {r = r} p =
     let few : length p.samples * 1 ≤ length p.samples * width s = mul-le-mul_left (length p.samples) (some_width s) in
-    omega (arith, few, p.count, ap length p.reads.split, length-append (spellings s p.samples) r.waiting, length-spellings s p.samples)
+    omega (arith, few, p.count, ap length p.reads.split, length-append (spellings s p.samples) r.buffered, length-spellings s p.samples)
 
 -- no more samples come
-module _ {s : Parameters} {left_old left : Option (List ℕ)} {taken_old taken : Option Room} {v : EncodingValue} {r : WaitingBytes} {report : Report}
-    (p : EncodingProgress s left_old left taken_old taken v r) (few : length r.waiting < width s) (limit : r.given ≤ 281474976710656)
-    (told : (xs : List ℤ) → CountsSamples s v xs → ReportsTaken s report xs) where
+module _ {s : Parameters} {left_old left : Option (List ℕ)} {taken_old taken : Option Room} {v : EncodingValue} {r : BufferedBytes} {report : Report}
+    (p : EncodingProgress s left_old left taken_old taken v r) (few : length r.buffered < width s) (limit : r.given ≤ 281474976710656)
+    (reported : (xs : List ℤ) → CountsSamples s v xs → ReportsTaken s report xs) where
   early : (left_new : Option (List ℕ)) (given : List ℕ) → LeavesEarly s (record { given = given; left = left_new; written = early_output s p.samples }) report p.samples
-  early left_new given = record { written = refl; reports = told p.samples p.holds.counts }
+  early left_new given = record { written = refl; reports = reported p.samples p.holds.counts }
 
   at : (f : Option Fault) → EndsEncoding s f (record { given = p.bytes; left = left; written = early_output s p.samples }) report p.samples →
       IsWithinLimit 281474976710656 f p.bytes → EncodesBetween s left_old left taken_old taken report f
@@ -107,19 +107,19 @@ module _ {s : Parameters} {left_old left : Option (List ℕ)} {taken_old taken :
       samples = p.samples;
       ends = ends;
       limit = within;
-      ahead = given_ahead s p.bytes r.waiting p.samples report.samples p.reads.split (omega (arith, few, narrow_width s)) (told p.samples p.holds.counts).samples;
+      ahead = given_ahead s p.bytes r.buffered p.samples report.samples p.reads.split (omega (arith, few, narrow_width s)) (reported p.samples p.holds.counts).samples;
     },
   )
 
   -- since the intake failed,
   pub read_ends : EncodesBetween s left_old left taken_old taken report (Some Read)
-  read_ends = at (Some Read) (spelled_so_far s p.bytes p.samples r.waiting p.reads few, early left p.bytes) (omega (arith, p.count, limit))
+  read_ends = at (Some Read) (spelled_so_far s p.bytes p.samples r.buffered p.reads few, early left p.bytes) (omega (arith, p.count, limit))
 
   -- since too few bytes are left for a sample,
-  pub cut_ends : 0 < length r.waiting → IsAtEnd left → EncodesBetween s left_old left taken_old taken report (Some (SampleCut v.samples))
+  pub cut_ends : 0 < length r.buffered → IsAtEnd left → EncodesBetween s left_old left taken_old taken report (Some (SampleCut v.samples))
   cut_ends some end = at (Some (SampleCut v.samples)) (
     record {
-      rest = r.waiting;
+      rest = r.buffered;
       whole = p.reads.split;
       legal = p.reads.legal;
       stops =
@@ -132,7 +132,7 @@ module _ {s : Parameters} {left_old left : Option (List ℕ)} {taken_old taken :
       (omega (arith, p.count, limit))
 
   -- or since a byte came that is one too many
-  pub long_ends : {left_new : Option (List ℕ)} {r_new : WaitingBytes} → PassesInput r r_new left left_new → EncodesBetween s left_old left_new taken_old taken report (Some TooLong)
+  pub long_ends : {left_new : Option (List ℕ)} {r_new : BufferedBytes} → PassesInput r r_new left left_new → EncodesBetween s left_old left_new taken_old taken report (Some TooLong)
   long_ends {left_new} h =
       let more = h.last ∷ [] in
       let passes : PassesLimit 281474976710656 (p.bytes ++ more) p.bytes = record { last = h.last; split = refl; full = sym p.count ∙ h.full } in (
@@ -140,40 +140,40 @@ module _ {s : Parameters} {left_old left : Option (List ℕ)} {taken_old taken :
         record { gave = Consumes-trans left_old left left_new p.bytes more p.gave h.gave; left = refl; took = Follows-all taken_old taken _ p.holds.took },
         record {
           samples = p.samples;
-          ends = ((p.bytes, passes, spelled_so_far s p.bytes p.samples r.waiting p.reads few), early left_new (p.bytes ++ more));
+          ends = ((p.bytes, passes, spelled_so_far s p.bytes p.samples r.buffered p.reads few), early left_new (p.bytes ++ more));
           limit = tt;
-          ahead = given_ahead s (p.bytes ++ more) (r.waiting ++ more) p.samples report.samples (reads_before s p.samples p.bytes r.waiting more p.reads).split
-              (omega (arith, length-append r.waiting more, few, narrow_width s)) (told p.samples p.holds.counts).samples;
+          ahead = given_ahead s (p.bytes ++ more) (r.buffered ++ more) p.samples report.samples (reads_before s p.samples p.bytes r.buffered more p.reads).split
+              (omega (arith, length-append r.buffered more, few, narrow_width s)) (reported p.samples p.holds.counts).samples;
         },
       )
 
 -- why the intake gives no more
-pub drawing_ends : {s : Parameters} {left_old left left_new : Option (List ℕ)} {taken_old taken : Option Room} {v : EncodingValue} {r : WaitingBytes} (r_new : WaitingBytes)
-    {report : Report} (fault : Fault) {f : Option Fault} → EncodingProgress s left_old left taken_old taken v r → length r.waiting < width s → StopsDrawing fault r r_new left left_new
+pub drawing_ends : {s : Parameters} {left_old left left_new : Option (List ℕ)} {taken_old taken : Option Room} {v : EncodingValue} {r : BufferedBytes} (r_new : BufferedBytes)
+    {report : Report} (fault : Fault) {f : Option Fault} → EncodingProgress s left_old left taken_old taken v r → length r.buffered < width s → StopsRefilling fault r r_new left left_new
     → r_new.given ≤ 281474976710656 → ((xs : List ℤ) → CountsSamples s v xs → ReportsTaken s report xs) → f ≡ Some fault → EncodesBetween s left_old left_new taken_old taken report f
-drawing_ends {s} {left_old} {left} {left_new} {taken_old} {taken} {v} {r} r_new {report} fault p few stops limit told is =
+drawing_ends {s} {left_old} {left} {left_new} {taken_old} {taken} {v} {r} r_new {report} fault p few stops limit reported is =
     subst (EncodesBetween s left_old left_new taken_old taken report) (sym is) (by_fault fault stops)
   where
-    by_fault : (fault : Fault) → StopsDrawing fault r r_new left left_new → EncodesBetween s left_old left_new taken_old taken report (Some fault)
-    by_fault Read d = read_ends (draws_on p d) (omega (arith, few, ap length d.waiting, length-append r.waiting d.bytes, d.number)) limit told
-    by_fault TooLong h = long_ends p few (omega (arith, h.full)) told h
+    by_fault : (fault : Fault) → StopsRefilling fault r r_new left left_new → EncodesBetween s left_old left_new taken_old taken report (Some fault)
+    by_fault Read d = read_ends (refills_on p d) (omega (arith, few, ap length d.buffered, length-append r.buffered d.bytes, d.number)) limit reported
+    by_fault TooLong h = long_ends p few (omega (arith, h.full)) reported h
     by_fault _ bad = absurd bad
 
 -- and the failures then
-pub drawing_fails : (fault : Fault) {f : Option Fault} {reads mid : ℕ} (reads_new : ℕ) {writes writes_new : ℕ} (old new : WaitingBytes) (left left_new : Option (List ℕ))
-    → StopsDrawing fault old new left left_new → f ≡ Some fault → CountsReads {T = ℕ} mid reads_new (Err fault) → mid ≡ reads → writes_new ≡ writes
+pub drawing_fails : (fault : Fault) {f : Option Fault} {reads mid : ℕ} (reads_new : ℕ) {writes writes_new : ℕ} (old new : BufferedBytes) (left left_new : Option (List ℕ))
+    → StopsRefilling fault old new left left_new → f ≡ Some fault → CountsReads {T = ℕ} mid reads_new (Err fault) → mid ≡ reads → writes_new ≡ writes
     → Fails f reads reads_new writes writes_new
 drawing_fails fault {f} {reads} {mid} reads_new {writes} {writes_new} old new left left_new stops is counts same calm = subst (λ (f : Option Fault). Fails f reads reads_new writes writes_new) (sym is)
     (by_fault fault stops counts)
   where
-    by_fault : (fault : Fault) → StopsDrawing fault old new left left_new → CountsReads {T = ℕ} mid reads_new (Err fault) → Fails (Some fault) reads reads_new writes writes_new
+    by_fault : (fault : Fault) → StopsRefilling fault old new left left_new → CountsReads {T = ℕ} mid reads_new (Err fault) → Fails (Some fault) reads reads_new writes writes_new
     by_fault Read d e = (e ∙ ap (λ n. n + 1) same, calm)
     by_fault TooLong h e = (e ∙ same, calm)
     by_fault _ bad e = absurd bad
 
 -- all samples were given, and their code is written or not
-pub finish_ends : {s : Parameters} {left_old left : Option (List ℕ)} {taken_old taken new : Option Room} {e : EncodingValue} {q : WaitingBytes}
-    {r : Report} {f : Option Fault} → (runs : EncodingProgress s left_old left taken_old taken e q) → IsAtEnd left → q.waiting ≡ [] → q.given ≤ 281474976710656
+pub finish_ends : {s : Parameters} {left_old left : Option (List ℕ)} {taken_old taken new : Option Room} {e : EncodingValue} {q : BufferedBytes}
+    {r : Report} {f : Option Fault} → (runs : EncodingProgress s left_old left taken_old taken e q) → IsAtEnd left → q.buffered ≡ [] → q.given ≤ 281474976710656
     → ReportsAll s r runs.samples → WritesRest s (afresh taken_old) new runs.samples f → EncodesBetween s left_old left taken_old new r f
 finish_ends {s} {left_old} {left} {taken_old} {new} {e} {q} {r} {f} runs end none limit closes finishes = by_fault f finishes
   where
@@ -181,7 +181,7 @@ finish_ends {s} {left_old} {left} {taken_old} {new} {e} {q} {r} {f} runs end non
     xs = runs.samples
 
     spells : Spells s runs.bytes xs AtEnd
-    spells = record { rest = q.waiting; whole = runs.reads.split; legal = runs.reads.legal; stops = none }
+    spells = record { rest = q.buffered; whole = runs.reads.split; legal = runs.reads.legal; stops = none }
 
     count : length runs.bytes ≡ width s * length xs
     count = ap length (runs.reads.split ∙ ap (λ l. spellings s xs ++ l) none ∙ append-nil (spellings s xs)) ∙ length-spellings s xs
@@ -190,7 +190,7 @@ finish_ends {s} {left_old} {left} {taken_old} {new} {e} {q} {r} {f} runs end non
     ahead w n m k e h = let p = ap (λ v. v * w) h in omega arith
 
     no_more : length runs.bytes ≤ r.samples * width s + 4096
-    no_more = given_ahead s runs.bytes q.waiting xs r.samples runs.reads.split (omega (arith, ap length none)) closes.samples
+    no_more = given_ahead s runs.bytes q.buffered xs r.samples runs.reads.split (omega (arith, ap length none)) closes.samples
 
     by_fault : (f : Option Fault) → WritesRest s (afresh taken_old) new xs f → EncodesBetween s left_old left taken_old new r f
     by_fault None took = (
@@ -215,12 +215,12 @@ finish_ends {s} {left_old} {left} {taken_old} {new} {e} {q} {r} {f} runs end non
     )
     by_fault _ bad = absurd bad
 
--- the samples of the bytes that wait are not all taken
-pub pushing_ends : {s : Parameters} {left_old left : Option (List ℕ)} {taken_old taken taken_new : Option Room} {v v_new : EncodingValue} {r : WaitingBytes} {report : Report}
-    (fault : Fault) {f : Option Fault} → (p : EncodingProgress s left_old left taken_old taken v r) → Pushes {T = Unit {0}} s (afresh taken_old) taken_new v_new p.samples r.waiting (Err fault)
-    → length r.waiting ≤ 4096 → r.given ≤ 281474976710656 → ((xs : List ℤ) → CountsSamples s v_new xs → ReportsTaken s report xs) → f ≡ Some fault
+-- the samples of the bytes that are buffered are not all taken
+pub pushing_ends : {s : Parameters} {left_old left : Option (List ℕ)} {taken_old taken taken_new : Option Room} {v v_new : EncodingValue} {r : BufferedBytes} {report : Report}
+    (fault : Fault) {f : Option Fault} → (p : EncodingProgress s left_old left taken_old taken v r) → Pushes {T = Unit {0}} s (afresh taken_old) taken_new v_new p.samples r.buffered (Err fault)
+    → length r.buffered ≤ 4096 → r.given ≤ 281474976710656 → ((xs : List ℤ) → CountsSamples s v_new xs → ReportsTaken s report xs) → f ≡ Some fault
     → EncodesBetween s left_old left taken_old taken_new report f
-pushing_ends {s} {left_old} {left} {taken_old} {taken} {taken_new} {v} {v_new} {r} {report} fault p stops few limit told is =
+pushing_ends {s} {left_old} {left} {taken_old} {taken} {taken_new} {v} {v_new} {r} {report} fault p stops few limit reported is =
     subst (EncodesBetween s left_old left taken_old taken_new report) (sym is) (by_fault fault stops)
   where
     xs : List ℤ
@@ -229,10 +229,10 @@ pushing_ends {s} {left_old} {left} {taken_old} {taken} {taken_new} {v} {v_new} {
     ahead : (w n b g k : ℕ) → g ≡ w * n + b → b ≤ 4096 → 1 ≤ w → n < k → g < k * w + 4096
     ahead w n b g k e few some lt = let q = mul-le-mul_right w lt in omega arith
 
-    by_fault : (fault : Fault) → Pushes {T = Unit {0}} s (afresh taken_old) taken_new v_new xs r.waiting (Err fault) → EncodesBetween s left_old left taken_old taken_new report (Some fault)
+    by_fault : (fault : Fault) → Pushes {T = Unit {0}} s (afresh taken_old) taken_new v_new xs r.buffered (Err fault) → EncodesBetween s left_old left taken_old taken_new report (Some fault)
     by_fault (SampleOutOfRange index) (m, named) =
-        let joined = reads_then s p.bytes r.waiting m.rest xs m.more p.reads m.reads in
-        let t = told (xs ++ m.more) m.holds.counts in
+        let joined = reads_then s p.bytes r.buffered m.rest xs m.more p.reads m.reads in
+        let t = reported (xs ++ m.more) m.holds.counts in
         let size = ap length m.reads.split ∙ length-append (spellings s m.more) m.rest in (
           record { given = p.bytes; left = left; written = early_output s (xs ++ m.more) },
           record { gave = p.gave; left = refl; took = Follows-all taken_old taken_new _ m.holds.took },
@@ -248,17 +248,17 @@ pushing_ends {s} {left_old} {left} {taken_old} {taken} {taken_new} {v} {v_new} {
           },
         )
     by_fault Write m =
-        let joined = reads_then s p.bytes r.waiting m.rest xs (m.more ++ m.last ∷ []) p.reads m.reads in
+        let joined = reads_then s p.bytes r.buffered m.rest xs (m.more ++ m.last ∷ []) p.reads m.reads in
         let before = xs ++ m.more in
         let all = before ++ m.last ∷ [] in
-        let t = told all m.fails.counts in
+        let t = reported all m.fails.counts in
         let n : length all ≡ length before + 1 = length-append before (m.last ∷ []) in
         let k : length before ≡ length xs + length m.more = length-append xs m.more in
         let front : take (length all - 1) all ≡ before = (let i : length all - 1 ≡ length before = omega arith in ap (λ i. take i all) i ∙ take-append_seam before (m.last ∷ [])) in
         let same : xs ++ (m.more ++ m.last ∷ []) ≡ all = sym (append_assoc xs m.more (m.last ∷ [])) in
-        let size : length p.bytes ≡ width s * length xs + length r.waiting = ap length p.reads.split ∙ length-append (spellings s xs) r.waiting
-        ∙ ap (λ n. n + length r.waiting) (length-spellings s xs) in
-        let fewer = ahead (width s) (length xs) (length r.waiting) (length p.bytes) report.samples size few (some_width s) (omega (arith, t.samples, n, k)) in (
+        let size : length p.bytes ≡ width s * length xs + length r.buffered = ap length p.reads.split ∙ length-append (spellings s xs) r.buffered
+        ∙ ap (λ n. n + length r.buffered) (length-spellings s xs) in
+        let fewer = ahead (width s) (length xs) (length r.buffered) (length p.bytes) report.samples size few (some_width s) (omega (arith, t.samples, n, k)) in (
           record { given = p.bytes; left = left; written = m.fails.takes.written },
           record { gave = p.gave; left = refl; took = Follows-all taken_old taken_new _ m.fails.takes.took },
           record {
@@ -303,6 +303,7 @@ push_fails {s} {old} taken e xs bytes {f} {g} {reads} {reads_new} {writes} {mid}
 -- the report's bounds where taking the bytes in hand stops
 pub push_within : {s : Parameters} (old : Beginning) (taken : Option Room) (e : EncodingValue) {r : Report} (f : Fault) (xs : List ℤ) (bytes : List ℕ)
     → ((ys : List ℤ) → CountsSamples s e ys → ReportsTaken s r ys) → Pushes {T = Unit {0}} s old taken e xs bytes (Err f) → EncodesWithin s r
-push_within {s} old taken e {r} (SampleOutOfRange index) xs bytes told m = let k = m.0.holds.counts in within_early s r (xs ++ m.0.more) (settled_by s e (xs ++ m.0.more) k) (told (xs ++ m.0.more) k)
-push_within {s} old taken e {r} Write xs bytes told m = let ys = (xs ++ m.more) ++ m.last ∷ [] in let k = m.fails.counts in within_early s r ys (settled_by s e ys k) (told ys k)
-push_within old taken e _ xs bytes told bad = absurd bad
+push_within {s} old taken e {r} (SampleOutOfRange index) xs bytes reported m =
+    let k = m.0.holds.counts in within_early s r (xs ++ m.0.more) (settled_by s e (xs ++ m.0.more) k) (reported (xs ++ m.0.more) k)
+push_within {s} old taken e {r} Write xs bytes reported m = let ys = (xs ++ m.more) ++ m.last ∷ [] in let k = m.fails.counts in within_early s r ys (settled_by s e ys k) (reported ys k)
+push_within old taken e _ xs bytes reported bad = absurd bad

@@ -10,7 +10,7 @@ use Rattle.rice_stream.proofs.Words.{whole_part, ReportsAll, TakesPart, Encoding
 use Rattle.rice_stream.proofs.lemmas.EncodingBounds.{Settles, taken_settles, early_bounded, all_bounded, few_steps, few_bits}
 use Rattle.rice_stream.proofs.lemmas.BytesOfGrowingCode.{length-part, more_bytes, more_rest}
 
--- bytes that the outlet takes behind those that are written are written with them
+-- bytes that the outlet takes after those that are written are written with them
 pub Follows-trans : (old : Beginning) (now new : Option Room) (bytes more : List ℕ) → Follows old now bytes → Appends now new more → Follows old new (bytes ++ more)
 Follows-trans old now new bytes more f a = record {
   more = f.more ++ more;
@@ -49,7 +49,7 @@ pub sink_goes_on : (s : Parameters) (old : Beginning) (now : Option Room) (e : E
     → whole_part (complete_code s xs) ++ e.sink ≡ complete_code s xs
 sink_goes_on s old now e xs h = ap (λ l. whole_part (complete_code s xs) ++ l) h.sink ∙ take-append-drop (bits_in_bytes (length (complete_code s xs))) (complete_code s xs)
 
--- less than a byte waits in the sink
+-- less than a byte is buffered in the sink
 pub sink_short : (s : Parameters) (old : Beginning) (now : Option Room) (e : EncodingValue) (xs : List ℤ) → IsEncodingOf s old now e xs → length e.sink ≤ 7
 sink_short s old now e xs h = omega (arith, ap length h.sink, length-drop (bits_in_bytes (length (complete_code s xs))) (complete_code s xs))
 
@@ -262,9 +262,9 @@ samples_end {s} {old} {now} {e} {r} {sink} {xs} {n} h finishes bits samples fill
     )
 
 -- where the outlet fails after other samples, others stand before them
-pub fails_behind : {s : Parameters} {old : Beginning} {new : Option Room} {e : EncodingValue} {xs more : List ℤ} {bytes rest : List ℕ} → Reads s bytes more rest
+pub fails_after : {s : Parameters} {old : Beginning} {new : Option Room} {e : EncodingValue} {xs more : List ℤ} {bytes rest : List ℕ} → Reads s bytes more rest
     → MeetsFailure s old new e (xs ++ more) rest → MeetsFailure s old new e xs bytes
-fails_behind {s} {old} {new} {e} {xs} {more} {bytes} {rest} reads m = record {
+fails_after {s} {old} {new} {e} {xs} {more} {bytes} {rest} reads m = record {
   more = more ++ m.more;
   last = m.last;
   rest = m.rest;

@@ -5,7 +5,7 @@ use Rattle.rice_stream.proofs.Words.{All, nat_tests, AllByRecursion, take-length
 use Rattle.rice_stream.proofs.Words.{bits_of-whole_bytes, length-bits_of, length-word, Parameters, IsLegal, IsSample, width, cut, spelling, spellings}
 use Rattle.rice_stream.proofs.Words.{AreIntervals, code, code_bits, early_output, output, Decoded, Reached, complete_code, state_between}
 use Rattle.rice_stream.proofs.Words.{between_all, complete_are_coded, intervals_are_decoded_alone, intervals_are_joined, length-spelling, length-spellings, spellings-append, bits_in_bytes, bits_of}
-use Rattle.rice_stream.proofs.Words.{bits_to_byte, whole_bytes, IsSeam, Piece, AreFed, TakeInParts, last_seam, place_behind, FeedingIsEncoding, IsPlace, SeamsTellPlaces, Seam, one_sample}
+use Rattle.rice_stream.proofs.Words.{bits_to_byte, whole_bytes, IsSeam, Piece, AreFed, TakeInParts, last_seam, place_after, FeedingIsEncoding, IsPlace, SeamsTellPlaces, Seam, one_sample}
 use Rattle.rice_stream.proofs.lemmas.EncodingLemmas.{code_nothing, settled_nothing}
 
 -- several spellings are of these samples alone
@@ -22,7 +22,7 @@ same_samples s (x ∷ xs) (y ∷ ys) legal kx ky e =
     let rest = same_samples s xs ys legal (All-tail (IsSample s) x xs kx) (All-tail (IsSample s) y ys ky) others in
     (λ i. same i ∷ rest i)
 
--- The first samples of an input are taken, and a seam stands behind them.
+-- The first samples of an input are taken, and a seam stands after them.
 record HasFed (s : Parameters) (input : List ℕ) (seam : Seam) : Type 0 where
   pub samples : List ℤ
   pub rest : List ℕ
@@ -37,7 +37,7 @@ record FeedsOn (s : Parameters) (input : List ℕ) (seam : Seam) (pieces : List 
   pub grows : early_output s fed.samples ≡ early_output s xs ++ bytes
   pub taken : TakeInParts pieces bytes
 
--- what is not taken begins behind the samples that the seam counts
+-- what is not taken begins after the samples that the seam counts
 not_taken : (s : Parameters) (input : List ℕ) (seam : Seam) → (h : HasFed s input seam) → drop (width s * seam.samples) input ≡ h.rest
 not_taken s input seam h =
     let size : length (spellings s h.samples) ≡ width s * seam.samples = length-spellings s h.samples ∙ ap (λ n. width s * n) (sym h.stands.counts.samples) in
@@ -48,14 +48,14 @@ feeds_on : (s : Parameters) (input : List ℕ) (seam : Seam) (pieces : List Piec
 feeds_on s input seam [] h fed = record { fed = h; bytes = []; grows = sym (append-nil (early_output s h.samples)); taken = refl }
 feeds_on s input seam (p ∷ ps) h fed =
     let goes = fed.1 h.samples h.stands in
-    let behind = fed.0.0 in
-    let rest : h.rest ≡ spellings s goes.more ++ (goes.rest ++ behind) = sym (not_taken s input seam h) ∙ fed.0.1 ∙ ap (λ l. l ++ behind) goes.reads.split
-    ∙ append_assoc (spellings s goes.more) goes.rest behind in
+    let after = fed.0.0 in
+    let rest : h.rest ≡ spellings s goes.more ++ (goes.rest ++ after) = sym (not_taken s input seam h) ∙ fed.0.1 ∙ ap (λ l. l ++ after) goes.reads.split
+    ∙ append_assoc (spellings s goes.more) goes.rest after in
     let next : HasFed s input p.seam = record {
       samples = h.samples ++ goes.more;
-      rest = goes.rest ++ behind;
-      split = h.split ∙ ap (λ l. spellings s h.samples ++ l) rest ∙ sym (append_assoc (spellings s h.samples) (spellings s goes.more) (goes.rest ++ behind))
-          ∙ ap (λ l. l ++ (goes.rest ++ behind)) (sym (spellings-append s h.samples goes.more));
+      rest = goes.rest ++ after;
+      split = h.split ∙ ap (λ l. spellings s h.samples ++ l) rest ∙ sym (append_assoc (spellings s h.samples) (spellings s goes.more) (goes.rest ++ after))
+          ∙ ap (λ l. l ++ (goes.rest ++ after)) (sym (spellings-append s h.samples goes.more));
       legal = All-append (IsSample s) h.samples goes.more h.legal goes.reads.legal;
       stands = goes.stands;
     } in
@@ -96,7 +96,7 @@ feeding_is_encoding s legal input seam pieces old new fed encoded encoding begin
 
 -- ---- where an interval begins
 
--- the code of a seam's samples is what is written, and the bits that wait
+-- the code of a seam's samples is what is written, and the bits that fill no byte
 pub code_of_seam : (s : Parameters) (seam : Seam) (xs : List ℤ) → IsSeam s seam xs → length (code s xs) ≡ 8 * length (early_output s xs) + seam.waiting_bits
 code_of_seam s seam xs h =
     let all = between_all s seam.start seam.previous xs h.counts.stands in
@@ -122,7 +122,7 @@ whole_intervals s seam xs h at_start =
 
 -- where it begins in the code of these samples and others
 pub place_of_seam : (s : Parameters) (seam : Seam) (xs ys : List ℤ) (written : ℕ) → IsSeam s seam xs → seam.start ≡ 0 → written ≡ length (early_output s xs)
-    → IsPlace s (output s (xs ++ ys)) (place_behind seam written) xs
+    → IsPlace s (output s (xs ++ ys)) (place_after seam written) xs
 place_of_seam s seam xs ys written h at_start count =
     let legal = h.counts.stands.holds.legal in
     let whole = whole_intervals s seam xs h at_start in

@@ -5,7 +5,7 @@ use Rattle.rice_stream.proofs.Words.{take-append_seam, drop-append-drop, Reader,
 use Rattle.rice_stream.proofs.Words.{CodeFault, ◌^◌, Err, length-spellings, spellings-append, bits_of, word, Origin, IsStand, DecodesMore, GivesNext, HasRoomForBlock, PausesAt, TakesNext, ahead}
 use Rattle.rice_stream.proofs.Words.{bits_ahead, pause_for, Pause, Stand, nil_from_length, drop-append_seam}
 use Rattle.rice_bits.specs.declared.read.fault.BitFault.TheVariants as bit_faults
-use Rattle.rice_stream.proofs.lemmas.PullingLemmas.{all_drawn, draws_ahead}
+use Rattle.rice_stream.proofs.lemmas.PullingLemmas.{all_refilled, refills_ahead}
 use Rattle.rice_code.specs.declared.decode.call_results.CodeFault.TheVariants as faults
 use Rattle.rice_stream.specs.declared.stand.Pause.TheVariants as pauses
 
@@ -133,14 +133,14 @@ nothing_skipped k piece e = nil_from_length (bits_of piece) (omega (arith, lengt
 -- the bits of the first byte that were taken before are skipped
 pub skipped_bits : {I : Type 0} (intake : I) (piece : List ℕ) (k v : ℕ) (new : Reader I) → Takes (new_reader intake (Some piece) 0) new (word k v) → ahead new ≡ drop k (bits_of piece)
 skipped_bits intake piece k v new takes =
-    let drawn = draws_ahead (Some piece) new.left [] new.waiting (word k v) refl takes.draws in
-    sym (ap (λ n. drop n (bits_of piece)) (sym (length-word k v)) ∙ ap (drop (length (word k v))) drawn.1 ∙ drop-append_seam (word k v) (ahead new))
+    let refilled = refills_ahead (Some piece) new.left [] new.buffered (word k v) refl takes.refills in
+    sym (ap (λ n. drop n (bits_of piece)) (sym (length-word k v)) ∙ ap (drop (length (word k v))) refilled.1 ∙ drop-append_seam (word k v) (ahead new))
 
 -- a piece that has bytes has so few bits more
 pub never_refused : {I : Type 0} (intake : I) (piece : List ℕ) {k : ℕ} {bits : List Bool} {new : Reader I} (fault : BitFault) → k < 8 → length bits < k
     → length piece ≢ 0 → new.failed ≡ 0 → Stops (new_reader intake (Some piece) 0) new bits fault → ⊥
-never_refused intake piece {bits} {new} (bit_faults.End told) lt few some none stops =
-    let all = all_drawn (Some piece) stops.middle new.left [] bits refl stops.draws stops.refuses.0 stops.refuses.1 in
+never_refused intake piece {bits} {new} (bit_faults.End reported) lt few some none stops =
+    let all = all_refilled (Some piece) stops.middle new.left [] bits refl stops.refills stops.refuses.0 stops.refuses.1 in
     omega (arith, ap length all, length-bits_of piece, some)
 never_refused intake piece bit_faults.Read lt few some none stops = omega (arith, stops.refuses.1, none)
 never_refused intake piece bit_faults.TooLong lt few some none stops = omega (arith, stops.refuses.2, stops.taken)

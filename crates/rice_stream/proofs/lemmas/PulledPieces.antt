@@ -3,13 +3,13 @@ use Rattle.std.proofs.Common.{◌≡◌, ◌≢◌, ℕ, zero, suc, ◌+◌, ◌
 use Rattle.std.proofs.Common.{length, length-drop, take, drop, refl, ap, arith, sym, ◌∙◌, subst, append_assoc, append-nil, length-append, Some, None, ℤ, pos}
 use Rattle.rice_stream.proofs.Words.{mul-le-mul_left, drop-nil, take-length, drop-drop, bits_of-append, bits_of-nil, length-bits_of, Parameters, width, place, spellings, CodedDataSet, bits_of_set}
 use Rattle.rice_stream.proofs.Words.{BeginsUnsound, Decoded, Ending, Reached, Ended, CutOff, EndsWith, IsWanted, decoding_begins_afresh, end_there, bits_of, DecodedSoFar, ArePulled, EndsCode}
-use Rattle.rice_stream.proofs.Words.{EnoughBehindIsDecoding, EnoughIsDecoding, FrontIsPlace, GiveInParts, IsPlace, IsPulled, Pull, PullsAreDecoding, SeekingIsDecoding, StandsTellPlaces, last_stand}
+use Rattle.rice_stream.proofs.Words.{EnoughAfterIsDecoding, EnoughIsDecoding, FrontIsPlace, GiveInParts, IsPlace, IsPulled, Pull, PullsAreDecoding, SeekingIsDecoding, StandsTellPlaces, last_stand}
 use Rattle.rice_stream.proofs.Words.{Origin, IsStand, PausesAt, bits_ahead, Pause, Stand, drop-append-add, drop-append_seam}
 use Rattle.rice_stream.specs.declared.stand.Pause.TheVariants as pauses
 use Rattle.rice_stream.proofs.lemmas.{ReturnedBytes.unsound_on, DecodingLemmas.same_place}
 use Rattle.rice_stream.proofs.lemmas.DecodedSamples.{at_end, ends_here, ends_reached}
 
--- Bits of a code were pulled from where decoding began, and a stand is behind them.
+-- Bits of a code were pulled from where decoding began, and a stand is after them.
 record HasPulled (s : Parameters) (code : List ℕ) (o : Origin) (stand : Stand) : Type 0 where
   pub front : List Bool
   pub given : List ℤ
@@ -18,13 +18,13 @@ record HasPulled (s : Parameters) (code : List ℕ) (o : Origin) (stand : Stand)
   pub split : drop o.bits (bits_of code) ≡ front ++ rest
   pub stands : IsStand s o stand front given
 
--- what is left of two lists behind some bits
+-- what is left of two lists after some bits
 drop_both : (k : ℕ) (xs ys : List Bool) → drop k (xs ++ ys) ≡ drop k xs ++ drop (k - length xs) ys
 drop_both zero xs ys = let e : 0 - length xs ≡ 0 = omega arith in ap (λ n. xs ++ drop n ys) (sym e)
 drop_both (suc k) [] ys = let e : suc k - 0 ≡ suc k = omega arith in ap (λ n. drop n ys) (sym e)
 drop_both (suc k) (x ∷ xs) ys = let e : k - length xs ≡ suc k - suc (length xs) = omega arith in drop_both k xs ys ∙ ap (λ n. drop k xs ++ drop n ys) e
 
--- the bits of bytes behind the first
+-- the bits of bytes after the first
 drop_bits : (n k : ℕ) (code : List ℕ) → n ≤ length code → drop (8 * n + k) (bits_of code) ≡ drop k (bits_of (drop n code))
 drop_bits zero k code le = let e : 8 * 0 + k ≡ k = omega arith in ap (λ m. drop m (bits_of code)) e
 drop_bits (suc n) k [] le = absurd (omega arith)
@@ -34,48 +34,48 @@ drop_bits (suc n) k (x ∷ xs) le =
     let e : 8 * suc n + k ≡ length byte + (8 * n + k) = omega (arith, length-bits_of (x ∷ [])) in
     (λ i. drop (e i) (all i)) ∙ drop-append-add byte (bits_of xs) (8 * n + k) ∙ drop_bits n k xs (omega arith)
 
--- the bits behind the stand are those of the piece and others
-bits_behind_stand : (stand : Stand) (piece behind : List ℕ) → List Bool
-bits_behind_stand stand piece behind = drop (stand.bits % 8 - length (bits_of piece)) (bits_of behind)
+-- the bits after the stand are those of the piece and others
+bits_after_stand : (stand : Stand) (piece after : List ℕ) → List Bool
+bits_after_stand stand piece after = drop (stand.bits % 8 - length (bits_of piece)) (bits_of after)
 
--- what is left of a code is the rest of the piece, and what is behind it
-behind_stand : (s : Parameters) (code : List ℕ) (o : Origin) (stand : Stand) (piece behind : List ℕ) → (h : HasPulled s code o stand)
-    → drop (stand.bits / 8) code ≡ piece ++ behind → h.rest ≡ bits_ahead stand piece ++ bits_behind_stand stand piece behind
-unfolding bits_behind_stand
-behind_stand s code o stand piece behind h e =
+-- what is left of a code is the rest of the piece, and what is after it
+after_stand : (s : Parameters) (code : List ℕ) (o : Origin) (stand : Stand) (piece after : List ℕ) → (h : HasPulled s code o stand)
+    → drop (stand.bits / 8) code ≡ piece ++ after → h.rest ≡ bits_ahead stand piece ++ bits_after_stand stand piece after
+unfolding bits_after_stand
+after_stand s code o stand piece after h e =
     let n = stand.bits / 8 in
     let k = stand.bits % 8 in
     let here : o.bits + length h.front ≡ 8 * n + k = omega (arith, h.stands.bits) in
     let most : n ≤ length code = omega (arith, here, h.inside, length-drop o.bits (bits_of code), ap length h.split, length-append h.front h.rest, length-bits_of code) in
     sym (drop-append_seam h.front h.rest) ∙ ap (drop (length h.front)) (sym h.split) ∙ drop-drop (length h.front) o.bits (bits_of code)
     ∙ ap (λ m. drop m (bits_of code)) here ∙ drop_bits n k code most ∙ ap (λ l. drop k (bits_of l)) e
-    ∙ ap (drop k) (bits_of-append piece behind) ∙ drop_both k (bits_of piece) (bits_of behind)
+    ∙ ap (drop k) (bits_of-append piece after) ∙ drop_both k (bits_of piece) (bits_of after)
 
 -- a piece more was pulled
-record PullsOn (s : Parameters) (code : List ℕ) (o : Origin) (stand : Stand) (p : Pull) (given : List ℤ) (behind : List ℕ) : Type 0 where
+record PullsOn (s : Parameters) (code : List ℕ) (o : Origin) (stand : Stand) (p : Pull) (given : List ℤ) (after : List ℕ) : Type 0 where
   pub next : HasPulled s code o p.stand
   pub part : List ℤ
   pub more : next.given ≡ given ++ part
   pub count : p.stand.samples ≡ stand.samples + length part
   pub writes : p.new ≡ spellings s part ++ drop (width s * length part) p.old
   pub left : List Bool
-  pub rest_is : next.rest ≡ left ++ bits_behind_stand stand p.piece behind
+  pub rest_is : next.rest ≡ left ++ bits_after_stand stand p.piece after
   pub pauses_at : PausesAt s stand p.piece (length p.old) p.stand left (length part) p.pause
   pub limit : p.pause ≢ pauses.TooLong → p.stand.bits + length left ≤ 2 ^ 52
 
 -- one pull goes on with what was pulled before
-pulls_on : (s : Parameters) (code : List ℕ) (o : Origin) (stand : Stand) (p : Pull) (behind : List ℕ) → (h : HasPulled s code o stand)
-    → IsPulled s code stand p behind → PullsOn s code o stand p h.given behind
-pulls_on s code o stand p behind h pulled =
+pulls_on : (s : Parameters) (code : List ℕ) (o : Origin) (stand : Stand) (p : Pull) (after : List ℕ) → (h : HasPulled s code o stand)
+    → IsPulled s code stand p after → PullsOn s code o stand p h.given after
+pulls_on s code o stand p after h pulled =
     let d = pulled.1 o h.front h.given h.stands in
-    let far = bits_behind_stand stand p.piece behind in
+    let far = bits_after_stand stand p.piece after in
     record {
       next = record {
         front = h.front ++ d.bits;
         given = h.given ++ d.samples;
         rest = d.rest ++ far;
         inside = h.inside;
-        split = h.split ∙ ap (λ l. h.front ++ l) (behind_stand s code o stand p.piece behind h pulled.0 ∙ ap (λ l. l ++ far) d.parts
+        split = h.split ∙ ap (λ l. h.front ++ l) (after_stand s code o stand p.piece after h pulled.0 ∙ ap (λ l. l ++ far) d.parts
             ∙ append_assoc d.bits d.rest far) ∙ sym (append_assoc h.front d.bits (d.rest ++ far));
         stands = d.stands;
       };
@@ -125,8 +125,8 @@ parts-push s first [] last more part parts count writes = (part, [], ap (λ l. l
 parts-push s first (p ∷ ps) last more part parts count writes =
     (parts.0, parts.1 ++ part, ap (λ l. l ++ part) parts.2 ∙ append_assoc parts.0 parts.1 part, parts.3, parts.4, parts-push s p.stand ps last parts.1 part parts.5 count writes)
 
--- how the bits behind the stand end, of which so many are its piece's
-record EndsBehind (s : Parameters) (stand : Stand) (rest : List Bool) (ahead : ℕ) (ending : Ending) : Type 0 where
+-- how the bits after the stand end, of which so many are its piece's
+record EndsAfter (s : Parameters) (stand : Stand) (rest : List Bool) (ahead : ℕ) (ending : Ending) : Type 0 where
   pub none : stand.run ≡ 0
   pub used : ℕ
   pub ends : EndsWith s None stand.block rest ending used
@@ -136,56 +136,56 @@ record EndsBehind (s : Parameters) (stand : Stand) (rest : List Bool) (ahead : �
 unsound_in : (s : Parameters) (b used : ℕ) (left : List Bool) (P : CodedDataSet → Type 0) → BeginsUnsound s b left used P → used ≤ length left
 unsound_in s b used left P u = omega (arith, u.bits, ap length u.begins, length-append (bits_of_set s u.refused) u.more)
 
-nothing_far : (stand : Stand) (piece behind : List ℕ) → behind ≡ [] → bits_behind_stand stand piece behind ≡ []
-unfolding bits_behind_stand
-nothing_far stand piece behind e = let k = stand.bits % 8 - length (bits_of piece) in ap (λ l. drop k (bits_of l)) e ∙ ap (drop k) bits_of-nil ∙ drop-nil k
+nothing_far : (stand : Stand) (piece after : List ℕ) → after ≡ [] → bits_after_stand stand piece after ≡ []
+unfolding bits_after_stand
+nothing_far stand piece after e = let k = stand.bits % 8 - length (bits_of piece) in ap (λ l. drop k (bits_of l)) e ∙ ap (drop k) bits_of-nil ∙ drop-nil k
 
--- a pause behind which nothing is left is the end of the code
-pause_finishes : {s : Parameters} (old : Stand) {stand : Stand} (piece behind : List ℕ) (room count : ℕ) (left : List Bool) (pause : Pause) {ending : Ending}
-    → PausesAt s old piece room stand left count pause → EndsCode pause behind ending → EndsBehind s stand (left ++ bits_behind_stand old piece behind) (length left) ending
-pause_finishes {s} old {stand} piece behind room count left pauses.Blank at e =
-    let whole : left ≡ left ++ bits_behind_stand old piece behind = sym (append-nil left) ∙ ap (λ l. left ++ l) (sym (nothing_far old piece behind e.0)) in
+-- a pause after which nothing is left is the end of the code
+pause_finishes : {s : Parameters} (old : Stand) {stand : Stand} (piece after : List ℕ) (room count : ℕ) (left : List Bool) (pause : Pause) {ending : Ending}
+    → PausesAt s old piece room stand left count pause → EndsCode pause after ending → EndsAfter s stand (left ++ bits_after_stand old piece after) (length left) ending
+pause_finishes {s} old {stand} piece after room count left pauses.Blank at e =
+    let whole : left ≡ left ++ bits_after_stand old piece after = sym (append-nil left) ∙ ap (λ l. left ++ l) (sym (nothing_far old piece after e.0)) in
     record {
       none = at.1;
       used = length left;
       few = omega arith;
-      ends = subst (λ (v : Ending). EndsWith s None stand.block (left ++ bits_behind_stand old piece behind) v (length left)) (sym e.1)
+      ends = subst (λ (v : Ending). EndsWith s None stand.block (left ++ bits_after_stand old piece after) v (length left)) (sym e.1)
           (subst (λ (l : List Bool). EndsWith s None stand.block l Ended (length left)) whole at.2);
     }
-pause_finishes {s} old {stand} piece behind room count left pauses.Cut at e =
-    let whole : left ≡ left ++ bits_behind_stand old piece behind = sym (append-nil left) ∙ ap (λ l. left ++ l) (sym (nothing_far old piece behind e.0)) in
+pause_finishes {s} old {stand} piece after room count left pauses.Cut at e =
+    let whole : left ≡ left ++ bits_after_stand old piece after = sym (append-nil left) ∙ ap (λ l. left ++ l) (sym (nothing_far old piece after e.0)) in
     record {
       none = at.1;
       used = length left;
       few = omega arith;
-      ends = subst (λ (v : Ending). EndsWith s None stand.block (left ++ bits_behind_stand old piece behind) v (length left)) (sym e.1)
+      ends = subst (λ (v : Ending). EndsWith s None stand.block (left ++ bits_after_stand old piece after) v (length left)) (sym e.1)
           (subst (λ (l : List Bool). EndsWith s None stand.block l CutOff (length left)) whole at.2);
     }
-pause_finishes {s} old {stand} piece behind room count left pauses.RunPastSegment at e =
+pause_finishes {s} old {stand} piece after room count left pauses.RunPastSegment at e =
     record {
       none = at.1;
       used = at.2;
       few = unsound_in s stand.block at.2 left _ at.3.1;
-      ends = subst (λ (v : Ending). EndsWith s None stand.block (left ++ bits_behind_stand old piece behind) v at.2) (sym e)
-          (tt, unsound_on s stand.block at.2 left (bits_behind_stand old piece behind) _ at.3.1);
+      ends = subst (λ (v : Ending). EndsWith s None stand.block (left ++ bits_after_stand old piece after) v at.2) (sym e)
+          (tt, unsound_on s stand.block at.2 left (bits_after_stand old piece after) _ at.3.1);
     }
-pause_finishes {s} old {stand} piece behind room count left pauses.ResidualTooLarge at e =
+pause_finishes {s} old {stand} piece after room count left pauses.ResidualTooLarge at e =
     record {
       none = at.1;
       used = at.2;
       few = unsound_in s stand.block at.2 left _ at.3.1;
-      ends = subst (λ (v : Ending). EndsWith s None stand.block (left ++ bits_behind_stand old piece behind) v at.2) (sym e)
-          (tt, unsound_on s stand.block at.2 left (bits_behind_stand old piece behind) _ at.3.1);
+      ends = subst (λ (v : Ending). EndsWith s None stand.block (left ++ bits_after_stand old piece after) v at.2) (sym e)
+          (tt, unsound_on s stand.block at.2 left (bits_after_stand old piece after) _ at.3.1);
     }
-pause_finishes old piece behind room count left _ at e = absurd e
+pause_finishes old piece after room count left _ at e = absurd e
 
 -- a code that ends was not refused for its length
-not_long : (pause : Pause) (behind : List ℕ) (ending : Ending) → EndsCode pause behind ending → pause ≢ pauses.TooLong
-not_long pauses.Blank behind ending e = λ same. absurd cc
-not_long pauses.Cut behind ending e = λ same. absurd cc
-not_long pauses.RunPastSegment behind ending e = λ same. absurd cc
-not_long pauses.ResidualTooLarge behind ending e = λ same. absurd cc
-not_long _ behind ending e = absurd e
+not_long : (pause : Pause) (after : List ℕ) (ending : Ending) → EndsCode pause after ending → pause ≢ pauses.TooLong
+not_long pauses.Blank after ending e = λ same. absurd cc
+not_long pauses.Cut after ending e = λ same. absurd cc
+not_long pauses.RunPastSegment after ending e = λ same. absurd cc
+not_long pauses.ResidualTooLarge after ending e = λ same. absurd cc
+not_long _ after ending e = absurd e
 
 -- nothing is pulled yet
 at_first : (s : Parameters) (code : List ℕ) (o : Origin) (first : Stand) → o.bits ≤ length (bits_of code) → IsStand s o first [] [] → HasPulled s code o first
@@ -193,7 +193,7 @@ at_first s code o first le h = record { front = []; given = []; rest = drop o.bi
 
 -- what ends there is what the code decodes to
 decoded_all : {s : Parameters} {code : List ℕ} {o : Origin} {stand : Stand} {rest : List Bool} {ahead : ℕ} {ending : Ending} → (h : HasPulled s code o stand)
-    → h.rest ≡ rest → (f : EndsBehind s stand rest ahead ending)
+    → h.rest ≡ rest → (f : EndsAfter s stand rest ahead ending)
     → Decoded s (drop o.bits (bits_of code)) None h.given ending (length h.front + f.used)
 decoded_all {s} {stand} {rest} {ending} h e f =
     let st = h.stands in
@@ -211,14 +211,14 @@ record PulledAll (s : Parameters) (code : List ℕ) (o : Origin) (first : Stand)
   pub count : last.samples ≡ o.samples + length samples
 
 -- pulls up to the end of a code give what it decodes to
-pulled_all : {s : Parameters} {code : List ℕ} {o : Origin} {first : Stand} (pulls : List Pull) (last : Pull) (behind : List ℕ) (ending : Ending)
+pulled_all : {s : Parameters} {code : List ℕ} {o : Origin} {first : Stand} (pulls : List Pull) (last : Pull) (after : List ℕ) (ending : Ending)
     → o.bits ≤ length (bits_of code) → IsStand s o first [] [] → ArePulled s code first pulls
-    → IsPulled s code (last_stand first pulls) last behind → EndsCode last.pause behind ending → PulledAll s code o first (pulls ++ last ∷ []) last.stand ending
+    → IsPulled s code (last_stand first pulls) last after → EndsCode last.pause after ending → PulledAll s code o first (pulls ++ last ∷ []) last.stand ending
 unfolding at_first
-pulled_all {s} {code} {o} {first} pulls last behind ending inside begins pulled last_pulled ends =
+pulled_all {s} {code} {o} {first} pulls last after ending inside begins pulled last_pulled ends =
     let all = pull_all s code o first pulls (at_first s code o first inside begins) pulled in
-    let on = pulls_on s code o (last_stand first pulls) last behind all.next last_pulled in
-    let f = pause_finishes (last_stand first pulls) last.piece behind (length last.old) (length on.part) on.left last.pause on.pauses_at ends in
+    let on = pulls_on s code o (last_stand first pulls) last after all.next last_pulled in
+    let f = pause_finishes (last_stand first pulls) last.piece after (length last.old) (length on.part) on.left last.pause on.pauses_at ends in
     let same : on.next.given ≡ all.more ++ on.part = on.more ∙ ap (λ l. l ++ on.part) all.all in
     record {
       samples = all.more ++ on.part;
@@ -226,7 +226,7 @@ pulled_all {s} {code} {o} {first} pulls last behind ending inside begins pulled 
       parts = parts-push s first pulls last all.more on.part all.parts on.count on.writes;
       decoded = subst (λ (l : List ℤ). Decoded s (drop o.bits (bits_of code)) None l ending (length on.next.front + f.used)) same
           (decoded_all on.next on.rest_is f);
-      limit = omega (arith, on.limit (not_long last.pause behind ending ends), on.next.stands.bits, f.few);
+      limit = omega (arith, on.limit (not_long last.pause after ending ends), on.next.stands.bits, f.few);
       count = on.next.stands.samples ∙ ap (λ l. o.samples + length l) same;
     }
 
@@ -277,8 +277,8 @@ pulled_enough {s} code {o} {first} pulls n inside begins pulled enough few =
 
 -- from the front of a code on
 pub pulls_are_decoding : PullsAreDecoding
-pulls_are_decoding s code first pulls last behind ending begins pulled last_pulled ends =
-    let p = pulled_all pulls last behind ending (omega arith) begins pulled last_pulled ends in
+pulls_are_decoding s code first pulls last after ending begins pulled last_pulled ends =
+    let p = pulled_all pulls last after ending (omega arith) begins pulled last_pulled ends in
     (p.samples, p.used, p.parts, p.decoded)
 
 -- and up to a number of samples
@@ -310,11 +310,11 @@ pub record SeekAll (s : Parameters) (code : List ℕ) (before : List ℤ) (first
   pub count : last.samples ≡ length (before ++ samples)
 
 -- pulls from the place of an interval on give what follows the samples before it
-pub seek_all : {s : Parameters} {code : List ℕ} {o : Origin} {before : List ℤ} {first : Stand} (pulls : List Pull) (last : Pull) (behind : List ℕ)
+pub seek_all : {s : Parameters} {code : List ℕ} {o : Origin} {before : List ℤ} {first : Stand} (pulls : List Pull) (last : Pull) (after : List ℕ)
     (ending : Ending) → IsPlace s code o before → IsStand s o first [] []
-    → ArePulled s code first pulls → IsPulled s code (last_stand first pulls) last behind → EndsCode last.pause behind ending → SeekAll s code before first (pulls ++ last ∷ []) last.stand ending
-seek_all {s} {code} {o} {before} {first} pulls last behind ending place begins pulled last_pulled ends =
-    let p = pulled_all pulls last behind ending (inside_code s code o before place) begins pulled last_pulled ends in
+    → ArePulled s code first pulls → IsPulled s code (last_stand first pulls) last after → EndsCode last.pause after ending → SeekAll s code before first (pulls ++ last ∷ []) last.stand ending
+seek_all {s} {code} {o} {before} {first} pulls last after ending place begins pulled last_pulled ends =
+    let p = pulled_all pulls last after ending (inside_code s code o before place) begins pulled last_pulled ends in
     record {
       samples = p.samples;
       used = o.bits + p.used;
@@ -324,10 +324,10 @@ seek_all {s} {code} {o} {before} {first} pulls last behind ending place begins p
       count = omega (arith, p.count, place.count, length-append before p.samples);
     }
 
--- Pieces pulled from the place of an interval to the end of the code give what all of it decodes to behind the samples before this place.
+-- Pieces pulled from the place of an interval to the end of the code give what all of it decodes to after the samples before this place.
 pub pulls_from_an_interval_are_decoding : SeekingIsDecoding
-pulls_from_an_interval_are_decoding s code o before first pulls last behind ending place begins pulled last_pulled ends =
-    let p = seek_all pulls last behind ending place begins pulled last_pulled ends in
+pulls_from_an_interval_are_decoding s code o before first pulls last after ending place begins pulled last_pulled ends =
+    let p = seek_all pulls last after ending place begins pulled last_pulled ends in
     (p.samples, p.used, p.parts, p.decoded)
 
 -- Pieces were pulled from there until there were n samples, and no block more.
@@ -355,8 +355,8 @@ seek_enough {s} {code} {o} {before} {first} pulls n place begins pulled enough f
     }
 
 -- and where pieces pulled from there give n samples, and less than a block more, the first n are those that the code decodes to by the count of all
-pub enough_behind_is_decoding : EnoughBehindIsDecoding
-enough_behind_is_decoding s code o before first pulls n place begins pulled enough few =
+pub enough_after_is_decoding : EnoughAfterIsDecoding
+enough_after_is_decoding s code o before first pulls n place begins pulled enough few =
     let p = seek_enough pulls n place begins pulled enough few in
     (p.samples, p.parts, p.decoded)
 

@@ -14,7 +14,7 @@ gives_one {s = s} {stand = stand} {next = next} {q = q} {r = r} {new = new} {ste
   gives = λ o front given h. gives_next s stand next r new steps steps_new xs o front given t h;
 }
 
--- blocks, and others behind them
+-- blocks, and others after them
 pub one_and_more : {I : Type 0} {s : Parameters} {a b c : Stand} {p q : DecoderState} {r m new : Reader I} {xs ys : List ℤ}
     → GivesMore s a b p r m xs → GivesMore s b c q m new ys → GivesMore s a c q r new (xs ++ ys)
 one_and_more {s = s} {c = c} {new = new} {xs = xs} {ys = ys} one two = record {

@@ -1,36 +1,37 @@
 -- Decoding piece by piece: what the next block does to where decoding stands, and how a piece ends.
 use Rattle.std.proofs.Common.{◌≡◌, ℕ, ◌+◌, ◌-◌, ◌*◌, ◌%◌, ◌≤◌, ◌==◌, ◌&&◌, cond, Bool, true, false, List, [], ◌∷◌, ◌++◌}
 use Rattle.std.proofs.Common.{length, refl, ap, arith, sym, ◌∙◌, inl, inr, subst, append_assoc, append-nil, length-append, Option, Some, None, ℤ, pos}
-use Rattle.rice_stream.proofs.Words.{IsSome, Ok, Err, Consumes, IsAtEnd, Reader, Draws, bits_of-nil, bits_of-append, length-bits_of, Parameters, place, last_of, CodedDataSet, bits_of_set}
+use Rattle.rice_stream.proofs.Words.{IsSome, Ok, Err, Consumes, IsAtEnd, Reader, Refills, bits_of-nil, bits_of-append, length-bits_of, Parameters, place, last_of, CodedDataSet, bits_of_set}
 use Rattle.rice_stream.proofs.Words.{BeginsUnsound, EndsWith, Ended, CutOff, padding, SetEnds, SetRefused, StopsBy, with_mark, DecoderState, IsDecoderState, AreCounted, SetCut, CodeFault, Block, Done}
-use Rattle.rice_stream.proofs.Words.{last_append, bits_of, DecodedSoFar, Gains, HasSets, Origin, IsStand, MayBegin, GivesNext, GoesOnAt, IsReadFrom, TakesNext, ahead, bytes_told, state_of, Stand}
+use Rattle.rice_stream.proofs.Words.{last_append, bits_of, DecodedSoFar, Gains, HasSets, Origin, IsStand, MayBegin, GivesNext, GoesOnAt, IsReadFrom, TakesNext, ahead, bytes_reported, state_of, Stand}
 use Rattle.rice_stream.proofs.Words.{Advances}
 use Rattle.rice_bits.specs.declared.read.fault.BitFault.TheVariants as bit_faults
 use Rattle.rice_code.specs.declared.decode.call_results.CodeFault.TheVariants as faults
 use Rattle.rice_stream.proofs.lemmas.DecodingEnds.{blank_all, next_here, some_one}
 use Rattle.rice_stream.proofs.lemmas.DecodingLemmas.{gains_run, gains_set, moves_of, runs_or_not, took_block}
 
--- what is drawn of a piece
-pub draws_ahead : (old new : Option (List ℕ)) (waiting waiting_new bits : List Bool) → IsSome old → Draws old new waiting waiting_new bits
-    → IsSome new × (waiting ++ bits_of (bytes_told old) ≡ bits ++ (waiting_new ++ bits_of (bytes_told new)))
-draws_ahead None new waiting waiting_new bits told d = absurd (let e : false ≡ true = told in cc)
-draws_ahead (Some xs) None waiting waiting_new bits told d = absurd d.consumed
-draws_ahead (Some xs) (Some ys) waiting waiting_new bits told d = (
+-- what is read of a piece
+pub refills_ahead : (old new : Option (List ℕ)) (buffered buffered_new bits : List Bool) → IsSome old → Refills old new buffered buffered_new bits
+    → IsSome new × (buffered ++ bits_of (bytes_reported old) ≡ bits ++ (buffered_new ++ bits_of (bytes_reported new)))
+refills_ahead None new buffered buffered_new bits reported d = absurd (let e : false ≡ true = reported in cc)
+refills_ahead (Some xs) None buffered buffered_new bits reported d = absurd d.consumed
+refills_ahead (Some xs) (Some ys) buffered buffered_new bits reported d = (
   refl,
-  ap (λ l. waiting ++ bits_of l) d.consumed ∙ ap (λ l. waiting ++ l) (bits_of-append d.given ys) ∙ sym (append_assoc waiting (bits_of d.given) (bits_of ys))
-      ∙ ap (λ l. l ++ bits_of ys) d.split ∙ append_assoc bits waiting_new (bits_of ys),
+  ap (λ l. buffered ++ bits_of l) d.consumed ∙ ap (λ l. buffered ++ l) (bits_of-append d.given ys) ∙ sym (append_assoc buffered (bits_of d.given) (bits_of ys))
+      ∙ ap (λ l. l ++ bits_of ys) d.split ∙ append_assoc bits buffered_new (bits_of ys),
 )
 
 -- nothing is left of a piece
-nothing_left : (mid new : Option (List ℕ)) → Consumes mid new [] → IsAtEnd new → bytes_told mid ≡ []
+nothing_left : (mid new : Option (List ℕ)) → Consumes mid new [] → IsAtEnd new → bytes_reported mid ≡ []
 nothing_left None new c e = refl
 nothing_left (Some xs) None c e = absurd c
 nothing_left (Some xs) (Some ys) c e = c ∙ e
 
--- all of a piece was drawn
-pub all_drawn : (old mid new : Option (List ℕ)) (waiting bits : List Bool) → IsSome old → Draws old mid waiting [] bits → Consumes mid new [] → IsAtEnd new → waiting ++ bits_of (bytes_told old) ≡ bits
-all_drawn old mid new waiting bits told d c e =
-    (draws_ahead old mid waiting [] bits told d).1 ∙ ap (λ l. bits ++ bits_of l) (nothing_left mid new c e) ∙ ap (λ l. bits ++ l) bits_of-nil ∙ append-nil bits
+-- all of a piece was read
+pub all_refilled : (old mid new : Option (List ℕ)) (buffered bits : List Bool) → IsSome old → Refills old mid buffered [] bits
+    → Consumes mid new [] → IsAtEnd new → buffered ++ bits_of (bytes_reported old) ≡ bits
+all_refilled old mid new buffered bits reported d c e =
+    (refills_ahead old mid buffered [] bits reported d).1 ∙ ap (λ l. bits ++ bits_of l) (nothing_left mid new c e) ∙ ap (λ l. bits ++ l) bits_of-nil ∙ append-nil bits
 
 -- the padding is that of the same place in a byte
 pads_as : (s : Parameters) (o : Origin) (taken : ℕ) {bits : ℕ} (len b n : ℕ) → MayBegin s o → taken % 8 ≡ bits % 8 → bits ≡ o.bits + len → padding s b (taken + n) ≡ padding s b (len + n)
@@ -73,14 +74,14 @@ module _ {I : Type 0} (s : Parameters) (stand next : Stand) (r new : Reader I) (
   gives_next o front given t h =
       let g = gained o front given t h in
       let moves = moves_of refl t.advances in
-      let drawn = draws_ahead r.left new.left r.waiting new.waiting g.bits t.reads.told g.draws in
+      let refilled = refills_ahead r.left new.left r.buffered new.buffered g.bits t.reads.reported g.refills in
       let size = length-append front g.bits in
       let count = length-append given xs in
       let bits_are : next.bits ≡ stand.bits + length g.bits = omega (arith, t.bits, g.taken) in
-      let whole : length (ahead r) ≡ length g.bits + length (ahead new) = ap length drawn.1 ∙ length-append g.bits (ahead new) in
+      let whole : length (ahead r) ≡ length g.bits + length (ahead new) = ap length refilled.1 ∙ length-append g.bits (ahead new) in
       record {
         bits = g.bits;
-        split = drawn.1;
+        split = refilled.1;
         stands = record {
           state = t.state;
           begins = h.begins;
@@ -108,15 +109,15 @@ module _ {I : Type 0} (s : Parameters) (stand next : Stand) (r new : Reader I) (
   pub goes_on_at : (o : Origin) (front : List Bool) (given : List ℤ) (q : DecoderState) → q ≡ state_of s next → Steps → IsStand s o stand front given → GoesOnAt s stand next q r new
   goes_on_at o front given q same t h =
       let g = gained o front given t h in
-      let drawn = draws_ahead r.left new.left r.waiting new.waiting g.bits t.reads.told g.draws in
+      let refilled = refills_ahead r.left new.left r.buffered new.buffered g.bits t.reads.reported g.refills in
       let bits_are : next.bits ≡ stand.bits + length g.bits = omega (arith, t.bits, g.taken) in
-      let whole : length (ahead r) ≡ length g.bits + length (ahead new) = ap length drawn.1 ∙ length-append g.bits (ahead new) in
+      let whole : length (ahead r) ≡ length g.bits + length (ahead new) = ap length refilled.1 ∙ length-append g.bits (ahead new) in
       record {
         state = same;
         reads = record {
           going = g.going;
           failed = g.failures ∙ t.reads.failed;
-          told = drawn.0;
+          reported = refilled.0;
           taken = omega (arith, t.reads.taken, g.taken, bits_are);
           limit = omega (arith, t.reads.limit, whole, bits_are);
         };
@@ -126,41 +127,42 @@ module _ {I : Type 0} (s : Parameters) (stand next : Stand) (r new : Reader I) (
 -- no 1 is left
 pub ends_blank : {I : Type 0} (s : Parameters) (b first last : ℕ) (r new : Reader I) → IsSome r.left → SetEnds (with_mark r) new first last s b true
     → EndsWith s None b (ahead r) Ended (length (ahead r))
-ends_blank s b first last r new told ends =
+ends_blank s b first last r new reported ends =
     let bits = ends.cut.bits in
     let stops = ends.cut.stops in
-    let all = all_drawn r.left stops.middle new.left r.waiting bits told stops.draws stops.refuses.0 stops.refuses.1 in
-    subst (λ (l : List Bool). EndsWith s None b l Ended (length l)) (sym all) (tt, blank_all bits ends.told, refl)
+    let all = all_refilled r.left stops.middle new.left r.buffered bits reported stops.refills stops.refuses.0 stops.refuses.1 in
+    subst (λ (l : List Bool). EndsWith s None b l Ended (length l)) (sym all) (tt, blank_all bits ends.reported, refl)
 
 -- what is left begins with no coded data set
 pub ends_cut : {I : Type 0} (s : Parameters) (b first last : ℕ) (r new : Reader I) → IsSome r.left → SetEnds (with_mark r) new first last s b false
     → EndsWith s None b (ahead r) CutOff (length (ahead r))
-ends_cut s b first last r new told ends =
+ends_cut s b first last r new reported ends =
     let bits = ends.cut.bits in
     let stops = ends.cut.stops in
-    let all = all_drawn r.left stops.middle new.left r.waiting bits told stops.draws stops.refuses.0 stops.refuses.1 in
-    subst (λ (l : List Bool). EndsWith s None b l CutOff (length l)) (sym all) (tt, some_one bits ends.told, ends.cut.none, refl)
+    let all = all_refilled r.left stops.middle new.left r.buffered bits reported stops.refills stops.refuses.0 stops.refuses.1 in
+    subst (λ (l : List Bool). EndsWith s None b l CutOff (length l)) (sym all) (tt, some_one bits ends.reported, ends.cut.none, refl)
 
 -- what is left begins with a coded data set that is refused
 pub begins_unsound : {I : Type 0} (s : Parameters) (b first last : ℕ) (r new : Reader I) (P : CodedDataSet → Type 0) → IsSome r.left
     → SetRefused (with_mark r) new first last s b P → (used : ℕ) × BeginsUnsound s b (ahead r) used P
-begins_unsound s b first last r new P told refused =
+begins_unsound s b first last r new P reported refused =
     let set = bits_of_set s refused.set in
-    let drawn = draws_ahead r.left new.left r.waiting new.waiting set told refused.takes.draws in
-    (length set, record { refused = refused.set; more = ahead new; form = refused.form; unsound = refused.unsound; begins = drawn.1; bits = refl })
+    let refilled = refills_ahead r.left new.left r.buffered new.buffered set reported refused.takes.refills in
+    (length set, record { refused = refused.set; more = ahead new; form = refused.form; unsound = refused.unsound; begins = refilled.1; bits = refl })
 
 -- no byte is past the limit
 never_long : {I : Type 0} (s : Parameters) (b first last : ℕ) (stand : Stand) (r new : Reader I) → IsReadFrom stand r → SetCut (with_mark r) new first last s b bit_faults.TooLong → ⊥
 never_long s b first last stand r new reads cut =
     let stops = cut.stops in
-    let drawn = draws_ahead r.left stops.middle r.waiting [] cut.bits reads.told stops.draws in
-    let some = one_left stops.middle new.left stops.refuses.0.0 drawn.0 stops.refuses.0.1 in
-    omega (arith, reads.limit, reads.taken, ap length drawn.1, length-append cut.bits (bits_of (bytes_told stops.middle)), length-bits_of (bytes_told stops.middle), some, stops.refuses.2, stops.taken)
+    let refilled = refills_ahead r.left stops.middle r.buffered [] cut.bits reads.reported stops.refills in
+    let some = one_left stops.middle new.left stops.refuses.0.0 refilled.0 stops.refuses.0.1 in
+    omega (arith, reads.limit, reads.taken, ap length refilled.1, length-append cut.bits (bits_of (bytes_reported stops.middle)), length-bits_of (bytes_reported stops.middle),
+        some, stops.refuses.2, stops.taken)
   where
-    one_left : (mid new : Option (List ℕ)) (byte : ℕ) → IsSome mid → Consumes mid new (byte ∷ []) → 1 ≤ length (bytes_told mid)
-    one_left None new byte told c = absurd (let e : false ≡ true = told in cc)
-    one_left (Some xs) None byte told c = absurd c
-    one_left (Some xs) (Some ys) byte told c = omega (arith, ap length c)
+    one_left : (mid new : Option (List ℕ)) (byte : ℕ) → IsSome mid → Consumes mid new (byte ∷ []) → 1 ≤ length (bytes_reported mid)
+    one_left None new byte reported c = absurd (let e : false ≡ true = reported in cc)
+    one_left (Some xs) None byte reported c = absurd c
+    one_left (Some xs) (Some ys) byte reported c = omega (arith, ap length c)
 
 -- decoding stops at the block at which it stands
 record StopsAtStand {I : Type 0} (s : Parameters) (stand : Stand) (r new : Reader I) (first last : ℕ) (fault : CodeFault) : Type 0 where
@@ -171,10 +173,10 @@ record StopsAtStand {I : Type 0} (s : Parameters) (stand : Stand) (r new : Reade
 -- the decoder refuses
 refuses_next : {I : Type 0} {s : Parameters} (o : Origin) {stand : Stand} {r : Reader I} (new : Reader I) (first last : ℕ) (front : List Bool) (given xs : List ℤ)
     (fault : CodeFault) → StopsAtStand s stand r new first last fault → TakesNext s o front given stand r new xs (Err fault)
-refuses_next {s} o {stand} {r} new first last front given xs faults.CodeEnds stops = (stops.run, ends_cut s stand.block first last r new stops.stands.told stops.stopped)
-refuses_next {s} o {stand} {r} new first last front given xs faults.RunPastSegment stops = let u = begins_unsound s stand.block first last r new _ stops.stands.told
+refuses_next {s} o {stand} {r} new first last front given xs faults.CodeEnds stops = (stops.run, ends_cut s stand.block first last r new stops.stands.reported stops.stopped)
+refuses_next {s} o {stand} {r} new first last front given xs faults.RunPastSegment stops = let u = begins_unsound s stand.block first last r new _ stops.stands.reported
     stops.stopped in (stops.run, u.0, (tt, u.1))
-refuses_next {s} o {stand} {r} new first last front given xs faults.ResidualTooLarge stops = let u = begins_unsound s stand.block first last r new _ stops.stands.told
+refuses_next {s} o {stand} {r} new first last front given xs faults.ResidualTooLarge stops = let u = begins_unsound s stand.block first last r new _ stops.stands.reported
     stops.stopped in (stops.run, u.0, (tt, u.1))
 refuses_next o new first last front given xs faults.Read stops = stops.stopped.stops.refuses.1 ∙ ap (λ n. n + 1) stops.stands.failed
 refuses_next {s} o {stand} {r} new first last front given xs faults.TooLong stops = never_long s stand.block first last stand r new stops.stands stops.stopped
@@ -196,5 +198,5 @@ pub done_next : {I : Type 0} (s : Parameters) (o : Origin) {stand : Stand} {r ne
 done_next s o {stand} {r} {new} {steps} {steps_new} front given reads a =
     elim (runs_or_not (state_of s stand)) [
       | inl lt ↦ absurd (let e = (a.in_run refl lt).0 in cc)
-      | inr none ↦ (none, ends_blank s stand.block steps steps_new r new reads.told (a.reads refl none).0)
+      | inr none ↦ (none, ends_blank s stand.block steps steps_new r new reads.reported (a.reads refl none).0)
     ]

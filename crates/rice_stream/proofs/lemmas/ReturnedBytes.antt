@@ -15,7 +15,7 @@ EndsBefore Ended = ⊥
 EndsBefore CutOff = ⊥
 EndsBefore _ = ⊤
 
--- bits that begin unsoundly do so with more behind them
+-- bits that begin unsoundly do so with more after them
 pub unsound_on : (s : Parameters) (b used : ℕ) (left far : List Bool) (P : CodedDataSet → Type 0) → BeginsUnsound s b left used P → BeginsUnsound s b (left ++ far) used P
 unsound_on s b used left far P u = record {
   refused = u.refused;
@@ -54,7 +54,7 @@ with_rest d left parts ends = record {
   bits_used = d.bits_used;
 }
 
--- what ends before the bits do decodes so with more behind it
+-- what ends before the bits do decodes so with more after it
 pub decoded_before : (s : Parameters) (asked : Option ℕ) (bits more : List Bool) (xs : List ℤ) (ending : Ending) (used : ℕ) → EndsBefore ending
     → Decoded s bits asked xs ending used → Decoded s (bits ++ more) asked xs ending used
 decoded_before s asked bits more xs ending used early d = with_rest d (d.rest ++ more) (ap (λ l. l ++ more) d.parts ∙ append_assoc d.front d.rest more)

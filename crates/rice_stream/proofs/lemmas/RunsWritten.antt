@@ -86,10 +86,10 @@ advances_in_run r steps p m samples g = record {
 }
 
 -- the sample before, and the setting, stay
-pub stays_behind : (n : ℕ) (p q : DecoderState) → RepeatsBlocks n p q → (q.before ≡ p.before) × (q.setting ≡ p.setting)
-stays_behind zero p q e = (ap (λ r. r.before) e, ap (λ r. r.setting) e)
-stays_behind (suc n) p q (m, g, rest) =
-    let on = stays_behind n m q rest in
+pub stays_after : (n : ℕ) (p q : DecoderState) → RepeatsBlocks n p q → (q.before ≡ p.before) × (q.setting ≡ p.setting)
+stays_after zero p q e = (ap (λ r. r.before) e, ap (λ r. r.setting) e)
+stays_after (suc n) p q (m, g, rest) =
+    let on = stays_after n m q rest in
     (on.0 ∙ (ap (λ r. r.before) g.moves ∙ last_replicate p.before p.setting.block), on.1 ∙ ap (λ r. r.setting) g.moves)
 
 -- all of a block is wanted
@@ -168,7 +168,7 @@ run_fails {s = s} {asked = asked} {start = start} {out_old = out_old} {out = out
     let so_far : IfSome asked (λ k. written + s.block * w.blocks ≤ k) = by_asked asked w.wanted in
     let done = progress_on w.blocks w.room middle legal runs w.passes so_far (subst (λ (n : ℕ). Appends out w.room (spellings s (replicate n p.before))) e w.put) in
     let at = subst (λ (n : ℕ). DecodingProgress s asked start out_old w.room middle r (steps + n) (written + n)) (sym e) done in
-    let kept = stays_behind w.blocks p middle w.passes in
+    let kept = stays_after w.blocks p middle w.passes in
     let m = w.next.0 in
     let g = w.next.1 in
     let xs = replicate middle.setting.block middle.before in
@@ -178,8 +178,8 @@ run_fails {s = s} {asked = asked} {start = start} {out_old = out_old} {out = out
     let part = subst (λ (l : List ℤ). TakesPart w.room out_new (spellings s l)) (sym whole) w.part in
     let is = all_wanted asked (written + count) s.block 0 (one_more asked w.wanted) in
     let j : 2 ≤ s.block = grind (arith, legal.block) in
-    let told = subst (λ (n : ℕ). Reports rep f left failed r n (steps + count) (Some Write)) are (subst (λ (n : ℕ). Reports rep f left failed r all n (Some Write)) ticked tells) in
-    write_ends s.block m legal at (sym is) (λ none. omega (arith, none, is, j)) (gains_block legal at (advances_in_run r (steps + count) middle m xs g)) part told
+    let reported = subst (λ (n : ℕ). Reports rep f left failed r n (steps + count) (Some Write)) are (subst (λ (n : ℕ). Reports rep f left failed r all n (Some Write)) ticked tells) in
+    write_ends s.block m legal at (sym is) (λ none. omega (arith, none, is, j)) (gains_block legal at (advances_in_run r (steps + count) middle m xs g)) part reported
   where
     by_asked : (asked : Option ℕ) → IfSome asked (λ n. written + count + s.block ≤ n) → IfSome asked (λ k. written + s.block * w.blocks ≤ k)
     by_asked None h = tt
@@ -200,7 +200,7 @@ first-copy pattern front old count same some len =
       ap (λ n. take n (front ++ drop w old)) one ∙ (ap (λ l. take w (l ++ drop w old)) same ∙ (take-append_seam pattern (drop w old) ∙ sym (append-nil pattern))),
     )
 
--- more copies behind those that there are
+-- more copies after those that there are
 pub copied-on : (pattern bytes : List ℕ) (done more count : ℕ) → more ≤ done → done + more ≤ count → length bytes ≡ length pattern * count → take (length pattern * done) bytes ≡ repeated done pattern
     → take (length pattern * (done + more)) (copy_within bytes 0 (length pattern * more) (length pattern * done)) ≡ repeated (done + more) pattern
 copied-on pattern bytes done more count inside few len copies =
@@ -221,7 +221,7 @@ pub filled-byte : (s : Parameters) (x : ℤ) (n : ℕ) (pattern : List ℕ) → 
 filled-byte s x n (b ∷ []) is one = sym (repeated-byte n b) ∙ (ap (repeated n) is ∙ sym (spellings-repeat s n x))
 filled-byte s x n _ is one = absurd (omega (arith, one))
 
--- a decoder behind some of the blocks of a run, and the one after them
+-- a decoder after some of the blocks of a run, and the one after them
 pub repeats-split : (n k m : ℕ) (p q : DecoderState) → m ≡ n + suc k → RepeatsBlocks m p q → (middle : DecoderState) × RepeatsBlocks n p middle × (last : DecoderState) × RepeatsBlocks 1 middle last
 repeats-split zero k (suc j) p q e (m, g, rest) = (p, refl, m, (m, g, refl))
 repeats-split (suc n) k (suc j) p q e (m, g, rest) =
@@ -253,7 +253,7 @@ pub record SizesOfBlocks (s : Parameters) (w b : ℕ) : Type 0 where
   pub width_is : w ≡ width s
   pub block_is : b ≡ s.block
 
--- an outlet failed behind so many bytes of the blocks of a run
+-- an outlet failed after so many bytes of the blocks of a run
 pub run_cut : {s : Parameters} {asked : Option ℕ} {written : ℕ} (m : ℕ) {taken w b : ℕ} {p : DecoderState} (q : DecoderState) {old new : Option Room} {spelled : List ℕ} → SizesOfBlocks s w b
     → RepeatsBlocks m p q → q.run + m ≡ p.run → IfSome asked (λ n. written + s.block * m ≤ n) → spelled ≡ spellings s (replicate (b * m) p.before)
     → taken < length spelled → Appends old new (take taken spelled)
@@ -317,7 +317,7 @@ pub run_shrinks : {s : Parameters} {asked : Option ℕ} {written : ℕ} {p q : D
     → q.run * q.setting.block < p.run * p.setting.block
 run_shrinks {s = s} {p = p} {q = q} legal setting w =
     let j : 2 ≤ s.block = grind (arith, legal.block) in
-    let same : q.setting.block ≡ s.block = ap (λ t. t.block) ((stays_behind w.blocks p q w.passes).1 ∙ setting) in
+    let same : q.setting.block ≡ s.block = ap (λ t. t.block) ((stays_after w.blocks p q w.passes).1 ∙ setting) in
     let old : p.setting.block ≡ s.block = ap (λ t. t.block) setting in
     let run = w.run in
     let some = w.some in

@@ -3,31 +3,31 @@ use Rattle.std.proofs.Common.{◌≡◌, ℕ, ◌+◌, ◌*◌, ◌<◌, ◌≤�
 use Rattle.rice_stream.proofs.Words.{mul-le-mul_left, take-append-le, Room, Parameters, width, Reads, spellings, EndsSpelling, NoSpelling, reads_before, length-spellings, Beginning, Pushes}
 use Rattle.rice_stream.proofs.Words.{EncodingValue, Fault, Write, SampleOutOfRange, lt_of_mul-lt-mul_left, nil_from_length}
 
--- what spells no sample spells none with more behind it
-no_spelling_before : (s : Parameters) (rest behind : List ℕ) → EndsSpelling s rest NoSpelling → EndsSpelling s (rest ++ behind) NoSpelling
-no_spelling_before s rest behind h = (omega (arith, h.0, length-append rest behind), λ x k e. h.1 x k (sym (take-append-le (width s) rest behind h.0) ∙ e))
+-- what spells no sample spells none with more after it
+no_spelling_before : (s : Parameters) (rest after : List ℕ) → EndsSpelling s rest NoSpelling → EndsSpelling s (rest ++ after) NoSpelling
+no_spelling_before s rest after h = (omega (arith, h.0, length-append rest after), λ x k e. h.1 x k (sym (take-append-le (width s) rest after h.0) ∙ e))
 
--- behind the bytes where taking stops may stand any others
-pub stops_before : (s : Parameters) (old : Beginning) (new : Option Room) (e : EncodingValue) (xs : List ℤ) (bytes behind : List ℕ) (fault : Fault)
-    → Pushes {T = Unit {0}} s old new e xs bytes (Err fault) → Pushes {T = Unit {0}} s old new e xs (bytes ++ behind) (Err fault)
-stops_before s old new e xs bytes behind (SampleOutOfRange index) (h, named) = (
+-- after the bytes where taking stops may stand any others
+pub stops_before : (s : Parameters) (old : Beginning) (new : Option Room) (e : EncodingValue) (xs : List ℤ) (bytes after : List ℕ) (fault : Fault)
+    → Pushes {T = Unit {0}} s old new e xs bytes (Err fault) → Pushes {T = Unit {0}} s old new e xs (bytes ++ after) (Err fault)
+stops_before s old new e xs bytes after (SampleOutOfRange index) (h, named) = (
   record {
     more = h.more;
-    rest = h.rest ++ behind;
-    reads = reads_before s h.more bytes h.rest behind h.reads;
-    none = no_spelling_before s h.rest behind h.none;
+    rest = h.rest ++ after;
+    reads = reads_before s h.more bytes h.rest after h.reads;
+    none = no_spelling_before s h.rest after h.none;
     holds = h.holds;
   },
   named,
 )
-stops_before s old new e xs bytes behind Write h = record {
+stops_before s old new e xs bytes after Write h = record {
   more = h.more;
   last = h.last;
-  rest = h.rest ++ behind;
-  reads = reads_before s (h.more ++ h.last ∷ []) bytes h.rest behind h.reads;
+  rest = h.rest ++ after;
+  reads = reads_before s (h.more ++ h.last ∷ []) bytes h.rest after h.reads;
   fails = h.fails;
 }
-stops_before s old new e xs bytes behind _ h = absurd h
+stops_before s old new e xs bytes after _ h = absurd h
 
 -- nothing is left of a part that has the bytes of whole samples
 pub none_left : (s : Parameters) (more : List ℤ) (bytes rest : List ℕ) (k : ℕ) → Reads s bytes more rest → length rest < width s → length bytes ≡ width s * k → bytes ≡ spellings s more

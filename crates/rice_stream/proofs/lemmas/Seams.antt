@@ -4,7 +4,7 @@ use Rattle.std.proofs.Common.{replicate, slice_index_or, Option, Some, None, Err
 use Rattle.rice_stream.proofs.Words.{take_at, length-take-le, length-replicate, shr_below, mul-le-mul_left, mul-mod_right, div-add-mod, Room, Appends-nil, bits_of-padded, length-bits_of}
 use Rattle.rice_stream.proofs.Words.{length-word, word-nil, word-split, Parameters, IsLegal, width, cut, Reads, spellings, cut_is_start, cut_is_greatest, early_output, HasTaken, state_between}
 use Rattle.rice_stream.proofs.Words.{holds_nothing, between_all, some_width, length-spellings, lt_of_mul-lt-mul_left, bits_of, bits_to_byte, padded_bits, whole_bytes, word, ReportsTaken, ReportsAll}
-use Rattle.rice_stream.proofs.Words.{Beginning, CountsSamples, IsEncodingOf, TakesAll, Pushes, WritesRest, IsSeam, behind, encoding_at, bytes_in_all, samples_to_take, TakesPiece, EncodesMore, AreAll}
+use Rattle.rice_stream.proofs.Words.{Beginning, CountsSamples, IsEncodingOf, TakesAll, Pushes, WritesRest, IsSeam, after, encoding_at, bytes_in_all, samples_to_take, TakesPiece, EncodesMore, AreAll}
 use Rattle.rice_stream.proofs.Words.{EncodesRest, EncodingValue, Fault, Write, SampleOutOfRange, SampleCut, Report, Seam}
 use Rattle.rice_stream.proofs.lemmas.EncodingLemmas.{counts_small}
 use Rattle.rice_stream.proofs.lemmas.SamplesOfFirstBytes.{stops_before, none_left, few_more}
@@ -59,7 +59,7 @@ byte_fits x n k byte few is = shr_below x n (8 - k) (let e : n + (8 - k) ≡ 8 =
 -- ---- where the code goes on
 
 -- an encoding that begins at a seam has taken its samples
-pub encoding_is_resumed : (s : Parameters) (seam : Seam) (xs : List ℤ) (now : Option Room) → IsSeam s seam xs → IsEncodingOf s (behind s xs now) now (encoding_at s seam) xs
+pub encoding_is_resumed : (s : Parameters) (seam : Seam) (xs : List ℤ) (now : Option Room) → IsSeam s seam xs → IsEncodingOf s (after s xs now) now (encoding_at s seam) xs
 encoding_is_resumed s seam xs now h = record {
   counts = h.counts;
   sink = h.waiting;
@@ -137,7 +137,7 @@ cut_grows s seam xs n h le =
 
 -- The samples of whole segments are taken.
 module _ {s : Parameters} {old new : Option Room} {e : EncodingValue} {at : Seam} {xs : List ℤ} (bytes : List ℕ) (count : ℕ) (h : IsSeam s at xs)
-    (t : TakesAll s (behind s xs old) new e xs (take (width s * count) bytes)) (is : length xs + count ≡ samples_to_take s xs bytes) (within : width s * count ≤ length bytes) where
+    (t : TakesAll s (after s xs old) new e xs (take (width s * count) bytes)) (is : length xs + count ≡ samples_to_take s xs bytes) (within : width s * count ≤ length bytes) where
   spelled : take (width s * count) bytes ≡ spellings s t.more
   spelled = none_left s t.more (take (width s * count) bytes) t.rest count t.reads t.few (length-take-le (width s * count) bytes within)
 
@@ -186,15 +186,15 @@ pub record StopsInBytes (s : Parameters) (old new : Option Room) (e : EncodingVa
   pub few : bytes_in_all s xs bytes ≤ 281474976710656
   pub count_is : length xs + count ≡ samples_to_take s xs bytes
   pub enough : width s * count ≤ length bytes
-  pub pushes : Pushes {T = Unit {0}} s (behind s xs old) new e xs (take (width s * count) bytes) (Err f)
+  pub pushes : Pushes {T = Unit {0}} s (after s xs old) new e xs (take (width s * count) bytes) (Err f)
 
 -- why a piece is not taken whole
 pub more_stops : (s : Parameters) (old new : Option Room) (e : EncodingValue) (xs : List ℤ) (bytes : List ℕ) (count : ℕ) (f : Fault)
     → StopsInBytes s old new e xs bytes count f → EncodesMore s xs bytes old new (Err f)
-more_stops s old new e xs bytes count f stops = by_fault f stops.pushes (stopped_in s (behind s xs old) new e xs bytes (width s * count) f stops.pushes)
+more_stops s old new e xs bytes count f stops = by_fault f stops.pushes (stopped_in s (after s xs old) new e xs bytes (width s * count) f stops.pushes)
   where
-    by_fault : (f : Fault) → Pushes {T = Unit {0}} s (behind s xs old) new e xs (take (width s * count) bytes) (Err f)
-        → Pushes {T = Unit {0}} s (behind s xs old) new e xs bytes (Err f) → EncodesMore s xs bytes old new (Err f)
+    by_fault : (f : Fault) → Pushes {T = Unit {0}} s (after s xs old) new e xs (take (width s * count) bytes) (Err f)
+        → Pushes {T = Unit {0}} s (after s xs old) new e xs bytes (Err f) → EncodesMore s xs bytes old new (Err f)
     by_fault (SampleOutOfRange index) h m =
         let part = h.0 in
         let len : length (take (width s * count) bytes) ≤ width s * count = omega (arith, length-take-le (width s * count) bytes stops.enough) in
@@ -209,9 +209,9 @@ more_stops s old new e xs bytes count f stops = by_fault f stops.pushes (stopped
 -- ---- what the last piece gives
 
 module _ (s : Parameters) (old new : Option Room) (e : EncodingValue) (r : Report) (xs : List ℤ) (bytes : List ℕ) (limit : bytes_in_all s xs bytes ≤ 281474976710656) where
-  rest_stops_at : (f : Fault) → ((ys : List ℤ) → CountsSamples s e ys → ReportsTaken s r ys) → Pushes {T = Unit {0}} s (behind s xs old) new e xs bytes (Err f)
+  rest_stops_at : (f : Fault) → ((ys : List ℤ) → CountsSamples s e ys → ReportsTaken s r ys) → Pushes {T = Unit {0}} s (after s xs old) new e xs bytes (Err f)
       → EncodesRest s xs bytes old new r (Some f)
-  rest_stops_at (SampleOutOfRange index) told m = (
+  rest_stops_at (SampleOutOfRange index) reported m = (
     m.0.more,
     record {
       limit = limit;
@@ -221,20 +221,20 @@ module _ (s : Parameters) (old new : Option Room) (e : EncodingValue) (r : Repor
       index_is = m.1 ∙ m.0.holds.counts.samples;
       writes = m.0.holds.took;
     },
-    told (xs ++ m.0.more) m.0.holds.counts,
+    reported (xs ++ m.0.more) m.0.holds.counts,
   )
-  rest_stops_at Write told m = inl (m.more, m.last, record { limit = limit; rest = m.rest; reads = m.reads; writes = m.fails.takes }, told ((xs ++ m.more) ++ m.last ∷ []) m.fails.counts)
-  rest_stops_at _ told bad = absurd bad
+  rest_stops_at Write reported m = inl (m.more, m.last, record { limit = limit; rest = m.rest; reads = m.reads; writes = m.fails.takes }, reported ((xs ++ m.more) ++ m.last ∷ []) m.fails.counts)
+  rest_stops_at _ reported bad = absurd bad
 
   -- where a push stops in the last piece, its fault is what the piece tells
   pub rest_stops : (f : Fault) (g : Option Fault) → g ≡ Some f → ((ys : List ℤ) → CountsSamples s e ys → ReportsTaken s r ys)
-      → Pushes {T = Unit {0}} s (behind s xs old) new e xs bytes (Err f) → EncodesRest s xs bytes old new r g
-  rest_stops f g is told m = subst (EncodesRest s xs bytes old new r) (sym is) (rest_stops_at f told m)
+      → Pushes {T = Unit {0}} s (after s xs old) new e xs bytes (Err f) → EncodesRest s xs bytes old new r g
+  rest_stops f g is reported m = subst (EncodesRest s xs bytes old new r) (sym is) (rest_stops_at f reported m)
 
   -- a sample is cut off
   pub rest_cut : (index : ℕ) (g : Option Fault) → g ≡ Some (SampleCut index) → index ≡ e.samples → ((ys : List ℤ) → CountsSamples s e ys → ReportsTaken s r ys)
-      → TakesAll s (behind s xs old) new e xs bytes → 0 < length bytes % width s → EncodesRest s xs bytes old new r g
-  rest_cut index g is same told t cut_off = subst (EncodesRest s xs bytes old new r) (sym is) (
+      → TakesAll s (after s xs old) new e xs bytes → 0 < length bytes % width s → EncodesRest s xs bytes old new r g
+  rest_cut index g is same reported t cut_off = subst (EncodesRest s xs bytes old new r) (sym is) (
     t.more,
     record {
       limit = limit;
@@ -244,7 +244,7 @@ module _ (s : Parameters) (old new : Option Room) (e : EncodingValue) (r : Repor
       index_is = same ∙ t.holds.counts.samples;
       writes = t.holds.took;
     },
-    told (xs ++ t.more) t.holds.counts,
+    reported (xs ++ t.more) t.holds.counts,
   )
     where
       whole : t.rest ≡ [] → length bytes % width s ≡ 0
@@ -252,9 +252,9 @@ module _ (s : Parameters) (old new : Option Room) (e : EncodingValue) (r : Repor
           ∙ ap length (append-nil (spellings s t.more)) ∙ length-spellings s t.more) ∙ mul-mod_right (width s) (length t.more)
 
   -- all are coded
-  pub rest_all : (f : Option Fault) (t : TakesAll s (behind s xs old) new e xs bytes) (last : Option Room) → length bytes % width s ≡ 0
-      → ReportsAll s r (xs ++ t.more) → WritesRest s (behind s xs old) last (xs ++ t.more) f → EncodesRest s xs bytes old last r f
-  rest_all None t last whole told wrote = (t.more, are_all, told, wrote)
+  pub rest_all : (f : Option Fault) (t : TakesAll s (after s xs old) new e xs bytes) (last : Option Room) → length bytes % width s ≡ 0
+      → ReportsAll s r (xs ++ t.more) → WritesRest s (after s xs old) last (xs ++ t.more) f → EncodesRest s xs bytes old last r f
+  rest_all None t last whole reported wrote = (t.more, are_all, reported, wrote)
     where
       are_all : AreAll s xs bytes old last t.more
       are_all = record {
@@ -263,7 +263,7 @@ module _ (s : Parameters) (old new : Option Room) (e : EncodingValue) (r : Repor
             (omega (arith, div-add-mod (length bytes) (width s), whole));
         legal = t.reads.legal;
       }
-  rest_all (Some Write) t last whole told wrote = inr (t.more, are_all, told, wrote)
+  rest_all (Some Write) t last whole reported wrote = inr (t.more, are_all, reported, wrote)
     where
       are_all : AreAll s xs bytes old last t.more
       are_all = record {
@@ -272,7 +272,7 @@ module _ (s : Parameters) (old new : Option Room) (e : EncodingValue) (r : Repor
             (omega (arith, div-add-mod (length bytes) (width s), whole));
         legal = t.reads.legal;
       }
-  rest_all _ t last whole told bad = absurd bad
+  rest_all _ t last whole reported bad = absurd bad
 
 -- so few samples that all their steps are counted
 pub takes_few : (s : Parameters) (old : Beginning) (new : Option Room) (e : EncodingValue) (xs : List ℤ) (bytes : List ℕ)

@@ -30,8 +30,8 @@ module _ {Source Dest : Type 0} (left : Source → Option (List ℕ)) (reads : S
       subst (λ b. FollowsIfTest left reads taken writes b f o after status) (sym is ∙ asked) of_plan
 
 pub returns-in-Ok : goal.returns-in-Ok
-returns-in-Ok g c = λ o told.
-    let did = c.perform_test.ensures o told in (
+returns-in-Ok g c = λ o reported.
+    let did = c.perform_test.ensures o reported in (
       did.0,
       did.1,
       follows_test g.S.Source.Intake.left g.S.Source.Intake.failed g.S.Dest.Outlet.taken g.S.Dest.Outlet.failed (found_of c.args.matches.now) _ _ _
@@ -39,16 +39,16 @@ returns-in-Ok g c = λ o told.
     )
 
 pub returns-in-Err : goal.returns-in-Err
-returns-in-Err g c = λ o told. (
+returns-in-Err g c = λ o reported. (
   saying o (TestRefused c.in-Err.fault),
-  c.refuse_plan.ensures.says o told,
+  c.refuse_plan.ensures.says o reported,
   follows_test g.S.Source.Intake.left g.S.Source.Intake.failed g.S.Dest.Outlet.taken g.S.Dest.Outlet.failed (found_of c.args.matches.now) _ _ _
       c.is_test.ensures c.if-is_test.true c.is_verbose-verbose.ensures c.in-Err.ensures (record { outside = refl; status_is = c.refuse_plan.ensures.status }),
 )
 
 pub returns-in-Ok-plan_of : goal.returns-in-Ok-plan_of
-returns-in-Ok-plan_of g c = λ o told.
-    let did = c.perform.ensures o told in (
+returns-in-Ok-plan_of g c = λ o reported.
+    let did = c.perform.ensures o reported in (
       did.0,
       did.1,
       follows_plan g.S.Source.Intake.left g.S.Source.Intake.failed g.S.Dest.Outlet.taken g.S.Dest.Outlet.failed (found_of c.args.matches.now) _ _ _
@@ -56,9 +56,9 @@ returns-in-Ok-plan_of g c = λ o told.
     )
 
 pub returns-in-Err-plan_of : goal.returns-in-Err-plan_of
-returns-in-Err-plan_of g c = λ o told. (
+returns-in-Err-plan_of g c = λ o reported. (
   saying o (Refused c.in-Err-plan_of.fault),
-  c.refuse_plan-in-Err-plan_of.ensures.says o told,
+  c.refuse_plan-in-Err-plan_of.ensures.says o reported,
   follows_plan g.S.Source.Intake.left g.S.Source.Intake.failed g.S.Dest.Outlet.taken g.S.Dest.Outlet.failed (found_of c.args.matches.now) _ _ _
       c.is_test.ensures c.if-is_test.false c.is_verbose-verbose.ensures c.in-Err-plan_of.ensures
       (record { outside = refl; status_is = c.refuse_plan-in-Err-plan_of.ensures.status }),

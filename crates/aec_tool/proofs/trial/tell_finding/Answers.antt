@@ -8,7 +8,7 @@ pub fail-requires : goal.fail-requires
 fail-requires g c κs = (
   (refl, tt),
   λ x e. holds_after (λ o. o.said ≡ None) _ _ c.report.ensures.silent
-      (λ o told. (losing o, c.in-Err.ensures.tells o told, c.requires.unsaid o told)) x e,
+      (λ o reported. (losing o, c.in-Err.ensures.tells o reported, c.requires.unsaid o reported)) x e,
 )
 
 pub returns-in-Ok : goal.returns-in-Ok

@@ -10,15 +10,15 @@ pub tell_finding-requires : goal.tell_finding-requires
 tell_finding-requires g c κs = (
   (refl, tt),
   (
-    (λ x e. holds_after (λ o. o.said ≡ None) _ _ c.judge.ensures.silent (λ o told.
-        let all = c.requires.bytes o told in
+    (λ x e. holds_after (λ o. o.said ≡ None) _ _ c.judge.ensures.silent (λ o reported.
+        let all = c.requires.bytes o reported in
         let judged = judged_of g.S.Source.Intake.left g.S.Source.Intake.failed g.S.Dest.Outlet.taken g.S.Dest.Outlet.failed (test_view c.args.plan.now) o all.0 _ _ _ _
-        (c.judge.ensures.judges o all.0 told all.1) (c.requires.fresh o told) in
+        (c.judge.ensures.judges o all.0 reported all.1) (c.requires.fresh o reported) in
         (judged.0, judged.1, judged.2)) x e),
-    (λ x e. holds_after (λ o. o.found ≡ None) _ _ c.judge.ensures.silent (λ o told.
-        let all = c.requires.bytes o told in
+    (λ x e. holds_after (λ o. o.found ≡ None) _ _ c.judge.ensures.silent (λ o reported.
+        let all = c.requires.bytes o reported in
         let judged = judged_of g.S.Source.Intake.left g.S.Source.Intake.failed g.S.Dest.Outlet.taken g.S.Dest.Outlet.failed (test_view c.args.plan.now) o all.0 _ _ _ _
-        (c.judge.ensures.judges o all.0 told all.1) (c.requires.fresh o told) in
+        (c.judge.ensures.judges o all.0 reported all.1) (c.requires.fresh o reported) in
         (judged.0, judged.1, judged.3)) x e),
   ),
 )
@@ -26,19 +26,19 @@ tell_finding-requires g c κs = (
 pub fail-requires : goal.fail-requires
 fail-requires g c κs = (
   (refl, tt),
-  λ x e. holds_after (λ o. o.said ≡ None) _ _ c.judge.ensures.silent (λ o told.
-      let all = c.requires.bytes o told in
+  λ x e. holds_after (λ o. o.said ≡ None) _ _ c.judge.ensures.silent (λ o reported.
+      let all = c.requires.bytes o reported in
       let judged = judged_of g.S.Source.Intake.left g.S.Source.Intake.failed g.S.Dest.Outlet.taken g.S.Dest.Outlet.failed (test_view c.args.plan.now) o all.0 _ _ _ _
-      (c.judge.ensures.judges o all.0 told all.1) (c.requires.fresh o told) in
+      (c.judge.ensures.judges o all.0 reported all.1) (c.requires.fresh o reported) in
       (judged.0, judged.1, judged.2)) x e,
 )
 
 pub returns-in-Ok : goal.returns-in-Ok
-returns-in-Ok g c = λ o told.
-    let all = c.requires.bytes o told in
-    let judges = c.judge.ensures.judges o all.0 told all.1 in
+returns-in-Ok g c = λ o reported.
+    let all = c.requires.bytes o reported in
+    let judges = c.judge.ensures.judges o all.0 reported all.1 in
     let judged = judged_of g.S.Source.Intake.left g.S.Source.Intake.failed g.S.Dest.Outlet.taken g.S.Dest.Outlet.failed (test_view c.args.plan.now) o all.0 _ _ _ _
-    judges (c.requires.fresh o told) in
+    judges (c.requires.fresh o reported) in
     let judges = rw (c.in-Ok.is, judged.1) at judges in
     elim (c.tell_finding.ensures judged.0 judged.1) [
       | inl done_so ↦ (
@@ -56,11 +56,11 @@ returns-in-Ok g c = λ o told.
     ]
 
 pub returns-in-Err : goal.returns-in-Err
-returns-in-Err g c = λ o told.
-    let all = c.requires.bytes o told in
-    let judges = c.judge.ensures.judges o all.0 told all.1 in
+returns-in-Err g c = λ o reported.
+    let all = c.requires.bytes o reported in
+    let judges = c.judge.ensures.judges o all.0 reported all.1 in
     let judged = judged_of g.S.Source.Intake.left g.S.Source.Intake.failed g.S.Dest.Outlet.taken g.S.Dest.Outlet.failed (test_view c.args.plan.now) o all.0 _ _ _ _
-    judges (c.requires.fresh o told) in
+    judges (c.requires.fresh o reported) in
     let judges = rw (c.in-Err.is, judged.1) at judges in (
       saying judged.0 (faulty c.args.plan.now.setting c.decode.result.0.report c.in-Err.fault),
       c.fail.ensures.says judged.0 judged.1 ∙ ap (λ s. Some (saying judged.0 s)) c.at_place.ensures,

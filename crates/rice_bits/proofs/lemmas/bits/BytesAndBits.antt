@@ -19,7 +19,7 @@ pub bits_of-first : (b : ℕ) (bytes : List ℕ) → bits_of (b ∷ bytes) ≡ w
 unfolding bits_of
 bits_of-first b bytes = refl
 
--- the bits of bytes and others behind them are those of the first, and then those of the others
+-- the bits of bytes and others after them are those of the first, and then those of the others
 pub bits_of-append : (xs ys : List ℕ) → bits_of (xs ++ ys) ≡ bits_of xs ++ bits_of ys
 unfolding bits_of
 bits_of-append [] ys = refl

@@ -74,16 +74,16 @@ low_zeros w b z rest e =
     zero_low b (2 ^ w) (pow_pos w) (word_reads w (b % 2 ^ w) 0 rest (replicate (z - w) false) (e ∙ zeros)).0
 
 -- zeros after bits
-zeros_behind : (bits xs : List Bool) (n z : ℕ) → bits ≡ xs ++ replicate z false → length xs ≡ n → (take n bits ≡ xs) × (drop n bits ≡ replicate z false)
-zeros_behind bits xs n z e size = (
+zeros_after : (bits xs : List Bool) (n z : ℕ) → bits ≡ xs ++ replicate z false → length xs ≡ n → (take n bits ≡ xs) × (drop n bits ≡ replicate z false)
+zeros_after bits xs n z e size = (
   ap (take n) e ∙ take_at xs (replicate z false) n size,
   ap (drop n) e ∙ drop_at xs (replicate z false) n size,
 )
 
 -- more of the zeros after bits
-pub fewer_zeros_behind : (bits : List Bool) (n m size : ℕ) → length bits ≡ size → n ≤ m → m ≤ size → drop n bits ≡ replicate (size - n) false
+pub fewer_zeros_after : (bits : List Bool) (n m size : ℕ) → length bits ≡ size → n ≤ m → m ≤ size → drop n bits ≡ replicate (size - n) false
     → (take m bits ≡ take n bits ++ replicate (m - n) false) × (drop m bits ≡ replicate (size - m) false)
-fewer_zeros_behind bits n m size e h i zeros =
+fewer_zeros_after bits n m size e h i zeros =
     let front : length (take n bits) ≡ n = length-take-le n bits (omega (arith, e)) in
     let more : length (take n bits) + (m - n) ≡ m = omega (arith, front) in
     let step : n + (m - n) ≡ m = omega arith in
@@ -121,12 +121,12 @@ last_byte bytes n h zeros =
     ∙ ap (λ d. word (n % 8) (slice_index bytes (n / 8) / 2 ^ (8 - n % 8)) ++ d) (ap (word (8 - n % 8)) (last_zeros bytes n h zeros) ∙ word-zero (8 - n % 8))
 
 -- bytes after the bits
-bytes_behind : (bytes : List ℕ) (n q : ℕ) → n ≤ 8 * length bytes → n ≤ 8 * q → drop n (bits_of bytes) ≡ replicate (8 * length bytes - n) false
+bytes_after : (bytes : List ℕ) (n q : ℕ) → n ≤ 8 * length bytes → n ≤ 8 * q → drop n (bits_of bytes) ≡ replicate (8 * length bytes - n) false
     → bits_of (drop q bytes) ≡ replicate (8 * length bytes - 8 * q) false
-bytes_behind bytes n q h place zeros = elim (cases_lt q (length bytes)) [
+bytes_after bytes n q h place zeros = elim (cases_lt q (length bytes)) [
   | inl i ↦
       sym (drop_at (bits_of (take q bytes)) (bits_of (drop q bytes)) (8 * q) (length-front q bytes (omega arith)))
-      ∙ (ap (drop (8 * q)) (split-bytes q bytes) ∙ (fewer_zeros_behind (bits_of bytes) n (8 * q) (8 * length bytes) (length-bits_of bytes) place (omega arith) zeros).1)
+      ∙ (ap (drop (8 * q)) (split-bytes q bytes) ∙ (fewer_zeros_after (bits_of bytes) n (8 * q) (8 * length bytes) (length-bits_of bytes) place (omega arith) zeros).1)
   | inr i ↦
       let none : 8 * length bytes - 8 * q ≡ 0 = omega arith in
       rw none (ap bits_of (drop_all q bytes (omega arith)) ∙ bits_of-nil)
@@ -177,7 +177,7 @@ digits_written old n count s digits room past zeros e =
     ap (λ d. front ++ (d ++ back)) e
     ∙ (append_five front first digits (replicate s false) back
     ∙ (ap (λ d. (d ++ digits) ++ (replicate s false ++ back)) (sym (whole_bytes_and_digits old n room))
-    ∙ ap (λ d. (take n (bits_of old) ++ digits) ++ d) (ap (λ d. replicate s false ++ d) (bytes_behind old n (n / 8 + count) room past zeros) ∙ replicate-append-replicate s left false)))
+    ∙ ap (λ d. (take n (bits_of old) ++ digits) ++ d) (ap (λ d. replicate s false ++ d) (bytes_after old n (n / 8 + count) room past zeros) ∙ replicate-append-replicate s left false)))
 
 mul-mul : (h p q : ℕ) → h * p * q ≡ h * (p * q)
 mul-mul h p q = omega arith
@@ -229,7 +229,7 @@ gathered-put old {new} n width value room narrow below zeros e =
     ∙ digits_written old n 8 s (word width value) (omega arith) (omega arith) zeros eight) in
     let size : length bits ≡ n + width =
     omega (arith, length-append (take n (bits_of old)) (word width value), length-take-le n (bits_of old) (omega (arith, length-bits_of old)), length-word width value) in
-    zeros_behind (bits_of new) bits (n + width) (8 * length old - (n + width))
+    zeros_after (bits_of new) bits (n + width) (8 * length old - (n + width))
     (ap bits_of e ∙ (zeros_within_room _ bits _ (length old) all (omega (arith, size)) (omega (arith, size)) ∙ ap (λ k. bits ++ replicate (8 * length old - k) false) size))
     size
 
@@ -272,7 +272,7 @@ gathered-one old new n m room zeros e =
     let x : ℕ = slice_index old at in
     let h : ℕ = x / 2 ^ (8 - g) in
     let s : ℕ = 8 - (g + 1) in
-    let far = fewer_zeros_behind (bits_of old) n p (8 * length old) (length-bits_of old) (omega arith) (omega arith) zeros in
+    let far = fewer_zeros_after (bits_of old) n p (8 * length old) (length-bits_of old) (omega arith) (omega arith) zeros in
     let gap : p - n ≡ m = omega arith in
     let bits : List Bool = take n (bits_of old) ++ fundamental_sequence m in
     let byte : word 8 (bit_or x (2 ^ (7 - g))) ≡ (word g h ++ word 1 1) ++ replicate s false =
@@ -283,7 +283,7 @@ gathered-one old new n m room zeros e =
     ap (λ d. d ++ word 1 1) (far.0 ∙ ap (λ k. take n (bits_of old) ++ replicate k false) gap) ∙ fs-parts m (take n (bits_of old)) in
     let size : length bits ≡ n + (m + 1) =
     omega (arith, length-append (take n (bits_of old)) (fundamental_sequence m), length-take-le n (bits_of old) (omega (arith, length-bits_of old)), length-fundamental_sequence m) in
-    zeros_behind (bits_of new) bits (n + (m + 1)) (8 * length old - (n + (m + 1)))
+    zeros_after (bits_of new) bits (n + (m + 1)) (8 * length old - (n + (m + 1)))
     (ap bits_of e
     ∙ (set_apart old at (bit_or x (2 ^ (7 - g))) (omega arith)
     ∙ (digits_written old p 1 s (word 1 1) (omega arith) (omega arith) far.1 byte ∙ ((λ j. sequence j ++ replicate (left j) false)))))
@@ -299,7 +299,7 @@ three_zeros g h k xs =
     append_assoc xs (replicate g false) (replicate h false ++ replicate k false)
     ∙ ap (λ d. xs ++ d) (ap (λ d. replicate g false ++ d) (replicate-append-replicate h k false) ∙ replicate-append-replicate g (h + k) false)
 
--- what stands behind whole bytes that are dropped moves to the front, and zeros come behind it
+-- what stands after whole bytes that are dropped moves to the front, and zeros come after it
 zeros_dropped : (old new : List ℕ) (n count : ℕ) → n ≤ 8 * length old → n / 8 ≤ count → drop n (bits_of old) ≡ replicate (8 * length old - n) false
     → new ≡ take (length old) (slice_index old (n / 8) ∷ replicate count 0 ++ drop (count + 1) old)
     → bits_of new ≡ drop (bits_in_bytes (length (take n (bits_of old)))) (take n (bits_of old)) ++ replicate (8 * length old - n % 8) false
@@ -312,7 +312,7 @@ zeros_dropped old new n count room far zeros e =
     let all : bits_of (b ∷ replicate count 0 ++ drop (count + 1) old) ≡ digits ++ replicate (8 - g + (8 * count + left)) false =
     byte_first b (drop (count + 1) old) count
     ∙ (ap (λ d. d ++ (replicate (8 * count) false ++ bits_of (drop (count + 1) old))) (last_byte old n room zeros)
-    ∙ (ap (λ d. (digits ++ replicate (8 - g) false) ++ (replicate (8 * count) false ++ d)) (bytes_behind old n (count + 1) room (omega (arith, far)) zeros)
+    ∙ (ap (λ d. (digits ++ replicate (8 - g) false) ++ (replicate (8 * count) false ++ d)) (bytes_after old n (count + 1) room (omega (arith, far)) zeros)
     ∙ three_zeros (8 - g) (8 * count) left digits)) in
     let size : length digits ≡ g = length-word g (b / 2 ^ (8 - g)) in
     let kept : drop (bits_in_bytes (length (take n (bits_of old)))) (take n (bits_of old)) ≡ digits =
@@ -330,7 +330,7 @@ gathered-dropped old new capacity n count h size far e =
     let zeros : drop n (bits_of old) ≡ replicate (8 * length old - n) false = h.zeros ∙ ap (λ k. replicate (8 * k - n) false) (sym size) in
     let long : length bits ≡ n = length_viewed old capacity n bits h size refl in
     let rest : length (drop (bits_in_bytes (length bits)) bits) ≡ n % 8 = omega (arith, long, length-drop (bits_in_bytes (length bits)) bits) in
-    let all = zeros_behind (bits_of new) (drop (bits_in_bytes (length bits)) bits) (n % 8) (8 * length old - n % 8) (zeros_dropped old new n count (omega (arith, h.room, size)) far zeros e) rest in
+    let all = zeros_after (bits_of new) (drop (bits_in_bytes (length bits)) bits) (n % 8) (8 * length old - n % 8) (zeros_dropped old new n count (omega (arith, h.room, size)) far zeros e) rest in
     (all.0, record { room = omega (arith, h.room); zeros = all.1 ∙ ap (λ k. replicate (8 * k - n % 8) false) size; small = h.small })
 
 -- the whole bytes that bits are gathered in are the whole bytes of these bits

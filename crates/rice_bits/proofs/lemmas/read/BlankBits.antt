@@ -57,11 +57,11 @@ blank_joined a b c xs ys p q =
     q ∙ ap (λ z. z && is_blank ys) p ∙ and-assoc a (is_blank xs) (is_blank ys) ∙ ap (λ z. a && z) (sym (blank-append xs ys))
 
 -- where a 1 was among the first bits, and zeros are taken from the front of all, some bit is left
-pub one_behind_zeros : (old more new : List Bool) (n : ℕ) → is_blank old ≡ false → old ++ more ≡ replicate n false ++ new → 0 < length new
-one_behind_zeros old more [] n some e =
+pub one_after_zeros : (old more new : List Bool) (n : ℕ) → is_blank old ≡ false → old ++ more ≡ replicate n false ++ new → 0 < length new
+one_after_zeros old more [] n some e =
     let zeros : is_blank (replicate n false ++ []) ≡ true = ap is_blank (append-nil (replicate n false)) ∙ blank-zeros n in
     let joined : is_blank (old ++ more) ≡ (is_blank old && is_blank more) = blank-append old more in
     let none : (is_blank old && is_blank more) ≡ false = ap (λ b. b && is_blank more) some in
     let both : false ≡ true = sym none ∙ (sym joined ∙ (ap is_blank e ∙ zeros)) in
     absurd cc
-one_behind_zeros old more (b ∷ new) n some e = omega arith
+one_after_zeros old more (b ∷ new) n some e = omega arith

@@ -5,20 +5,20 @@ use Rattle.std.specs.Option.{is_some}
 use Rattle.std.proofs.lemmas.List.{replicate-append-replicate}
 use Rattle.rice_bits.specs.Bits.{bits_of, fundamental_sequence}
 use Rattle.rice_bits.specs.declared.read.fault.BitFault.{BitFault}
-use Rattle.rice_bits.specs.read.Reader.{Draws, Takes, Stops, Refuses, Reader, is_blank}
+use Rattle.rice_bits.specs.read.Reader.{Refills, Takes, Stops, Refuses, Reader, is_blank}
 use Rattle.rice_bits.specs.read.Window.{Passes, window_bits, window_passed, window_taken}
 use Rattle.rice_bits.specs.declared.read.window.Window.{Window}
-use Rattle.rice_bits.proofs.lemmas.read.BlankBits.{and-assoc, and-true, blank-append, blank_joined, one_behind_zeros}
-use Rattle.rice_bits.proofs.lemmas.read.DrawnBytes.{draws-append, draws-waiting}
+use Rattle.rice_bits.proofs.lemmas.read.BlankBits.{and-assoc, and-true, blank-append, blank_joined, one_after_zeros}
+use Rattle.rice_bits.proofs.lemmas.read.RefilledBytes.{refills-append, refills-buffered}
 
 -- bits are taken of those that a window has
 pub takes_passed : {I : Type 0} {old : Reader I} (intake : I) {left : Option (List ℕ)} {failed : ℕ} {mid new : Window} (before : Bool) {refusal : Option BitFault} {bits : List Bool}
-    → Draws old.left left old.waiting (window_bits new) bits → window_taken mid ≡ old.taken
+    → Refills old.left left old.buffered (window_bits new) bits → window_taken mid ≡ old.taken
     → (before && is_blank (window_passed mid)) ≡ old.blank → refusal ≡ None → failed ≡ old.failed → Passes mid new bits
     → Takes old
-    (record { waiting = window_bits new; taken = window_taken new; blank = before && is_blank (window_passed new); refusal = refusal; intake = intake; left = left; failed = failed }) bits
-takes_passed intake {mid} before {bits} draws taken blank going same passes = record {
-  draws = draws;
+    (record { buffered = window_bits new; taken = window_taken new; blank = before && is_blank (window_passed new); refusal = refusal; intake = intake; left = left; failed = failed }) bits
+takes_passed intake {mid} before {bits} refills taken blank going same passes = record {
+  refills = refills;
   taken = passes.taken ∙ ap (λ n. n + length bits) taken;
   blank =
       ap (λ passed. before && is_blank passed) passes.passed ∙ (ap (λ b. before && b) (blank-append (window_passed mid) bits)
@@ -30,7 +30,7 @@ takes_passed intake {mid} before {bits} draws taken blank going same passes = re
 -- a reader that stays as it is, and has refused nothing, has taken no bits
 pub takes-none : {I : Type 0} (r : Reader I) → r.refusal ≡ None → Takes r r []
 takes-none r h = record {
-  draws = draws-waiting r.left r.waiting r.waiting [] refl;
+  refills = refills-buffered r.left r.buffered r.buffered [] refl;
   taken = omega arith;
   blank = sym (and-true r.blank);
   going = h;
@@ -41,7 +41,7 @@ takes-none r h = record {
 pub takes-append : {I : Type 0} (old mid new : Reader I) (xs ys : List Bool)
     → Takes old mid xs → Takes mid new ys → Takes old new (xs ++ ys)
 takes-append old mid new xs ys p q = record {
-  draws = draws-append p.draws q.draws;
+  refills = refills-append p.refills q.refills;
   taken = omega (arith, p.taken, q.taken, length-append xs ys);
   blank = blank_joined old.blank mid.blank new.blank xs ys p.blank q.blank;
   going = q.going;
@@ -53,28 +53,28 @@ pub stops-append : {I : Type 0} (old mid new : Reader I) (xs ys : List Bool) (f 
     → Takes old mid xs → Stops mid new ys f → Stops old new (xs ++ ys) f
 stops-append old mid new xs ys f p q = record {
   middle = q.middle;
-  draws = draws-append p.draws q.draws;
+  refills = refills-append p.refills q.refills;
   refuses = subst (λ n. Refuses f q.middle new.left n new.failed new.taken new.blank) p.failures q.refuses;
   taken = omega (arith, p.taken, q.taken, length-append xs ys);
   blank = blank_joined old.blank mid.blank new.blank xs ys p.blank q.blank;
-  waiting = q.waiting;
+  buffered = q.buffered;
   refusal = q.refusal;
 }
 
--- where enough bits wait, enough wait after some were taken
-pub still_wait : {I : Type 0} (old new : Reader I) (xs : List Bool)
-    → Takes old new xs → length old.waiting ≤ length xs + length new.waiting
-still_wait old new xs p =
-    omega (arith, ap length p.draws.split, length-append old.waiting (bits_of p.draws.given), length-append xs new.waiting)
+-- where enough bits are buffered, enough are buffered after some were taken
+pub still_buffered : {I : Type 0} (old new : Reader I) (xs : List Bool)
+    → Takes old new xs → length old.buffered ≤ length xs + length new.buffered
+still_buffered old new xs p =
+    omega (arith, ap length p.refills.split, length-append old.buffered (bits_of p.refills.given), length-append xs new.buffered)
 
 -- zeros in front of a fundamental sequence make a longer one
 pub zeros-fs : (a b : ℕ) → replicate a false ++ fundamental_sequence b ≡ fundamental_sequence (a + b)
 zeros-fs a b = sym (append_assoc (replicate a false) (replicate b false) (true ∷ [])) ∙ ap (λ z. z ++ true ∷ []) (replicate-append-replicate a b false)
 
--- where a 1 waits, some bit waits after zeros were taken
-pub one_waits : {I : Type 0} (old new : Reader I) (n : ℕ)
-    → Takes old new (replicate n false) → is_blank old.waiting ≡ false → 0 < length new.waiting
-one_waits old new n taken some = one_behind_zeros old.waiting (bits_of taken.draws.given) new.waiting n some taken.draws.split
+-- where a 1 is buffered, some bit is buffered after zeros were taken
+pub one_buffered : {I : Type 0} (old new : Reader I) (n : ℕ)
+    → Takes old new (replicate n false) → is_blank old.buffered ≡ false → 0 < length new.buffered
+one_buffered old new n taken some = one_after_zeros old.buffered (bits_of taken.refills.given) new.buffered n some taken.refills.split
 
 -- where a test says that there is no refusal, there is none
 pub no_refusal : (refusal : Option BitFault) → is_some refusal ≡ false → refusal ≡ None

@@ -12,7 +12,7 @@ use Rattle.std.proofs.lemmas.Bool.Decides.{nat_tests}
 use Rattle.std.proofs.lemmas.List.{drop-drop, drop-take, length-drop, length-replicate, length-take-le}
 use Rattle.std.proofs.lemmas.List.{replicate-append-replicate, take-append-drop, take-append-le, take-replicate, take_at}
 use Rattle.rice_bits.specs.Bits.{fundamental_sequence, word, bits_of}
-use Rattle.rice_bits.specs.read.Window.{IsWindow, Passes, bits_near, most_waiting, window_bits, window_passed}
+use Rattle.rice_bits.specs.read.Window.{IsWindow, Passes, bits_near, most_buffered, window_bits, window_passed}
 use Rattle.rice_bits.specs.declared.read.window.Window.{Window}
 use Rattle.rice_bits.proofs.lemmas.bits.BytesAndBits.{bits_of-append, bits_of-zeros, length-bits_of}
 use Rattle.rice_bits.proofs.lemmas.bits.EightBytes.{bits_of-eight}
@@ -28,7 +28,7 @@ between-join xs a s e p q =
     let j : take ((s - a) + (e - s)) (drop a xs) ≡ take (s - a) (drop a xs) ++ take (e - s) (drop (s - a) (drop a xs)) = take-add (s - a) (e - s) (drop a xs) in
     ap (λ k. take (s - a) (drop a xs) ++ take (e - s) k) (sym d) ∙ sym j ∙ ap (λ k. take k (drop a xs)) n
 
--- what stands behind the first part of a list is the second
+-- what stands after the first part of a list is the second
 pub drop-seam : {A : Type 0} (xs ys : List A) (n : ℕ) → length xs ≡ n → drop n (xs ++ ys) ≡ ys
 drop-seam xs ys n e = ap (λ k. drop k (xs ++ ys)) (sym e) ∙ drop-append_seam xs ys
 
@@ -40,7 +40,7 @@ take-bits_of n xs h =
     let both : bits_of xs ≡ front ++ bits_of (drop n xs) = ap bits_of (sym (take-append-drop n xs)) ∙ bits_of-append (take n xs) (drop n xs) in
     ap (take (8 * n)) both ∙ (ap (λ k. take k (front ++ bits_of (drop n xs))) (sym len) ∙ take-append_seam front (bits_of (drop n xs)))
 
--- and the bits behind those of the first bytes are those of the others
+-- and the bits after those of the first bytes are those of the others
 pub drop-bits_of : (n : ℕ) (xs : List ℕ) → n ≤ length xs → drop (8 * n) (bits_of xs) ≡ bits_of (drop n xs)
 drop-bits_of n xs h =
     let front = bits_of (take n xs) in
@@ -48,14 +48,14 @@ drop-bits_of n xs h =
     let both : bits_of xs ≡ front ++ bits_of (drop n xs) = ap bits_of (sym (take-append-drop n xs)) ∙ bits_of-append (take n xs) (drop n xs) in
     ap (drop (8 * n)) both ∙ drop-seam front (bits_of (drop n xs)) (8 * n) len
 
--- no bits wait where the window is at its end
+-- no bits are buffered where the window is at its end
 pub window_empty : (w : Window) → w.at ≡ w.end → window_bits w ≡ []
 unfolding window_bits
 window_empty w e =
     let n : w.end - w.at ≡ 0 = omega arith in
     rw n refl
 
--- in a window from the start of its buffer to the end of the first bytes the bits of these bytes wait
+-- in a window from the start of its buffer to the end of the first bytes the bits of these bytes are buffered
 pub window_filled : (w : Window) (n : ℕ) → w.at ≡ 0 → w.end ≡ 8 * n → n ≤ length w.buffer → window_bits w ≡ bits_of (take n w.buffer)
 unfolding window_bits
 window_filled w n a e h =
@@ -63,23 +63,23 @@ window_filled w n a e h =
     rw (a, e, m) (take-bits_of n w.buffer h)
 
 -- bytes with zeros written after them
-pub zeros-behind : (old new : List ℕ) (n k : ℕ) → n ≤ length old → take (n + k) new ≡ take n old ++ replicate k 0
+pub zeros-after : (old new : List ℕ) (n k : ℕ) → n ≤ length old → take (n + k) new ≡ take n old ++ replicate k 0
     → (take n new ≡ take n old) × (take k (drop n new) ≡ replicate k 0)
-zeros-behind old new n k h e =
+zeros-after old new n k h e =
     let len : length (take n old) ≡ n = length-take-le n old h in (
       sym (take-take n (n + k) new (omega arith)) ∙ (ap (take n) e ∙ (ap (λ m. take m (take n old ++ replicate k 0)) (sym len) ∙ take-append_seam (take n old) (replicate k 0))),
       sym (drop-take n k new) ∙ (ap (drop n) e ∙ drop-seam (take n old) (replicate k 0) n len),
     )
 
--- as many bits wait as there are from the window's place to its end
+-- as many bits are buffered as there are from the window's place to its end
 pub length-window : (w : Window) → IsWindow w → length (window_bits w) ≡ w.end - w.at
 unfolding window_bits
 length-window w h =
     length-take-le (w.end - w.at) (drop w.at (bits_of w.buffer)) (omega (arith, length-drop w.at (bits_of w.buffer), length-bits_of w.buffer, h.size, h.fits))
 
--- so bits that wait behind others stand before its end, which its buffer holds
-pub place_ahead : {w : Window} {waiting : List Bool} (skip n : ℕ) → IsWindow w → window_bits w ≡ waiting → skip + n ≤ length waiting → (w.at + skip + n ≤ w.end) × (w.end ≤ most_waiting)
-place_ahead {w} skip n h waits there = (omega (arith, ap length waits, there, length-window w h, h.ordered), h.fits)
+-- so bits that are buffered after others stand before its end, which its buffer holds
+pub place_ahead : {w : Window} {buffered : List Bool} (skip n : ℕ) → IsWindow w → window_bits w ≡ buffered → skip + n ≤ length buffered → (w.at + skip + n ≤ w.end) × (w.end ≤ most_buffered)
+place_ahead {w} skip n h buffered there = (omega (arith, ap length buffered, there, length-window w h, h.ordered), h.fits)
 
 -- a window of which bits were taken
 pub window-moved : (w : Window) (at : ℕ) → IsWindow w → w.at ≤ at → at ≤ w.end → IsWindow (record w { at = at })
@@ -91,7 +91,7 @@ window-moved w at h from to = record {
   whole = h.whole;
   held = omega (arith, h.held);
   limit = h.limit;
-  behind = h.behind;
+  after = h.after;
 }
 
 -- no bits were passed where the mark is at the window's place
@@ -101,7 +101,7 @@ passed_none w e =
     let n : w.at - w.marked ≡ 0 = omega arith in
     rw n refl
 
--- the same bits wait wherever the mark is
+-- the same bits are buffered wherever the mark is
 pub marked-bits : (w : Window) (marked : ℕ) → window_bits (record w { marked = marked }) ≡ window_bits w
 unfolding window_bits
 marked-bits w marked = refl
@@ -134,13 +134,13 @@ number-inside bytes at v width few h eight =
     let q = at / 8 in
     let s = at % 8 in
     let x = v / 2 ^ (64 - (s + width)) in
-    let behind = drop (8 * q) (bits_of bytes) in
+    let after = drop (8 * q) (bits_of bytes) in
     let place : 8 * q + s ≡ at = omega arith in
-    let front : word (s + width) x ≡ take (s + width) behind =
-    sym (take-front 64 (s + width) v (omega (arith, few))) ∙ (ap (take (s + width)) (bits-loaded bytes q v h eight) ∙ take-take (s + width) 64 behind (omega (arith, few))) in
+    let front : word (s + width) x ≡ take (s + width) after =
+    sym (take-front 64 (s + width) v (omega (arith, few))) ∙ (ap (take (s + width)) (bits-loaded bytes q v h eight) ∙ take-take (s + width) 64 after (omega (arith, few))) in
     sym (drop-seam (word s (x / 2 ^ width)) (word width (x % 2 ^ width)) s (length-word s (x / 2 ^ width)))
     ∙ (ap (drop s) (sym (word-split s width x) ∙ front)
-    ∙ (drop-take s width behind ∙ ap (take width) (drop-drop s (8 * q) (bits_of bytes) ∙ ap (λ k. drop k (bits_of bytes)) place)))
+    ∙ (drop-take s width after ∙ ap (take width) (drop-drop s (8 * q) (bits_of bytes) ∙ ap (λ k. drop k (bits_of bytes)) place)))
 
 -- the bits from a place on, in eight bytes that are moved up
 pub bits-ahead : (bytes : List ℕ) (at v : ℕ) → at / 8 + 8 ≤ length bytes → to_be_bytes w64 v ≡ take 8 (drop (at / 8) bytes)
@@ -149,13 +149,13 @@ bits-ahead bytes at v h eight =
     let q = at / 8 in
     let s = at % 8 in
     let front = word s (v / 2 ^ (64 - s)) in
-    let behind = drop (8 * q) (bits_of bytes) in
+    let after = drop (8 * q) (bits_of bytes) in
     let all = bits-loaded bytes q v h eight in
     let size : s + (64 - s) ≡ 64 = omega arith in
     let place : 8 * q + s ≡ at = omega arith in
     let rest : word (64 - s) v ≡ take (64 - s) (drop at (bits_of bytes)) =
     sym (drop-seam front (word (64 - s) v) s (length-word s (v / 2 ^ (64 - s)))) ∙ (ap (drop s) (sym (word-parts 64 s v (omega arith)) ∙ all)
-    ∙ (ap (λ k. drop s (take k behind)) (sym size) ∙ (drop-take s (64 - s) behind ∙ ap (take (64 - s)) (drop-drop s (8 * q) (bits_of bytes) ∙ ap (λ k. drop k (bits_of bytes)) place)))) in
+    ∙ (ap (λ k. drop s (take k after)) (sym size) ∙ (drop-take s (64 - s) after ∙ ap (take (64 - s)) (drop-drop s (8 * q) (bits_of bytes) ∙ ap (λ k. drop k (bits_of bytes)) place)))) in
     word-moved 64 s v (omega arith) ∙ ap (λ z. z ++ replicate s false) rest
 
 -- the first of the bits at the front of a word, with zeros after them
@@ -168,7 +168,7 @@ front-ahead bits n m k r h all e =
 pub first-ahead : (bits : List Bool) (n m k r : ℕ) → n ≤ m → m + k ≡ 64 → word 64 r ≡ take m bits ++ replicate k false → word n (r / 2 ^ (64 - n)) ≡ take n bits
 first-ahead bits n m k r h all e = sym (take-front 64 n r (omega (arith, h, all))) ∙ front-ahead bits n m k r h all e
 
--- all bits that wait, and zeros after them
+-- all bits that are buffered, and zeros after them
 pub near-ahead : (w : Window) (r : ℕ) → IsWindow w → word 64 r ≡ take (64 - w.at % 8) (drop w.at (bits_of w.buffer)) ++ replicate (w.at % 8) false
     → word 64 r ≡ take (bits_near w) (window_bits w) ++ replicate (64 - bits_near w) false
 unfolding window_bits
@@ -177,27 +177,27 @@ near-ahead w r h e =
     let bits = bits_of w.buffer in
     let ahead = drop w.at bits in
     let len = w.end - w.at in
-    let waits = length-window w h in
+    let buffered = length-window w h in
     let q = w.end / 8 in
     let bytes : 8 * q ≡ w.end = omega (arith, h.whole) in
     let room : q + 8 ≤ length w.buffer = omega (arith, h.size, h.fits) in
     let zeros : take 64 (drop w.end bits) ≡ replicate 64 false =
     ap (λ k. take 64 (drop k bits)) (sym bytes) ∙ (ap (take 64) (drop-bits_of q w.buffer (omega (arith, room)))
-    ∙ (take-bits_of 8 (drop q w.buffer) (omega (arith, room, length-drop q w.buffer)) ∙ (ap bits_of h.behind ∙ bits_of-zeros 8))) in
+    ∙ (take-bits_of 8 (drop q w.buffer) (omega (arith, room, length-drop q w.buffer)) ∙ (ap bits_of h.after ∙ bits_of-zeros 8))) in
     elim (cases_lt len (64 - s)) [
       | inl short ↦
           let d = 64 - s - len in
-          let near : bits_near w ≡ len = omega (arith, waits, short) in
+          let near : bits_near w ≡ len = omega (arith, buffered, short) in
           let both : len + d ≡ 64 - s = omega (arith, short) in
           let gap : d + s ≡ 64 - len = omega (arith, short) in
           let past : w.at + len ≡ w.end = omega (arith, h.ordered) in
-          let behind : take d (drop len ahead) ≡ replicate d false =
+          let after : take d (drop len ahead) ≡ replicate d false =
           ap (take d) (drop-drop len w.at bits ∙ ap (λ k. drop k bits) past) ∙ (sym (take-take d 64 (drop w.end bits) (omega arith)) ∙ (ap (take d) zeros ∙ take-replicate d 64 false (omega arith))) in
-          e ∙ (ap (λ k. take k ahead ++ replicate s false) (sym both) ∙ (ap (λ z. z ++ replicate s false) (take-add len d ahead ∙ ap (λ z. take len ahead ++ z) behind)
+          e ∙ (ap (λ k. take k ahead ++ replicate s false) (sym both) ∙ (ap (λ z. z ++ replicate s false) (take-add len d ahead ∙ ap (λ z. take len ahead ++ z) after)
           ∙ (append_assoc (take len ahead) (replicate d false) (replicate s false) ∙ (ap (λ z. take len ahead ++ z) (replicate-append-replicate d s false ∙ ap (λ k. replicate k false) gap)
           ∙ rw near (ap (λ z. z ++ replicate (64 - len) false) (sym (take-take len len ahead (omega arith))))))))
       | inr long ↦
-          let near : bits_near w ≡ 64 - s = omega (arith, waits, long) in
+          let near : bits_near w ≡ 64 - s = omega (arith, buffered, long) in
           let gap : s ≡ 64 - (64 - s) = omega arith in
           e ∙ rw near (ap (λ z. z ++ replicate s false) (sym (take-take (64 - s) len ahead long)) ∙ ap (λ k. take (64 - s) (take len ahead) ++ replicate k false) gap)
     ]
@@ -207,11 +207,11 @@ pub length-words : (width : ℕ) (xs : List ℕ) → length (flat_map (word widt
 length-words width [] = omega arith
 length-words width (x ∷ xs) = omega (arith, length-append (word width x) (flat_map (word width) xs), length-word width x, length-words width xs)
 
--- words that were read from a place on, and words behind them
+-- words that were read from a place on, and words after them
 pub record WordsInTurn (width : ℕ) (bits : List Bool) (from at m k : ℕ) (xs ys : List ℕ) : Type 0 where
   pub place : at ≡ from + m * width
   pub front : flat_map (word width) xs ≡ take (m * width) (drop from bits)
-  pub behind : flat_map (word width) ys ≡ take (k * width) (drop at bits)
+  pub after : flat_map (word width) ys ≡ take (k * width) (drop at bits)
 
 -- words, and those after them
 pub words-joined : (width : ℕ) (bits : List Bool) (from : ℕ) {at : ℕ} (m k : ℕ) (xs ys : List ℕ) → WordsInTurn width bits from at m k xs ys
@@ -219,7 +219,7 @@ pub words-joined : (width : ℕ) (bits : List Bool) (from : ℕ) {at : ℕ} (m k
 words-joined width bits from m k xs ys both =
     let n : m * width + k * width ≡ (m + k) * width = grind arith in
     let rest : flat_map (word width) ys ≡ take (k * width) (drop (m * width) (drop from bits)) =
-    both.behind ∙ ap (take (k * width)) (ap (λ a. drop a bits) both.place ∙ sym (drop-drop (m * width) from bits)) in
+    both.after ∙ ap (take (k * width)) (ap (λ a. drop a bits) both.place ∙ sym (drop-drop (m * width) from bits)) in
     flat_map-append (word width) xs ys ∙ ((λ j. both.front j ++ rest j) ∙ (sym (take-add (m * width) (k * width) (drop from bits)) ∙ ap (λ a. take a (drop from bits)) n))
 
 -- the first of some words are spelled by the first digits of all
@@ -231,15 +231,15 @@ words-front width n xs h =
     ∙ flat_map-append (word width) (take n xs) (drop n xs) in
     sym (ap (take (n * width)) both ∙ take_at front (flat_map (word width) (drop n xs)) (n * width) len)
 
--- the first bits that wait
-pub front-waits : (w : Window) (n : ℕ) → n ≤ w.end - w.at → take n (window_bits w) ≡ take n (drop w.at (bits_of w.buffer))
+-- the first bits that are buffered
+pub front-buffered : (w : Window) (n : ℕ) → n ≤ w.end - w.at → take n (window_bits w) ≡ take n (drop w.at (bits_of w.buffer))
 unfolding window_bits
-front-waits w n h = take-take n (w.end - w.at) (drop w.at (bits_of w.buffer)) h
+front-buffered w n h = take-take n (w.end - w.at) (drop w.at (bits_of w.buffer)) h
 
--- bits that wait behind others
-pub part-waits : (w : Window) (skip n : ℕ) → IsWindow w → skip + n ≤ length (window_bits w) → take n (drop skip (window_bits w)) ≡ take n (drop (w.at + skip) (bits_of w.buffer))
+-- bits that are buffered after others
+pub part-buffered : (w : Window) (skip n : ℕ) → IsWindow w → skip + n ≤ length (window_bits w) → take n (drop skip (window_bits w)) ≡ take n (drop (w.at + skip) (bits_of w.buffer))
 unfolding window_bits
-part-waits w skip n h there =
+part-buffered w skip n h there =
     let bits = bits_of w.buffer in
     let all = w.end - w.at in
     let len : length (take all (drop w.at bits)) ≡ all = length-window w h in
@@ -248,8 +248,8 @@ part-waits w skip n h there =
     ∙ (ap (take n) (drop-take skip (all - skip) (drop w.at bits)) ∙ (take-take n (all - skip) (drop skip (drop w.at bits)) (omega (arith, there, len)) ∙ ap (take n) (drop-drop skip w.at bits)))
 
 -- a word after the first digits of a longer one
-pub word-behind : (size w s x : ℕ) → s + w ≤ size → word w (x * 2 ^ s % 2 ^ size / 2 ^ (size - w)) ≡ take w (drop s (word size x))
-word-behind size w s x h =
+pub word-after : (size w s x : ℕ) → s + w ≤ size → word w (x * 2 ^ s % 2 ^ size / 2 ^ (size - w)) ≡ take w (drop s (word size x))
+word-after size w s x h =
     let front = word s (x / 2 ^ (size - s)) in
     let rest : drop s (word size x) ≡ word (size - s) x =
     ap (drop s) (word-parts size s x (omega arith)) ∙ drop-seam front (word (size - s) x) s (length-word s (x / 2 ^ (size - s))) in
@@ -321,4 +321,4 @@ window-front {w} at r xs rest h near e short place =
     let few : n ≤ bits_near w = omega (arith, short, length-take-le (bits_near w) (window_bits w) (omega arith)) in
     let front : xs ≡ take n (window_bits w) =
     sym (take-append_seam xs rest) ∙ (ap (take n) (sym e ∙ near) ∙ (take-append-le n (take (bits_near w) (window_bits w)) _ short ∙ take-take n (bits_near w) (window_bits w) few)) in
-    window-passes w at n xs h place (omega (arith, there)) (front ∙ front-waits w n (omega (arith, there)))
+    window-passes w at n xs h place (omega (arith, there)) (front ∙ front-buffered w n (omega (arith, there)))

@@ -9,8 +9,8 @@ abbrev pub in_lanes : List ℕ → List ℕ
 in_lanes numbers = take 16 (numbers ++ replicate 16 0)
 
 -- for each of sixteen lanes the place of the lane so many before it, or 128, which no lane has
-abbrev pub places_behind : ℕ → List ℕ
-places_behind count = take 16 (replicate count 128 ++ range_with_len 0 16)
+abbrev pub places_after : ℕ → List ℕ
+places_after count = take 16 (replicate count 128 ++ range_with_len 0 16)
 
 -- the ends of the ones of a byte at a place of a word, and zeros up to eight numbers
 abbrev pub row_of_place : ℕ → ℕ → List ℕ

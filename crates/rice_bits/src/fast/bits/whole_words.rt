@@ -135,7 +135,7 @@ fn join_up_to_whole_byte(bytes: &mut [u8], bits: u64, value: u64, count: u32, fi
     bits - bits % 8 + 64
 }
 
-/// Joins the 64 digits of `digits` behind whole bytes, and returns how many bits there are then.
+/// Joins the 64 digits of `digits` after whole bytes, and returns how many bits there are then.
 #[inline(always)]
 fn join_64_digits_to_whole_bytes(bytes: &mut [u8], bits: u64, digits: u64) -> u64
     requires whole { bits % 8 ≡ 0 }

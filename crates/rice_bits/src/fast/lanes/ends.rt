@@ -2,7 +2,7 @@
 ghost use Rattle.std.specs.Prelude.{◌≡◌, ◌+◌, ◌-◌, ◌*◌, ◌<◌, ◌≤◌, ◌++◌, length, replicate, take, drop};
 ghost use Rattle.rice_bits.specs.Bits.{word};
 ghost use Rattle.rice_bits.specs.fast.read.EndsAndGaps.{ends_after};
-ghost use Rattle.rice_bits.specs.fast.lanes.Ends.{in_lanes, places_behind as places_behind_of};
+ghost use Rattle.rice_bits.specs.fast.lanes.Ends.{in_lanes, places_after as places_after_of};
 
 use crate::fast::lanes::tables_of_ends::row_of_byte_at;
 use std::simd::prelude::*;
@@ -20,7 +20,7 @@ static SLIDE: [u8; 64] = [
 fn lane_places_moved_by_ones(place: usize, zeros: usize) -> u8x16
     requires place { place ≤ 6 }
     requires zeros { zeros ≤ 8 * place }
-    ensures { result ≡ places_behind_of (8 * place - zeros) }
+    ensures { result ≡ places_after_of (8 * place - zeros) }
 {
     // Nothing is subtracted to find the address, as it would be from the number of ones.
     u8x16::from_slice(&SLIDE[48 - 8 * place + zeros..])

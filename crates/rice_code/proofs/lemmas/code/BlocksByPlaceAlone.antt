@@ -74,13 +74,13 @@ same_run s b c r cs e =
     (ZeroBlocks r (prefix_len is_zero_block (take left cs)))) (same_left s b c e)
 
 -- and the same blocks are sent by the same coded data sets from both on
-pub same_data_sets : (s : Parameters) (b c : ℕ) (behind : Bool) (cs : List BlockData) → place s b ≡ place s c → data_sets s b behind cs ≡ data_sets s c behind cs
-same_data_sets s b c behind [] e = refl
-same_data_sets s b c behind (d ∷ ds) e =
+pub same_data_sets : (s : Parameters) (b c : ℕ) (after : Bool) (cs : List BlockData) → place s b ≡ place s c → data_sets s b after cs ≡ data_sets s c after cs
+same_data_sets s b c after [] e = refl
+same_data_sets s b c after (d ∷ ds) e =
     let run = same_run s b c d.reference (d ∷ ds) e in
     let start = same_start s b c e in
     let rest = same_data_sets s (b + 1) (c + 1) (is_zero_block d) ds (place_step s b c e) in
-    λ i. cond (is_zero_block d) (cond (behind && not (start i)) [] (run i ∷ [])) (shortest s d ∷ []) ++ rest i
+    λ i. cond (is_zero_block d) (cond (after && not (start i)) [] (run i ∷ [])) (shortest s d ∷ []) ++ rest i
 
 -- a coded data set stands for the same blocks at both
 pub same_blocks_in : (s : Parameters) (b c : ℕ) (d : CodedDataSet) → place s b ≡ place s c → blocks_in s b d ≡ blocks_in s c d

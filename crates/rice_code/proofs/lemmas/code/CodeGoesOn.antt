@@ -1,4 +1,4 @@
--- Behind whole segments the code goes on from their last sample and their last bit.
+-- After whole segments the code goes on from their last sample and their last bit.
 use Rattle.std.proofs.Common.{◌≡◌, ℕ, zero, suc, ◌+◌, ◌-◌, ◌*◌, ◌/◌, ◌%◌, ◌≤◌, min, Bool, true, false, List, ◌++◌}
 use Rattle.std.proofs.Common.{length, take, drop, replicate, refl, ap, arith, sym, ◌∙◌, append_assoc, length-append, subst, None, ℤ, pos}
 use Rattle.rice_code.proofs.Words.{All, sum_by, sum_by-append, next_multiple_of, length-replicate, recursion_from_All, All-from_recursion, mul-add-div, mul-add-mod_self_left, Parameters, IsLegal}
@@ -9,21 +9,21 @@ use Rattle.rice_code.proofs.lemmas.{code.SegmentsOneByOne.sets_of_segments, code
 use Rattle.rice_code.proofs.lemmas.code.SoundBlocks.{all_take, blocks_sound, count_blocks}
 
 -- samples after whole blocks are filled as if they stood alone
-fill_behind : (j q m n : ℕ) → 1 ≤ j → n ≡ j * q + m → (next_multiple_of n j - n ≡ next_multiple_of m j - m) × (n / j + min 1 (n % j) ≡ q + (m / j + min 1 (m % j)))
-fill_behind j q m n h e =
+fill_after : (j q m n : ℕ) → 1 ≤ j → n ≡ j * q + m → (next_multiple_of n j - n ≡ next_multiple_of m j - m) × (n / j + min 1 (n % j) ≡ q + (m / j + min 1 (m % j)))
+fill_after j q m n h e =
     let r : n % j ≡ m % j = ap (λ v. v % j) e ∙ mul-add-mod_self_left j q m in
     let d : n / j ≡ q + m / j = ap (λ v. v / j) e ∙ mul-add-div h q m in
     let f = ap (λ v. (j - v) % j) r in
     let g = ap (λ v. min 1 v) r in
     (omega arith, omega arith)
 
--- of samples of whole blocks and others behind them only the others are filled, as if they stood alone, and they make as many blocks more
-pub filled_behind : (s : Parameters) (q : ℕ) (p : ℤ) (xs ys : List ℤ) → 1 ≤ s.block → length xs ≡ s.block * q →
+-- of samples of whole blocks and others after them only the others are filled, as if they stood alone, and they make as many blocks more
+pub filled_after : (s : Parameters) (q : ℕ) (p : ℤ) (xs ys : List ℤ) → 1 ≤ s.block → length xs ≡ s.block * q →
     (filled_samples s p (xs ++ ys) ≡ xs ++ filled_samples s (last_of p xs) ys) × (block_count s (length (xs ++ ys)) ≡ q + block_count s (length ys))
-filled_behind s q p xs ys h e =
+filled_after s q p xs ys h e =
     let j = s.block in
     let len : length (xs ++ ys) ≡ j * q + length ys = length-append xs ys ∙ ap (λ n. n + length ys) e in
-    let f = fill_behind j q (length ys) (length (xs ++ ys)) h len in
+    let f = fill_after j q (length ys) (length (xs ++ ys)) h len in
     let last = last_append p xs ys in
     let same = f.0 in
     ((λ i. (xs ++ ys) ++ replicate (same i) (last i)) ∙ append_assoc xs ys (replicate (next_multiple_of (length ys) j - length ys) (last_of (last_of p xs) ys)), f.1)
@@ -57,13 +57,13 @@ no_zeros_past_segment {s} b p n xs legal h k e begins =
     at : (x y len fill n : ℕ) {z : ℕ} → x ≡ y → y ≡ len + z → z ≡ fill → len ≡ n → fill ≡ 0 → x ≡ n
     at x y len fill n e f g h k = omega arith
 
--- where a segment begins behind samples of whole blocks, the coded data sets of all are theirs, and then those of the samples behind them
+-- where a segment begins after samples of whole blocks, the coded data sets of all are theirs, and then those of the samples after them
 pub sets_go_on : (s : Parameters) → IsLegal s → (b q : ℕ) (p : ℤ) (xs ys : List ℤ) → length xs ≡ s.block * q → begins_segment s (b + q) ≡ true →
     sets_from s b p (xs ++ ys) ≡ sets_from s b p xs ++ sets_from s (b + q) (last_of p xs) ys
 sets_go_on s legal b q p xs ys len begins =
     let j : 1 ≤ s.block = grind (arith, legal.block) in
     let n = block_count s (length ys) in
-    let parts = filled_behind s q p xs ys j len in
+    let parts = filled_after s q p xs ys j len in
     let parted = parts.0 in
     let counted = parts.1 in
     let first = blocks_from s b p q xs in
@@ -76,14 +76,14 @@ sets_go_on s legal b q p xs ys len begins =
     ∙ (sets_of_segments s b false false first second legal.interval_from begins'
     ∙ (ap (λ m. data_sets s b false first ++ data_sets s (b + m) false second) count ∙ ap (λ v. data_sets s b false v ++ later) (sym (own_blocks s b q p xs j len))))
 
--- samples of whole blocks, behind which a segment begins
+-- samples of whole blocks, after which a segment begins
 pub record WholeSegments (s : Parameters) (b blocks : ℕ) (p : ℤ) (xs : List ℤ) : Type 0 where
   pub before : IsSample s p
   pub samples : All (IsSample s) xs
   pub len : length xs ≡ s.block * blocks
   pub segment : begins_segment s (b + blocks) ≡ true
 
--- so the code of samples behind them goes on from their last sample and their last bit
+-- so the code of samples after them goes on from their last sample and their last bit
 pub code_goes_on : {s : Parameters} → IsLegal s → (b position blocks : ℕ) (p : ℤ) (xs ys : List ℤ) → WholeSegments s b blocks p xs →
     let first = code_from s b position p xs in
     code_from s b position p (xs ++ ys) ≡ first ++ code_from s (b + blocks) (position + length first) (last_of p xs) ys
@@ -94,7 +94,7 @@ code_goes_on {s} legal b position q p xs ys sound =
     let n = block_count s (length ys) in
     let end = b + block_count s (length (xs ++ ys)) in
     let own = b + block_count s (length xs) in
-    let counted = (filled_behind s q p xs ys j sound.len).1 in
+    let counted = (filled_after s q p xs ys j sound.len).1 in
     let whole = (not_filled s q p xs j sound.len).1 in
     let place = ap (λ v. length (blocks_in_all s b (data_sets s b false v))) (own_blocks s b q p xs j sound.len) ∙ no_zeros_past_segment b p q xs legal sound.before sound.samples sound.len
     sound.segment in
@@ -120,7 +120,7 @@ code_grows s legal xs k m le =
     let e = code_goes_on legal 0 0 b (pos 0) front (drop c xs) (record { before = zero_is_sample s legal.bits_from; samples = samples; len = len; segment = begins }) in
     (code_from s (0 + b) (0 + length (code s front)) (last_of (pos 0) front) (drop c xs), ap (λ v. code s v) (sym (take-append-drop c xs)) ∙ e)
 
--- the bits without padding of samples up to where a segment begins, and those of the samples behind them, are those of all
+-- the bits without padding of samples up to where a segment begins, and those of the samples after them, are those of all
 pub bits_go_on : (s : Parameters) → IsLegal s → (b blocks : ℕ) (p : ℤ) (xs ys : List ℤ) → length xs ≡ s.block * blocks → begins_segment s (b + blocks) ≡ true →
     bits_from s b p (xs ++ ys) ≡ bits_from s b p xs + bits_from s (b + blocks) (last_of p xs) ys
 bits_go_on s legal b q p xs ys len begins =

@@ -211,8 +211,8 @@ laid_bound s end b position (d ∷ ds) h k =
 same_to_byte : (m n : ℕ) → m % 8 ≡ n % 8 → bits_to_byte m ≡ bits_to_byte n
 same_to_byte m n e = omega arith
 
-same_place_behind : (m n k : ℕ) → m % 8 ≡ n % 8 → (m + k) % 8 ≡ (n + k) % 8
-same_place_behind m n k e = omega arith
+same_place_after : (m n k : ℕ) → m % 8 ≡ n % 8 → (m + k) % 8 ≡ (n + k) % 8
+same_place_after m n k e = omega arith
 
 -- so after positions at the same place in a byte coded data sets are laid as the same bits,
 pub laid_at : (s : Parameters) (end b m n : ℕ) (ds : List CodedDataSet) → m % 8 ≡ n % 8 → layout s end b m ds ≡ layout s end b n ds
@@ -220,10 +220,10 @@ laid_at s end b m n [] e = refl
 laid_at s end b m n (d ∷ ds) e =
     let t = length (bits_of_set s d) in
     let next = block_after s b d in
-    let p = ap (λ v. cond (is_padded s (min end next)) v 0) (same_to_byte (m + t) (n + t) (same_place_behind m n t e)) in
+    let p = ap (λ v. cond (is_padded s (min end next)) v 0) (same_to_byte (m + t) (n + t) (same_place_after m n t e)) in
     let first : sent_first s end b m d ≡ sent_first s end b n d = ap (λ v. bits_of_set s d ++ replicate v false) p in
     let k = length (sent_first s end b m d) in
-    let rest = laid_at s end next (m + k) (n + k) ds (same_place_behind m n k e) in
+    let rest = laid_at s end next (m + k) (n + k) ds (same_place_after m n k e) in
     (λ i. sent_first s end b m d ++ rest i) ∙ (λ i. first i ++ layout s end next (n + length (first i)) ds)
 
 -- and they lie in the same bits
@@ -231,6 +231,6 @@ pub lies_at : (s : Parameters) (b m n : ℕ) (ds : List CodedDataSet) (bits : Li
 lies_at s b m n [] bits e h = h
 lies_at s b m n (d ∷ ds) bits e h =
     let t = length (bits_of_set s d) in
-    let p = ap (λ v. cond (is_padded s (block_after s b d)) v 0) (same_to_byte (m + t) (n + t) (same_place_behind m n t e)) in
+    let p = ap (λ v. cond (is_padded s (block_after s b d)) v 0) (same_to_byte (m + t) (n + t) (same_place_after m n t e)) in
     let k = length (bits_of_set s d ++ h.0) in
-    (h.0, h.1, h.2 ∙ p, h.3, lies_at s (block_after s b d) (m + k) (n + k) ds h.1 (same_place_behind m n k e) h.4)
+    (h.0, h.1, h.2 ∙ p, h.3, lies_at s (block_after s b d) (m + k) (n + k) ds h.1 (same_place_after m n k e) h.4)

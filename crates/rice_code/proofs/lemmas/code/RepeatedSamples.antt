@@ -16,8 +16,8 @@ last_replicate p zero = refl
 last_replicate p (suc n) = last_replicate p n
 
 -- the last sample is that of what follows the first block
-pub last_behind : (p : ℤ) (n : ℕ) (xs : List ℤ) → last_of (last_of p (take n xs)) (drop n xs) ≡ last_of p xs
-last_behind p n xs = sym (last_append p (take n xs) (drop n xs)) ∙ ap (λ v. last_of p v) (take-append-drop n xs)
+pub last_after : (p : ℤ) (n : ℕ) (xs : List ℤ) → last_of (last_of p (take n xs)) (drop n xs) ≡ last_of p xs
+last_after p n xs = sym (last_append p (take n xs) (drop n xs)) ∙ ap (λ v. last_of p v) (take-append-drop n xs)
 
 -- the blocks of the first samples, and those after them
 pub blocks_append : (s : Parameters) (b : ℕ) (p : ℤ) (m n : ℕ) (xs ys : List ℤ) → length xs ≡ s.block * m →
@@ -32,7 +32,7 @@ blocks_append s b p (suc m) n xs ys e =
     let back = drop-append-le s.block xs ys le in
     let z : suc m + n ≡ suc (m + n) = omega arith in
     let k : b + 1 + m ≡ b + suc m = omega arith in
-    let last = last_behind p s.block xs in
+    let last = last_after p s.block xs in
     ap (λ i. blocks_from s b p i (xs ++ ys)) z
     ∙ ((λ i. block_data s b p (front i) ∷ blocks_from s (b + 1) (last_of p (front i)) (m + n) (back i))
     ∙ (ap (λ v. block_data s b p (take s.block xs) ∷ v) ih
@@ -104,4 +104,4 @@ last_repeats s b p n xs j len h =
         let all : take s.block xs ≡ xs = ap (λ m. take m xs) count ∙ take-length xs in
         last_of_zeros s (s.block * b) p xs e (omega arith) (sym (ap (λ v. list_all (λ d. d == 0) (residuals s (s.block * b) p v)) all) ∙ h)
     zero_pattern b p (suc (suc n)) xs e len h =
-        sym (ap (λ v. pattern s v) (last_behind p s.block xs)) ∙ zero_pattern (b + 1) (last_of p (take s.block xs)) (suc n) (drop s.block xs) e (omega (arith, length-drop s.block xs)) h
+        sym (ap (λ v. pattern s v) (last_after p s.block xs)) ∙ zero_pattern (b + 1) (last_of p (take s.block xs)) (suc n) (drop s.block xs) e (omega (arith, length-drop s.block xs)) h

@@ -16,7 +16,7 @@ all_take P zero xs h = tt
 all_take P (suc n) [] h = tt
 all_take P (suc n) (x ∷ xs) h = (h.0, all_take P n xs h.1)
 
--- and of those behind them
+-- and of those after them
 pub all_drop : {X : Type 0} (P : X → Type 0) (n : ℕ) (xs : List X) → AllByRecursion P xs → AllByRecursion P (drop n xs)
 all_drop P zero xs h = h
 all_drop P (suc n) [] h = tt
@@ -88,8 +88,8 @@ pub filled_len : (s : Parameters) (p : ℤ) (xs : List ℤ) → 1 ≤ s.block �
 filled_len s p xs j = length-append xs _ ∙ (ap (λ n. length xs + n) (length-replicate (next_multiple_of (length xs) s.block - length xs) (last_of p xs)) ∙ filled_to_whole_blocks s.block (length xs) j)
 
 -- so the blocks of legal samples, of which the last is filled, are sound from any block on
-pub blocks_sound_behind : (s : Parameters) (b : ℕ) (p : ℤ) (xs : List ℤ) → IsLegal s → 1 ≤ s.block → IsSample s p → Samples s xs → AreSoundBlocks s b (blocks_of s b p xs)
-blocks_sound_behind s b p xs legal j h k =
+pub blocks_sound_after : (s : Parameters) (b : ℕ) (p : ℤ) (xs : List ℤ) → IsLegal s → 1 ≤ s.block → IsSample s p → Samples s xs → AreSoundBlocks s b (blocks_of s b p xs)
+blocks_sound_after s b p xs legal j h k =
     blocks_sound b p (block_count s (length xs)) (filled_samples s p xs) legal j h
     (all_append (IsSample s) xs _ k (all_replicate (IsSample s) _ (last_of p xs) (last_legal s p xs h k))) (filled_len s p xs j)
 
@@ -97,7 +97,7 @@ blocks_sound_behind s b p xs legal j h k =
 pub code_is_bounded : (s : Parameters) → IsLegal s → (b : ℕ) (p : ℤ) (xs : List ℤ) → IsSample s p → All (IsSample s) xs → bits_from s b p xs ≤ bit_bound s (length xs)
 code_is_bounded s legal b p xs h k =
     let j : 1 ≤ s.block = grind (arith, legal.block) in
-    let bound = blocks_are_bounded s b false (blocks_of s b p xs) legal (blocks_sound_behind s b p xs legal j h (recursion_from_All (IsSample s) xs k)) in
+    let bound = blocks_are_bounded s b false (blocks_of s b p xs) legal (blocks_sound_after s b p xs legal j h (recursion_from_All (IsSample s) xs k)) in
     let n = count_blocks s b p (block_count s (length xs)) (filled_samples s p xs) in
     at _ _ _ _ bound n
   where

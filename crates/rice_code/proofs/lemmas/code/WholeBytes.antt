@@ -2,7 +2,7 @@
 use Rattle.std.proofs.Common.{arith, ◌≡◌, ℕ, suc, ◌*◌, Bool, List, [], ◌∷◌, ◌++◌, length, refl, ap}
 use Rattle.rice_bits.specs.Bits.{number_of, whole_bytes}
 
--- the whole bytes of bits behind those of whole bytes are these bytes, and then those of the bits by themselves
+-- the whole bytes of bits after those of whole bytes are these bytes, and then those of the bits by themselves
 pub whole-append : (m : ℕ) (a b : List Bool) → length a ≡ 8 * m → whole_bytes (a ++ b) ≡ whole_bytes a ++ whole_bytes b
 unfolding whole_bytes
 whole-append m [] b h = refl

@@ -4,8 +4,8 @@ use Rattle.rice_code.proofs.Words.{AllByRecursion, nat_tests, All-from_recursion
 use Rattle.rice_code.proofs.Words.{AddedCodeIsBounded, SetsAreBounded, BlockData, is_zero_block, code, code_from, data_sets, sets_of, CodedDataSet, bits_of_set, cost, run_number, IsReference}
 use Rattle.rice_code.proofs.Words.{RunIsSound, zero_run, run_len, AreSoundBlocks}
 use Rattle.rice_code.proofs.lemmas.{code.CodeGoesOn.code_goes_on, cost.BlockBounds.shortest_bound, cost.BlockBounds.reference_bound, cost.CostIsLength.cost_is_length}
-use Rattle.rice_code.proofs.lemmas.{cost.PaddingBounds.padding_behind_is_bounded, meaning.SentSetsAreTaken.zero_run_is_sound}
-use Rattle.rice_code.proofs.lemmas.code.SoundBlocks.{blocks_sound_behind, code_is_bounded, last_legal}
+use Rattle.rice_code.proofs.lemmas.{cost.PaddingBounds.padding_after_is_bounded, meaning.SentSetsAreTaken.zero_run_is_sound}
+use Rattle.rice_code.proofs.lemmas.code.SoundBlocks.{blocks_sound_after, code_is_bounded, last_legal}
 use Rattle.rice_code.proofs.lemmas.meaning.CoveredBlocks.{bool_cases, skipped, data_sets_plain, data_sets_start, data_sets_inside, zero_run_is, run_cons}
 
 -- After whole segments other samples add at most so many bits, all padding included.
@@ -25,7 +25,7 @@ added_code_is_bounded s legal xs ys h k whole =
     let sample = last_legal s (pos 0) xs zero (recursion_from_All (IsSample s) xs h) in
     let more = code_from s (0 + b) (0 + length (code s xs)) p ys in
     let size : length (code s (xs ++ ys)) ≡ length (code s xs) + length more = ap length goes ∙ length-append (code s xs) more in
-    omega (arith, size, padding_behind_is_bounded s legal (0 + b) (0 + length (code s xs)) p ys sample k, code_is_bounded s legal (0 + b) p ys sample k)
+    omega (arith, size, padding_after_is_bounded s legal (0 + b) (0 + length (code s xs)) p ys sample k, code_is_bounded s legal (0 + b) p ys sample k)
 
 -- the number of a run's codeword is at most that of its blocks
 few_zeros : (z : ℕ) → run_number z ≤ z
@@ -44,21 +44,21 @@ run_fits s b w r cs legal h e =
       | inr f ↦ omega (arith, len, ap (cost s) f.0, ref)
     ]
 
-sets_fit : (s : Parameters) (b : ℕ) (behind : Bool) (cs : List BlockData) → IsLegal s → AreSoundBlocks s b cs → AllByRecursion (λ d. length (bits_of_set s d) ≤ set_bound s) (data_sets s b behind cs)
-sets_fit s b behind [] legal k = tt
-sets_fit s b behind (c ∷ cs) legal k =
+sets_fit : (s : Parameters) (b : ℕ) (after : Bool) (cs : List BlockData) → IsLegal s → AreSoundBlocks s b cs → AllByRecursion (λ d. length (bits_of_set s d) ≤ set_bound s) (data_sets s b after cs)
+sets_fit s b after [] legal k = tt
+sets_fit s b after (c ∷ cs) legal k =
     let P : List CodedDataSet → Type 0 = AllByRecursion (λ d. length (bits_of_set s d) ≤ set_bound s) in
     elim (bool_cases (is_zero_block c)) [
       | inr z ↦
           let one = shortest_bound s b c (omega (arith, legal.block)) k.0 in
-          subst P (sym (data_sets_plain s b behind c cs z)) (omega (arith, one), sets_fit s (b + 1) false cs legal k.1)
+          subst P (sym (data_sets_plain s b after c cs z)) (omega (arith, one), sets_fit s (b + 1) false cs legal k.1)
       | inl z ↦
           let rest = sets_fit s (b + 1) true cs legal k.1 in
-          elim (bool_cases (behind && not (begins_segment s b))) [
-            | inl go ↦ subst P (sym (data_sets_inside s b behind c cs z go)) rest
+          elim (bool_cases (after && not (begins_segment s b))) [
+            | inl go ↦ subst P (sym (data_sets_inside s b after c cs z go)) rest
             | inr stop ↦
                 let one = run_fits s b (skipped s (b + 1) true cs) c.reference (c ∷ cs) legal k.0.block.reference (run_cons s b c cs legal.interval_from z) in
-                subst P (sym (data_sets_start s b behind c cs z stop)) (one, rest)
+                subst P (sym (data_sets_start s b after c cs z stop)) (one, rest)
           ]
     ]
 
@@ -66,5 +66,5 @@ sets_fit s b behind (c ∷ cs) legal k =
 pub sets_are_bounded : SetsAreBounded
 sets_are_bounded s legal xs k =
     let j : 1 ≤ s.block = omega (arith, legal.block) in
-    let sound = blocks_sound_behind s 0 (pos 0) xs legal j (zero_is_sample s legal.bits_from) (recursion_from_All (IsSample s) xs k) in
+    let sound = blocks_sound_after s 0 (pos 0) xs legal j (zero_is_sample s legal.bits_from) (recursion_from_All (IsSample s) xs k) in
     All-from_recursion (λ d. length (bits_of_set s d) ≤ set_bound s) (sets_of s xs) (sets_fit s 0 false _ legal sound)

@@ -10,7 +10,7 @@ use Rattle.rice_code.proofs.lemmas.meaning.CoveredBlocks.{best_keeps, bool_cases
 use Rattle.rice_code.proofs.lemmas.cost.SplitSavings.{coded_sum, best_where_it_stops, best_where_it_ends, first_more}
 use Rattle.rice_code.proofs.lemmas.{encode.ChoiceLemmas.best_split_is, encode.PushedCode.blocks_go_on, code.CodeGoesOn.bits_go_on}
 use Rattle.rice_code.proofs.lemmas.encode.SegmentBlocksInTurn.{most_of_one, looks_zero, sound_of, shortest_len}
-use Rattle.rice_code.proofs.lemmas.code.SoundBlocks.{blocks_sound_behind, count_blocks, last_legal, code_is_bounded}
+use Rattle.rice_code.proofs.lemmas.code.SoundBlocks.{blocks_sound_after, count_blocks, last_legal, code_is_bounded}
 
 none_above : (n : ℕ) (ds : List ℕ) → AllByRecursion (λ d. d < 2 ^ n) ds → cut_sum ds n ≡ 0
 none_above n [] h = omega arith
@@ -155,10 +155,10 @@ looks_are_paid s c legal h =
     [ true ↦ omega arith | false ↦ omega (arith, pays, named, m) ]
 
 -- so are those of several blocks: a run's bits are not even needed
-looks_of_all_are_paid : (s : Parameters) (b : ℕ) (behind : Bool) (cs : List BlockData) → IsLegal s → AreSoundBlocks s b cs →
-    sum_by (most_looks s) cs ≤ sum_by (λ d. length (bits_of_set s d)) (data_sets s b behind cs) + length cs * (6 * s.block)
-looks_of_all_are_paid s b behind [] legal h = omega arith
-looks_of_all_are_paid s b behind (c ∷ cs) legal h =
+looks_of_all_are_paid : (s : Parameters) (b : ℕ) (after : Bool) (cs : List BlockData) → IsLegal s → AreSoundBlocks s b cs →
+    sum_by (most_looks s) cs ≤ sum_by (λ d. length (bits_of_set s d)) (data_sets s b after cs) + length cs * (6 * s.block)
+looks_of_all_are_paid s b after [] legal h = omega arith
+looks_of_all_are_paid s b after (c ∷ cs) legal h =
     let bits = λ (ds : List CodedDataSet). sum_by (λ d. length (bits_of_set s d)) ds in
     let rest = data_sets s (b + 1) (is_zero_block c) cs in
     let ih = looks_of_all_are_paid s (b + 1) (is_zero_block c) cs legal h.1 in
@@ -168,12 +168,12 @@ looks_of_all_are_paid s b behind (c ∷ cs) legal h =
     elim (bool_cases (is_zero_block c)) [
       | inl z ↦
           let looks = looks_zero s c z in
-          let at = sum_by-append (λ d. length (bits_of_set s d)) (data_set_at s b behind c cs) rest in
+          let at = sum_by-append (λ d. length (bits_of_set s d)) (data_set_at s b after c cs) rest in
           omega (arith, ih, one, more, looks.1, at)
       | inr z ↦
           let paid = looks_are_paid s c legal (sound_of s b c h.0) in
           let len = shortest_len s b c j h.0 in
-          let at = ap bits (data_sets_plain s b behind c cs z) in
+          let at = ap bits (data_sets_plain s b after c cs z) in
           let sum = sum_by-cons (λ d. length (bits_of_set s d)) (shortest s c) (data_sets s (b + 1) false cs) in
           let same = ap (λ v. bits (data_sets s (b + 1) v cs)) z in
           omega (arith, ih, one, more, paid, len, at, sum, same)
@@ -187,10 +187,10 @@ looks_are_few s (c ∷ cs) =
     omega (arith, one, looks_are_few s cs, most_of_one s c)
 
 -- what coding some samples after whole segments takes
-behind_whole : (s : Parameters) → IsLegal s → (blocks : ℕ) (xs ys : List ℤ) → length xs ≡ s.block * blocks → begins_segment s blocks ≡ true →
+after_whole : (s : Parameters) → IsLegal s → (blocks : ℕ) (xs ys : List ℤ) → length xs ≡ s.block * blocks → begins_segment s blocks ≡ true →
     (code_bits s (xs ++ ys) ≡ code_bits s xs + bits_from s blocks (last_of (pos 0) xs) ys) ×
     (most_looks_at s (xs ++ ys) ≡ most_looks_at s xs + sum_by (most_looks s) (blocks_of s blocks (last_of (pos 0) xs) ys))
-behind_whole s legal q xs ys len begins =
+after_whole s legal q xs ys len begins =
     let j : 1 ≤ s.block = grind (arith, legal.block) in
     let here : 0 + q ≡ q = omega arith in
     let p = last_of (pos 0) xs in (
@@ -205,7 +205,7 @@ pub steps_are_bounded : (s : Parameters) → IsLegal s → (blocks : ℕ) (xs ys
 steps_are_bounded s legal q xs ys h k len begins =
     let p = last_of (pos 0) xs in
     let sample = last_legal s (pos 0) xs (zero_is_sample s legal.bits_from) (recursion_from_All (IsSample s) xs h) in
-    let parts = behind_whole s legal q xs ys len begins in
+    let parts = after_whole s legal q xs ys len begins in
     let bits = code_is_bounded s legal q p ys sample k in
     let n = block_count s (length ys) in
     let count = count_blocks s q p n (filled_samples s p ys) in
@@ -224,10 +224,10 @@ steps_are_paid s legal q xs ys h k len begins =
     let p = last_of (pos 0) xs in
     let j : 1 ≤ s.block = grind (arith, legal.block) in
     let sample = last_legal s (pos 0) xs (zero_is_sample s legal.bits_from) (recursion_from_All (IsSample s) xs h) in
-    let parts = behind_whole s legal q xs ys len begins in
+    let parts = after_whole s legal q xs ys len begins in
     let n = block_count s (length ys) in
     let count = count_blocks s q p n (filled_samples s p ys) in
-    let sound = blocks_sound_behind s q p ys legal j sample (recursion_from_All (IsSample s) ys k) in
+    let sound = blocks_sound_after s q p ys legal j sample (recursion_from_All (IsSample s) ys k) in
     let looks = looks_of_all_are_paid s q false (blocks_of s q p ys) legal sound in
     sums n s.block _ _ _ _ _ _ _ parts.0 parts.1 looks count
   where
@@ -248,7 +248,7 @@ all_steps_are_bounded s legal xs k =
     let count = count_blocks s 0 p n (filled_samples s p xs) in
     let bits = code_is_bounded s legal 0 p xs zero k in
     let looks = looks_are_few s (blocks_of s 0 p xs) in
-    let paid = looks_of_all_are_paid s 0 false (blocks_of s 0 p xs) legal (blocks_sound_behind s 0 p xs legal j zero (recursion_from_All (IsSample s) xs k)) in
+    let paid = looks_of_all_are_paid s 0 false (blocks_of s 0 p xs) legal (blocks_sound_after s 0 p xs legal j zero (recursion_from_All (IsSample s) xs k)) in
     (few n (block_bound s) s.block (k_max s) _ _ _ bits looks count, by_bits n s.block _ _ _ paid count)
   where
     few : (n bound j k b looks len : ℕ) → b ≤ n * bound → looks ≤ len * (j * (k + 5)) → len ≡ n → j * n + (b + looks) ≤ n * (bound + j * (k + 6))

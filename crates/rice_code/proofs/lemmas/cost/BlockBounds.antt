@@ -90,12 +90,12 @@ text_bits_cons : (s : Parameters) (d : CodedDataSet) (ds : List CodedDataSet) �
 text_bits_cons s d ds = sum_by-cons (λ d. length (bits_of_set s d)) d ds
 
 -- the code of blocks, where those that are skipped have been paid for
-pub blocks_are_bounded : (s : Parameters) (b : ℕ) (behind : Bool) (cs : List BlockData) → IsLegal s → AreSoundBlocks s b cs →
-    text_bits s (data_sets s b behind cs) + skipped s b behind cs * block_bound s ≤ length cs * block_bound s
-blocks_are_bounded s b behind [] legal k = let e = skipped_nil s b behind in let f = ap (λ n. n * block_bound s) e in omega arith
-blocks_are_bounded s b behind (c ∷ cs) legal k =
+pub blocks_are_bounded : (s : Parameters) (b : ℕ) (after : Bool) (cs : List BlockData) → IsLegal s → AreSoundBlocks s b cs →
+    text_bits s (data_sets s b after cs) + skipped s b after cs * block_bound s ≤ length cs * block_bound s
+blocks_are_bounded s b after [] legal k = let e = skipped_nil s b after in let f = ap (λ n. n * block_bound s) e in omega arith
+blocks_are_bounded s b after (c ∷ cs) legal k =
     let m = block_bound s in
-    let at = λ (n : ℕ) (ds : List CodedDataSet) (e : skipped s b behind (c ∷ cs) ≡ n) (f : data_sets s b behind (c ∷ cs) ≡ ds) (g : text_bits s ds + n * m ≤ suc (length cs) * m).
+    let at = λ (n : ℕ) (ds : List CodedDataSet) (e : skipped s b after (c ∷ cs) ≡ n) (f : data_sets s b after (c ∷ cs) ≡ ds) (g : text_bits s ds + n * m ≤ suc (length cs) * m).
     let p = ap (λ n. n * m) e in let q = ap (λ ds. text_bits s ds) f in goal_from _ _ _ _ _ p q g in
     let j : 1 ≤ s.block = grind (arith, legal.block) in
     elim (bool_cases (is_zero_block c)) [
@@ -104,17 +104,17 @@ blocks_are_bounded s b behind (c ∷ cs) legal k =
           let rest = data_sets s (b + 1) false cs in
           let one = shortest_bound s b c j k.0 in
           let two = text_bits_cons s (shortest s c) rest in
-          at 0 (shortest s c ∷ rest) (skipped_plain s b behind c cs legal.interval_from z) (data_sets_plain s b behind c cs z) (sums_plain _ _ _ _ m one two ih)
+          at 0 (shortest s c ∷ rest) (skipped_plain s b after c cs legal.interval_from z) (data_sets_plain s b after c cs z) (sums_plain _ _ _ _ m one two ih)
       | inl z ↦
           let ih = blocks_are_bounded s (b + 1) true cs legal k.1 in
           let w = skipped s (b + 1) true cs in
           let rest = data_sets s (b + 1) true cs in
-          elim (bool_cases (behind && not (begins_segment s b))) [
-            | inl go ↦ at (suc w) rest (skipped_go s b behind c cs legal.interval_from z go) (data_sets_inside s b behind c cs z go) (sums_inside _ w _ m ih)
+          elim (bool_cases (after && not (begins_segment s b))) [
+            | inl go ↦ at (suc w) rest (skipped_go s b after c cs legal.interval_from z go) (data_sets_inside s b after c cs z go) (sums_inside _ w _ m ih)
             | inr stop ↦
                 let one = run_bound s b w c.reference (c ∷ cs) legal k.0.block.reference (run_cons s b c cs legal.interval_from z) in
                 let two = text_bits_cons s (zero_run s b c.reference (c ∷ cs)) rest in
-                at 0 (zero_run s b c.reference (c ∷ cs) ∷ rest) (skipped_stop s b behind (c ∷ cs) stop) (data_sets_start s b behind c cs z stop) (sums_start _ _ _ w _ m one two ih)
+                at 0 (zero_run s b c.reference (c ∷ cs) ∷ rest) (skipped_stop s b after (c ∷ cs) stop) (data_sets_start s b after c cs z stop) (sums_start _ _ _ w _ m one two ih)
           ]
     ]
   where

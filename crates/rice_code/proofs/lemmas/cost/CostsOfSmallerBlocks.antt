@@ -25,7 +25,7 @@ pub at_most_itself : (xs : List ℕ) → AreAtMost xs xs
 at_most_itself [] = tt
 at_most_itself (x ∷ xs) = (omega arith, at_most_itself xs)
 
--- of blocks, and the same with more behind them, each is at most the one at its place
+-- of blocks, and the same with more after them, each is at most the one at its place
 pub begin_with : (cs more : List BlockData) → BeginAtMost cs (cs ++ more)
 begin_with [] more = tt
 begin_with (c ∷ cs) more = (record { reference = refl; residuals = at_most_itself c.residuals }, begin_with cs more)

@@ -73,7 +73,7 @@ record RunSet (s : Parameters) (b n number : ℕ) (r : Option ℕ) (d : CodedDat
   blocks : blocks_in s b d ≡ zero_blocks s r n
 
 -- what follows a data set ends no later than the others do
-record OthersBehind (s : Parameters) (fill : ℕ → ℕ → ℕ) (b end q others : ℕ) (ys : List BlockData) (d : CodedDataSet) : Type 0 where
+record OthersAfter (s : Parameters) (fill : ℕ → ℕ → ℕ) (b end q others : ℕ) (ys : List BlockData) (d : CodedDataSet) : Type 0 where
   ends : fill (block_after s b d) (q + length (bits_of_set s d)) ≤ others
   rest : ((rest : List BlockData) (position : ℕ) → BeginAtMost rest ys → end ≡ block_after s b d + length rest → position ≤ fill (block_after s b d) (q + length (bits_of_set s d))
       → code_end s fill end (block_after s b d) position (data_sets s (block_after s b d) false rest) ≤ others)
@@ -81,18 +81,18 @@ record OthersBehind (s : Parameters) (fill : ℕ → ℕ → ℕ) (b end q other
 -- a run, and other coded data sets after it
 by_set : {s : Parameters} {fill : ℕ → ℕ → ℕ} {b end p q n number others : ℕ} {r : Option ℕ} (cs : List BlockData) {ys : List BlockData} (d : CodedDataSet) →
     IsLegal s → IsFill s fill → RunSet s b n number r d →
-    end ≡ b + length cs → p ≤ q → BeginAtMost cs (zero_blocks s r n ++ ys) → OthersBehind s fill b end q others ys d →
+    end ≡ b + length cs → p ≤ q → BeginAtMost cs (zero_blocks s r n ++ ys) → OthersAfter s fill b end q others ys d →
     code_end s fill end b p (data_sets s b false cs) ≤ others
-by_set {s} {fill} {b} {end} {p} {q} {n} {number} {others} {r} cs {ys} d legal is run e begins below behind =
+by_set {s} {fill} {b} {end} {p} {q} {n} {number} {others} {r} cs {ys} d legal is run e begins below following =
     let next : block_after s b d ≡ b + 1 + (n - 1) = omega (arith, ap length run.blocks, length-replicate (n - 1) (zero_block s None)) in
     let count : n ≡ suc (n - 1) = omega (arith, run.some) in
     let theirs = id_len s + 2 + reference_len s r + number in
     let bits = length (bits_of_set s d) in
-    let first = subst (λ (m : ℕ). fill m (q + theirs) ≤ others) next (subst (λ (m : ℕ). fill (block_after s b d) (q + m) ≤ others) run.bits behind.ends) in
+    let first = subst (λ (m : ℕ). fill m (q + theirs) ≤ others) next (subst (λ (m : ℕ). fill (block_after s b d) (q + m) ≤ others) run.bits following.ends) in
     let after = subst (λ (m : ℕ). (rest : List BlockData) (position : ℕ) → BeginAtMost rest ys → end ≡ m + length rest → position ≤ fill m (q + theirs)
     → code_end s fill end m position (data_sets s m false rest) ≤ others) next
     (subst (λ (t : ℕ). (rest : List BlockData) (position : ℕ) → BeginAtMost rest ys → end ≡ block_after s b d + length rest
-    → position ≤ fill (block_after s b d) (q + t) → code_end s fill end (block_after s b d) position (data_sets s (block_after s b d) false rest) ≤ others) run.bits behind.rest) in
+    → position ≤ fill (block_after s b d) (q + t) → code_end s fill end (block_after s b d) position (data_sets s (block_after s b d) false rest) ≤ others) run.bits following.rest) in
     by_run r cs ys is (record {
       interval = legal.interval_from;
       inside = omega (arith, run.some, run.inside);

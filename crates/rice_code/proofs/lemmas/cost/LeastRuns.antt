@@ -58,7 +58,7 @@ record ZeroBlockFirst (s : Parameters) (b end : ℕ) (c : BlockData) (cs : List 
   zero : is_zero_block c ≡ true
   end_is : end ≡ b + suc (length cs)
 
--- behind the last block of its run that there is
+-- after the last block of its run that there is
 run_laid : (s : Parameters) (fill : ℕ → ℕ → ℕ) (b : ℕ) {end : ℕ} (p : ℕ) (r : Option ℕ) (c : BlockData) (cs : List BlockData) → ZeroBlockFirst s b end c cs →
     code_end s fill end b p (zero_run s b r (c ∷ cs) ∷ data_sets s (b + 1) true cs)
     ≡ (let next = b + run_len s b (c ∷ cs) in code_end s fill end next (fill next (p + length (bits_of_set s (zero_run s b r (c ∷ cs))))) (data_sets s (b + 1) true cs))
@@ -69,14 +69,14 @@ run_laid s fill b {end} p r c cs first =
     let later = data_sets s (b + 1) true cs in
     let count = run_cons s b c cs first.interval first.zero in
     let few : z ≤ suc (length cs) = omega (arith, prefix_len-le-length is_zero_block (take (blocks_left s b) (c ∷ cs)), length-take (blocks_left s b) (c ∷ cs)) in
-    let behind = λ (n : ℕ) (f : block_after s b run ≡ b + length (zero_blocks s r n)) (g : z ≡ n).
+    let after = λ (n : ℕ) (f : block_after s b run ≡ b + length (zero_blocks s r n)) (g : z ≡ n).
     (let next : block_after s b run ≡ b + z = omega (arith, f, g, count, length-replicate (n - 1) (zero_block s None)) in
     let last : min end (block_after s b run) ≡ b + z = omega (arith, next, few, first.end_is) in
     ap (λ n. code_end s fill end n (fill (min end (block_after s b run)) bits) later) next ∙ ap (λ n. code_end s fill end (b + z) (fill n bits) later) last) in
     elim (zero_run_is s b r (c ∷ cs)) [
-      | inl f ↦ behind z (ap (block_after s b) f) refl
+      | inl f ↦ after z (ap (block_after s b) f) refl
       | inr f ↦ elim f.1 [
-        | inl full ↦ behind (blocks_left s b) (ap (block_after s b) f.0) full
+        | inl full ↦ after (blocks_left s b) (ap (block_after s b) f.0) full
         | inr all ↦
             let none = nothing_more s (b + 1) cs first.interval (omega (arith, count, all)) in
             let last : min end (block_after s b run) ≡ b + z = omega
@@ -222,7 +222,7 @@ run_splits s (suc w) (c ∷ cs) ys h =
     ]
 
 -- what follows a run ends no later than the others do
-pub record OthersBehindRun (s : Parameters) (fill : ℕ → ℕ → ℕ) (b end q w number others : ℕ) (r : Option ℕ) (ys : List BlockData) : Type 0 where
+pub record OthersAfterRun (s : Parameters) (fill : ℕ → ℕ → ℕ) (b end q w number others : ℕ) (r : Option ℕ) (ys : List BlockData) : Type 0 where
   pub ends : fill (b + 1 + w) (q + run_bits s r number) ≤ others
   pub rest : ((rest : List BlockData) (position : ℕ) → BeginAtMost rest ys → end ≡ b + 1 + w + length rest → position ≤ fill (b + 1 + w) (q + run_bits s r number)
       → code_end s fill end (b + 1 + w) position (data_sets s (b + 1 + w) false rest) ≤ others)
@@ -230,10 +230,10 @@ pub record OthersBehindRun (s : Parameters) (fill : ℕ → ℕ → ℕ) (b end 
 -- blocks that another code begins with a run, where the coder's choice for those after the run ends no later than the other code
 pub by_run : {s : Parameters} {fill : ℕ → ℕ → ℕ} {b end p q w number others : ℕ} (r : Option ℕ) (cs ys : List BlockData) →
     IsFill s fill → LeastRun s b (suc w) number → end ≡ b + length cs → p ≤ q →
-    BeginAtMost cs (zeros_and s r w ys) → OthersBehindRun s fill b end q w number others r ys →
+    BeginAtMost cs (zeros_and s r w ys) → OthersAfterRun s fill b end q w number others r ys →
     code_end s fill end b p (data_sets s b false cs) ≤ others
-by_run {s} {b} {q} {w} {number} r [] ys is run e begins below behind = omega (arith, begins, is.more (b + 1 + w) (q + run_bits s r number), behind.ends)
-by_run {s} {fill} {b} {end} {p} {q} {w} {number} {others} r (c ∷ cs) ys is run e begins below behind =
+by_run {s} {b} {q} {w} {number} r [] ys is run e begins below after = omega (arith, begins, is.more (b + 1 + w) (q + run_bits s r number), after.ends)
+by_run {s} {fill} {b} {end} {p} {q} {w} {number} {others} r (c ∷ cs) ys is run e begins below after =
     let first = zero_at_most s r c below.0 in
     let sent = λ (l : List BlockData). code_end s fill end b p (data_sets s b false l) in
     elim (run_splits s w cs ys below.1) [
@@ -241,10 +241,10 @@ by_run {s} {fill} {b} {end} {p} {q} {w} {number} {others} r (c ∷ cs) ys is run
           let same = go.1 in
           let all : c ∷ cs ≡ zeros_and s r w go.0 = λ i. first i ∷ same i in
           let len : end ≡ b + 1 + w + length go.0 = omega (arith, e, ap length all, front_len s w r go.0) in
-          omega (arith, ap sent all, run_and_more b number r go.0 is run len begins (λ position least. behind.rest go.0 position go.2 len least))
+          omega (arith, ap sent all, run_and_more b number r go.0 is run len begins (λ position least. after.rest go.0 position go.2 len least))
       | inr stop ↦
           let same = stop.2 ∙ sym (append-nil (replicate stop.0 (zero_block s None))) in
           let all : c ∷ cs ≡ zeros_and s r stop.0 [] = λ i. first i ∷ same i in
           let len : end ≡ b + suc stop.0 = omega (arith, e, ap length all, front_len s stop.0 r []) in
-          omega (arith, ap sent all, last_run b number r is run (omega (arith, stop.1)) len begins, is.more (b + 1 + w) (q + run_bits s r number), behind.ends)
+          omega (arith, ap sent all, last_run b number r is run (omega (arith, stop.1)) len begins, is.more (b + 1 + w) (q + run_bits s r number), after.ends)
     ]

@@ -6,7 +6,7 @@ use Rattle.rice_code.proofs.Words.{div-mul-add, Parameters, IsLegal, IsSample, p
 use Rattle.rice_code.proofs.Words.{BlockData, blocks_of, zero_block, bits_of_set, blocks_in_all, sets_from, code, code_from, code_bits, bits_from, AreTaken, padding_bound, AreSoundBlocks}
 use Rattle.rice_code.proofs.lemmas.meaning.CoveredBlocks.{bool_cases, GoOn, AreBlocks, covers_blocks}
 use Rattle.rice_code.proofs.lemmas.code.Layouts.{BeginBefore, laid_plain, laid_bound}
-use Rattle.rice_code.proofs.lemmas.{meaning.SentSetsAreTaken.are_taken, meaning.SentSetsAreTaken.begin_before, code.SoundBlocks.count_blocks, code.SoundBlocks.blocks_sound_behind}
+use Rattle.rice_code.proofs.lemmas.{meaning.SentSetsAreTaken.are_taken, meaning.SentSetsAreTaken.begin_before, code.SoundBlocks.count_blocks, code.SoundBlocks.blocks_sound_after}
 
 -- sound blocks are blocks
 pub are_blocks : (s : Parameters) (b : ℕ) (cs : List BlockData) → AreSoundBlocks s b cs → AreBlocks s b cs
@@ -17,7 +17,7 @@ are_blocks s b (c ∷ cs) h = (h.0.block, are_blocks s (b + 1) cs h.1)
 pub interval_begins_segment : (s : Parameters) (b : ℕ) → place s b ≡ 0 → begins_segment s b ≡ true
 interval_begins_segment s b e = grind (arith, nat_tests)
 
--- behind blocks that begin no segment no more intervals are complete than were begun before them
+-- after blocks that begin no segment no more intervals are complete than were begun before them
 pub inside_interval : (s : Parameters) (b n : ℕ) → 1 ≤ s.interval → GoOn s b n → (b + n) / s.interval ≤ div_ceil b s.interval
 inside_interval s b zero h k = let e : b + 0 ≡ b = omega arith in let f = ap (λ m. m / s.interval) e in omega arith
 inside_interval s b (suc n) h k =
@@ -55,7 +55,7 @@ sets_begin s b p xs legal h k =
     let j : 1 ≤ s.block = grind (arith, legal.block) in
     let n = block_count s (length xs) in
     let cs = blocks_of s b p xs in
-    let sound = blocks_sound_behind s b p xs legal j h (recursion_from_All (IsSample s) xs k) in
+    let sound = blocks_sound_after s b p xs legal j h (recursion_from_All (IsSample s) xs k) in
     let count : length cs ≡ n = count_blocks s b p n (filled_samples s p xs) in
     let here : b + 0 ≡ b = omega arith in
     let taken = are_taken s (Some (s.block * (b + n))) b false cs legal.interval_from sound
@@ -73,7 +73,7 @@ padding_from s legal b position p xs h k =
     let count = block_count s (length xs) in
     let cs = blocks_of s b p xs in
     let sets = sets_from s b p xs in
-    let sound = blocks_sound_behind s b p xs legal j h (recursion_from_All (IsSample s) xs k) in
+    let sound = blocks_sound_after s b p xs legal j h (recursion_from_All (IsSample s) xs k) in
     let cover = covers_blocks s b false cs legal.interval_from (are_blocks s b cs sound) in
     let n : length cs ≡ count = count_blocks s b p count (filled_samples s p xs) in
     elim (bool_cases s.pad) [
@@ -111,9 +111,9 @@ padding_is_bounded s legal xs k =
     omega (arith, l, same)
 
 -- after other blocks an interval may end that they have begun
-pub padding_behind_is_bounded : (s : Parameters) → IsLegal s → (b position : ℕ) (p : ℤ) (xs : List ℤ) → IsSample s p → All (IsSample s) xs →
+pub padding_after_is_bounded : (s : Parameters) → IsLegal s → (b position : ℕ) (p : ℤ) (xs : List ℤ) → IsSample s p → All (IsSample s) xs →
     length (code_from s b position p xs) ≤ bits_from s b p xs + padding_bound s (length xs) + cond s.pad 7 0
-padding_behind_is_bounded s legal b position p xs h k =
+padding_after_is_bounded s legal b position p xs h k =
     let count = block_count s (length xs) in
     by_pad s.pad (length (code_from s b position p xs)) (bits_from s b p xs) (b / s.interval) (div_ceil (b + count) s.interval) (interval_count s (length xs))
     (ends b count s.interval legal.interval_from) (padding_from s legal b position p xs h k)

@@ -45,13 +45,13 @@ pub block_given : {I : Type 0} {old new : Reader I} {first last : ℕ} {s : Para
     → TakesSet old new first last s b p samples 0
 block_given p head samples {items} read sound len legal says =
     let d = read.tells in
-    let told = d.told sound in
-    let same : block_with head.reference items ≡ d.contents = (λ i. record { reference = sym d.reference_is i; residuals = sym told.3 i }) in
+    let reported = d.reported sound in
+    let same : block_with head.reference items ≡ d.contents = (λ i. record { reference = sym d.reference_is i; residuals = sym reported.3 i }) in
     record {
       set = read.set;
       form = read.form;
       run_sound = d.run;
-      residuals_sound = told.0;
+      residuals_sound = reported.0;
       takes = read.takes;
       gives = record {
         len = len;
@@ -93,7 +93,7 @@ run_goes_on s b run legal h pos le = by_begin (begins_segment s (b + 1)) refl
         let same : next_block_place s b ≡ b + 1 = grind (arith, nat_tests) in
         (ap (λ n. begins_segment s n) same ∙ e, rw same (omega arith))
 
--- Behind a block a decoder's state is sound again, if its last sample is legal, the segment has room for the run that is left, and no block stopped it.
+-- After a block a decoder's state is sound again, if its last sample is legal, the segment has room for the run that is left, and no block stopped it.
 pub place_moves : {s : Parameters} {b next : ℕ} (run : ℕ) (last : ℤ) (stopped : Option (Result Step CodeFault)) → IsLegal s → b < s.interval
     → next ≡ next_block_place s b → IsSample s last → (0 < run → run + 1 ≤ blocks_left s b) → stopped ≢ Some (Ok Block) → IsDecoderState s next last run stopped
 place_moves {s} {b} run last stopped legal h e sample more no_block = record {
@@ -158,7 +158,7 @@ place_on s b n h k = elim (cases_lt (b + 1) s.interval) [
       first ∙ (sym second ∙ ap (λ m. place_after s m n) (sym zero_is)))
 ]
 
--- a decoder behind some blocks of a run
+-- a decoder after some blocks of a run
 pub record PassedBlocks (count : ℕ) (s : Parameters) (b next run : ℕ) (p : ℤ) (stopped : Option (Result Step CodeFault)) : Type 0 where
   pub state : IsDecoderState s next p (run - count) stopped
   pub passes : RepeatsBlocks count (record { setting = s; block = b; before = p; run = run; stopped = stopped })
@@ -220,7 +220,7 @@ few_blocks s b (RemainderOfSegment r) legal form run =
     let left = some_left s b legal.interval_from in
     omega (arith, run_bits s r 4, n, left.0, left.1)
 
--- the samples that are given and wait are bounded by the bits
+-- the samples that are given and pending are bounded by the bits
 pub samples_by_bits : {I : Type 0} {old new : Reader I} {first last : ℕ} {s : Parameters} {b : ℕ} {p : ℤ} {samples : List ℤ} {run : ℕ}
     → IsLegal s → TakesSet old new first last s b p samples run → length samples + run * s.block ≤ 456 * (new.taken - old.taken)
 samples_by_bits {old} {new} {s} {b} {run} legal given =
@@ -236,7 +236,7 @@ cut_at_end : {I : Type 0} (old new : Reader I) (first last : ℕ) (s : Parameter
     → SetCut old new first last s b (bit_faults.End blank) → SetEnds old new first last s b blank
 cut_at_end old new first last s b blank h cut = record {
   cut = cut;
-  told = ap (λ t. t && is_blank cut.bits) (sym h) ∙ (sym cut.stops.blank ∙ sym cut.stops.refuses.3);
+  reported = ap (λ t. t && is_blank cut.bits) (sym h) ∙ (sym cut.stops.blank ∙ sym cut.stops.refuses.3);
 }
 
 -- where the reader refuses, the decoder stops so
@@ -254,26 +254,26 @@ set_given : {I : Type 0} {old middle new : Reader I} {first steps : ℕ} (last :
 set_given {middle} {new} {steps} last {s} {b} {run} set skips counted =
     let n : suc (length (replicate run (zero_block s None))) ≡ length (blocks_in s b set.set) = ap length set.gives.blocks_are in
     let m : length (replicate run (zero_block s None)) ≡ run = length-replicate run (zero_block s None) in
-    let behind : b + 1 + run ≡ block_after s b set.set = omega arith in
+    let after : b + 1 + run ≡ block_after s b set.set = omega arith in
     record {
       middle = middle;
       middle_steps = steps;
       set = set;
-      skips = subst (λ next. Skips middle new (padding s next middle.taken)) behind skips;
+      skips = subst (λ next. Skips middle new (padding s next middle.taken)) after skips;
       steps = counted;
     }
 
--- a decoder that took a coded data set and skipped its padding goes on behind its first block
+-- a decoder that took a coded data set and skipped its padding goes on after its first block
 pub answers_block : {I : Type 0} (start : Reader I) {middle new : Reader I} {first steps : ℕ} (last : ℕ) (p : DecoderState) {q : DecoderState} {samples : List ℤ} {run : ℕ} {before : ℤ}
     → TakesSet (with_mark start) middle first steps p.setting p.block p.before samples run
     → Skips middle new (padding p.setting (p.block + 1 + run) middle.taken) → last + middle.taken ≡ steps + new.taken
     → before ≡ last_of p.before samples → q ≡ record p { block = next_block_place p.setting p.block; before = before; run = run }
     → Answers (with_mark start) new first last p q samples (Ok Block)
 answers_block start {middle} {new} {first} {steps} last p {q} {samples} {run} {before} set skips counted sample moves =
-    let waits : q.run ≡ run = ap (λ x. x.run) moves in
+    let buffered : q.run ≡ run = ap (λ x. x.run) moves in
     let given = set_given last set skips counted in (
-      subst (λ n. GivesSet (with_mark start) new first last p.setting p.block p.before samples n) (sym waits) given,
-      moves ∙ (λ i. record { setting = p.setting; block = next_block_place p.setting p.block; before = sample i; run = sym waits i; stopped = p.stopped }),
+      subst (λ n. GivesSet (with_mark start) new first last p.setting p.block p.before samples n) (sym buffered) given,
+      moves ∙ (λ i. record { setting = p.setting; block = next_block_place p.setting p.block; before = sample i; run = sym buffered i; stopped = p.stopped }),
     )
 
 -- a decoder that stops answers so

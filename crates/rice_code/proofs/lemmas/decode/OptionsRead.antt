@@ -11,7 +11,7 @@ use Rattle.rice_code.proofs.lemmas.decode.JoinedResiduals.{high_pieces, low_piec
 use borrow.Rule.Slice.PartMut.{put_mid}
 use Rattle.rice_code.proofs.lemmas.{code.FormsReadInOneWay.after_reference, encode.OptionTexts.no_digits}
 
--- residuals put behind the place of the reference sample are those that are sent
+-- residuals put after the place of the reference sample are those that are sent
 pub coded-placed : (r : Option ℕ) (vs : List ℕ) → sent_from r (reference_place r ++ vs) ≡ vs
 coded-placed None vs = refl
 coded-placed (Some v) vs = refl
@@ -54,9 +54,9 @@ short_reference {s} {b} {r} rest more h k lt e =
     omega (arith, ap length e, length-append (reference_bits s r ++ rest) more, length-append (reference_bits s r) rest, length-reference s b r h k)
 
 -- a reference sample is the first of what follows the identifier
-pub behind_reference : {s : Parameters} {b : ℕ} {r q : Option ℕ} (bits rest more : List Bool) → IsReference s b r → IsReference s b q →
+pub bits_after_reference : {s : Parameters} {b : ℕ} {r q : Option ℕ} (bits rest more : List Bool) → IsReference s b r → IsReference s b q →
     reference_bits s r ++ bits ≡ (reference_bits s q ++ rest) ++ more → (r ≡ q) × (bits ≡ rest ++ more)
-behind_reference {s} {b} {r} {q} bits rest more h k e =
+bits_after_reference {s} {b} {r} {q} bits rest more h k e =
     let a = after_reference r q h k bits rest [] more (append-nil (reference_bits s r ++ bits) ∙ e) in
     (a.0, sym (append-nil bits) ∙ a.1)
 
@@ -89,7 +89,7 @@ no_compression_read {old} {mid} {new} {s} {r} h n z t row steps =
       form = (record { reference = h; len = len }, zero-placed r row.values, fit);
       reference_is = refl;
       takes = rw (coded-placed r row.values) (takes-append old mid new _ _ t row.takes);
-      told = λ _. (tt, fit, sym row.appended);
+      reported = λ _. (tt, fit, sym row.appended);
       refused = λ e. absurd cc;
       steps = omega arith;
     }
@@ -102,7 +102,7 @@ no_compression_cut {old} {mid} {new} {s} {b} {r} count {bits} {f} h n t short st
   bits = reference_bits s r ++ bits;
   stops = stops-append old mid new _ bits f t stops;
   none = λ c more form e.
-      (let a = behind_reference bits (flat_map (word s.bits) (sent_residuals c)) more h form.0.reference e in
+      (let a = bits_after_reference bits (flat_map (word s.bits) (sent_residuals c)) more h form.0.reference e in
       short_words s.bits count (sent_residuals c) bits more (length-coded_at s b c r count form.0 h n) short a.1);
 }
 
@@ -122,11 +122,11 @@ pub run_cut_at_reference : {s : Parameters} (b : ℕ) (bits : List Bool) → is_
     → (r : Option ℕ) (m : ℕ) (more : List Bool) → IsReference s b r → bits ≡ run_tail s r m ++ more → ⊥
 run_cut_at_reference {s} b bits k short r m more h e = short_reference (fundamental_sequence m) more h k short e
 
--- a run is cut off behind its reference: zeros alone begin with no codeword of a run
+-- a run is cut off after its reference: zeros alone begin with no codeword of a run
 pub run_cut : {s : Parameters} (b : ℕ) (r : Option ℕ) (zeros : ℕ) → IsReference s b r
     → (q : Option ℕ) (m : ℕ) (more : List Bool) → IsReference s b q → reference_bits s r ++ replicate zeros false ≡ run_tail s q m ++ more → ⊥
 run_cut {s} b r zeros h q m more k e =
-    let a = behind_reference (replicate zeros false) (fundamental_sequence m) more h k e in
+    let a = bits_after_reference (replicate zeros false) (fundamental_sequence m) more h k e in
     omega (arith, ap ones a.1, ones-zeros zeros, ones-append (fundamental_sequence m) more, ones-sequence m)
 
 -- a block by second extension was read, sound or not: its reference, and then a row of pairs
@@ -136,12 +136,12 @@ pub second_extension_read : {I : Type 0} {old mid new : Reader I} {first second 
     → (sound ≡ true → OnSome r (slice_index items 0 ≡ 0) × All (λ d. d < value_count s) items)
     → (sound ≡ false → OnSome r (slice_index items 0 ≡ 0) × All (λ d. d < value_count s) items → ⊥)
     → BlockRead old new first last s b SecondExtension (record { reference = r; sound = sound }) items
-second_extension_read {old} {mid} {new} {r} {items} sound h n t row steps told refused = record {
+second_extension_read {old} {mid} {new} {r} {items} sound h n t row steps reported refused = record {
   contents = record { reference = r; residuals = items };
   form = record { reference = h; len = row.len ∙ n };
   reference_is = refl;
   takes = takes-append old mid new _ _ t row.takes;
-  told = λ e. (told e, (told e).1, refl);
+  reported = λ e. (reported e, (reported e).1, refl);
   refused = refused;
   steps = omega (arith, row.steps);
 }
@@ -154,7 +154,7 @@ second_extension_cut {old} {mid} {new} {s} {b} {r} {half} {bits} {f} h n t short
   bits = reference_bits s r ++ bits;
   stops = stops-append old mid new _ bits f t stops;
   none = λ c more form e.
-      (let a = behind_reference bits (flat_map fundamental_sequence (pair_codes c.residuals)) more h form.reference e in
+      (let a = bits_after_reference bits (flat_map fundamental_sequence (pair_codes c.residuals)) more h form.reference e in
       omega (arith, ap ones a.1, ones-append (flat_map fundamental_sequence (pair_codes c.residuals)) more, ones-sequences (pair_codes c.residuals), count_pairs half c.residuals (form.len ∙ sym n)));
 }
 
@@ -162,20 +162,20 @@ all-suffix : (P : ℕ → Type 0) (r : Option ℕ) (vs : List ℕ) → All P (re
 all-suffix P None vs h = h
 all-suffix P (Some v) vs h = λ i d lt. h (suc i) d (omega arith)
 
--- a split of a block, with so many parts behind its reference
+-- a split of a block, with so many parts after its reference
 pub record IsSplitOf (s : Parameters) (b k : ℕ) (r : Option ℕ) (count : ℕ) : Type 0 where
   pub reference : IsReference s b r
   pub small : k ≤ k_max s
   pub parts : count + length (reference_place r) ≡ s.block
 
 -- a split was read, sound or not: its reference, and then the parts whose joined residuals are those of the block
-pub split_read : {I : Type 0} {old mid new : Reader I} {first last : ℕ} {s : Parameters} {b k : ℕ} {r : Option ℕ} {count most : ℕ} {small : Bool} {told items : List ℕ} (sound : Bool)
+pub split_read : {I : Type 0} {old mid new : Reader I} {first last : ℕ} {s : Parameters} {b k : ℕ} {r : Option ℕ} {count most : ℕ} {small : Bool} {reported items : List ℕ} (sound : Bool)
     → IsSplitOf s b k r count → Takes old mid (reference_bits s r)
-    → (p : PartsRead mid new most k small count told) → last + old.taken ≡ first + new.taken
+    → (p : PartsRead mid new most k small count reported) → last + old.taken ≡ first + new.taken
     → (sound ≡ true → All (λ d. d < value_count s) (joined_parts k p.highs p.lows)) → (sound ≡ true → items ≡ reference_place r ++ joined_parts k p.highs p.lows)
     → (sound ≡ false → All (λ d. d < value_count s) (joined_parts k p.highs p.lows) → ⊥)
     → BlockRead old new first last s b (Split k) (record { reference = r; sound = sound }) items
-split_read {old} {mid} {new} {s} {k} {r} {count} {told} sound split t p steps fit same refused =
+split_read {old} {mid} {new} {s} {k} {r} {count} {reported} sound split t p steps fit same refused =
     let ds = joined_parts k p.highs p.lows in
     let same_len : length p.lows ≡ length p.highs = p.as_many_lows ∙ sym p.as_many_highs in
     let nd : length ds ≡ count = length-joined k p.highs p.lows same_len ∙ p.as_many_highs in
@@ -186,51 +186,51 @@ split_read {old} {mid} {new} {s} {k} {r} {count} {told} sound split t p steps fi
       form = (record { reference = split.reference; len = omega (arith, length-append (reference_place r) ds) }, zero-placed r ds, split.small);
       reference_is = refl;
       takes = rw (coded-placed r ds, hp, lp) (takes-append old mid new _ _ t p.takes);
-      told = λ e. (let q = all-placed (λ d. d < value_count s) r ds (pow_pos s.bits) (fit e) in (q, q, sym (same e)));
+      reported = λ e. (let q = all-placed (λ d. d < value_count s) r ds (pow_pos s.bits) (fit e) in (q, q, sym (same e)));
       refused = λ e q. refused e (all-suffix (λ d. d < value_count s) r ds q);
       steps = omega arith;
     }
 
 -- a high part is too large
-pub split_large : {I : Type 0} {old mid new : Reader I} {first last : ℕ} {s : Parameters} {b k : ℕ} {r : Option ℕ} {count : ℕ} {small : Bool} {told items : List ℕ}
+pub split_large : {I : Type 0} {old mid new : Reader I} {first last : ℕ} {s : Parameters} {b k : ℕ} {r : Option ℕ} {count : ℕ} {small : Bool} {reported items : List ℕ}
     → IsReference s b r → k ≤ k_max s → count + length (reference_place r) ≡ s.block → Takes old mid (reference_bits s r)
-    → PartsRead mid new ((value_count s - 1) / 2 ^ k) k small count told → small ≡ false → last + old.taken ≡ first + new.taken
+    → PartsRead mid new ((value_count s - 1) / 2 ^ k) k small count reported → small ≡ false → last + old.taken ≡ first + new.taken
     → BlockRead old new first last s b (Split k) (record { reference = r; sound = false }) items
-split_large {old} {mid} {new} {first} {last} {s} {b} {k} {r} {count} {small} {told} {items} h le n t p e steps =
+split_large {old} {mid} {new} {first} {last} {s} {b} {k} {r} {count} {small} {reported} {items} h le n t p e steps =
     split_read false (record { reference = h; small = le; parts = n }) t p steps (λ f. absurd cc) (λ f. absurd cc)
     (λ f all. p.refused e (highs_small k (value_count s) p.highs p.lows (p.as_many_lows ∙ sym p.as_many_highs) (pow_pos s.bits) all))
 
 -- high parts stand in their places
-pub split_joined : {I : Type 0} {old mid new : Reader I} {first last : ℕ} {s : Parameters} {b k : ℕ} {r : Option ℕ} {count : ℕ} {small : Bool} {told items : List ℕ} (sound : Bool)
+pub split_joined : {I : Type 0} {old mid new : Reader I} {first last : ℕ} {s : Parameters} {b k : ℕ} {r : Option ℕ} {count : ℕ} {small : Bool} {reported items : List ℕ} (sound : Bool)
     → IsSplitOf s b k r count → Takes old mid (reference_bits s r)
-    → PartsRead mid new ((value_count s - 1) / 2 ^ k) k small count told → small ≡ true → last + old.taken ≡ first + new.taken
-    → items ≡ reference_place r ++ told
-    → (sound ≡ true → All (λ d. d < value_count s) told) → (sound ≡ false → All (λ d. d < value_count s) told → ⊥)
+    → PartsRead mid new ((value_count s - 1) / 2 ^ k) k small count reported → small ≡ true → last + old.taken ≡ first + new.taken
+    → items ≡ reference_place r ++ reported
+    → (sound ≡ true → All (λ d. d < value_count s) reported) → (sound ≡ false → All (λ d. d < value_count s) reported → ⊥)
     → BlockRead old new first last s b (Split k) (record { reference = r; sound = sound }) items
-split_joined {old} {mid} {new} {first} {last} {s} {b} {k} {r} {count} {small} {told} {items} sound split t p e steps placed_so below above =
-    let is : told ≡ joined_parts k p.highs p.lows = (p.told e).1 in
+split_joined {old} {mid} {new} {first} {last} {s} {b} {k} {r} {count} {small} {reported} {items} sound split t p e steps placed_so below above =
+    let is : reported ≡ joined_parts k p.highs p.lows = (p.reported e).1 in
     split_read sound split t p steps (λ f. subst (λ xs. All (λ d. d < value_count s) xs) is (below f))
     (λ f. placed_so ∙ ap (λ xs. reference_place r ++ xs) is)
     (λ f all. above f (subst (λ xs. All (λ d. d < value_count s) xs) (sym is) all))
 
 -- the high parts of what was joined
-pub parts_small : {I : Type 0} (old new : Reader I) (most k : ℕ) (small : Bool) (count : ℕ) (told : List ℕ)
-    → PartsRead old new most k small count told → small ≡ true → All (λ d. d / 2 ^ k ≤ most) told
-parts_small old new most k small count told p e =
-    subst (All (λ d. d / 2 ^ k ≤ most)) (sym (p.told e).1) (joined_highs k most p.highs p.lows (p.as_many_lows ∙ sym p.as_many_highs) p.low (p.told e).0)
+pub parts_small : {I : Type 0} (old new : Reader I) (most k : ℕ) (small : Bool) (count : ℕ) (reported : List ℕ)
+    → PartsRead old new most k small count reported → small ≡ true → All (λ d. d / 2 ^ k ≤ most) reported
+parts_small old new most k small count reported p e =
+    subst (All (λ d. d / 2 ^ k ≤ most)) (sym (p.reported e).1) (joined_highs k most p.highs p.lows (p.as_many_lows ∙ sym p.as_many_highs) p.low (p.reported e).0)
 
 -- a row of high parts, and then one of low parts
-pub parts_read : {I : Type 0} {old mid new : Reader I} {most k : ℕ} {small : Bool} {count : ℕ} {told lows residuals : List ℕ}
-    → CountRow old mid most small count told → WordRow k mid new count lows → (small ≡ true → residuals ≡ joined_parts k told lows)
+pub parts_read : {I : Type 0} {old mid new : Reader I} {most k : ℕ} {small : Bool} {count : ℕ} {reported lows residuals : List ℕ}
+    → CountRow old mid most small count reported → WordRow k mid new count lows → (small ≡ true → residuals ≡ joined_parts k reported lows)
     → PartsRead old new most k small count residuals
-parts_read {old} {mid} {new} {k} {told} {lows} high low joined = record {
+parts_read {old} {mid} {new} {k} {reported} {lows} high low joined = record {
   highs = high.values;
   lows = low.values;
   as_many_highs = high.len;
   as_many_lows = low.len;
   low = low.each;
   takes = takes-append old mid new _ _ high.takes low.takes;
-  told = λ e. ((high.told_are e).1, joined e ∙ (ap (λ xs. joined_parts k xs lows) (high.told_are e).0 ∙ ap (joined_parts k high.values) low.appended));
+  reported = λ e. ((high.reported_are e).1, joined e ∙ (ap (λ xs. joined_parts k xs lows) (high.reported_are e).0 ∙ ap (joined_parts k high.values) low.appended));
   refused = high.refused;
 }
 
@@ -241,8 +241,9 @@ joined_without_low (m ∷ ms) =
     λ i. same i ∷ joined_without_low ms i
 
 -- parts without low digits are the counts alone
-pub counts_read : {I : Type 0} (old new : Reader I) (most : ℕ) (small : Bool) (count : ℕ) (told : List ℕ) → CountRow old new most small count told → PartsRead old new most 0 small count told
-counts_read old new most small count told high =
+pub counts_read : {I : Type 0} (old new : Reader I) (most : ℕ) (small : Bool) (count : ℕ) (reported : List ℕ)
+    → CountRow old new most small count reported → PartsRead old new most 0 small count reported
+counts_read old new most small count reported high =
     let ms = high.values in
     let lows : List ℕ = replicate (length ms) 0 in
     record {
@@ -252,7 +253,7 @@ counts_read old new most small count told high =
       as_many_lows = length-replicate (length ms) 0 ∙ high.len;
       low = All-replicate (λ v. v < 1) (length ms) 0 (omega arith);
       takes = subst (λ bits. Takes old new bits) (sym (ap (λ bits. flat_map fundamental_sequence ms ++ bits) (no_digits lows) ∙ append-nil (flat_map fundamental_sequence ms))) high.takes;
-      told = λ e. ((high.told_are e).1, (high.told_are e).0 ∙ sym (joined_without_low ms));
+      reported = λ e. ((high.reported_are e).1, (high.reported_are e).0 ∙ sym (joined_without_low ms));
       refused = high.refused;
     }
 
@@ -285,8 +286,8 @@ after_sequences k (m ∷ ms) (d ∷ ds) x y n e =
 after_sequences k _ _ x y n e = absurd (omega arith)
 
 -- too few low parts
-pub parts_cut_low : {I : Type 0} {old mid new : Reader I} {most : ℕ} (k : ℕ) {small : Bool} {count : ℕ} {told : List ℕ} {bits : List Bool} {f : BitFault}
-    → CountRow old mid most small count told → length bits < count * k → Stops mid new bits f → PartsCut old new k count f
+pub parts_cut_low : {I : Type 0} {old mid new : Reader I} {most : ℕ} (k : ℕ) {small : Bool} {count : ℕ} {reported : List ℕ} {bits : List Bool} {f : BitFault}
+    → CountRow old mid most small count reported → length bits < count * k → Stops mid new bits f → PartsCut old new k count f
 parts_cut_low {old} {mid} {new} k {count} {bits} {f} high short stops = record {
   bits = flat_map fundamental_sequence high.values ++ bits;
   stops = stops-append old mid new _ bits f high.takes stops;
@@ -304,7 +305,7 @@ split_cut {old} {mid} {new} {s} {b} {k} {r} {count} {f} h n t cut = record {
   bits = reference_bits s r ++ cut.bits;
   stops = stops-append old mid new _ cut.bits f t cut.stops;
   none = λ c more form e.
-      (let a = behind_reference cut.bits (flat_map (λ d. fundamental_sequence (d / 2 ^ k)) (sent_residuals c) ++ flat_map (word k) (sent_residuals c)) more h form.0.reference e in
+      (let a = bits_after_reference cut.bits (flat_map (λ d. fundamental_sequence (d / 2 ^ k)) (sent_residuals c) ++ flat_map (word k) (sent_residuals c)) more h form.0.reference e in
       cut.none (sent_residuals c) more (length-coded_at s b c r count form.0 h n) a.1);
 }
 
@@ -336,13 +337,13 @@ coded_part s r first xs legal e n =
     let len : length (take (length xs - first) (drop first xs)) ≡ length xs - first = length-take-le (length xs - first) (drop first xs) (omega (arith, length-drop first xs)) in
     (omega (arith, few, size.0, e, n), omega (arith, len, few, size.0, e, n))
 
--- the residuals that are sent stand behind the place of the reference sample
+-- the residuals that are sent stand after the place of the reference sample
 pub sent_placed : (first : ℕ) (r : Option ℕ) (xs ys : List ℕ) → take first xs ≡ reference_place r → take first ys ≡ take first xs → ys ≡ reference_place r ++ drop first ys
 sent_placed first r xs ys e h = sym (take-append-drop first ys) ∙ ap (λ z. z ++ drop first ys) (h ∙ e)
 
 -- residuals that are written after the place of the reference sample
-pub residuals_behind_reference : (first : ℕ) (r : Option ℕ) (xs ys : List ℕ) → take first xs ≡ reference_place r → first ≤ length xs → put_mid first (length xs - first) xs ys ≡ reference_place r ++ ys
-residuals_behind_reference first r xs ys e h = put_rest first xs ys h ∙ ap (λ z. z ++ ys) e
+pub residuals_after_reference : (first : ℕ) (r : Option ℕ) (xs ys : List ℕ) → take first xs ≡ reference_place r → first ≤ length xs → put_mid first (length xs - first) xs ys ≡ reference_place r ++ ys
+residuals_after_reference first r xs ys e h = put_rest first xs ys h ∙ ap (λ z. z ++ ys) e
 
 -- where there is a reference sample, its place holds a single 0
 pub zero-place : (r : Option ℕ) → is_some r ≡ true → 0 ∷ [] ≡ reference_place r

@@ -73,21 +73,21 @@ reference_preprocesses s b v h = at s.preprocess (place s b == 0) h.there
     at false first e = absurd (let f : true ≡ false = e in cc)
 
 -- residuals of a block, of which the first is in the place of the reference
-pub record BehindReference (s : Parameters) (ds : List ℕ) (ys : List ℤ) : Type 0 where
+pub record AfterReference (s : Parameters) (ds : List ℕ) (ys : List ℤ) : Type 0 where
   pub len : length ds ≡ s.block
   pub more : length ds ≡ suc (length ys)
   pub zero : slice_index ds 0 ≡ 0
 
 -- the samples after a reference sample
-pub contents_behind : {s : Parameters} {b : ℕ} (p x : ℤ) {v : ℕ} (ds : List ℕ) (ys : List ℤ) → IsReference s b (Some v) → BehindReference s ds ys → ranks s x ys ≡ drop 1 ds → pattern s x ≡ v
+pub contents_after : {s : Parameters} {b : ℕ} (p x : ℤ) {v : ℕ} (ds : List ℕ) (ys : List ℤ) → IsReference s b (Some v) → AfterReference s ds ys → ranks s x ys ≡ drop 1 ds → pattern s x ≡ v
     → block_data s b p (x ∷ ys) ≡ record { reference = Some v; residuals = ds }
-contents_behind p x [] ys h behind r pat = absurd (omega arith)
-contents_behind {s} {b} p x {v} (d ∷ ds) ys h behind r pat =
+contents_after p x [] ys h after r pat = absurd (omega arith)
+contents_after {s} {b} p x {v} (d ∷ ds) ys h after r pat =
     let e = reference_preprocesses s b v h in
     let at : s.block * b ≡ s.block * b + 0 = omega arith in
     let one : residual s (s.block * b) p x ≡ d = ap (λ j. residual s j p x) at
-    ∙ (residual_within s b 0 (Some v) p x (omega (arith, behind.len)) h ∙ ((λ i. cond (e i) 0 (pattern s x)) ∙ sym behind.zero)) in
-    let rest : residuals s (s.block * b + 1) x ys ≡ ds = ranks_within 1 x ys h e refl (omega (arith, behind.len, behind.more)) ∙ r in
+    ∙ (residual_within s b 0 (Some v) p x (omega (arith, after.len)) h ∙ ((λ i. cond (e i) 0 (pattern s x)) ∙ sym after.zero)) in
+    let rest : residuals s (s.block * b + 1) x ys ≡ ds = ranks_within 1 x ys h e refl (omega (arith, after.len, after.more)) ∙ r in
     contents_are s b p (Some v) (d ∷ ds) (x ∷ ys) h (λ i. one i ∷ rest i) pat
 
 -- a sample that gives a residual of 0 first gives it again and again
@@ -151,5 +151,5 @@ contents_restored {s} {b} p x {r = Some v} {ds = d ∷ ds} (y ∷ ys) h pre of_b
     let first : rank s x y ≡ d = cc in
     let rest : ranks s y ys ≡ ds = cc in
     let at : y ≡ x = same_first s x y begins.legal (restored.legal 0 x (omega arith)) (first ∙ of_block.zero) in
-    let rest_behind : ranks s x ys ≡ ds = ap (λ q. ranks s q ys) (sym at) ∙ rest in
-    ap (λ q. block_data s b p (q ∷ ys)) at ∙ contents_behind p x (d ∷ ds) ys h (record { len = of_block.len; more = omega arith; zero = of_block.zero }) rest_behind begins.some
+    let rest_after : ranks s x ys ≡ ds = ap (λ q. ranks s q ys) (sym at) ∙ rest in
+    ap (λ q. block_data s b p (q ∷ ys)) at ∙ contents_after p x (d ∷ ds) ys h (record { len = of_block.len; more = omega arith; zero = of_block.zero }) rest_after begins.some

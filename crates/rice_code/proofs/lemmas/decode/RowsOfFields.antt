@@ -25,17 +25,17 @@ all_front P xs ys h = λ i d lt. subst P (get_or_append_left xs ys d i lt) (h i 
 pub all_back : (P : ℕ → Type 0) (xs ys : List ℕ) → All P (xs ++ ys) → All P ys
 all_back P xs ys h = λ i d lt. subst P (get_or-append-add xs ys i d) (h (length xs + i) d (omega (arith, length-append xs ys, lt)))
 
--- no fundamental sequences: the reader stays as it is, and all of them are told
-pub row_of_counts-none : {I : Type 0} (r : Reader I) (most : ℕ) (told : List ℕ) → told ≡ [] → r.refusal ≡ None → CountRow r r most true 0 told
-row_of_counts-none r most told e h = record {
+-- no fundamental sequences: the reader stays as it is, and all of them are given
+pub row_of_counts-none : {I : Type 0} (r : Reader I) (most : ℕ) (reported : List ℕ) → reported ≡ [] → r.refusal ≡ None → CountRow r r most true 0 reported
+row_of_counts-none r most reported e h = record {
   values = [];
   len = refl;
-  told_are = λ _. (e, λ i d lt. absurd (omega arith));
+  reported_are = λ _. (e, λ i d lt. absurd (omega arith));
   refused = λ f. absurd cc;
   takes = takes-none r h;
 }
 
--- one more is told, where it is at most `most`
+-- one more is given, where it is at most `most`
 pub row_of_counts-more : {I : Type 0} {old mid new : Reader I} {most done : ℕ} {small : Bool} (fits : Bool) (m v : ℕ) (counts : List ℕ) → done < length counts
     → CountRow old mid most small done (take done counts) → Takes mid new (fundamental_sequence m)
     → (fits ≡ true → (v ≡ m) × (m ≤ most)) → (fits ≡ false → most < m)
@@ -45,18 +45,18 @@ row_of_counts-more {old} {mid} {new} {most} {done} {small} fits m v counts lt r 
     record {
       values = r.values ++ m ∷ [];
       len = omega (arith, length-append r.values (m ∷ []), r.len);
-      told_are = λ e. (let b = and-split small fits e in (
-        take_more_set counts done v lt ∙ (λ i. (r.told_are b.0).0 i ++ (good b.1).0 i ∷ []),
-        All-append P r.values (m ∷ []) (r.told_are b.0).1 (λ i d below. subst P (sym (get_or_head m [] i d (omega arith))) (good b.1).1),
+      reported_are = λ e. (let b = and-split small fits e in (
+        take_more_set counts done v lt ∙ (λ i. (r.reported_are b.0).0 i ++ (good b.1).0 i ∷ []),
+        All-append P r.values (m ∷ []) (r.reported_are b.0).1 (λ i d below. subst P (sym (get_or_head m [] i d (omega arith))) (good b.1).1),
       ));
-      refused = not_told small fits (λ f h. r.refused f (all_front P r.values (m ∷ []) h)) (λ f h. omega (arith, bad f, all_back P r.values (m ∷ []) h 0 0 (omega arith)));
+      refused = not_reported small fits (λ f h. r.refused f (all_front P r.values (m ∷ []) h)) (λ f h. omega (arith, bad f, all_back P r.values (m ∷ []) h 0 0 (omega arith)));
       takes = rw (flat_map-push fundamental_sequence r.values m) (takes-append old mid new _ _ r.takes t);
     }
   where
-    not_told : {Q : Type 0} (a b : Bool) → (a ≡ false → Q → ⊥) → (b ≡ false → Q → ⊥) → (a && b) ≡ false → Q → ⊥
-    not_told true true f g e q = absurd cc
-    not_told true false f g e q = g refl q
-    not_told false b f g e q = f refl q
+    not_reported : {Q : Type 0} (a b : Bool) → (a ≡ false → Q → ⊥) → (b ≡ false → Q → ⊥) → (a && b) ≡ false → Q → ⊥
+    not_reported true true f g e q = absurd cc
+    not_reported true false f g e q = g refl q
+    not_reported false b f g e q = f refl q
 
 -- fundamental sequences for all places
 pub row_of_counts-whole : {I : Type 0} {old new : Reader I} {most : ℕ} {small : Bool} {done count : ℕ} {xs : List ℕ}
@@ -64,7 +64,7 @@ pub row_of_counts-whole : {I : Type 0} {old new : Reader I} {most : ℕ} {small 
 row_of_counts-whole {done} {xs} r e n = record {
   values = r.values;
   len = r.len ∙ e;
-  told_are = λ f. (sym (take_all done xs (omega (arith, e, n))) ∙ (r.told_are f).0, (r.told_are f).1);
+  reported_are = λ f. (sym (take_all done xs (omega (arith, e, n))) ∙ (r.reported_are f).0, (r.reported_are f).1);
   refused = r.refused;
   takes = r.takes;
 }
@@ -157,7 +157,7 @@ pair_codes-push zero [] a b h = refl
 pair_codes-push (suc half) (d ∷ e ∷ ds) a b h = ap (λ z. pair_code d e ∷ z) (pair_codes-push half ds a b (omega arith))
 pair_codes-push _ _ a b h = absurd (omega arith)
 
--- the sum of numbers with two more behind them
+-- the sum of numbers with two more after them
 pub sum-push2 : (xs : List ℕ) (a b : ℕ) → sum ((xs ++ a ∷ []) ++ b ∷ []) ≡ sum xs + (a + b)
 sum-push2 xs a b = omega (arith, sum_by-append (λ (x : ℕ). x) (xs ++ a ∷ []) (b ∷ []), sum_by-append (λ (x : ℕ). x) xs (a ∷ []))
 
@@ -176,7 +176,7 @@ pub record IsPairOf (g a b : ℕ) : Type 0 where
   pub code : pair_code a b ≡ g
   pub most : a + b ≤ g
 
--- one pair more behind others: a step for each bit of its codeword, and as many turns as its numbers add up to
+-- one pair more after others: a step for each bit of its codeword, and as many turns as its numbers add up to
 pub pairs-more : {I : Type 0} {old mid new : Reader I} {count : ℕ} {front after : List ℕ} {g : ℕ} (a b : ℕ) {first second : ℕ} (third : ℕ) {fourth : ℕ}
     → PairRow old mid count front first second → Takes mid new (fundamental_sequence g) → IsPairOf g a b
     → third + mid.taken ≡ second + new.taken → fourth ≡ third + (a + b) → after ≡ (front ++ a ∷ []) ++ b ∷ []

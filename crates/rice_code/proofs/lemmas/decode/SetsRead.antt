@@ -29,13 +29,13 @@ cut_plain s b e none (Split k c) more form i t = let w = wide_id s in let le : k
 cut_plain s b e none (ZeroBlocks r z) more form i t = let w = wide_id s in omega arith
 cut_plain s b e none (RemainderOfSegment r) more form i t = let w = wide_id s in omega arith
 
--- bits behind the identifier of a split that begin with no split
-record CutBehindId (s : Parameters) (b id k : ℕ) (bits : List Bool) : Type 0 where
+-- bits after the identifier of a split that begin with no split
+record CutAfterId (s : Parameters) (b id k : ℕ) (bits : List Bool) : Type 0 where
   id_is : id ≡ k + 1
   below : id < 2 ^ id_len s - 1
   none : ((c : BlockData) (more : List Bool) → IsForm s b (Split k c) → bits ≡ split_tail s k c ++ more → ⊥)
 
-cut_split : (s : Parameters) (b : ℕ) {id : ℕ} (k : ℕ) {bits : List Bool} → CutBehindId s b id k bits
+cut_split : (s : Parameters) (b : ℕ) {id : ℕ} (k : ℕ) {bits : List Bool} → CutAfterId s b id k bits
     → (d : CodedDataSet) (more : List Bool) → IsForm s b d → id ≡ identifier s d → bits ≡ tail s d ++ more → ⊥
 unfolding identifier tail
 cut_split s b k cut (NoCompression c) more form i t = omega arith
@@ -87,16 +87,16 @@ split_set_cut {old} {mid} {new} first last {s} {b} id k {f} lt e t cut =
     cut_after_id id (omega arith) t cut.stops (cut_split s b k (record { id_is = e; below = lt; none = cut.none }))
     (λ blank. absurd (not_blank (id_len s) id cut.bits (omega arith) (omega arith) blank))
 
--- One whose identifier is 0 is cut off where the bit behind it and what follows are.
+-- One whose identifier is 0 is cut off where the bit after it and what follows are.
 pub low_set_cut : {I : Type 0} {old mid new : Reader I} (first : ℕ) {second last : ℕ} {s : Parameters} {b id : ℕ} {f : BitFault}
     → id < 2 ^ id_len s → id ≡ 0 → Takes old mid (word (id_len s) id) → second + old.taken ≡ first + mid.taken → LowEntropyCut mid new second last s b f → SetCut old new first last s b f
 low_set_cut {old} {mid} {new} first {last} {s} {b} {id} {f} lt e t steps cut =
     cut_after_id id lt t cut.stops (cut_low s b e cut.none)
-    (λ blank. omega (arith, steps, cut.steps (behind (is_blank (word (id_len s) id)) (is_blank cut.bits) (sym (blank-append (word (id_len s) id) cut.bits) ∙ blank))))
+    (λ blank. omega (arith, steps, cut.steps (after (is_blank (word (id_len s) id)) (is_blank cut.bits) (sym (blank-append (word (id_len s) id) cut.bits) ∙ blank))))
   where
-    behind : (x y : Bool) → (x && y) ≡ true → y ≡ true
-    behind true y h = h
-    behind false y h = absurd (let none : false ≡ true = h in cc)
+    after : (x y : Bool) → (x && y) ≡ true → y ≡ true
+    after true y h = h
+    after false y h = absurd (let none : false ≡ true = h in cc)
 
 -- one whose identifier and block by no compression were read was read
 pub no_compression_set : {I : Type 0} {old mid new : Reader I} {first second last : ℕ} {s : Parameters} {b id : ℕ} (head : BlockSummary) {items : List ℕ}
@@ -112,7 +112,7 @@ no_compression_set {old} {mid} {new} head e t steps read = record {
     block = read.form.0;
     reference_is = read.reference_is;
     run = tt;
-    told = λ h. (let q = read.told h in (q.0, read.form.1, q.1, q.2));
+    reported = λ h. (let q = read.reported h in (q.0, read.form.1, q.1, q.2));
     refused = read.refused;
   };
   steps = omega (arith, read.steps);
@@ -132,7 +132,7 @@ split_set {old} {mid} {new} id k head e t steps read = record {
     block = read.form.0;
     reference_is = read.reference_is;
     run = tt;
-    told = λ h. (let q = read.told h in (q.0, read.form.1, q.1, q.2));
+    reported = λ h. (let q = read.reported h in (q.0, read.form.1, q.1, q.2));
     refused = read.refused;
   };
   steps = omega (arith, read.steps);
@@ -172,7 +172,7 @@ pub one_bit : (v : ℕ) → v < 2 → 0 < v → word 1 v ≡ true ∷ []
 one_bit (suc zero) h k = bit_word 1 (omega arith)
 one_bit _ h k = absurd (omega arith)
 
--- no bit is left behind an identifier of 0: the coded data set is cut off there
+-- no bit is left after an identifier of 0: the coded data set is cut off there
 pub low_bit_cut : {I : Type 0} {old new : Reader I} (first last : ℕ) (s : Parameters) (b : ℕ) {bits : List Bool} {f : BitFault}
     → length bits < 1 → Stops old new bits f → last + old.taken ≡ first + new.taken → LowEntropyCut old new first last s b f
 low_bit_cut first last s b {bits} lt stops steps = record { bits = bits; stops = stops; none = none bits lt; steps = λ blank. steps }
@@ -184,7 +184,7 @@ low_bit_cut first last s b {bits} lt stops steps = record { bits = bits; stops =
     none bits lt (ZeroBlocks r z) more form low e = omega (arith, ap length e)
     none bits lt (RemainderOfSegment r) more form low e = omega (arith, ap length e)
 
--- the bit is a 1, and the block by second extension behind it is cut off
+-- the bit is a 1, and the block by second extension after it is cut off
 pub second_low_cut : {I : Type 0} {old mid new : Reader I} (first last : ℕ) {s : Parameters} {b v : ℕ} {f : BitFault}
     → v < 2 → 0 < v → Takes old mid (word 1 v) → BlockCut mid new s b SecondExtension f → LowEntropyCut old new first last s b f
 second_low_cut {old} {mid} {new} first last {s} {b} {v} {f} lt pos t cut = record {
@@ -201,15 +201,15 @@ second_low_cut {old} {mid} {new} first last {s} {b} {v} {f} lt pos t cut = recor
     none bits h (Split k c) more form low e = low
     none bits h _ more form low e = absurd cc
 
--- the bit is a 0, and what is left behind it begins with no run
+-- the bit is a 0, and what is left after it begins with no run
 pub run_low_cut : {I : Type 0} {old mid new : Reader I} {first : ℕ} (second : ℕ) {last : ℕ} (s : Parameters) (b : ℕ) {bits : List Bool} {f : BitFault}
     → Takes old mid (word 1 0) → second + old.taken ≡ first + mid.taken → Stops mid new bits f → last + mid.taken ≡ second + new.taken
     → ((r : Option ℕ) (m : ℕ) (more : List Bool) → IsReference s b r → bits ≡ run_tail s r m ++ more → ⊥) → LowEntropyCut old new first last s b f
-run_low_cut {old} {mid} {new} second s b {bits} {f} t before stops behind cut = record {
+run_low_cut {old} {mid} {new} second s b {bits} {f} t before stops after cut = record {
   bits = false ∷ bits;
   stops = stops-append old mid new (false ∷ []) bits f (rw zero_bit at t) stops;
   none = none bits cut;
-  steps = λ blank. omega (arith, before, behind);
+  steps = λ blank. omega (arith, before, after);
 }
   where
     none : (bits : List Bool) → ((r : Option ℕ) (m : ℕ) (more : List Bool) → IsReference s b r → bits ≡ run_tail s r m ++ more → ⊥)
@@ -220,7 +220,7 @@ run_low_cut {old} {mid} {new} second s b {bits} {f} t before stops behind cut = 
     none bits h (ZeroBlocks r z) more form low e = h r (run_number z) more form.0 cc
     none bits h (RemainderOfSegment r) more form low e = h r 4 more form cc
 
--- the bit is a 1, and a block by second extension was read behind it
+-- the bit is a 1, and a block by second extension was read after it
 pub second_low : {I : Type 0} {old mid new : Reader I} {first second last : ℕ} {s : Parameters} {b v : ℕ} (head : BlockSummary) {items : List ℕ}
     → v < 2 → 0 < v → Takes old mid (word 1 v) → second + old.taken ≡ first + mid.taken
     → BlockRead mid new second last s b SecondExtension head items → LowEntropyRead old new first last s b (Residuals head) items
@@ -235,13 +235,13 @@ second_low {old} {mid} {new} {v} head lt pos t steps read = record {
     block = read.form;
     reference_is = read.reference_is;
     run = tt;
-    told = λ h. (let q = read.told h in (q.0, q.0.0, q.1, q.2));
+    reported = λ h. (let q = read.reported h in (q.0, q.0.0, q.1, q.2));
     refused = read.refused;
   };
   steps = omega (arith, read.steps);
 }
 
--- the bit is a 0, and a run whose codeword has so many zeros was read behind it: with four of them a remainder of segment
+-- the bit is a 0, and a run whose codeword has so many zeros was read after it: with four of them a remainder of segment
 pub run_low : {I : Type 0} {old mid new : Reader I} {first : ℕ} (second : ℕ) {last : ℕ} {s : Parameters} {b : ℕ} {r : Option ℕ} (zeros : ℕ) {items : List ℕ}
     → Takes old mid (word 1 0) → second + old.taken ≡ first + mid.taken
     → IsReference s b r → Takes mid new (run_tail s r zeros) → last + mid.taken ≡ second + new.taken → LowEntropyRead old new first last s b (Zeros r zeros) items

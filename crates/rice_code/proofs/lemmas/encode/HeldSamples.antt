@@ -118,7 +118,7 @@ held_are s b p (suc n) xs h j k e =
     let d : drop s.block (residuals s (s.block * b) p xs) ≡ residuals s (s.block * (b + 1)) q back = ap (drop s.block) all
     ∙ (drop_at (residuals s (s.block * b) p front) _ s.block rlen ∙ ap (λ i. residuals s i q back) at) in
     let ref : cond (is_reference s b) (Some (pattern s (slice_index_or front 0 p))) None ≡ reference_in s b xs = same_reference xs front flen refl in
-    let rest : blocks_from s (b + 1) q n back ≡ held_blocks s None n (residuals s (s.block * (b + 1)) q back) = behind n back
+    let rest : blocks_from s (b + 1) q n back ≡ held_blocks s None n (residuals s (s.block * (b + 1)) q back) = after n back
     (residuals s (s.block * (b + 1)) q back) (blocks_from s (b + 1) q n back) k (no_blocks s (b + 1) q n back)
     (λ f. held_are s (b + 1) q n back h j f blen) in
     (λ i. block_with (ref i) (sym t i) ∷ (rest ∙ ap (held_blocks s None n) (sym d)) i)
@@ -131,10 +131,10 @@ held_are s b p (suc n) xs h j k e =
         first zero h = absurd (omega arith)
         first (suc n) h = refl
 
-    behind : (m : ℕ) (ys : List ℤ) (ds : List ℕ) (rest : List BlockData) → suc m ≤ blocks_left s b → (m ≡ 0 → rest ≡ [])
+    after : (m : ℕ) (ys : List ℤ) (ds : List ℕ) (rest : List BlockData) → suc m ≤ blocks_left s b → (m ≡ 0 → rest ≡ [])
         → (m ≤ blocks_left s (b + 1) → rest ≡ held_blocks s (reference_in s (b + 1) ys) m ds) → rest ≡ held_blocks s None m ds
-    behind zero ys ds rest g none again = none refl
-    behind (suc m) ys ds rest g none again =
+    after zero ys ds rest g none again = none refl
+    after (suc m) ys ds rest g none again =
         elim (bool_cases (begins_segment s (b + 1))) [
           | inl f ↦ absurd (let i = last_of_segment s b h f in omega arith)
           | inr f ↦ let i = one_less_left s b h f in again (omega arith) ∙ ap (λ r. held_blocks s r (suc m) ds) (none_inside s (b + 1) ys f)

@@ -25,10 +25,10 @@ segment_room s n h k =
     let c : n * block_bound s ≤ n * 2053 = mul-le-mul_left n b in
     omega (arith, c)
 
--- which a sink has behind what it holds
-pub room_behind : (s : Parameters) (n : ℕ) (sink : List Bool) → IsLegal s → n ≤ 64 → HasRoomForSegment s sink → length sink + n * block_bound s ≤ sink_bits
-room_behind s n sink legal few (inl short) = omega (arith, short, segment_room s n legal few)
-room_behind s n sink legal few (inr room) =
+-- which a sink has after what it holds
+pub room_after : (s : Parameters) (n : ℕ) (sink : List Bool) → IsLegal s → n ≤ 64 → HasRoomForSegment s sink → length sink + n * block_bound s ≤ sink_bits
+room_after s n sink legal few (inl short) = omega (arith, short, segment_room s n legal few)
+room_after s n sink legal few (inr room) =
     let all : n * block_bound s ≤ 64 * block_bound s = mul-le-mul_right (block_bound s) few in
     omega (arith, all, room)
 

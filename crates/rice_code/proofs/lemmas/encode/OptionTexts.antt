@@ -42,7 +42,7 @@ pub record SentResiduals (sent rs : List ℕ) (from w k : ℕ) : Type 0 where
   pub parts : sum_by (λ d. d / 2 ^ k) sent ≡ sum_by (λ d. d / 2 ^ k) (drop from rs)
   pub bits : (f : ℕ → List Bool) → flat_map f (drop from rs) ≡ flat_map f sent
 
--- what is sent of residuals is told in numbers, where it is all from number `from` on
+-- what is sent of residuals, in numbers, where it is all from number `from` on
 pub sent_are : (sent ds rs : List ℕ) (from w k : ℕ) → sent ≡ drop from ds → rs ≡ ds → SentResiduals sent rs from w k
 sent_are sent ds rs from w k coded same =
     let e : sent ≡ drop from rs = coded ∙ ap (drop from) (sym same) in

@@ -21,6 +21,6 @@ one_written f ds {from} {i} all le lt before put same =
     put ∙ ((λ j. before j ++ same j) ∙ (append_assoc all (flat_map f xs) (f d) ∙ ap (λ v. all ++ v)
     (ap (λ v. flat_map f xs ++ v) (sym (append-nil (f d))) ∙ (sym (flat_map-append f xs (d ∷ [])) ∙ ap (flat_map f) (sym (slice_snoc ds from i le lt))))))
 
--- what is left of n residuals has w digits fewer behind one more
+-- what is left of n residuals has w digits fewer after one more
 pub one_less_times : (n i w : ℕ) → i < n → (n - i) * w ≡ (n - (i + 1)) * w + w
 one_less_times n i w lt = let e : n - i ≡ suc (n - (i + 1)) = omega arith in ap (λ k. k * w) e ∙ (omega arith)

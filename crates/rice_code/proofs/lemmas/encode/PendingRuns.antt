@@ -1,4 +1,4 @@
--- Zero blocks that wait for the end of their run.
+-- Zero blocks that are pending until their run ends.
 use Rattle.std.proofs.Common.{◌≡◌, ℕ, zero, suc, ◌+◌, ◌*◌, ◌<◌, ◌≤◌, ◌==◌, Bool, true, false, cond, not, ◌&&◌, ◌||◌, nat_le, List, []}
 use Rattle.std.proofs.Common.{◌∷◌, ◌++◌, length, take, drop, replicate, refl, ap, arith, sym, ◌∙◌, inl, inr, subst, append-nil, length-append, Option, None}
 use Rattle.rice_code.proofs.Words.{list_all, nat_tests, length-replicate, drop-drop, Parameters, begins_segment, blocks_left, one_less_left, last_of_segment, BlockData, is_zero_block, zero_block}
@@ -94,7 +94,7 @@ replicate_push : {X : Type 0} (n : ℕ) (x : X) (xs : List X) → replicate n x 
 replicate_push zero x xs = refl
 replicate_push (suc n) x xs = ap (λ l. x ∷ l) (replicate_push n x xs)
 
--- one more zero block waits
+-- one more zero block is pending
 pub zero_block_joins_run : (s : Parameters) (run : ℕ) (r q : Option ℕ) (c : BlockData) (cs : List BlockData) → c ≡ zero_block s q → (run ≡ 0 → q ≡ r)
     → (0 < run → q ≡ None) → pending_zeros s r run ++ c ∷ cs ≡ pending_zeros s r (run + 1) ++ cs
 zero_block_joins_run s zero r q c cs e f g = ap (λ c. c ∷ cs) (e ∙ ap (zero_block s) (f refl))

@@ -9,7 +9,7 @@ use Rattle.rice_code.proofs.Words.{state_after_segment, next_start, blocks_held,
 use Rattle.rice_code.proofs.Words.{held_blocks, AreSoundBlocks, layout, block_bound, least_looks, most_looks, least_looks_at, most_looks_at, least_steps, most_steps, coding_steps, segment_steps}
 use Rattle.rice_code.proofs.lemmas.{meaning.CoveredBlocks.bool_cases, code.RepeatedSamples.last_append, code.RepeatedSamples.blocks_append, code.Layouts.laid_plain, code.Layouts.laid_at}
 use Rattle.rice_code.proofs.lemmas.{encode.OpenSegments.fill_inside, code.WholeBlocks.not_filled}
-use Rattle.rice_code.proofs.lemmas.code.CodeGoesOn.{filled_behind, own_blocks, code_goes_on, bits_go_on}
+use Rattle.rice_code.proofs.lemmas.code.CodeGoesOn.{filled_after, own_blocks, code_goes_on, bits_go_on}
 use Rattle.rice_code.proofs.lemmas.encode.HeldSamples.{held_are, one_more, holds_fill, all_first}
 use Rattle.rice_code.proofs.lemmas.code.BlocksByPlaceAlone.{same_blocks, same_data_sets, same_reference, place_step, code_stands_in_intervals}
 use Rattle.rice_code.proofs.lemmas.code.SegmentPlaces.{begins_next, cut_is, next_start_is}
@@ -50,7 +50,7 @@ none_taken s legal =
       short = let m : s.block * 1 ≤ s.block * blocks_left s 0 = mul-le-mul_left s.block left.0 in omega arith;
     }
 
--- how many samples wait
+-- how many samples are pending
 pub pending_are : (coder : CoderState) (xs : List ℤ) → HasTaken coder xs → length coder.residuals + cut coder.setting (length xs) ≡ length xs
 pending_are coder xs h =
     let s = coder.setting in
@@ -60,7 +60,7 @@ pending_are coder xs h =
     let r = ap length h.holds.residuals ∙ length-residuals s (s.block * h.block) (last_of (pos 0) h.coded) h.held in
     omega (arith, len, c, r)
 
--- fewer samples wait than 64 blocks have
+-- fewer samples are pending than 64 blocks have
 pub few_pending : (coder : CoderState) → IsCoder coder → length coder.residuals < 64 * coder.setting.block
 few_pending coder k =
     let h = k.taken in
@@ -163,7 +163,7 @@ between_all s start p xs k = omega (arith, pending_are (state_between s start p)
 pub blocks_go_on : (s : Parameters) (b q : ℕ) (p : ℤ) (xs ys : List ℤ) → 1 ≤ s.block → length xs ≡ s.block * q
     → blocks_of s b p (xs ++ ys) ≡ blocks_of s b p xs ++ blocks_of s (b + q) (last_of p xs) ys
 blocks_go_on s b q p xs ys j len =
-    let parts = filled_behind s q p xs ys j len in
+    let parts = filled_after s q p xs ys j len in
     (λ i. blocks_from s b p (parts.1 i) (parts.0 i))
     ∙ (blocks_append s b p q (block_count s (length ys)) xs (filled_samples s (last_of p xs) ys) len ∙ ap (λ v. v ++ blocks_of s (b + q) (last_of p xs) ys) (sym (own_blocks s b q p xs j len)))
 

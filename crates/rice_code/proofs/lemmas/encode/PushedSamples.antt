@@ -131,7 +131,7 @@ whole_has_steps value coder held ys m0 m1 h room steps =
     let fits : m1 + coding_steps s < 2 ^ 62 = let all = steps_of_segment s in omega (arith, room, h.room, left, all, steps) in
     subst (λ s. m1 + coding_steps s < 2 ^ 62) (sym same) fits
 
--- also behind the samples that fill the last block,
+-- also after the samples that fill the last block,
 pub filled_has_steps : {value coder held : CoderState} (m0 : ℕ) {m1 : ℕ} → coder ≡ value → IsCoder coder
     → held ≡ state_with_fill coder (fill_count coder.setting (length coder.residuals)) → m0 + segment_steps value.setting < 2 ^ 62 →
     m1 ≡ m0 + fill_count coder.setting (length coder.residuals) → m1 + coding_steps held.setting < 2 ^ 62

@@ -13,7 +13,7 @@ pub length-pending_bits : (s : Parameters) (to_end : Bool) (r : Option ℕ) (run
 length-pending_bits s to_end r zero h = absurd (omega arith)
 length-pending_bits s to_end r (suc w) h = omega (arith, length-append (bits_of_set s (run_of_blocks to_end r (suc w))) [], run_text_len s to_end r (suc w))
 
--- a meter behind some steps, bounded in two ways, and behind n more
+-- a meter after some steps, bounded in two ways, and after n more
 pub record StepsOfTwo (j k limit m0 m1 m2 n : ℕ) : Type 0 where
   pub by_split : m1 ≤ m0 + j * (k + 3)
   pub by_limit : m1 ≤ m0 + j * (limit + 2)
@@ -41,7 +41,7 @@ left_inside s b (suc i) h k =
           omega (arith, f, ih, g)
     ]
 
--- the code that is still to come when `run` zero blocks before block i wait
+-- the code that is still to come when `run` zero blocks before block i are pending
 abbrev pub to_come : Parameters → ℕ → Option ℕ → ℕ → List ℕ → ℕ → ℕ → List Bool
 to_come s start r n ds i run = bits_of_sets s (data_sets s (start + (i - run)) false (pending_zeros s (reference_at r (i - run)) run ++ drop i (held_blocks s r n ds)))
 
@@ -68,7 +68,7 @@ reference_later : (r : Option ℕ) (i run : ℕ) → run ≤ i → 0 < run → r
 reference_later r zero run h k = absurd (omega arith)
 reference_later r (suc i) run h k = refl
 
--- a block of zeros joins the run that waits, and the code that is to come is the same
+-- a block of zeros joins the pending run, and the code that is to come is the same
 pub next_zero : (s : Parameters) (start : ℕ) (r : Option ℕ) {n : ℕ} (ds : List ℕ) {i run : ℕ} → run ≤ i → i < n → AreSoundBlocks s start (held_blocks s r n ds) →
     is_zero_block (held s r ds i) ≡ true → to_come s start r n ds i run ≡ to_come s start r n ds (i + 1) (run + 1)
 next_zero s start r {n} ds {i} {run} h k sound z =
@@ -85,7 +85,7 @@ next_zero s start r {n} ds {i} {run} h k sound z =
 run_is_inside : (s : Parameters) (start n i run : ℕ) → 1 ≤ s.interval → run ≤ i → i < n → n ≤ blocks_left s start → run < blocks_left s (start + (i - run))
 run_is_inside s start n i run h k l m = let e = left_inside s start (i - run) h (omega arith) in omega arith
 
--- before another block the code of the run that waits comes, and then the shortest code of the block
+-- before another block the code of the pending run comes, and then the shortest code of the block
 pub next_other : (s : Parameters) (start : ℕ) (r : Option ℕ) {n : ℕ} (ds : List ℕ) {i run : ℕ} → 1 ≤ s.interval → n ≤ blocks_left s start → run ≤ i → i < n →
     is_zero_block (held s r ds i) ≡ false → to_come s start r n ds i run ≡ bits_of_sets s (pending_run false (reference_at r (i - run)) run)
     ++ (bits_of_set s (shortest s (held s r ds i)) ++ to_come s start r n ds (i + 1) 0)
@@ -101,7 +101,7 @@ next_other s start r {n} ds {i} {run} h m l k z =
     ∙ (ap (bits_of_sets s) (f ∙ ap (λ m. w ++ shortest s c ∷ data_sets s m false rest) g)
     ∙ flat_map-append (bits_of_set s) w (shortest s c ∷ data_sets s (start + (i + 1 - 0)) false rest))
 
--- and at the end only the code of the run that waits is to come
+-- and at the end only the code of the pending run is to come
 pub at_end : (s : Parameters) (start : ℕ) (r : Option ℕ) (n : ℕ) (ds : List ℕ) (run : ℕ) → 1 ≤ s.interval → n ≤ blocks_left s start → run ≤ n →
     to_come s start r n ds n run ≡ bits_of_sets s (pending_run true (reference_at r (n - run)) run)
 at_end s start r n ds run h m l =
@@ -157,8 +157,8 @@ looks_other s c e = (ap (λ v. cond v s.block (s.block * (best_split s c + 3) - 
 pub shortest_len : (s : Parameters) (b : ℕ) (c : BlockData) → 1 ≤ s.block → IsSoundBlock s b c → length (bits_of_set s (shortest s c)) ≡ cost s (shortest s c)
 shortest_len s b c j h = cost_is_length s b (shortest s c) j (shortest_is_form s b c h)
 
--- a block of a segment, behind a run
-pub record BlockBehindRun (s : Parameters) (start n i run : ℕ) : Type 0 where
+-- a block of a segment, after a run
+pub record BlockAfterRun (s : Parameters) (start n i run : ℕ) : Type 0 where
   pub inside : n ≤ blocks_left s start
   pub run_before : run ≤ i
   pub below : i < n
@@ -175,7 +175,7 @@ pub record OtherBlock (s : Parameters) (start : ℕ) (r : Option ℕ) (n : ℕ) 
 
 -- what is put has room
 pub room_other : {s : Parameters} {start : ℕ} (r : Option ℕ) {n : ℕ} (ds : List ℕ) {i run : ℕ} (sink before all : List Bool) → SomeBlocks s
-    → BlockBehindRun s start n i run →
+    → BlockAfterRun s start n i run →
     OtherBlock s start r n ds i → sink ++ to_come s start r n ds i run ≡ before ++ all →
     length sink + length (bits_of_sets s (pending_run false (reference_at r (i - run)) run)) + cost s (shortest s (held s r ds i)) ≤ length before + length all
 room_other {s} {start} r {n} ds {i} {run} sink before all some place other same =
@@ -194,21 +194,21 @@ room_other {s} {start} r {n} ds {i} {run} sink before all some place other same 
 pub room_within : (sink more before all : List Bool) → sink ++ more ≡ before ++ all → length sink + length more ≡ length before + length all
 room_within sink more before all e = omega (arith, ap length e, length-append sink more, length-append before all)
 
--- a meter and a sink behind i of n blocks: the meter grew by no more than what was put and x for each block
-pub record MeterBehind (m m0 a a0 t put total i n x : ℕ) : Type 0 where
+-- a meter and a sink after i of n blocks: the meter grew by no more than what was put and x for each block
+pub record MeterAfter (m m0 a a0 t put total i n x : ℕ) : Type 0 where
   pub grown : m + a0 ≤ m0 + a + total
   pub by_blocks : total ≤ i * x
   pub put_is : a + put ≤ a0 + t
   pub fits : m0 + t + n * x < 2 ^ 62
 
 -- the meter has room for one block more
-pub meter_fits : {m m0 a a0 t put total i n : ℕ} (x : ℕ) → MeterBehind m m0 a a0 t put total i n x → i < n → m + put + x < 2 ^ 62
+pub meter_fits : {m m0 a a0 t put total i n : ℕ} (x : ℕ) → MeterAfter m m0 a a0 t put total i n x → i < n → m + put + x < 2 ^ 62
 meter_fits {i} {n} x meter h =
     let e : suc i * x ≤ n * x = mul-le-mul_right x h in
     omega (arith, e)
 
--- and for what is put behind any number of them
-pub meter_ends : {m m0 a a0 t put total i n : ℕ} (x : ℕ) → MeterBehind m m0 a a0 t put total i n x → i ≤ n → m + put < 2 ^ 62
+-- and for what is put after any number of them
+pub meter_ends : {m m0 a a0 t put total i n : ℕ} (x : ℕ) → MeterAfter m m0 a a0 t put total i n x → i ≤ n → m + put < 2 ^ 62
 meter_ends {i} {n} x meter h =
     let e : i * x ≤ n * x = mul-le-mul_right x h in
     omega (arith, e)
@@ -245,6 +245,6 @@ pub record GrowsAtMost (m0 m m' a a' a0 put total x : ℕ) : Type 0 where
 pub most_more : {most : ℕ} (m0 m m' a : ℕ) {a' : ℕ} (a0 put total : ℕ) {x : ℕ} → GrowsAtMost m0 m m' a a' a0 put total x → most ≡ x → m' + a0 ≤ m0 + a' + (total + most)
 most_more m0 m m' a a0 put total grows f = omega arith
 
--- a text is as long as its front and what was put behind it
+-- a text is as long as its front and what was put after it
 pub length_both : (new old more : List Bool) → new ≡ old ++ more → length new ≡ length old + length more
 length_both new old more e = ap length e ∙ length-append old more

@@ -48,7 +48,7 @@ pub state_after_all-none : (coder : CoderState) (xs : List ℤ) → length xs �
 state_after_all-none coder [] e = λ i. record { setting = coder.setting; residuals = append-nil coder.residuals i; reference = coder.reference; previous = coder.previous; start = coder.start }
 state_after_all-none coder (x ∷ xs) e = absurd (omega arith)
 
--- behind any sample the next is no reference sample
+-- after any sample the next is no reference sample
 pub not_first : (coder : CoderState) (x : ℤ) → (coder.setting.preprocess && is_first (state_after coder x)) ≡ false
 not_first coder x = ap (λ v. coder.setting.preprocess && (v && coder.start == 0)) (some coder.residuals (next_residual coder x)) ∙ and-false coder.setting.preprocess
   where

@@ -41,7 +41,7 @@ is_some-false (Some v) e = absurd cc
 
 -- the zero blocks at the front that a run before block b stands for
 abbrev pub skipped : Parameters → ℕ → Bool → List BlockData → ℕ
-skipped s b behind_zero cs = cond (behind_zero && not (begins_segment s b)) (run_len s b cs) 0
+skipped s b after_zero cs = cond (after_zero && not (begins_segment s b)) (run_len s b cs) 0
 
 run_of : (n : ℕ) (c : BlockData) (cs : List BlockData) → is_zero_block c ≡ true → prefix_len is_zero_block (take (suc n) (c ∷ cs)) ≡ suc (prefix_len is_zero_block (take n cs))
 run_of n c cs z = ap (λ v. cond v (1 + prefix_len is_zero_block (take n cs)) 0) z ∙ (omega arith)
@@ -50,7 +50,7 @@ no_run_of : (n : ℕ) (c : BlockData) (cs : List BlockData) → is_zero_block c 
 no_run_of zero c cs z = refl
 no_run_of (suc n) c cs z = ap (λ v. cond v (1 + prefix_len is_zero_block (take n cs)) 0) z
 
--- a zero block begins a run of one more than would be skipped behind it
+-- a zero block begins a run of one more than would be skipped after it
 pub run_cons : (s : Parameters) (b : ℕ) (c : BlockData) (cs : List BlockData) → 1 ≤ s.interval → is_zero_block c ≡ true → run_len s b (c ∷ cs) ≡ suc (skipped s (b + 1) true cs)
 run_cons s b c cs h z =
     elim (bool_cases (begins_segment s (b + 1))) [
@@ -62,24 +62,24 @@ run_stops : (s : Parameters) (b : ℕ) (c : BlockData) (cs : List BlockData) →
 run_stops s b c cs h z = no_run_of (blocks_left s b) c cs z
 
 -- a block that is not zero is sent by its shortest option
-pub data_sets_plain : (s : Parameters) (b : ℕ) (behind : Bool) (c : BlockData) (cs : List BlockData) → is_zero_block c ≡ false
-    → data_sets s b behind (c ∷ cs) ≡ shortest s c ∷ data_sets s (b + 1) false cs
-data_sets_plain s b behind c cs e = rw e refl
+pub data_sets_plain : (s : Parameters) (b : ℕ) (after : Bool) (c : BlockData) (cs : List BlockData) → is_zero_block c ≡ false
+    → data_sets s b after (c ∷ cs) ≡ shortest s c ∷ data_sets s (b + 1) false cs
+data_sets_plain s b after c cs e = rw e refl
 
 -- a zero block that is in no run yet begins one, which is sent
-pub data_sets_start : (s : Parameters) (b : ℕ) (behind : Bool) (c : BlockData) (cs : List BlockData) → is_zero_block c ≡ true → (behind && not (begins_segment s b)) ≡ false →
-    data_sets s b behind (c ∷ cs) ≡ zero_run s b c.reference (c ∷ cs) ∷ data_sets s (b + 1) true cs
-data_sets_start s b behind c cs e f =
+pub data_sets_start : (s : Parameters) (b : ℕ) (after : Bool) (c : BlockData) (cs : List BlockData) → is_zero_block c ≡ true → (after && not (begins_segment s b)) ≡ false →
+    data_sets s b after (c ∷ cs) ≡ zero_run s b c.reference (c ∷ cs) ∷ data_sets s (b + 1) true cs
+data_sets_start s b after c cs e f =
     let run = zero_run s b c.reference (c ∷ cs) in
-    ap (λ v. cond v (cond (behind && not (begins_segment s b)) [] (run ∷ [])) (shortest s c ∷ []) ++ data_sets s (b + 1) v cs) e
+    ap (λ v. cond v (cond (after && not (begins_segment s b)) [] (run ∷ [])) (shortest s c ∷ []) ++ data_sets s (b + 1) v cs) e
     ∙ ap (λ v. cond v [] (run ∷ []) ++ data_sets s (b + 1) true cs) f
 
 -- and for one that is in a run nothing more is sent
-pub data_sets_inside : (s : Parameters) (b : ℕ) (behind : Bool) (c : BlockData) (cs : List BlockData) → is_zero_block c ≡ true → (behind && not (begins_segment s b)) ≡ true →
-    data_sets s b behind (c ∷ cs) ≡ data_sets s (b + 1) true cs
-data_sets_inside s b behind c cs e f =
+pub data_sets_inside : (s : Parameters) (b : ℕ) (after : Bool) (c : BlockData) (cs : List BlockData) → is_zero_block c ≡ true → (after && not (begins_segment s b)) ≡ true →
+    data_sets s b after (c ∷ cs) ≡ data_sets s (b + 1) true cs
+data_sets_inside s b after c cs e f =
     let run = zero_run s b c.reference (c ∷ cs) in
-    ap (λ v. cond v (cond (behind && not (begins_segment s b)) [] (run ∷ [])) (shortest s c ∷ []) ++ data_sets s (b + 1) v cs) e
+    ap (λ v. cond v (cond (after && not (begins_segment s b)) [] (run ∷ [])) (shortest s c ∷ []) ++ data_sets s (b + 1) v cs) e
     ∙ ap (λ v. cond v [] (run ∷ []) ++ data_sets s (b + 1) true cs) f
 
 prefix_none : (n : ℕ) → prefix_len is_zero_block (take n []) ≡ 0
@@ -87,29 +87,29 @@ prefix_none zero = refl
 prefix_none (suc n) = refl
 
 -- where there are no blocks, none is skipped,
-pub skipped_nil : (s : Parameters) (b : ℕ) (behind : Bool) → skipped s b behind [] ≡ 0
-skipped_nil s b behind =
-    elim (bool_cases (behind && not (begins_segment s b))) [
+pub skipped_nil : (s : Parameters) (b : ℕ) (after : Bool) → skipped s b after [] ≡ 0
+skipped_nil s b after =
+    elim (bool_cases (after && not (begins_segment s b))) [
       | inl e ↦ ap (λ v. cond v (run_len s b []) 0) e ∙ prefix_none (blocks_left s b)
       | inr e ↦ ap (λ v. cond v (run_len s b []) 0) e
     ]
 
 -- nor is one before a block that is not zero
-pub skipped_plain : (s : Parameters) (b : ℕ) (behind : Bool) (c : BlockData) (cs : List BlockData) → 1 ≤ s.interval → is_zero_block c ≡ false → skipped s b behind (c ∷ cs) ≡ 0
-skipped_plain s b behind c cs h z =
-    elim (bool_cases (behind && not (begins_segment s b))) [
+pub skipped_plain : (s : Parameters) (b : ℕ) (after : Bool) (c : BlockData) (cs : List BlockData) → 1 ≤ s.interval → is_zero_block c ≡ false → skipped s b after (c ∷ cs) ≡ 0
+skipped_plain s b after c cs h z =
+    elim (bool_cases (after && not (begins_segment s b))) [
       | inl e ↦ ap (λ v. cond v (run_len s b (c ∷ cs)) 0) e ∙ run_stops s b c cs h z
       | inr e ↦ ap (λ v. cond v (run_len s b (c ∷ cs)) 0) e
     ]
 
--- a zero block inside a run is skipped, and so is what would be skipped behind it
-pub skipped_go : (s : Parameters) (b : ℕ) (behind : Bool) (c : BlockData) (cs : List BlockData) → 1 ≤ s.interval → is_zero_block c ≡ true → (behind && not (begins_segment s b)) ≡ true →
-    skipped s b behind (c ∷ cs) ≡ suc (skipped s (b + 1) true cs)
-skipped_go s b behind c cs h z e = ap (λ v. cond v (run_len s b (c ∷ cs)) 0) e ∙ run_cons s b c cs h z
+-- a zero block inside a run is skipped, and so is what would be skipped after it
+pub skipped_go : (s : Parameters) (b : ℕ) (after : Bool) (c : BlockData) (cs : List BlockData) → 1 ≤ s.interval → is_zero_block c ≡ true → (after && not (begins_segment s b)) ≡ true →
+    skipped s b after (c ∷ cs) ≡ suc (skipped s (b + 1) true cs)
+skipped_go s b after c cs h z e = ap (λ v. cond v (run_len s b (c ∷ cs)) 0) e ∙ run_cons s b c cs h z
 
--- none is skipped behind a block that is not zero, or where a segment begins
-pub skipped_stop : (s : Parameters) (b : ℕ) (behind : Bool) (cs : List BlockData) → (behind && not (begins_segment s b)) ≡ false → skipped s b behind cs ≡ 0
-skipped_stop s b behind cs e = ap (λ v. cond v (run_len s b cs) 0) e
+-- none is skipped after a block that is not zero, or where a segment begins
+pub skipped_stop : (s : Parameters) (b : ℕ) (after : Bool) (cs : List BlockData) → (after && not (begins_segment s b)) ≡ false → skipped s b after cs ≡ 0
+skipped_stop s b after cs e = ap (λ v. cond v (run_len s b cs) 0) e
 
 -- inside a segment no block has a reference
 no_reference : (s : Parameters) (b : ℕ) → not (begins_segment s b) ≡ true → is_reference s b ≡ false
@@ -233,7 +233,7 @@ abbrev pub GoOn : Parameters → ℕ → ℕ → Type 0
 GoOn s b zero = Unit {0}
 GoOn s b (suc n) = (begins_segment s b ≡ false) × GoOn s (b + 1) n
 
--- of the blocks that are left in a segment, none behind the first begins a segment
+-- of the blocks that are left in a segment, none after the first begins a segment
 pub segment_goes_on : (s : Parameters) (b n : ℕ) → 1 ≤ s.interval → suc n ≤ blocks_left s b → GoOn s (b + 1) n
 segment_goes_on s b zero h le = tt
 segment_goes_on s b (suc n) h le =
@@ -242,18 +242,18 @@ segment_goes_on s b (suc n) h le =
       | inr e ↦ let more = one_less_left s b h e in (e, segment_goes_on s (b + 1) n h (omega arith))
     ]
 
-go_on_behind : (s : Parameters) (b m n : ℕ) → GoOn s b (m + n) → GoOn s (b + m) n
-go_on_behind s b zero n h = let e : 0 + n ≡ n = omega arith in let f : b ≡ b + 0 = omega arith in along s b (0 + n) (b + 0) n f e h
+go_on_after : (s : Parameters) (b m n : ℕ) → GoOn s b (m + n) → GoOn s (b + m) n
+go_on_after s b zero n h = let e : 0 + n ≡ n = omega arith in let f : b ≡ b + 0 = omega arith in along s b (0 + n) (b + 0) n f e h
   where
     along : (s : Parameters) (b m c n : ℕ) → b ≡ c → m ≡ n → GoOn s b m → GoOn s c n
     along s b m c n e f h = let P : ℕ → Type 0 = λ x. GoOn s x n in let Q : ℕ → Type 0 = λ x. GoOn s b x in subst P e (subst Q f h)
-go_on_behind s b (suc m) n h =
+go_on_after s b (suc m) n h =
     let P : ℕ → Type 0 = λ x. GoOn s x n in
     let Q : ℕ → Type 0 = λ x. GoOn s b x in
     let e : suc m + n ≡ suc (m + n) = omega arith in
     let f : b + 1 + m ≡ b + suc m = omega arith in
     let k : GoOn s b (suc (m + n)) = subst Q e h in
-    subst P f (go_on_behind s (b + 1) m n k.1)
+    subst P f (go_on_after s (b + 1) m n k.1)
 
 -- there is a last block, and it is one of zeros
 abbrev pub EndsInZeros : List BlockData → Type 0
@@ -278,42 +278,42 @@ all_skipped s b c (d ∷ cs) h z e =
     ]
 
 -- The blocks of the coded data sets are the blocks, after those that are skipped, and perhaps zero blocks to the end of the segment of the last block, which is then one of zeros too.
-pub record Covering (s : Parameters) (b : ℕ) (behind : Bool) (cs : List BlockData) : Type 0 where
+pub record Covering (s : Parameters) (b : ℕ) (after : Bool) (cs : List BlockData) : Type 0 where
   pub fill : ℕ
   pub few : fill < 64
   pub inside : GoOn s (b + length cs) fill
   pub last : 1 ≤ fill → EndsInZeros cs
-  pub blocks : blocks_in_all s (b + skipped s b behind cs) (data_sets s b behind cs) ≡ drop (skipped s b behind cs) cs ++ replicate fill (zero_block s None)
+  pub blocks : blocks_in_all s (b + skipped s b after cs) (data_sets s b after cs) ≡ drop (skipped s b after cs) cs ++ replicate fill (zero_block s None)
 
 -- one block more
-covers_one_more : (s : Parameters) (b : ℕ) (behind ahead : Bool) (c : BlockData) (cs : List BlockData) → (ih : Covering s (b + 1) ahead cs) →
-    blocks_in_all s (b + skipped s b behind (c ∷ cs)) (data_sets s b behind (c ∷ cs)) ≡ drop (skipped s b behind (c ∷ cs)) (c ∷ cs) ++ replicate ih.fill
-    (zero_block s None) → Covering s b behind (c ∷ cs)
-covers_one_more s b behind ahead c cs ih e =
+covers_one_more : (s : Parameters) (b : ℕ) (after ahead : Bool) (c : BlockData) (cs : List BlockData) → (ih : Covering s (b + 1) ahead cs) →
+    blocks_in_all s (b + skipped s b after (c ∷ cs)) (data_sets s b after (c ∷ cs)) ≡ drop (skipped s b after (c ∷ cs)) (c ∷ cs) ++ replicate ih.fill
+    (zero_block s None) → Covering s b after (c ∷ cs)
+covers_one_more s b after ahead c cs ih e =
     let n : b + 1 + length cs ≡ b + suc (length cs) = omega arith in
     let P : ℕ → Type 0 = λ x. GoOn s x ih.fill in
     record { fill = ih.fill; few = ih.few; inside = subst P n ih.inside; last = λ h. ends_cons c cs (ih.last h); blocks = e }
 
 -- The coded data sets of any blocks cover these in this way.
-pub covers_blocks : (s : Parameters) (b : ℕ) (behind : Bool) (cs : List BlockData) → 1 ≤ s.interval → AreBlocks s b cs → Covering s b behind cs
-covers_blocks s b behind [] h k = record {
+pub covers_blocks : (s : Parameters) (b : ℕ) (after : Bool) (cs : List BlockData) → 1 ≤ s.interval → AreBlocks s b cs → Covering s b after cs
+covers_blocks s b after [] h k = record {
   fill = 0;
   few = lit< tt;
   inside = tt;
   last = λ e. absurd (omega arith);
-  blocks = sym (ap (λ v. v ++ (let e : List BlockData = [] in e)) (drop_none (skipped s b behind [])));
+  blocks = sym (ap (λ v. v ++ (let e : List BlockData = [] in e)) (drop_none (skipped s b after [])));
 }
-covers_blocks s b behind (c ∷ cs) h k =
-    let at = λ (n : ℕ) (ds : List CodedDataSet) (fill : ℕ) (e : skipped s b behind (c ∷ cs) ≡ n) (f : data_sets s b behind (c ∷ cs) ≡ ds)
+covers_blocks s b after (c ∷ cs) h k =
+    let at = λ (n : ℕ) (ds : List CodedDataSet) (fill : ℕ) (e : skipped s b after (c ∷ cs) ≡ n) (f : data_sets s b after (c ∷ cs) ≡ ds)
     (g : blocks_in_all s (b + n) ds ≡ drop n (c ∷ cs) ++ replicate fill (zero_block s None)).
-    (ap (λ m. blocks_in_all s (b + m) (data_sets s b behind (c ∷ cs))) e ∙ (ap (λ v. blocks_in_all s (b + n) v) f ∙ (g ∙ sym (ap (λ m. drop m (c ∷ cs) ++ replicate fill (zero_block s None)) e)))) in
+    (ap (λ m. blocks_in_all s (b + m) (data_sets s b after (c ∷ cs))) e ∙ (ap (λ v. blocks_in_all s (b + n) v) f ∙ (g ∙ sym (ap (λ m. drop m (c ∷ cs) ++ replicate fill (zero_block s None)) e)))) in
     elim (bool_cases (is_zero_block c)) [
       | inr z ↦
           let ih = covers_blocks s (b + 1) false cs h k.1 in
           let rest = data_sets s (b + 1) false cs in
           let n : b + 0 + 1 ≡ b + 1 + 0 = omega arith in
-          covers_one_more s b behind false c cs ih
-          (at 0 (shortest s c ∷ rest) ih.fill (skipped_plain s b behind c cs h z) (data_sets_plain s b behind c cs z)
+          covers_one_more s b after false c cs ih
+          (at 0 (shortest s c ∷ rest) ih.fill (skipped_plain s b after c cs h z) (data_sets_plain s b after c cs z)
           (cons_covers s (b + 0) (shortest s c) rest (c ∷ []) (shortest_covers s (b + 0) c) ∙ (ap (λ m. c ∷ blocks_in_all s m rest) n ∙ ap (λ v. c ∷ v) ih.blocks)))
       | inl z ↦
           let ih = covers_blocks s (b + 1) true cs h k.1 in
@@ -322,16 +322,16 @@ covers_blocks s b behind (c ∷ cs) h k =
           let zc = zero_block_is s b c k.0 z in
           let zcs = skipped_zeros s (b + 1) cs h k.1 in
           let len = run_cons s b c cs h z in
-          elim (bool_cases (behind && not (begins_segment s b))) [
+          elim (bool_cases (after && not (begins_segment s b))) [
             | inl go ↦
                 let n : b + suc j ≡ b + 1 + j = omega arith in
-                covers_one_more s b behind true c cs ih (at (suc j) rest ih.fill (skipped_go s b behind c cs h z go) (data_sets_inside s b behind c cs z go)
+                covers_one_more s b after true c cs ih (at (suc j) rest ih.fill (skipped_go s b after c cs h z go) (data_sets_inside s b after c cs z go)
                 (ap (λ m. blocks_in_all s m rest) n ∙ ih.blocks))
             | inr stop ↦
                 let start = λ (d : CodedDataSet) (e : zero_run s b c.reference (c ∷ cs) ≡ d) (fill : ℕ) (g : blocks_in_all s (b + 0) (d ∷ rest) ≡ (c ∷ cs) ++ replicate fill (zero_block s None)).
-                at 0 (d ∷ rest) fill (skipped_stop s b behind (c ∷ cs) stop) (data_sets_start s b behind c cs z stop ∙ ap (λ v. v ∷ rest) e) g in
+                at 0 (d ∷ rest) fill (skipped_stop s b after (c ∷ cs) stop) (data_sets_start s b after c cs z stop ∙ ap (λ v. v ∷ rest) e) g in
                 elim (zero_run_is s b c.reference (c ∷ cs)) [
-                  | inl e ↦ covers_one_more s b behind true c cs ih
+                  | inl e ↦ covers_one_more s b after true c cs ih
                       (start (ZeroBlocks c.reference (run_len s b (c ∷ cs))) e ih.fill
                       (run_covers s b j (ZeroBlocks c.reference (run_len s b (c ∷ cs))) rest cs (replicate ih.fill (zero_block s None))
                       (record { blocks = run_blocks s c.reference (run_len s b (c ∷ cs)) j len; first = zc; zeros = zcs }) ih.blocks))
@@ -339,7 +339,7 @@ covers_blocks s b behind (c ∷ cs) h k =
                       let here : b + 0 ≡ b = omega arith in
                       let left = ap (λ i. blocks_left s i) here in
                       elim e.1 [
-                        | inl full ↦ covers_one_more s b behind true c cs ih
+                        | inl full ↦ covers_one_more s b after true c cs ih
                             (start (RemainderOfSegment c.reference) e.0 ih.fill
                             (run_covers s b j (RemainderOfSegment c.reference) rest cs (replicate ih.fill (zero_block s None))
                             (record {
@@ -352,12 +352,12 @@ covers_blocks s b behind (c ∷ cs) h k =
                             let inside : suc j ≤ blocks_left s b = omega (arith, run_inside s b (c ∷ cs)) in
                             let over = nothing_more s (b + 1) cs h n in
                             let fill = blocks_left s b - suc j in
-                            let behind_all : b + 1 + j ≡ b + suc (length cs) = omega arith in
+                            let after_all : b + 1 + j ≡ b + suc (length cs) = omega arith in
                             let P : ℕ → Type 0 = λ x. GoOn s x fill in
                             record {
                               fill = fill;
                               few = omega (arith, some_left s b h);
-                              inside = subst P behind_all (go_on_behind s (b + 1) j fill (segment_goes_on s b (j + fill) h (omega arith)));
+                              inside = subst P after_all (go_on_after s (b + 1) j fill (segment_goes_on s b (j + fill) h (omega arith)));
                               last = λ p. all_skipped s (b + 1) c cs h z n;
                               blocks = start (RemainderOfSegment c.reference) e.0 fill
                                   (ap (λ ds. blocks_in_all s (b + 0) (RemainderOfSegment c.reference ∷ ds)) over

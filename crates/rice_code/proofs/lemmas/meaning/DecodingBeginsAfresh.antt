@@ -3,7 +3,7 @@ use Rattle.std.proofs.Common.{◌≡◌, ℕ, zero, suc, ◌+◌, ◌-◌, ◌*�
 use Rattle.std.proofs.Common.{◌++◌, length, take, drop, refl, ap, arith, sym, ◌∙◌, inl, inr, subst, append_assoc, length-append, Option, Some, None, ℤ, pos}
 use Rattle.rice_code.proofs.Words.{IsSomeAnd, drop_at, length-replicate, take_all, All-append, mod-eq_of_lt, mul-mod_right, take-length, bits_to_byte, Parameters, IsLegal}
 use Rattle.rice_code.proofs.Words.{IsSample, place, begins_segment, blocks_left, is_padded, last_of, some_left, le_of_mul-le-mul_left, lt_of_mul-lt-mul_left, BeginsInterval, DecodingBeginsAfresh}
-use Rattle.rice_code.proofs.Words.{count_behind, blocks_from, zero_block, CodedDataSet, NoCompression, SecondExtension, Split, ZeroBlocks, RemainderOfSegment, bits_of_set, AreTaken, Decoded}
+use Rattle.rice_code.proofs.Words.{count_after, blocks_from, zero_block, CodedDataSet, NoCompression, SecondExtension, Split, ZeroBlocks, RemainderOfSegment, bits_of_set, AreTaken, Decoded}
 use Rattle.rice_code.proofs.Words.{DecodedFrom, Ending, Reached, EndsWith, IsWanted, cut_to, RunIsSound, blocks_in, blocks_in_all, block_after, padding, Lies}
 use Rattle.rice_code.proofs.lemmas.{code.BlocksByPlaceAlone.place_on, code.BlocksByPlaceAlone.same_blocks, code.RepeatedSamples.blocks_append, code.Layouts.ends_inside, code.Layouts.lies_at}
 use Rattle.rice_code.proofs.lemmas.{code.SegmentsOneByOne.ends_before, cost.PaddingBounds.interval_begins_segment, meaning.CoveredBlocks.bool_cases, meaning.DecodingGoesOn.cut_parts}
@@ -36,33 +36,33 @@ lies_afresh s b n ds bits byte h = elim (bool_cases s.pad) [
 
 -- ---- an interval's code, decoded by itself, and where it stands
 
-wanted_behind : (s : Parameters) (asked : Option ℕ) (c i : ℕ) → IsWanted s asked (0 + i) → IsWanted s (count_behind (s.block * c) asked) (c + i)
-wanted_behind s None c i h = tt
-wanted_behind s (Some n) c i h = let lt : s.block * (0 + i) < n = h in omega arith
+wanted_after : (s : Parameters) (asked : Option ℕ) (c i : ℕ) → IsWanted s asked (0 + i) → IsWanted s (count_after (s.block * c) asked) (c + i)
+wanted_after s None c i h = tt
+wanted_after s (Some n) c i h = let lt : s.block * (0 + i) < n = h in omega arith
 
-reached_behind : (s : Parameters) (asked : Option ℕ) (c i : ℕ) → IsSomeAnd asked (λ n. n ≤ s.block * (0 + i)) → IsSomeAnd (count_behind (s.block * c) asked) (λ n. n ≤ s.block * (c + i))
-reached_behind s None c i h = absurd h
-reached_behind s (Some n) c i h = let le : n ≤ s.block * (0 + i) = h in omega arith
+reached_after : (s : Parameters) (asked : Option ℕ) (c i : ℕ) → IsSomeAnd asked (λ n. n ≤ s.block * (0 + i)) → IsSomeAnd (count_after (s.block * c) asked) (λ n. n ≤ s.block * (c + i))
+reached_after s None c i h = absurd h
+reached_after s (Some n) c i h = let le : n ≤ s.block * (0 + i) = h in omega arith
 
-cut_behind : (s : Parameters) (asked : Option ℕ) (c : ℕ) (xs : List ℤ) → cut_to s asked 0 xs ≡ cut_to s (count_behind (s.block * c) asked) c xs
-cut_behind s None c xs = refl
-cut_behind s (Some n) c xs = let e : n - s.block * 0 ≡ s.block * c + n - s.block * c = omega arith in ap (λ m. take m xs) e
+cut_after : (s : Parameters) (asked : Option ℕ) (c : ℕ) (xs : List ℤ) → cut_to s asked 0 xs ≡ cut_to s (count_after (s.block * c) asked) c xs
+cut_after s None c xs = refl
+cut_after s (Some n) c xs = let e : n - s.block * 0 ≡ s.block * c + n - s.block * c = omega arith in ap (λ m. take m xs) e
 
 first_place : (s : Parameters) → IsLegal s → place s 0 ≡ 0
 first_place s legal = let lt : 0 < s.interval = omega (arith, legal.interval_from) in mod-eq_of_lt lt
 
 -- the sample before an interval does not matter
-blocks_behind : (s : Parameters) (c n : ℕ) (p : ℤ) (xs : List ℤ) → IsLegal s → 1 ≤ s.block → place s c ≡ 0 → length xs ≡ s.block * n → blocks_from s c p n xs ≡ blocks_from s 0 (pos 0) n xs
-blocks_behind s c zero p xs legal j e len = refl
-blocks_behind s c (suc n) p [] legal j e len = absurd (omega arith)
-blocks_behind s c (suc n) p (x ∷ xs) legal j e len = first_blocks s c p (pos 0) (suc n) x xs j e ∙ same_blocks s c 0 (pos 0) (suc n) (x ∷ xs) j (e ∙ sym (first_place s legal))
+blocks_after : (s : Parameters) (c n : ℕ) (p : ℤ) (xs : List ℤ) → IsLegal s → 1 ≤ s.block → place s c ≡ 0 → length xs ≡ s.block * n → blocks_from s c p n xs ≡ blocks_from s 0 (pos 0) n xs
+blocks_after s c zero p xs legal j e len = refl
+blocks_after s c (suc n) p [] legal j e len = absurd (omega arith)
+blocks_after s c (suc n) p (x ∷ xs) legal j e len = first_blocks s c p (pos 0) (suc n) x xs j e ∙ same_blocks s c 0 (pos 0) (suc n) (x ∷ xs) j (e ∙ sym (first_place s legal))
 
-stands_behind : {s : Parameters} → IsLegal s → (c n : ℕ) (p : ℤ) {bits : List Bool} {asked : Option ℕ} {xs : List ℤ} {ending : Ending} {used : ℕ} → place s c ≡ 0 → (s.pad ≡ true → n % 8 ≡ 0)
-    → Decoded s bits asked xs ending used → DecodedFrom s c n p bits (count_behind (s.block * c) asked) xs ending used
-stands_behind {s} legal c n p {asked} {ending} begins byte h =
+stands_after : {s : Parameters} → IsLegal s → (c n : ℕ) (p : ℤ) {bits : List Bool} {asked : Option ℕ} {xs : List ℤ} {ending : Ending} {used : ℕ} → place s c ≡ 0 → (s.pad ≡ true → n % 8 ≡ 0)
+    → Decoded s bits asked xs ending used → DecodedFrom s c n p bits (count_after (s.block * c) asked) xs ending used
+stands_after {s} legal c n p {asked} {ending} begins byte h =
     let j : 1 ≤ s.block = grind (arith, legal.block) in
     let e : place s 0 ≡ place s c = first_place s legal ∙ sym begins in
-    let there = count_behind (s.block * c) asked in
+    let there = count_after (s.block * c) asked in
     let blocks = same_all_blocks s 0 c h.sets e in
     let count = ap length blocks in
     let size = length (blocks_in_all s 0 h.sets) in
@@ -73,17 +73,17 @@ stands_behind {s} legal c n p {asked} {ending} begins byte h =
       rest = h.rest;
       parts = h.parts;
       lie = lies_afresh s c n h.sets h.front byte (same_lie s 0 c 0 h.sets h.front e h.lie);
-      taken = taken_there s asked there 0 c h.sets e (wanted_behind s asked c) h.taken;
+      taken = taken_there s asked there 0 c h.sets e (wanted_after s asked c) h.taken;
       all = h.all;
       legal = h.legal;
       len = h.len ∙ ap (λ k. s.block * k) count;
-      blocks = ap (λ k. blocks_from s c p k h.all) (sym count) ∙ (blocks_behind s c size p h.all legal j begins h.len ∙ (h.blocks ∙ blocks));
-      asked_for = h.asked_for ∙ cut_behind s asked c h.all;
+      blocks = ap (λ k. blocks_from s c p k h.all) (sym count) ∙ (blocks_after s c size p h.all legal j begins h.len ∙ (h.blocks ∙ blocks));
+      asked_for = h.asked_for ∙ cut_after s asked c h.all;
       last = h.last;
       ends = subst P count (ends_there asked there (0 + size) (c + size) h.rest ending h.last (record {
         place_is = place_on s 0 c size e;
-        wanted = wanted_behind s asked c size;
-        reached = reached_behind s asked c size;
+        wanted = wanted_after s asked c size;
+        reached = reached_after s asked c size;
       }) h.ends);
       bits_used = h.bits_used;
     }
@@ -171,11 +171,11 @@ lies_to_byte s {end} b m (d ∷ ds) bits pads reach whole h =
         ap (λ n. n % 8) size ∙ to_byte bits
 
 -- what is wanted of some samples is wanted of these and others
-wanted_more : (s : Parameters) (asked : Option ℕ) (n i : ℕ) → IsWanted s (Some n) i → IsWanted s (count_behind n asked) i
+wanted_more : (s : Parameters) (asked : Option ℕ) (n i : ℕ) → IsWanted s (Some n) i → IsWanted s (count_after n asked) i
 wanted_more s None n i h = tt
 wanted_more s (Some m) n i h = let lt : s.block * i < n = h in omega arith
 
-all_wanted : (s : Parameters) (asked : Option ℕ) (xs : List ℤ) → xs ≡ cut_to s (count_behind (length xs) asked) 0 xs
+all_wanted : (s : Parameters) (asked : Option ℕ) (xs : List ℤ) → xs ≡ cut_to s (count_after (length xs) asked) 0 xs
 all_wanted s None xs = refl
 all_wanted s (Some m) xs = sym (take_all (length xs + m - s.block * 0) xs (omega arith))
 
@@ -209,13 +209,13 @@ is_before s bits before begin legal b =
       byte = λ pads. lies_to_byte s 0 0 h.sets h.front (ap (λ m. s.pad && m == 0) begins ∙ ap (λ v. v && 0 == 0) pads) reach (λ none. refl) h.lie;
     }
 
--- coded data sets that decode to all samples that are asked for of them, and others behind them
-decodes_behind : {s : Parameters} {bits : List Bool} {before xs : List ℤ} (asked : Option ℕ) {ending : Ending} {begin used : ℕ}
+-- coded data sets that decode to all samples that are asked for of them, and others after them
+decodes_after : {s : Parameters} {bits : List Bool} {before xs : List ℤ} (asked : Option ℕ) {ending : Ending} {begin used : ℕ}
     → (h : Decoded s bits (Some (length before)) before Reached begin) → before ≡ h.all → begin ≡ length h.front
-    → DecodedFrom s (0 + length (blocks_in_all s 0 h.sets)) (0 + length h.front) (last_of (pos 0) h.all) h.rest (count_behind (length before) asked) xs ending
-    used → Decoded s bits (count_behind (length before) asked) (before ++ xs) ending (begin + used)
-decodes_behind {s} {before} asked {ending} h all front d =
-    let there = count_behind (length before) asked in
+    → DecodedFrom s (0 + length (blocks_in_all s 0 h.sets)) (0 + length h.front) (last_of (pos 0) h.all) h.rest (count_after (length before) asked) xs ending
+    used → Decoded s bits (count_after (length before) asked) (before ++ xs) ending (begin + used)
+decodes_after {s} {before} asked {ending} h all front d =
+    let there = count_after (length before) asked in
     let n = length (blocks_in_all s 0 h.sets) in
     let m = length (blocks_in_all s (0 + n) d.sets) in
     let blocks = blocks-append s 0 h.sets d.sets in
@@ -242,14 +242,14 @@ decodes_behind {s} {before} asked {ending} h all front d =
     sizes : (j all a b n m count : ℕ) → all ≡ a + b → a ≡ j * n → b ≡ j * m → count ≡ n + m → all ≡ j * count
     sizes j all a b n m count e f g h = let k = ap (λ v. j * v) h in omega arith
 
--- What the bits decode to from the beginning of an interval on, all bits decode to behind the samples before it.
+-- What the bits decode to from the beginning of an interval on, all bits decode to after the samples before it.
 pub decoding_begins_afresh : DecodingBeginsAfresh
 decoding_begins_afresh s legal bits before xs asked ending begin used b d =
     let h = b.decoded in
     let is = is_before s bits before begin legal b in
     let c = 0 + length (blocks_in_all s 0 h.sets) in
     let rest : drop begin bits ≡ h.rest = ap (drop begin) h.parts ∙ drop_at h.front h.rest begin (sym is.front) in
-    let there = stands_behind legal c (0 + length h.front) (last_of (pos 0) h.all) is.begins is.byte
+    let there = stands_after legal c (0 + length h.front) (last_of (pos 0) h.all) is.begins is.byte
     (subst (λ (l : List Bool). Decoded s l asked xs ending used) rest d) in
-    decodes_behind asked h is.all is.front
-    (subst (λ (n : ℕ). DecodedFrom s c (0 + length h.front) (last_of (pos 0) h.all) h.rest (count_behind n asked) xs ending used) (sym is.count) there)
+    decodes_after asked h is.all is.front
+    (subst (λ (n : ℕ). DecodedFrom s c (0 + length h.front) (last_of (pos 0) h.all) h.rest (count_after n asked) xs ending used) (sym is.count) there)

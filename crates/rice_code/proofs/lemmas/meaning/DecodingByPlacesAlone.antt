@@ -6,7 +6,7 @@ use Rattle.rice_code.proofs.Words.{EndsWith, IsWanted}
 use Rattle.rice_code.proofs.lemmas.code.Layouts.{lies_at}
 use Rattle.rice_code.proofs.lemmas.code.BlocksByPlaceAlone.{place_on, same_reference, same_left, same_blocks_in, same_blocks}
 
--- behind the same coded data set two blocks at the same place in their intervals are followed by such blocks
+-- after the same coded data set two blocks at the same place in their intervals are followed by such blocks
 pub next_place : (s : Parameters) (b c : ℕ) (d : CodedDataSet) → place s b ≡ place s c → place s (block_after s b d) ≡ place s (block_after s c d)
 next_place s b c d e = place_on s b c (length (blocks_in s b d)) e ∙ ap (λ v. place s (c + length v)) (same_blocks_in s b c d e)
 
@@ -95,7 +95,7 @@ ends_there {s} asked there b c rest Large used alike h =
 pub end_there : (s : Parameters) (b c : ℕ) (rest : List Bool) (ending : Ending) (used : ℕ) → place s b ≡ place s c → EndsWith s None b rest ending used → EndsWith s None c rest ending used
 end_there s b c rest ending used e h = ends_there None None b c rest ending used (record { place_is = e; wanted = λ k. k; reached = λ k. absurd k }) h
 
--- So does all decoding from one of them on, also behind other bits, if as many of these are in the last byte.
+-- So does all decoding from one of them on, also after other bits, if as many of these are in the last byte.
 pub decoding_stands : {s : Parameters} → IsLegal s → {b c m n : ℕ} (p : ℤ) (bits : List Bool) (xs : List ℤ) (ending : Ending) (used : ℕ) → place s b ≡ place s c → m % 8 ≡ n % 8 →
     DecodedFrom s b m p bits None xs ending used → DecodedFrom s c n p bits None xs ending used
 decoding_stands {s} legal {b} {c} {m} {n} p bits xs ending used e f h =

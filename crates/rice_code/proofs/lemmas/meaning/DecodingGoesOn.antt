@@ -1,4 +1,4 @@
--- Behind a coded data set that is taken, decoding goes on.
+-- After a coded data set that is taken, decoding goes on.
 use Rattle.std.proofs.Common.{◌≡◌, ℕ, zero, suc, ◌+◌, ◌-◌, ◌*◌, Bool, List, [], ◌∷◌, ◌++◌, length, take, refl, ap, arith, sym, ◌∙◌, subst, append_assoc, length-append, Option, Some, None, ℤ}
 use Rattle.rice_code.proofs.Words.{All-append, Parameters, IsLegal, IsSample, last_of, blocks_from, CodedDataSet, bits_of_set, blocks_in, blocks_in_all, block_after, padding, DecodedFrom, Ending}
 use Rattle.rice_code.proofs.Words.{EndsWith, cut_to, IsWantedSet, MakeBlocks, take-nil}
@@ -9,12 +9,12 @@ take_parts n [] ys = let e : n - 0 ≡ n = omega arith in ap (λ l. l ++ take (n
 take_parts zero (x ∷ xs) ys = let e : 0 - suc (length xs) ≡ 0 = omega arith in ap (λ m. take m ys) e
 take_parts (suc n) (x ∷ xs) ys = let e : suc n - suc (length xs) ≡ n - length xs = omega arith in ap (λ m. x ∷ (take n xs ++ take m ys)) e ∙ ap (λ v. x ∷ v) (take_parts n xs ys)
 
--- samples of whole blocks, and those behind them, each cut to those that were asked for, are all of them cut so
+-- samples of whole blocks, and those after them, each cut to those that were asked for, are all of them cut so
 pub cut_parts : (s : Parameters) (asked : Option ℕ) (b n : ℕ) (xs ys : List ℤ) → length xs ≡ s.block * n → cut_to s asked b xs ++ cut_to s asked (b + n) ys ≡ cut_to s asked b (xs ++ ys)
 cut_parts s None b n xs ys e = refl
 cut_parts s (Some m) b n xs ys e = let f : m - s.block * (b + n) ≡ m - s.block * b - length xs = omega arith in ap (λ k. take (m - s.block * b) xs ++ take k ys) f ∙ take_parts (m - s.block * b) xs ys
 
--- Bits that are decoded behind a wanted coded data set and its padding are decoded from this set on: its samples come first, and its bits are used too.
+-- Bits that are decoded after a wanted coded data set and its padding are decoded from this set on: its samples come first, and its bits are used too.
 pub decoding_goes_on : {s : Parameters} → IsLegal s
     → {b position : ℕ} {p : ℤ} (d : CodedDataSet) (skipped : List Bool) {rest : List Bool} {asked : Option ℕ} (xs : List ℤ) {ys : List ℤ} {ending : Ending} {used : ℕ} →
     IsWantedSet s asked b d → length skipped ≡ padding s (block_after s b d) (position + length (bits_of_set s d)) →

@@ -351,7 +351,7 @@ tail_piece s b (suc k) bits legal lt =
 pub form_piece : (s : Parameters) (b : ℕ) (bits : List Bool) → IsLegal s → Search (bits_of_set s) (IsForm s b) bits
 form_piece s b bits legal =
     elim (word_piece (id_len s) bits) [
-      | inr miss ↦ inr (λ d more h e. miss (identifier s d) (tail s d ++ more) (identifier_fits s b d h) (behind d more e))
+      | inr miss ↦ inr (λ d more h e. miss (identifier s d) (tail s d ++ more) (identifier_fits s b d h) (after d more e))
       | inl p ↦ elim (tail_piece s b p.piece p.more legal p.fits) [
         | inl q ↦ inl (record {
           piece = q.piece;
@@ -361,11 +361,11 @@ form_piece s b bits legal =
               ∙ (ap (λ n. (word (id_len s) n ++ tail s q.piece) ++ q.more) (sym q.fits.1) ∙ ap (λ v. v ++ q.more) (sym (text_is s q.piece)))));
         })
         | inr miss ↦ inr (λ d more h e.
-            let a = word_reads (id_len s) p.piece (identifier s d) p.more (tail s d ++ more) (sym p.begins ∙ behind d more e) in
+            let a = word_reads (id_len s) p.piece (identifier s d) p.more (tail s d ++ more) (sym p.begins ∙ after d more e) in
             let same = same_below (2 ^ id_len s) p.piece (identifier s d) p.fits (identifier_fits s b d h) a.0 in
             miss d more (h, sym same) a.1)
       ]
     ]
   where
-    behind : (d : CodedDataSet) (more : List Bool) → bits ≡ bits_of_set s d ++ more → bits ≡ word (id_len s) (identifier s d) ++ (tail s d ++ more)
-    behind d more e = e ∙ (ap (λ v. v ++ more) (text_is s d) ∙ append_assoc (word (id_len s) (identifier s d)) (tail s d) more)
+    after : (d : CodedDataSet) (more : List Bool) → bits ≡ bits_of_set s d ++ more → bits ≡ word (id_len s) (identifier s d) ++ (tail s d ++ more)
+    after d more e = e ∙ (ap (λ v. v ++ more) (text_is s d) ∙ append_assoc (word (id_len s) (identifier s d)) (tail s d) more)

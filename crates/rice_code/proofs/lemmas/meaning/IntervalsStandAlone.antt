@@ -6,7 +6,7 @@ use Rattle.rice_code.proofs.Words.{bits_of-padded, Parameters, IsLegal, IsSample
 use Rattle.rice_code.proofs.Words.{filled_samples, zero_is_sample, bits_of, bits_to_byte, padded_bits, whole_bytes, AreIntervals, IntervalsBeginAfresh, IntervalsAreJoined, PaddedIntervalsAreJoined}
 use Rattle.rice_code.proofs.Words.{IntervalsAreDecodedAlone, DamageStaysInItsInterval, block_data, blocks_from, blocks_of, zero_block, data_sets, sets_of, sets_from, code, code_from, output}
 use Rattle.rice_code.proofs.Words.{CodedDataSet, bits_of_set, Decoded, Reached, blocks_in_all, block_after, padding, layout}
-use Rattle.rice_code.proofs.lemmas.{code.BlocksByPlaceAlone.code_stands_in_intervals, code.SoundBlocks.blocks_sound_behind, code.SoundBlocks.count_blocks, code.WholeBlocks.not_filled}
+use Rattle.rice_code.proofs.lemmas.{code.BlocksByPlaceAlone.code_stands_in_intervals, code.SoundBlocks.blocks_sound_after, code.SoundBlocks.count_blocks, code.WholeBlocks.not_filled}
 use Rattle.rice_code.proofs.lemmas.{code.WholeBytes.whole-append, cost.PaddingBounds.are_blocks, cost.PaddingBounds.interval_begins_segment, meaning.CoveredBlocks.bool_cases}
 use Rattle.rice_code.proofs.lemmas.{meaning.CoveredBlocks.covers_blocks, meaning.SentSetsAreTaken.are_taken}
 use Rattle.rice_code.proofs.lemmas.code.CodeGoesOn.{code_goes_on, no_zeros_past_segment, own_blocks}
@@ -137,7 +137,7 @@ code_to_byte s xs pads w =
     let all : 0 + length (code s xs) ≡ length (code s xs) = omega arith in
     ap (λ n. n % 8) (sym all) ∙ laid_to_byte s end 0 0 (sets_of s xs) padded (omega (arith, w.reach, w.count)) (λ none. refl)
 
--- the code of whole intervals and of samples behind them is that of the intervals and then that of these samples
+-- the code of whole intervals and of samples after them is that of the intervals and then that of these samples
 pub intervals_are_joined : IntervalsAreJoined
 intervals_are_joined s legal count xs ys h =
     let w = intervals_are_whole s legal count xs h in
@@ -159,15 +159,15 @@ intervals_are_joined s legal count xs ys h =
 not_padded : (a : List Bool) → length a % 8 ≡ 0 → padded_bits a ≡ a
 not_padded a e = let none : bits_to_byte (length a) ≡ 0 = omega (arith, e) in ap (λ n. a ++ replicate n false) none ∙ append-nil a
 
-padded_behind : (a b : List Bool) → length a % 8 ≡ 0 → padded_bits (a ++ b) ≡ a ++ padded_bits b
-padded_behind a b e =
+padded_after : (a b : List Bool) → length a % 8 ≡ 0 → padded_bits (a ++ b) ≡ a ++ padded_bits b
+padded_after a b e =
     let same : bits_to_byte (length (a ++ b)) ≡ bits_to_byte (length b) = omega (arith, e, length-append a b) in
     ap (λ n. (a ++ b) ++ replicate n false) same ∙ append_assoc a b (replicate (bits_to_byte (length b)) false)
 
 bytes_joined : (a b : List Bool) → length a % 8 ≡ 0 → whole_bytes (padded_bits (a ++ b)) ≡ whole_bytes (padded_bits a) ++ whole_bytes (padded_bits b)
 bytes_joined a b e =
     let count : length a ≡ 8 * (length a / 8) = omega (arith, e) in
-    ap whole_bytes (padded_behind a b e) ∙ (whole-append (length a / 8) a (padded_bits b) count ∙ ap (λ l. whole_bytes l ++ whole_bytes (padded_bits b)) (sym (not_padded a e)))
+    ap whole_bytes (padded_after a b e) ∙ (whole-append (length a / 8) a (padded_bits b) count ∙ ap (λ l. whole_bytes l ++ whole_bytes (padded_bits b)) (sym (not_padded a e)))
 
 -- and where intervals are padded, so is the output
 pub padded_intervals_are_joined : PaddedIntervalsAreJoined
@@ -176,14 +176,14 @@ padded_intervals_are_joined s legal pads count xs ys h =
 
 -- ---- and is decoded by itself
 
--- The code of whole intervals, with any bits behind it, decodes to their samples where as many are asked for, and all of it is used.
+-- The code of whole intervals, with any bits after it, decodes to their samples where as many are asked for, and all of it is used.
 pub intervals_are_decoded_alone : IntervalsAreDecodedAlone
 intervals_are_decoded_alone s legal count xs rest h =
     let j : 1 ≤ s.block = grind (arith, legal.block) in
     let w = intervals_are_whole s legal count xs h in
     let cs = blocks_of s 0 (pos 0) xs in
     let sets = sets_of s xs in
-    let sound = blocks_sound_behind s 0 (pos 0) xs legal j (zero_is_sample s legal.bits_from) (recursion_from_All (IsSample s) xs h.legal) in
+    let sound = blocks_sound_after s 0 (pos 0) xs legal j (zero_is_sample s legal.bits_from) (recursion_from_All (IsSample s) xs h.legal) in
     let cover = covers_blocks s 0 false cs legal.interval_from (are_blocks s 0 cs sound) in
     let size : length cs ≡ w.blocks = count_blocks s 0 (pos 0) (block_count s (length xs)) (filled_samples s (pos 0) xs) ∙ w.count in
     let none : cover.fill ≡ 0 = omega (arith, w.reach, ap length cover.blocks, length-append cs (replicate cover.fill (zero_block s None)), length-replicate cover.fill (zero_block s None), size) in
@@ -212,7 +212,7 @@ intervals_are_decoded_alone s legal count xs rest h =
 
 -- ---- what is damaged
 
--- With padding, as many other bytes in place of some intervals leave those before them to be decoded, and the output behind them at its place.
+-- With padding, as many other bytes in place of some intervals leave those before them to be decoded, and the output after them at its place.
 pub damage_stays : DamageStaysInItsInterval
 damage_stays s legal pads m n xs ys zs damaged h k same =
     let first = output s xs in

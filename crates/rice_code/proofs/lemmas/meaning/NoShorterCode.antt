@@ -4,7 +4,7 @@ use Rattle.std.proofs.Common.{drop, replicate, refl, ap, arith, sym, ◌∙◌, 
 use Rattle.rice_code.proofs.Words.{next_multiple_of, drop-append-le, length-replicate, length-take-le, take-append-drop, take-append-le, mod-lt, mod_self, take-append-add, take-length, bits_to_byte}
 use Rattle.rice_code.proofs.Words.{bits_of-padded, length-bits_of, Parameters, IsLegal, block_count, residuals, last_of, filled_samples, length-residuals, NoCodeIsShorter, NoOutputIsShorter}
 use Rattle.rice_code.proofs.Words.{block_data, blocks_from, blocks_of, code, output, sets_of, CodedDataSet, AreTaken, Decoded, Ending, cut_to, blocks_in_all, block_after}
-use Rattle.rice_code.proofs.lemmas.{code.RepeatedSamples.last_behind, code.RepeatedSamples.repeated_all, code.SoundBlocks.count_blocks, code.SoundBlocks.filled_len, cost.LeastCode.ends_no_later}
+use Rattle.rice_code.proofs.lemmas.{code.RepeatedSamples.last_after, code.RepeatedSamples.repeated_all, code.SoundBlocks.count_blocks, code.SoundBlocks.filled_len, cost.LeastCode.ends_no_later}
 use Rattle.rice_code.proofs.lemmas.cost.WhereSetsEnd.{padded_is, sent_padded, taken_padded}
 use Rattle.rice_code.proofs.lemmas.cost.CostsOfSmallerBlocks.{AreAtMost, BeginAtMost, IsAtMost, at_most_itself}
 
@@ -73,7 +73,7 @@ blocks_begin s b (suc (suc m)) (suc count) {k} p xs ys filled =
     let whole : s.block ≤ length xs = omega (arith, filled.few, filled.first) in
     let next = last_of p (take s.block xs) in
     let rest = drop s.block xs in
-    let last = last_behind p s.block xs in
+    let last = last_after p s.block xs in
     let own = ap (λ v. blocks_from s b p (suc (suc m)) (xs ++ replicate k v)) (sym last) ∙ first_block s b (suc m) p xs (replicate k (last_of next rest)) whole in
     let other = first_block s b count p xs ys whole in
     let ih = blocks_begin s (b + 1) (suc m) count next rest ys (record {
@@ -135,7 +135,7 @@ sets_are_no_shorter {s} legal size xs more way {asked} h =
       taken_padded s 0 0 h.sets h.front h.lie,
     )
 
--- With blocks of 4 samples or more, preprocessed or all full, bits that decode to samples, and perhaps to others behind them, use no fewer bits than their code has.
+-- With blocks of 4 samples or more, preprocessed or all full, bits that decode to samples, and perhaps to others after them, use no fewer bits than their code has.
 pub no_code_is_shorter : NoCodeIsShorter
 no_code_is_shorter s legal size xs more way bits asked ending used h = omega (arith, sets_are_no_shorter legal size xs more way h, h.bits_used)
 

@@ -8,7 +8,7 @@ use Rattle.rice_code.proofs.Words.{Decoded, Ending, Reached, Ended, IsWanted, En
 use Rattle.rice_code.proofs.lemmas.meaning.CoveredBlocks.{bool_cases, and-split, GoOn, covers_blocks}
 use Rattle.rice_code.proofs.lemmas.{code.Layouts.lies_laid, code.Layouts.lies_inside, meaning.SentSetsAreTaken.are_taken}
 use Rattle.rice_code.proofs.lemmas.cost.PaddingBounds.{are_blocks, interval_begins_segment, sets_begin}
-use Rattle.rice_code.proofs.lemmas.code.SoundBlocks.{all_append, all_replicate, last_legal, count_blocks, filled_len, blocks_sound_behind}
+use Rattle.rice_code.proofs.lemmas.code.SoundBlocks.{all_append, all_replicate, last_legal, count_blocks, filled_len, blocks_sound_after}
 use Rattle.rice_code.proofs.lemmas.code.RepeatedSamples.{blocks_append, repeated_blocks, last_repeats}
 
 -- What the output of samples decodes to, whether their number is known or not.
@@ -58,7 +58,7 @@ samples_are_returned s legal xs k =
         let sets = sets_of s xs in
         let samples = recursion_from_All (IsSample s) xs k in
         let zero = zero_is_sample s legal.bits_from in
-        let sound = blocks_sound_behind s 0 (pos 0) xs legal jay zero samples in
+        let sound = blocks_sound_after s 0 (pos 0) xs legal jay zero samples in
         let cover = covers_blocks s 0 false cs legal.interval_from (are_blocks s 0 cs sound) in
         let fill = cover.fill in
         let front = replicate (next_multiple_of (length xs) j - length xs) (last_of (pos 0) xs) in
@@ -71,14 +71,14 @@ samples_are_returned s legal xs k =
         ap length cover.blocks ∙ (length-append cs (replicate fill (zero_block s None)) ∙ (λ i. blocks i + length-replicate fill (zero_block s None) i)) in
         let base_legal = all_append (IsSample s) xs front samples (all_replicate (IsSample s) _ (last_of (pos 0) xs) (last_legal s (pos 0) xs zero samples)) in
         let all_legal = all_append (IsSample s) base back base_legal (all_replicate (IsSample s) (j * fill) end (last_legal s (pos 0) base zero base_legal)) in
-        let behind : blocks_from s (0 + n) end fill back ≡ replicate fill (zero_block s None) =
+        let after : blocks_from s (0 + n) end fill back ≡ replicate fill (zero_block s None) =
         elim (cases_lt 0 fill) [
           | inl some ↦
               let P : ℕ → Type 0 = λ m. GoOn s (0 + m) fill in
               repeated_blocks s (0 + n) end fill (subst P blocks cover.inside) (last_repeats s 0 (pos 0) n base jay whole (cover.last some))
           | inr none ↦ let e : fill ≡ 0 = omega arith in ap (λ f. blocks_from s (0 + n) end f (replicate (j * f) end)) e ∙ sym (ap (λ f. replicate f (zero_block s None)) e)
         ] in
-        let made = ap (λ m. blocks_from s 0 (pos 0) m (base ++ back)) found ∙ (blocks_append s 0 (pos 0) n fill base back whole ∙ (ap (λ v. cs ++ v) behind ∙ sym cover.blocks)) in
+        let made = ap (λ m. blocks_from s 0 (pos 0) m (base ++ back)) found ∙ (blocks_append s 0 (pos 0) n fill base back whole ∙ (ap (λ v. cs ++ v) after ∙ sym cover.blocks)) in
         let len = whole_len (length base) (length back) (length (base ++ back)) n fill j _ (length-append base back) whole back_len found in
         let base_len = length-append xs front in
         let last_byte = bits_to_byte (length (code s xs)) in

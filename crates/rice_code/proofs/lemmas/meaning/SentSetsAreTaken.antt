@@ -52,38 +52,38 @@ take_one s asked b {n} d ds go sound e h =
     (go, sound.0, sound.1, sound.2, subst P f h)
 
 -- the coded data sets that are sent for sound blocks, all of them wanted, are taken from the first block on that no earlier run covers
-pub are_taken : (s : Parameters) (asked : Option ℕ) (b : ℕ) (behind : Bool) (cs : List BlockData) → 1 ≤ s.interval → AreSoundBlocks s b cs → ((i : ℕ) → i < b + length cs → IsWanted s asked i) →
-    AreTaken s asked (b + skipped s b behind cs) (data_sets s b behind cs)
-are_taken s asked b behind [] h k go = tt
-are_taken s asked b behind (c ∷ cs) h k go =
-    let P : ℕ → Type 0 = λ n. AreTaken s asked (b + n) (data_sets s b behind (c ∷ cs)) in
+pub are_taken : (s : Parameters) (asked : Option ℕ) (b : ℕ) (after : Bool) (cs : List BlockData) → 1 ≤ s.interval → AreSoundBlocks s b cs → ((i : ℕ) → i < b + length cs → IsWanted s asked i) →
+    AreTaken s asked (b + skipped s b after cs) (data_sets s b after cs)
+are_taken s asked b after [] h k go = tt
+are_taken s asked b after (c ∷ cs) h k go =
+    let P : ℕ → Type 0 = λ n. AreTaken s asked (b + n) (data_sets s b after (c ∷ cs)) in
     let Q : List CodedDataSet → Type 0 = λ ds. AreTaken s asked b ds in
-    let at = λ (ds : List CodedDataSet) (e : skipped s b behind (c ∷ cs) ≡ 0) (f : data_sets s b behind (c ∷ cs) ≡ ds) (g : AreTaken s asked b ds). zero_more s
-    asked b (data_sets s b behind (c ∷ cs)) (skipped s b behind (c ∷ cs)) e (subst Q (sym f) g) in
+    let at = λ (ds : List CodedDataSet) (e : skipped s b after (c ∷ cs) ≡ 0) (f : data_sets s b after (c ∷ cs) ≡ ds) (g : AreTaken s asked b ds). zero_more s
+    asked b (data_sets s b after (c ∷ cs)) (skipped s b after (c ∷ cs)) e (subst Q (sym f) g) in
     let here : IsWanted s asked b = go b (omega arith) in
     let later = λ (i : ℕ) (lt : i < b + 1 + length cs). go i (omega arith) in
     elim (bool_cases (is_zero_block c)) [
       | inr z ↦
           let ih = are_taken s asked (b + 1) false cs h k.1 later in
           let rest = data_sets s (b + 1) false cs in
-          at (shortest s c ∷ rest) (skipped_plain s b behind c cs h z) (data_sets_plain s b behind c cs z)
+          at (shortest s c ∷ rest) (skipped_plain s b after c cs h z) (data_sets_plain s b after c cs z)
           (take_one s asked b (shortest s c) rest here (shortest_is_sound s b c k.0) (ap length (shortest_covers s b c)) ih)
       | inl z ↦
           let ih = are_taken s asked (b + 1) true cs h k.1 later in
           let j = skipped s (b + 1) true cs in
           let rest = data_sets s (b + 1) true cs in
           let len = run_cons s b c cs h z in
-          elim (bool_cases (behind && not (begins_segment s b))) [
+          elim (bool_cases (after && not (begins_segment s b))) [
             | inl go_on ↦
                 let n : b + 1 + j ≡ b + suc j = omega arith in
-                let m : b + suc j ≡ b + skipped s b behind (c ∷ cs) = ap (λ x. b + x) (sym (skipped_go s b behind c cs h z go_on)) in
+                let m : b + suc j ≡ b + skipped s b after (c ∷ cs) = ap (λ x. b + x) (sym (skipped_go s b after c cs h z go_on)) in
                 let R : ℕ → Type 0 = λ x. AreTaken s asked x rest in
-                let T : List CodedDataSet → Type 0 = λ ds. AreTaken s asked (b + skipped s b behind (c ∷ cs)) ds in
-                subst T (sym (data_sets_inside s b behind c cs z go_on)) (subst R (n ∙ m) ih)
+                let T : List CodedDataSet → Type 0 = λ ds. AreTaken s asked (b + skipped s b after (c ∷ cs)) ds in
+                subst T (sym (data_sets_inside s b after c cs z go_on)) (subst R (n ∙ m) ih)
             | inr stop ↦
                 let d = zero_run s b c.reference (c ∷ cs) in
                 let sound = zero_run_is_sound s b j c.reference (c ∷ cs) h k.0.block.reference len in
-                at (d ∷ rest) (skipped_stop s b behind (c ∷ cs) stop) (data_sets_start s b behind c cs z stop)
+                at (d ∷ rest) (skipped_stop s b after (c ∷ cs) stop) (data_sets_start s b after c cs z stop)
                 (elim (zero_run_is s b c.reference (c ∷ cs)) [
                   | inl e ↦ take_one s asked b d rest here sound (ap (λ d. length (blocks_in s b d)) e ∙ count_zeros s c.reference (run_len s b (c ∷ cs)) j len) ih
                   | inr e ↦ elim e.1 [

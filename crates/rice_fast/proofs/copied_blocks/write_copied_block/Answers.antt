@@ -8,10 +8,10 @@ pub returns : goal.returns
 returns g c = λ b p.
     let w = g.row.WIDTH in
     let s = c.args.setting.now in
-    let waiting = c.args.reader.now.waiting in
+    let buffered = c.args.reader.now.buffered in
     let ahead = c.if-not-is_copied_ahead.ensures in
     let bytes = c.write_copied_ahead.new.bytes in
     let last = c.last_copied.ensures in
-    let block : CopiedBlock waiting s w bytes = record { there = omega (arith, ahead.there refl); id = ahead.id refl; words = c.write_copied_ahead.ensures } in
-    subst (λ n. SpelledAhead waiting s b p c.last_copied.result n 0 bytes) (sym c.copied_len.ensures.value)
+    let block : CopiedBlock buffered s w bytes = record { there = omega (arith, ahead.there refl); id = ahead.id refl; words = c.write_copied_ahead.ensures } in
+    subst (λ n. SpelledAhead buffered s b p c.last_copied.result n 0 bytes) (sym c.copied_len.ensures.value)
     (copied_ahead c.block-block.ensures.legal (c.if-not-is_copied.ensures refl) block last.below last.last b p)

@@ -6,13 +6,13 @@ use Rattle.rice_fast.proofs.lemmas.BlocksAhead.{pairs_block_ahead}
 use Rattle.rice_fast.proofs.fields.pair_fields_ahead.Goals as goal
 
 pub overflow_add-result : goal.overflow_add-result
-overflow_add-result g c = (let inside = c.in_ok-pairs.ensures.within in record { fits = omega (arith, inside, c.taken-taken.ensures.waiting) })
+overflow_add-result g c = (let inside = c.in_ok-pairs.ensures.within in record { fits = omega (arith, inside, c.taken-taken.ensures.buffered) })
 
 pub returns : goal.returns
 returns g c =
     let a = c.args in
     let s = a.setting.now in
-    let w = a.reader.now.waiting in
+    let w = a.reader.now.buffered in
     let head = c.head_ahead-head in
     let pairs = c.in_ok-pairs in
     let highs = c.pairs_ahead.new.residuals in

@@ -10,7 +10,7 @@ pub returns : goal.returns
 returns g c =
     let a = c.args in
     let s = a.setting.now in
-    let w = a.reader.now.waiting in
+    let w = a.reader.now.buffered in
     let head = c.head_ahead-head in
     let legal = c.block-block.ensures.legal.block in
     let bits = c.bits.ensures.value in

@@ -5,10 +5,10 @@ use Rattle.rice_fast.proofs.lemmas.HighParts.{highs-row, row_inside, rows_before
 use Rattle.rice_fast.proofs.high_parts.high_parts_ahead.Goals as goal
 
 pub overflow_add-skip : goal.overflow_add-skip
-overflow_add-skip g c = let inside = c.loop-row.invariant.rows.within in record { fits = omega (arith, inside, c.taken-taken.ensures.waiting) }
+overflow_add-skip g c = let inside = c.loop-row.invariant.rows.within in record { fits = omega (arith, inside, c.taken-taken.ensures.buffered) }
 
 pub overflow_add-len : goal.overflow_add-len
-overflow_add-len g c = let inside = c.in_ok-next.ensures.some.within in record { fits = omega (arith, inside, c.taken-taken.ensures.waiting) }
+overflow_add-len g c = let inside = c.in_ok-next.ensures.some.within in record { fits = omega (arith, inside, c.taken-taken.ensures.buffered) }
 
 pub loop-row-init : goal.loop-row-init
 loop-row-init g c =
@@ -18,7 +18,7 @@ loop-row-init g c =
     record {
       places = c.store_row.ensures.len ∙ c.told-highs;
       rows =
-          subst (λ xs. HighsAhead c.args.reader.now.waiting c.args.skip c.args.omitted xs first.first.len)
+          subst (λ xs. HighsAhead c.args.reader.now.buffered c.args.skip c.args.omitted xs first.first.len)
           (sym (ap (λ n. take n c.store_row.new.rows) one ∙ stored_row 0 n.result first.first.numbers c.args.highs.now c.store_row.new.rows n.ensures.some.1 (omega arith)
           first.ensures.lanes c.store_row.ensures.value))
           first.ensures.some;
@@ -26,7 +26,7 @@ loop-row-init g c =
 
 pub loop-row-preserved : goal.loop-row-preserved
 loop-row-preserved g c =
-    let w = c.args.reader.now.waiting in
+    let w = c.args.reader.now.buffered in
     let skip = c.args.skip in
     let o = c.args.omitted in
     let size = c.args.size in
@@ -48,6 +48,6 @@ pub returns : goal.returns
 returns g c =
     let l = c.loop-row in
     record {
-      some = subst (λ n. HighsAhead c.args.reader.now.waiting c.args.skip c.args.omitted (take n l.highs) l.len)
+      some = subst (λ n. HighsAhead c.args.reader.now.buffered c.args.skip c.args.omitted (take n l.highs) l.len)
           (rows_end c.args.size l.row (omega (arith, c.loop-row-test.false))) l.invariant.rows;
     }

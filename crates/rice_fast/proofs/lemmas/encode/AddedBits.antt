@@ -33,7 +33,7 @@ pub room_for_second : (first second : List Bool) {sink fields sink1 fields1 : Li
     → AddsBits first sink fields sink1 fields1 meter meter1 → HasRoomForBits second (length sink1 + length fields1) (meter1 + length fields1)
 room_for_second first second h k = let n = length-append first second in record { room = omega (arith, n, h.room, k.len); steps = omega (arith, n, h.steps, k.steps) }
 
--- the same bits, told otherwise
+-- the same bits, otherwise
 pub same_added : {first second sink fields sink1 fields1 : List Bool} {meter meter1 : ℕ} → first ≡ second
     → AddsBits first sink fields sink1 fields1 meter meter1 → AddsBits second sink fields sink1 fields1 meter meter1
 same_added {first} {second} {sink} {fields} {sink1} {fields1} {meter} {meter1} e h = subst (λ bits. AddsBits bits sink fields sink1 fields1 meter meter1) e h

@@ -35,18 +35,18 @@ use Rattle.rice_fast.specs.encode.Standing.{HasRoomAt, Standing, TakesSpelled}
 use Rattle.rice_fast.specs.declared.encode.coder.BlockCoder.{BlockCoder}
 use Rattle.rice_fast.proofs.lemmas.encode.CodeAhead.{end_puts, room_for_end}
 use Rattle.rice_fast.proofs.lemmas.encode.HeldResiduals.{fill_is_taken, fill_none}
-use Rattle.rice_fast.proofs.lemmas.encode.StandingCoders.{after_none, between_stands, blocks_few, blocks_inside, part_counted, meter_behind, residuals_counted}
+use Rattle.rice_fast.proofs.lemmas.encode.StandingCoders.{after_none, between_stands, blocks_few, blocks_inside, part_counted, meter_after, residuals_counted}
 
-behind_id : (s : Parameters) (n : ℕ) (rest : List Bool) → 0 < length (word (id_len s) n ++ rest)
-behind_id s n rest = let some : 3 ≤ id_len s = grind (arith, nat_tests) in omega (arith, some, length-append (word (id_len s) n) rest, length-word (id_len s) n)
+after_id : (s : Parameters) (n : ℕ) (rest : List Bool) → 0 < length (word (id_len s) n ++ rest)
+after_id s n rest = let some : 3 ≤ id_len s = grind (arith, nat_tests) in omega (arith, some, length-append (word (id_len s) n) rest, length-word (id_len s) n)
 
 -- a coded data set has bits
 some_bits : (s : Parameters) (d : CodedDataSet) → 0 < length (bits_of_set s d)
-some_bits s (NoCompression c) = behind_id s (2 ^ id_len s - 1) (no_compression_tail s c)
-some_bits s (SecondExtension c) = behind_id s 0 (true ∷ second_extension_tail s c)
-some_bits s (Split k c) = behind_id s (k + 1) (split_tail s k c)
-some_bits s (ZeroBlocks r z) = behind_id s 0 (false ∷ run_tail s r (run_number z))
-some_bits s (RemainderOfSegment r) = behind_id s 0 (false ∷ run_tail s r 4)
+some_bits s (NoCompression c) = after_id s (2 ^ id_len s - 1) (no_compression_tail s c)
+some_bits s (SecondExtension c) = after_id s 0 (true ∷ second_extension_tail s c)
+some_bits s (Split k c) = after_id s (k + 1) (split_tail s k c)
+some_bits s (ZeroBlocks r z) = after_id s 0 (false ∷ run_tail s r (run_number z))
+some_bits s (RemainderOfSegment r) = after_id s 0 (false ∷ run_tail s r 4)
 
 -- so have the blocks of a segment
 some_bits_of : (s : Parameters) (b : ℕ) (cs : List BlockData) → 0 < length cs → 0 < sum_by (λ d. length (bits_of_set s d)) (data_sets s b false cs)
@@ -73,7 +73,7 @@ end_has_room {c} {sink} {meter} {m} {xs} h room =
     let s = c.setting in
     let holds = h.stands.holds in
     let count = held_len s c.reference c.blocks h.stands.residuals in
-    let fits = meter_behind 0 h.stands room (omega (arith, blocks_inside holds)) in
+    let fits = meter_after 0 h.stands room (omega (arith, blocks_inside holds)) in
     subst (λ n. HasRoomFor (length (pending_bits s true (reference_at c.reference (n - c.run)) c.run)) (length (pending_bits s true (reference_at c.reference (n - c.run)) c.run))
     (length sink) meter) count
     (subst (λ v. HasRoomFor (length (pending_bits s true (reference_at c.reference (length (held_blocks s c.reference c.blocks h.stands.residuals) - c.run)) c.run))
@@ -152,7 +152,7 @@ pushes_segment {c} {sink} {sink_new} {meter} {meter_new} {bits} {start} {m} {xs}
       record {
         pushes = subst (λ v. PushesSamples m.coder v xs m.sink sink_new bits m.meter meter_new) is_next pushes;
         whole = λ put. refl;
-        waits = λ no_bits. absurd (omega (arith, no_bits, some_put));
+        buffered = λ no_bits. absurd (omega (arith, no_bits, some_put));
       },
     )
   where
@@ -223,5 +223,5 @@ spelled_are_taken {m = m} {xs = xs} s bytes count n same h len read place pushes
       pushes = pushes.pushes;
       before_last = λ k less. none_before k h (omega (arith, less, len));
       whole = pushes.whole;
-      waits = pushes.waits;
+      buffered = pushes.buffered;
     }

@@ -1,4 +1,4 @@
--- The blocks of residuals that a coder holds, and what it holds behind several samples.
+-- The blocks of residuals that a coder holds, and what it holds after several samples.
 use Rattle.std.proofs.Common.{◌≡◌, ℕ, zero, suc, ◌+◌, ◌-◌, ◌*◌, ◌/◌, ◌%◌, ◌<◌, ◌≤◌, ◌==◌, Bool, true, false, cond, ◌&&◌, List, [], ◌∷◌, ◌++◌, length, take, drop, replicate}
 use Rattle.std.proofs.Common.{refl, ap, arith, sym, ◌∙◌, subst, inl, inr, append-nil, length-drop, Option, Some, None, ℤ}
 use Rattle.std.specs.List.{AllByRecursion}
@@ -29,7 +29,7 @@ drop_front zero xs ys h = refl
 drop_front (suc n) [] ys h = absurd (omega arith)
 drop_front (suc n) (x ∷ xs) ys h = drop_front n xs ys (omega arith)
 
--- behind whole blocks more residuals make no difference
+-- after whole blocks more residuals make no difference
 pub held_more : (s : Parameters) (r : Option ℕ) (n : ℕ) (ds es : List ℕ) → s.block * n ≤ length ds → held_blocks s r n (ds ++ es) ≡ held_blocks s r n ds
 held_more s r zero ds es h = refl
 held_more s r (suc n) ds es h =
@@ -55,7 +55,7 @@ held_next s r (suc n) ds es h k =
     let last = ap (λ q. held_blocks s None n (drop s.block ds) ++ block_with q es ∷ []) (reference_none n) in
     ap (λ m. held_blocks s r m (ds ++ es)) e ∙ λ i. block_with r (first i) ∷ (rest ∙ last) i
 
--- what a coder holds behind samples, and behind more
+-- what a coder holds after samples, and after more
 pub state_after_all-append : (coder : CoderState) (xs ys : List ℤ) → state_after_all coder (xs ++ ys) ≡ state_after_all (state_after_all coder xs) ys
 state_after_all-append coder [] ys = ap (λ v. state_after_all v ys) (sym (state_after_all-none coder [] refl))
 state_after_all-append coder (x ∷ xs) ys =

@@ -22,8 +22,8 @@ length-high k (d ∷ ds) =
     omega (arith, one, length-fundamental_sequence (d / 2 ^ k), length-high k ds, sum_by-cons (λ d. d / 2 ^ k) d ds)
 
 -- numbers that are written after others, over zeros
-pub put_behind : (xs ys : List ℕ) (z : ℕ) → length ys ≤ z → put_chunk (length xs) (xs ++ replicate z 0) ys ≡ xs ++ (ys ++ replicate (z - length ys) 0)
-put_behind [] ys z h = first ys z h
+pub put_after : (xs ys : List ℕ) (z : ℕ) → length ys ≤ z → put_chunk (length xs) (xs ++ replicate z 0) ys ≡ xs ++ (ys ++ replicate (z - length ys) 0)
+put_after [] ys z h = first ys z h
   where
     nothing : (z : ℕ) → put_chunk {A = ℕ} 0 (replicate z 0) [] ≡ replicate z 0
     nothing zero = refl
@@ -35,7 +35,7 @@ put_behind [] ys z h = first ys z h
     first (y ∷ ys) (suc z) h =
         let e : z - length ys ≡ suc z - suc (length ys) = omega arith in
         ap (λ l. y ∷ l) (first ys z (omega (arith, h)) ∙ ap (λ n. ys ++ replicate n 0) e)
-put_behind (x ∷ xs) ys z h = ap (λ l. x ∷ l) (put_behind xs ys z h)
+put_after (x ∷ xs) ys z h = ap (λ l. x ∷ l) (put_after xs ys z h)
 
 -- what a row of numbers that zeros follow holds of these numbers
 pub row_ends : (m count z : ℕ) (xs : List ℕ) → m ≤ length xs + z → count ≡ min (length xs) m → take m (xs ++ replicate z 0) ≡ take count xs ++ replicate (m - count) 0
@@ -146,7 +146,7 @@ high_more f i n items high {row} {after} few room inside before is stored =
     let zeros : length (replicate {A = ℕ} (16 - n) 0) ≡ 16 - n = length-replicate (16 - n) 0 in
     let many : length row ≡ 16 = ap length is ∙ (length-append new (replicate (16 - n) 0) ∙ omega (arith, count, zeros, few)) in
     let left : 16 - n + (z - length row) ≡ 64 - (16 * i + n) = omega (arith, many, few, inside) in
-    stored ∙ ((λ j. put_chunk (place j) (before j) row) ∙ (put_behind old row z (omega (arith, many, inside))
+    stored ∙ ((λ j. put_chunk (place j) (before j) row) ∙ (put_after old row z (omega (arith, many, inside))
     ∙ (ap (λ r. old ++ (r ++ replicate (z - length row) 0)) is ∙ (ap (λ v. old ++ v) (zeros_joined (16 - n) (z - length row) new ∙ ap (λ k. new ++ replicate k 0) left)
     ∙ (sym (append_assoc old new (replicate (64 - (16 * i + n)) 0))
     ∙ ap (λ v. v ++ replicate (64 - (16 * i + n)) 0) (sym (map-append f (take (16 * i) items) (take n (drop (16 * i) items))) ∙ ap (map f) (sym (take-add (16 * i) n items))))))))
@@ -189,7 +189,7 @@ row_slice i from count numbers {row} le few at =
     ∙ (take-take (count - from) ((count - from) + (16 - count)) ys (omega arith)
     ∙ ((λ j. take (size j) (drop-drop from (16 * i) numbers j)))))))
 
--- the sequences of high parts, told as those of the residuals that are sent
+-- the sequences of high parts are those of the residuals that are sent
 pub high_text : (k from n : ℕ) (ds sent : List ℕ) {high : List ℕ} → n ≡ length ds → from ≤ n → high ≡ with_zeros (map (λ d. d / 2 ^ k) ds) → sent ≡ drop from ds
     → flat_map fundamental_sequence (slice_range high from n) ≡ flat_map (λ d. fundamental_sequence (d / 2 ^ k)) sent
 high_text k from n ds sent {high} count le e coded =

@@ -162,8 +162,8 @@ length-joined_weights zero (w ∷ z ∷ ws) h = absurd (omega arith)
 length-joined_weights (suc n) (w ∷ z ∷ ws) h = ap suc (length-joined_weights n ws (omega arith))
 
 -- a sequence before other bits
-number_behind : (m : ℕ) (bits : List Bool) → number_of (fundamental_sequence m ++ bits) ≡ 2 ^ length bits + number_of bits
-number_behind m bits =
+number_after : (m : ℕ) (bits : List Bool) → number_of (fundamental_sequence m ++ bits) ≡ 2 ^ length bits + number_of bits
+number_after m bits =
     let n = length bits in
     let all = 1 * 2 ^ n + number_of bits in
     let spelled : word (m + 1 + n) all ≡ fundamental_sequence m ++ bits = word-cat (m + 1) n 1 (number_of bits) (number_of-lt bits) ∙ (λ i. word-fs m i ++ word-number_of bits i) in
@@ -194,7 +194,7 @@ sequences_are_whole : (ms : List ℕ) → number_of (flat_map fundamental_sequen
 unfolding number_of
 sequences_are_whole [] = refl
 sequences_are_whole (m ∷ ms) =
-    number_behind m (flat_map fundamental_sequence ms) ∙ ((λ i. sequences_weigh ms i + sequences_are_whole ms i) ∙ omega arith)
+    number_after m (flat_map fundamental_sequence ms) ∙ ((λ i. sequences_weigh ms i + sequences_are_whole ms i) ∙ omega arith)
 
 -- the last two parts
 last_two : (vs ws : List ℕ) → length vs ≡ 2 → length ws ≡ 2 → whole_value vs ws ≡ get_or vs 0 0 * get_or ws 1 0 + get_or vs 1 0

@@ -18,7 +18,7 @@ more_fields {width} {value} more digits h lt le e f = record {
   digits = (let b = join_below width more value digits h.digits lt in let g = ap (λ n. 2 ^ n) f in omega (arith, b, g));
 }
 
--- into a sink go the bits of a field and the word behind it, or both as one joined word
+-- into a sink go the bits of a field and the word after it, or both as one joined word
 pub joined_bits : (sink : List Bool) {bits : List Bool} (width value more digits : ℕ) {joined total : ℕ} → word width value ≡ bits → digits < 2 ^ more
     → joined ≡ value * 2 ^ more + digits → total ≡ width + more → sink ++ word total joined ≡ sink ++ bits ++ word more digits
 joined_bits sink {bits} width value more digits e lt f g =

@@ -67,9 +67,9 @@ pub residuals_counted : {c : BlockCoder} {row : List ℕ} {sink : List Bool} {me
 residuals_counted {m = m} {xs = xs} h = omega (arith, length-state_after_all m.coder xs, ap (λ (v : CoderState). length v.residuals) h.coder, h.holds.number)
 
 -- the meter has room for the samples of the segment, and for its code
-pub meter_behind : {c : BlockCoder} {row : List ℕ} {sink : List Bool} {meter : ℕ} {m : Standing} {xs : List ℤ} (n : ℕ) → StandsWith c row sink meter m xs → HasRoomAt m
+pub meter_after : {c : BlockCoder} {row : List ℕ} {sink : List Bool} {meter : ℕ} {m : Standing} {xs : List ℤ} (n : ℕ) → StandsWith c row sink meter m xs → HasRoomAt m
     → c.setting.block * c.blocks + length row + n ≤ c.setting.block * c.end → m.meter + length xs + n + coding_steps c.setting < 2 ^ 62
-meter_behind {c} {row} {sink} {meter} {m} {xs} n h room fits =
+meter_after {c} {row} {sink} {meter} {m} {xs} n h room fits =
     let s = c.setting in
     let same = ap (λ (v : CoderState). segment_steps v.setting) h.coder in
     let most : s.block * c.end ≤ s.block * 64 = mul-le-mul_left s.block (few_blocks h.holds) in
@@ -78,7 +78,7 @@ meter_behind {c} {row} {sink} {meter} {m} {xs} n h room fits =
 -- also with the steps that are ahead
 pub meter_has_room : {c : BlockCoder} {row : List ℕ} {sink : List Bool} {meter : ℕ} {m : Standing} {xs : List ℤ} (n : ℕ) → StandsWith c row sink meter m xs → HasRoomAt m
     → c.setting.block * c.blocks + length row + n ≤ c.setting.block * c.end → meter + n < 2 ^ 62
-meter_has_room n h room fits = omega (arith, meter_behind n h room fits, steps_are_few h.holds.ahead h.holds.opens.legal, h.holds.steps_ahead)
+meter_has_room n h room fits = omega (arith, meter_after n h room fits, steps_are_few h.holds.ahead h.holds.opens.legal, h.holds.steps_ahead)
 
 -- sound blocks of all residuals, where they make whole blocks
 pub blocks_sound : {c : BlockCoder} {row : List ℕ} {sink : List Bool} {meter : ℕ} {m : Standing} {xs : List ℤ} (n : ℕ) → (h : StandsWith c row sink meter m xs) → n ≤ c.end
@@ -128,16 +128,16 @@ next_is {c} {row} h whole less =
     }
 
 -- has room,
-pub steps_behind : {c : BlockCoder} {row : List ℕ} {sink : List Bool} {meter : ℕ} {m : Standing} {xs : List ℤ} → StandsWith c row sink meter m xs → HasRoomAt m
+pub steps_after : {c : BlockCoder} {row : List ℕ} {sink : List Bool} {meter : ℕ} {m : Standing} {xs : List ℤ} → StandsWith c row sink meter m xs → HasRoomAt m
     → m.meter + length xs + coding_steps c.setting < 2 ^ 62
-steps_behind h room = let all = meter_behind 0 h room (omega (arith, blocks_inside h.holds)) in omega (arith, all)
+steps_after h room = let all = meter_after 0 h room (omega (arith, blocks_inside h.holds)) in omega (arith, all)
 
 -- can be looked at,
 pub room_for_look : {c : BlockCoder} {row : List ℕ} {sink : List Bool} {meter : ℕ} {m : Standing} {xs : List ℤ} → StandsWith c row sink meter m xs → HasRoomAt m → length row ≡ c.setting.block
     → c.blocks < c.end → meter + c.setting.block < 2 ^ 62
 room_for_look {m = m} {xs} h room whole less =
     let next = next_is h whole less in
-    omega (arith, h.holds.steps_ahead, room_to_look (m.meter + length xs) h.holds.ahead next.legal next.below (steps_behind h room))
+    omega (arith, h.holds.steps_ahead, room_to_look (m.meter + length xs) h.holds.ahead next.legal next.below (steps_after h room))
 
 -- can be put,
 unfoldable pub part_has_room : {c : BlockCoder} {sink : List Bool} {meter : ℕ} {m : Standing} {xs : List ℤ} → StandsWith c (whole_part c) sink meter m xs → HasRoomAt m
@@ -159,7 +159,7 @@ part_has_room {c} {sink} {meter} {m} {xs} h room whole less =
       below = next.below;
       steps_ahead = holds.steps_ahead;
       room = room.room;
-      steps = steps_behind h room;
+      steps = steps_after h room;
     }
 
 -- and then it is coded
@@ -255,7 +255,7 @@ noted_reference {s} {start} {r} q {run} {bits} {steps} {sink} {from} n ds es lon
 noted_reference {s} {start} {r} q {run} {bits} {steps} {sink} {from} zero ds es long (inr none) h = other_reference q run h
 noted_reference {s} {start} {r} q {run} {bits} {steps} {sink} {from} (suc n) ds es long (inr none) h = absurd (omega arith)
 
--- behind no residuals nothing is ahead
+-- after no residuals nothing is ahead
 pub blank_holds : (s : Parameters) (start level : ℕ) (part : List ℕ) (sink : List Bool) (meter : ℕ) → IsOpen (state_between s start (value_at s level)) (s.block * blocks_left s start)
     → level < value_count s
     → HoldsOpen (coder_between s start (blocks_left s start) level part) [] sink meter [] sink meter
@@ -352,7 +352,7 @@ pushes_nothing {c} {sink} {meter} {m} {xs} h part less =
         coder = stands.coder;
         holds = holds;
       },
-      record { pushes = pushes; whole = λ some. absurd (omega (arith, some)); waits = λ none. refl },
+      record { pushes = pushes; whole = λ some. absurd (omega (arith, some)); buffered = λ none. refl },
     )
   where
     small : (s : Parameters) → IsLegal s → s.block ≤ 64

@@ -51,14 +51,14 @@ one_sample s x y legal kx ky e =
 pub reads_none : (s : Parameters) (bytes : List ℕ) (n : ℕ) → n ≡ 0 → Reads s bytes [] (drop n bytes)
 reads_none s bytes n e = record { split = ap (λ m. drop m bytes) (sym e); legal = All-from_recursion (IsSample s) [] tt }
 
--- behind the bytes that are read come those of more samples
+-- after the bytes that are read come those of more samples
 pub reads_more : {s : Parameters} {bytes : List ℕ} {xs ys : List ℤ} (n k : ℕ) → Reads s bytes xs (drop n bytes) → Reads s (take k (drop n bytes)) ys [] → Reads s bytes (xs ++ ys) (drop (n + k) bytes)
 reads_more {s} {bytes} {xs} {ys} n k first more =
     let rest = drop n bytes in
     let parts : rest ≡ spellings s ys ++ drop k rest = sym (take-append-drop k rest) ∙ ap (λ v. v ++ drop k rest) (more.split ∙ append-nil (spellings s ys)) in
-    let behind : drop k rest ≡ drop (n + k) bytes = drop-drop k n bytes in
+    let after : drop k rest ≡ drop (n + k) bytes = drop-drop k n bytes in
     record {
-      split = first.split ∙ (ap (λ v. spellings s xs ++ v) (parts ∙ ap (λ v. spellings s ys ++ v) behind)
+      split = first.split ∙ (ap (λ v. spellings s xs ++ v) (parts ∙ ap (λ v. spellings s ys ++ v) after)
           ∙ (sym (append_assoc (spellings s xs) (spellings s ys) (drop (n + k) bytes)) ∙ ap (λ v. v ++ drop (n + k) bytes) (sym (spellings-append s xs ys))));
       legal = All-append (IsSample s) xs ys first.legal more.legal;
     }

@@ -22,7 +22,7 @@ use Rattle.rice_fast.proofs.lemmas.encode.HeldResiduals.{is_empty-by_counts, sta
 use Rattle.rice_fast.proofs.lemmas.encode.StandingCoders.{noted_reference, other_part}
 use Rattle.rice_fast.proofs.lemmas.encode.TakenBytes.{first_of_samples, samples_counted}
 
--- a list with one element written behind its front
+-- a list with one element written after its front
 take_written : (n : ℕ) (xs : List ℕ) (x : ℕ) → n < length xs → take (n + 1) (slice_set xs n x) ≡ take n xs ++ x ∷ []
 take_written n [] x h = absurd (omega arith)
 take_written zero (y ∷ ys) x h = refl
@@ -39,7 +39,7 @@ drop_front zero xs ys h = refl
 drop_front (suc n) [] ys h = absurd (omega arith)
 drop_front (suc n) (x ∷ xs) ys h = drop_front n xs ys (omega arith)
 
--- the coder behind a reference, if one is noted, and the level of the last sample
+-- the coder after a reference, if one is noted, and the level of the last sample
 abbrev pub with_last : BlockCoder → Option ℕ → ℕ → BlockCoder
 with_last c reference level = record c { reference = reference; previous = level }
 
@@ -60,7 +60,7 @@ no_blocks c e =
     same : (x : ℕ) → (x == 0) ≡ true → x ≡ 0
     same x e = grind (arith, nat_tests)
 
--- what is held of the open segment behind more residuals, which are those of samples
+-- what is held of the open segment after more residuals, which are those of samples
 pub record MoreResiduals (c : BlockCoder) (row : List ℕ) (reference : Option ℕ) (level : ℕ) (es : List ℕ) : Type 0 where
   pub below : level < value_count c.setting
   pub fits : IfSome reference (λ v. v < value_count c.setting)

@@ -12,7 +12,7 @@ overflow_add-fields g c =
     let narrow = fields.narrow in
     let legal = c.block-block.ensures.legal.block in
     let part : c.args.size * f.k ≤ 64 * f.k = mul-le-mul_right f.k (omega (arith, legal, c.requires.size)) in
-    record { fits = omega (arith, there, narrow, g.met.L.Lanes.most_bits, part, c.taken-taken.ensures.waiting) }
+    record { fits = omega (arith, there, narrow, g.met.L.Lanes.most_bits, part, c.taken-taken.ensures.buffered) }
 
 pub overflow_add-fields-2 : goal.overflow_add-fields-2
 overflow_add-fields-2 g c =
@@ -22,7 +22,7 @@ overflow_add-fields-2 g c =
     let narrow = fields.narrow in
     let legal = c.block-block.ensures.legal.block in
     let part : c.args.size * f.k ≤ 64 * f.k = mul-le-mul_right f.k (omega (arith, legal, c.requires.size)) in
-    record { fits = omega (arith, there, narrow, g.met.L.Lanes.most_bits, part, c.taken-taken.ensures.waiting, c.LOOK.ensures, g.met.L.SampleLanes.look) }
+    record { fits = omega (arith, there, narrow, g.met.L.Lanes.most_bits, part, c.taken-taken.ensures.buffered, c.LOOK.ensures, g.met.L.SampleLanes.look) }
 
 pub returns : goal.returns
 returns g c =
@@ -37,7 +37,7 @@ returns g c =
     let len : length rows.levels ≡ size = rows.near.len ∙ length-take-le size c.fields_ahead.new.highs (omega (arith, places, legal, c.requires.size)) in
     record {
       levels = rows.levels;
-      ahead = fields.block rows.lows rows.levels rows.len (rows.words (omega (arith, legal, c.requires.size))) rows.near (omega (arith, part, c.if-waiting-fields.false, c.waiting.ensures));
+      ahead = fields.block rows.lows rows.levels rows.len (rows.words (omega (arith, legal, c.requires.size))) rows.near (omega (arith, part, c.if-buffered-fields.false, c.buffered.ensures));
       from = f.from;
       last_is = rows.last_is;
       legal = rows.legal;

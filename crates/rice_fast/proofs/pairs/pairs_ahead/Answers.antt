@@ -10,7 +10,7 @@ use Rattle.rice_fast.proofs.pairs.pairs_ahead.Goals as goal
 pub returns : goal.returns
 returns g c =
     let size = c.args.size in
-    let w = c.args.reader.now.waiting in
+    let w = c.args.reader.now.buffered in
     let skip = c.args.skip in
     let n = c.in_ok-len.len in
     let numbers = c.write_pairs.new.numbers in
@@ -23,7 +23,7 @@ returns g c =
     let total : sum first ≡ c.in_ok-turns.turns = ap (λ m. sum (take m numbers)) (sym all) ∙ c.in_ok-turns.ensures.sum in
     let spelled : flat_map fundamental_sequence (pair_codes first) ≡ take n (drop skip w) = ap (flat_map fundamental_sequence) pairs ∙ high.spelled in
     let len : length first ≡ size = length-take-le size numbers (omega (arith, c.write_pairs.array_long, c.requires.size)) in
-    let bits : length (take n (drop skip w)) ≡ n = length-take-le n (drop skip w) (let inside = high.within in let behind = length-drop skip w in omega (arith, inside, behind)) in
+    let bits : length (take n (drop skip w)) ≡ n = length-take-le n (drop skip w) (let inside = high.within in let after = length-drop skip w in omega (arith, inside, after)) in
     let most = sum_of_pairs (size / 2) first (omega (arith, len, c.requires.even)) in
     let zero : (c.args.references ≡ 0) ⊎ (get_or first 0 0 ≡ 0) = elim c.else-references-gt0.branch [
       | else-references-gt0-via-then-references-gt0+else-residuals-ne0 b ↦ inr (get_or-take size numbers 0 0 (omega (arith, c.requires.size)) ∙ b.if-residuals-ne0.false)

@@ -13,7 +13,7 @@ loop-at-init g c = record {
   within = omega arith;
   long = c.told-bytes;
   here = first_place c.args.fields.now c.requires.few;
-  rows = no_rows c.args.reader.now.waiting c.args.setting.now c.args.fields.now c.args.highs.now c.args.bytes.now c.requires.begins;
+  rows = no_rows c.args.reader.now.buffered c.args.setting.now c.args.fields.now c.args.highs.now c.args.bytes.now c.requires.begins;
 }
 
 pub loop-at-preserved : goal.loop-at-preserved
@@ -49,4 +49,4 @@ loop-at-preserved g c =
 pub returns : goal.returns
 returns g c =
     let l = c.loop-at in
-    subst (λ n. RowsAhead c.args.reader.now.waiting c.args.setting.now c.args.fields.now c.args.highs.now n l.last l.bytes) (omega (arith, l.invariant.within, c.loop-at-test.false)) l.invariant.rows
+    subst (λ n. RowsAhead c.args.reader.now.buffered c.args.setting.now c.args.fields.now c.args.highs.now n l.last l.bytes) (omega (arith, l.invariant.within, c.loop-at-test.false)) l.invariant.rows

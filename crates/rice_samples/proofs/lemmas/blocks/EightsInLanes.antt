@@ -126,13 +126,13 @@ pub some_digits : (i : ℕ) (xs : List ℕ) → fold_l bit_or 0 (chunk (8 * i) 8
 some_digits i xs h = by_value (list_all (λ d. d == 0) xs) refl
   where
     parts : (n m : ℕ) (xs : List ℕ) → list_all (λ d. d == 0) xs ≡ true → list_all (λ d. d == 0) (chunk n m xs) ≡ true
-    parts n m xs e = front m (drop n xs) (behind n xs e)
+    parts n m xs e = front m (drop n xs) (after n xs e)
       where
-        behind : (n : ℕ) (xs : List ℕ) → list_all (λ d. d == 0) xs ≡ true → list_all (λ d. d == 0) (drop n xs) ≡ true
-        behind zero xs e = e
-        behind (suc n) [] e = refl
-        behind (suc n) (zero ∷ xs) e = behind n xs e
-        behind (suc n) (suc x ∷ xs) e = absurd (grind (arith, nat_tests))
+        after : (n : ℕ) (xs : List ℕ) → list_all (λ d. d == 0) xs ≡ true → list_all (λ d. d == 0) (drop n xs) ≡ true
+        after zero xs e = e
+        after (suc n) [] e = refl
+        after (suc n) (zero ∷ xs) e = after n xs e
+        after (suc n) (suc x ∷ xs) e = absurd (grind (arith, nat_tests))
 
         front : (n : ℕ) (xs : List ℕ) → list_all (λ d. d == 0) xs ≡ true → list_all (λ d. d == 0) (take n xs) ≡ true
         front zero xs e = refl

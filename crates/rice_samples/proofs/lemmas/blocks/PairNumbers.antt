@@ -147,7 +147,7 @@ triangle_small s h =
       | inr ge ↦ let f : m ≡ s = omega arith in let g = ap triangle f in omega arith
     ]
 
--- the number that is r behind the first of those with the sum s, r being no more than s, stands for the pair of s - r and r
+-- the number that is r after the first of those with the sum s, r being no more than s, stands for the pair of s - r and r
 pub pair_is : (s r g : ℕ) → r ≤ s → triangle s + r ≡ g → pair_code (s - r) r ≡ g
 pair_is s r g h e =
     let f : s - r + r ≡ s = omega arith in

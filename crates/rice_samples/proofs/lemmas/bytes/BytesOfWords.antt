@@ -54,8 +54,8 @@ digits_of_number [] fit = refl
 digits_of_number (x ∷ g) fit =
     let low = fit 0 0 (omega arith) in
     let first : (x + 256 * number_l 256 g) % 256 ≡ x = omega (arith, low) in
-    let behind : (x + 256 * number_l 256 g) / 256 ≡ number_l 256 g = omega (arith, low) in
-    let rest = ap (digits_l 256 (length g)) behind ∙ digits_of_number g (λ i d lt. fit (suc i) d (omega (arith, lt))) in
+    let after : (x + 256 * number_l 256 g) / 256 ≡ number_l 256 g = omega (arith, low) in
+    let rest = ap (digits_l 256 (length g)) after ∙ digits_of_number g (λ i d lt. fit (suc i) d (omega (arith, lt))) in
     λ j. first j ∷ rest j
 
 number-zeros : (n : ℕ) (r : List ℕ) → number_l 256 (replicate n 0 ++ r) ≡ 256 ^ n * number_l 256 r
@@ -102,13 +102,13 @@ words_read msb w more (suc n) xs le fit =
     let small = All-take (λ b. b < 256) w xs fit in
     let v = number_l 256 (in_order msb g) in
     let len : length (in_order msb g) ≡ w = length-in_order msb g ∙ size in
-    let behind = words_in_order msb w more n r in
+    let after = words_in_order msb w more n r in
     let rest = words_read msb w more n r (omega (arith, le, some, length-drop w xs)) (All-drop (λ b. b < 256) w xs fit) in
     let below : v < 256 ^ w = subst (λ k. v < 256 ^ k) len (number_below (in_order msb g) (fit-in_order msb g small)) in
     let inside : v < 256 ^ w * 256 ^ more = omega (arith, below, mul-le-mul_left (256 ^ w) (pow_some more)) in
-    let all : number_l 256 (in_order msb g ++ (replicate more 0 ++ behind)) ≡ v + 256 ^ w * 256 ^ more * number_l 256 behind =
-    number-append (in_order msb g) (replicate more 0 ++ behind) ∙ rw (len, number-zeros more behind) (omega arith) in
-    let lanes = ap (digits_l (256 ^ w * 256 ^ more) (suc n)) all ∙ lane-more (256 ^ w * 256 ^ more) n v (number_l 256 behind) inside in
+    let all : number_l 256 (in_order msb g ++ (replicate more 0 ++ after)) ≡ v + 256 ^ w * 256 ^ more * number_l 256 after =
+    number-append (in_order msb g) (replicate more 0 ++ after) ∙ rw (len, number-zeros more after) (omega arith) in
+    let lanes = ap (digits_l (256 ^ w * 256 ^ more) (suc n)) all ∙ lane-more (256 ^ w * 256 ^ more) n v (number_l 256 after) inside in
     record {
       read = ap (flat_map (ordered_bytes msb w)) lanes ∙ ((λ j. word_read msb w g size small j ++ rest.read j) ∙ (sym (take-add w (n * w) xs) ∙ ap (λ k. take k xs) (sym some)));
       fit = subst (Each1 (λ v. v < 256 ^ w)) (sym lanes) (below, rest.fit);

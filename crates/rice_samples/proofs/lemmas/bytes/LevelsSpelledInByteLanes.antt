@@ -32,9 +32,9 @@ digits-more (suc k) m v rest lt =
     let n : suc k + m ≡ suc (k + m) = omega arith in
     let all : v + 256 ^ suc k * rest ≡ v + 256 * p = rw (pow-suc 256 k) (omega arith) in
     let first : (v + 256 * p) % 256 ≡ v % 256 = omega arith in
-    let behind : (v + 256 * p) / 256 ≡ v / 256 + p = omega arith in
+    let after : (v + 256 * p) / 256 ≡ v / 256 + p = omega arith in
     let small : v / 256 < 256 ^ k = omega (arith, lt, pow-suc 256 k) in
-    rw (n, all) (λ j. first j ∷ (ap (digits_l 256 (k + m)) behind ∙ digits-more k m (v / 256) rest small) j)
+    rw (n, all) (λ j. first j ∷ (ap (digits_l 256 (k + m)) after ∙ digits-more k m (v / 256) rest small) j)
 
 -- the lanes of a vector, read as bytes
 bytes_of_lanes : (k : ℕ) (vs : List ℕ) → Each1 (λ v. v < 256 ^ k) vs → digits_l 256 (length vs * k) (number_l (256 ^ k) vs) ≡ flat_map (digits_l 256 k) vs

@@ -1,4 +1,4 @@
--- The samples that bytes spell, and others behind them.
+-- The samples that bytes spell, and others after them.
 use Rattle.std.proofs.Common.{ℕ, List, ◌++◌, ap, sym, ◌∙◌, append_assoc, ℤ}
 use Rattle.std.proofs.lemmas.List.Elements.{All-append}
 use Rattle.rice_samples.specs.Parameters.{Parameters, IsSample}
@@ -13,8 +13,8 @@ reads_then s bytes rest last xs ys f g = record {
 }
 
 -- bytes after them change nothing
-pub reads_before : (s : Parameters) (xs : List ℤ) (bytes rest behind : List ℕ) → Reads s bytes xs rest → Reads s (bytes ++ behind) xs (rest ++ behind)
-reads_before s xs bytes rest behind r = record {
-  split = ap (λ l. l ++ behind) r.split ∙ append_assoc (spellings s xs) rest behind;
+pub reads_before : (s : Parameters) (xs : List ℤ) (bytes rest after : List ℕ) → Reads s bytes xs rest → Reads s (bytes ++ after) xs (rest ++ after)
+reads_before s xs bytes rest after r = record {
+  split = ap (λ l. l ++ after) r.split ∙ append_assoc (spellings s xs) rest after;
   legal = r.legal;
 }

@@ -15,7 +15,7 @@ one_len w i n bytes h e =
     let rest = length-drop (w * i) bytes in
     length-take-le (w * i + w - w * i) (drop (w * i) bytes) (omega (arith, more, rest, e)) ∙ (omega arith)
 
--- one element more adds what is made of it behind what was made of those before it
+-- one element more adds what is made of it after what was made of those before it
 pub flat_map-push : {X A : Type 0} (f : X → List A) (xs : List X) (x : X) → flat_map f (xs ++ x ∷ []) ≡ flat_map f xs ++ f x
 flat_map-push f xs x = flat_map-append f xs (x ∷ []) ∙ ap (λ v. flat_map f xs ++ v) (append-nil (f x))
 

@@ -31,7 +31,7 @@ length-spellings s (x ∷ xs) = length-append (spelling s x) (spellings s xs) �
     next : (w n : ℕ) → w + w * n ≡ w * suc n
     next w n = omega arith
 
--- the bytes of samples and of others behind them stand one after the other
+-- the bytes of samples and of others after them stand one after the other
 pub spellings-append : (s : Parameters) (xs ys : List ℤ) → spellings s (xs ++ ys) ≡ spellings s xs ++ spellings s ys
 spellings-append s xs ys = flat_map-append (spelling s) xs ys
 

@@ -25,8 +25,8 @@ pairs_of (suc n) (a ∷ []) e h = absurd (omega arith)
 pairs_of (suc n) (a ∷ b ∷ xs) e h =
     let rest = number_l 256 xs in
     let first : (a + 256 * (b + 256 * rest)) % 65536 ≡ a + 256 * b = omega (arith, h.0.fits, h.1.0.fits) in
-    let behind : (a + 256 * (b + 256 * rest)) / 65536 ≡ rest = omega (arith, h.0.fits, h.1.0.fits) in
-    let same = ap (digits_l 65536 n) behind ∙ pairs_of n xs (omega arith) h.1.1 in
+    let after : (a + 256 * (b + 256 * rest)) / 65536 ≡ rest = omega (arith, h.0.fits, h.1.0.fits) in
+    let same = ap (digits_l 65536 n) after ∙ pairs_of n xs (omega arith) h.1.1 in
     λ j. first j ∷ same j
 
 -- lanes of 16 bits, read as bytes, are the low and the high byte of each
@@ -38,8 +38,8 @@ bytes_of (suc n) (c ∷ ys) e h =
     let rest = number_l 65536 ys in
     let first : (c + 65536 * rest) % 256 ≡ c % 256 = omega arith in
     let second : (c + 65536 * rest) / 256 % 256 ≡ c / 256 = omega (arith, h.0) in
-    let behind : (c + 65536 * rest) / 256 / 256 ≡ rest = omega (arith, h.0) in
-    let same = ap (digits_l 256 (twice n)) behind ∙ bytes_of n ys (omega arith) h.1 in
+    let after : (c + 65536 * rest) / 256 / 256 ≡ rest = omega (arith, h.0) in
+    let same = ap (digits_l 256 (twice n)) after ∙ bytes_of n ys (omega arith) h.1 in
     λ j. first j ∷ second j ∷ same j
 
 -- high parts

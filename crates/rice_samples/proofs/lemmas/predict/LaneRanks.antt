@@ -21,7 +21,7 @@ last_number_of (suc m) p (y ∷ ys) len = last_number_of m y ys (omega arith)
 pub last_of_row : (m p : ℕ) (xs ys : List ℕ) → length ys ≡ suc m → get_or ys m 0 ≡ last_number p (xs ++ ys)
 last_of_row m p xs ys len = last_number_of m (last_number p xs) ys len ∙ sym (last-append p xs ys)
 
--- the numbers of a list from a place on to m places behind it are m, where the list goes as far
+-- the numbers of a list from a place on to m places after it are m, where the list goes as far
 pub row_long : (m at n : ℕ) (xs : List ℕ) → n ≡ at + m → n ≤ length xs → length (slice_range xs at n) ≡ m
 row_long m at n xs e le = length-take-le (n - at) (drop at xs) (omega (arith, length-drop at xs)) ∙ (omega (arith, e))
 
@@ -37,7 +37,7 @@ from_last_of_front_on k zero (x ∷ []) ys e = refl
 from_last_of_front_on k zero (x ∷ y ∷ xs) ys e = absurd (omega arith)
 from_last_of_front_on k (suc m) (x ∷ xs) ys e = from_last_of_front_on k m xs ys (omega arith)
 
--- the last lane of a vector, and all but the last of another, where both lie one behind the other
+-- the last lane of a vector, and all but the last of another, where both lie one after the other
 pub last_and_others : (m : ℕ) (xs ys : List ℕ) → length xs ≡ suc m → length ys ≡ suc m →
     pick_l 0 (xs ++ ys) (range_with_len m (suc m)) ≡ get_or xs m 0 ∷ take m ys
 last_and_others m xs ys e f = pick_l-range_with_len 0 (xs ++ ys) m (suc m) (omega (arith, e, f, length-append xs ys)) ∙ from_last_of_front_on m m xs ys e

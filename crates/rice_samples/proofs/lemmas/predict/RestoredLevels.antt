@@ -9,7 +9,7 @@ last_number-push : (p : ℕ) (xs : List ℕ) (x : ℕ) → last_number p (xs ++ 
 last_number-push p [] x = refl
 last_number-push p (y ∷ xs) x = last_number-push y xs x
 
--- the ranks of numbers and of others behind them, which go on from the last of these numbers
+-- the ranks of numbers and of others after them, which go on from the last of these numbers
 pub ranks_below-append : (count p : ℕ) (xs ys : List ℕ) → ranks_below count p (xs ++ ys) ≡ ranks_below count p xs ++ ranks_below count (last_number p xs) ys
 ranks_below-append count p [] ys = refl
 ranks_below-append count p (x ∷ xs) ys = ap (λ v. rank_below count p x ∷ v) (ranks_below-append count x xs ys)

@@ -43,7 +43,7 @@ pub fn bytes_in_turn(greatest: u32, p: u32, ranks: Bytes) -> Bytes
     Bytes::of(u8x16::from_array(numbers))
 }
 
-/// Returns whether the last eight numbers are zeros, as they are behind a block of eight.
+/// Returns whether the last eight numbers are zeros, as they are after a block of eight.
 #[inline(always)]
 fn last_eight_are_zeros(numbers: Bytes) -> bool
     ensures { result ≡ true → drop 8 numbers.lanes ≡ replicate 8 0 }
@@ -73,7 +73,7 @@ pub fn halves_in_turn(greatest: u32, p: u32, ranks: Halves) -> Halves
     ensures fit { All (λ x. x ≤ greatest) result.lanes }
     ensures ranks { ranks_below (greatest + 1) p result.lanes ≡ ranks.lanes }
 {
-    // So it is behind a block of eight.
+    // So it is after a block of eight.
     if ranks.is_zero() {
         return Halves::splat(p);
     }

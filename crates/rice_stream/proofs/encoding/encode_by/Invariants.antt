@@ -7,7 +7,7 @@ invariant-encode_all g l = record {
   value : EncodingValue;
   sees : Sees g.C.TakesBytes.stands l.encoding value;
   runs : EncodingProgress l.setting (g.I.Intake.left l.fn.intake) (g.I.Intake.left l.intake) (g.O.Outlet.taken l.fn.outlet) (g.O.Outlet.taken l.outlet) value l.input;
-  few : length l.input.waiting < width l.setting;
+  few : length l.input.buffered < width l.setting;
   reads : g.I.Intake.failed l.intake ≡ g.I.Intake.failed l.fn.intake;
   writes : g.O.Outlet.failed l.outlet ≡ g.O.Outlet.failed l.fn.outlet;
 }

@@ -1,5 +1,5 @@
 use Rattle.std.proofs.Common.{arith, refl, ◌≡◌, ◌+◌, ◌*◌, ◌≤◌, ◌%◌, ◌++◌, ◌∙◌, ap, sym, subst, length}
-use Rattle.rice_stream.proofs.Words.{width, some_width, behind, encoding_at, EncodesRest}
+use Rattle.rice_stream.proofs.Words.{width, some_width, after, encoding_at, EncodesRest}
 use Rattle.rice_stream.proofs.lemmas.EncodingEnds.{push_fails, push_within, within_early, within_all}
 use Rattle.rice_stream.proofs.lemmas.EncodingLemmas.{settled_by}
 use Rattle.rice_stream.proofs.lemmas.Seams.{encoding_is_resumed, few_all, rest_stops, rest_cut, rest_all, takes_few}
@@ -21,7 +21,7 @@ returns-then-bytes-bytes_left-clause-did g c xs h =
     let size : c.width-width.result * seam.samples ≡ width s * length xs = (λ i. c.width-width.ensures.value i * h.counts.samples i) in
     subst (EncodesRest s xs c.args.bytes.now now now c.stopped.result.report) (sym c.stopped.ensures.fault) (
       record { passes = omega (arith, size, c.bytes_left.ensures.value, c.if-bytes-bytes_left.true); untouched = refl },
-      c.stopped.ensures.told (encoding_at s seam) s xs (c.put_bits_of_seam.ensures s c.resume-encoding.ensures) (encoding_is_resumed s seam xs now h).counts,
+      c.stopped.ensures.reported (encoding_at s seam) s xs (c.put_bits_of_seam.ensures s c.resume-encoding.ensures) (encoding_is_resumed s seam xs now h).counts,
     )
 
 pub returns-then-bytes-bytes_left-clause-bounds : goal.returns-then-bytes-bytes_left-clause-bounds
@@ -30,7 +30,7 @@ returns-then-bytes-bytes_left-clause-bounds g c =
     let seam = c.args.seam.now in
     let xs = c.requires.seam.0 in
     let k = c.requires.seam.1.counts in
-    within_early s c.stopped.result.report xs (settled_by s (encoding_at s seam) xs k) (c.stopped.ensures.told (encoding_at s seam) s xs (c.put_bits_of_seam.ensures s c.resume-encoding.ensures) k)
+    within_early s c.stopped.result.report xs (settled_by s (encoding_at s seam) xs k) (c.stopped.ensures.reported (encoding_at s seam) s xs (c.put_bits_of_seam.ensures s c.resume-encoding.ensures) k)
 
 pub push_bytes-requires : goal.push_bytes-requires
 push_bytes-requires g c =
@@ -40,7 +40,7 @@ push_bytes-requires g c =
       ready = record {
         value = encoding_at s c.args.seam.now;
         sees = c.put_bits_of_seam.ensures s c.resume-encoding.ensures;
-        start = behind s xs (g.O.Outlet.taken c.args.outlet.now);
+        start = after s xs (g.O.Outlet.taken c.args.outlet.now);
         before = xs;
         holds = encoding_is_resumed s c.args.seam.now xs (g.O.Outlet.taken c.args.outlet.now) c.requires.seam.1;
         few = omega (arith, few, c.if-bytes-bytes_left.false, c.requires.seam.1.counts.samples);
@@ -57,7 +57,7 @@ returns-in-Err-clause-did g c xs h =
     let q = c.in-Err.ensures.did _ _ _ (c.put_bits_of_seam.ensures _ c.resume-encoding.ensures) (encoding_is_resumed _ _ _ _ h) in
     let size : c.width-width.result * c.args.seam.now.samples ≡ width s * length xs = (λ i. c.width-width.ensures.value i * h.counts.samples i) in
     let limit : width s * length xs + length c.args.bytes.now ≤ 281474976710656 = omega (arith, size, h.limit, c.bytes_left.ensures.value, c.if-bytes-bytes_left.false) in
-    rest_stops s (g.O.Outlet.taken c.args.outlet.now) new q.0 o.result.report xs c.args.bytes.now limit c.in-Err.fault o.result.fault o.ensures.fault (λ ys k. o.ensures.told q.0 s ys q.1 k) q.2
+    rest_stops s (g.O.Outlet.taken c.args.outlet.now) new q.0 o.result.report xs c.args.bytes.now limit c.in-Err.fault o.result.fault o.ensures.fault (λ ys k. o.ensures.reported q.0 s ys q.1 k) q.2
 
 pub returns-in-Err-clause-failures : goal.returns-in-Err-clause-failures
 returns-in-Err-clause-failures g c =
@@ -71,7 +71,8 @@ returns-in-Err-clause-bounds g c =
     let now = g.O.Outlet.taken c.args.outlet.now in
     let new = g.O.Outlet.taken c.push_bytes.new.outlet in
     let q = c.in-Err.ensures.did _ _ _ (c.put_bits_of_seam.ensures _ c.resume-encoding.ensures) (encoding_is_resumed _ _ _ _ c.requires.seam.1) in
-    push_within (behind c.args.setting.now c.requires.seam.0 now) new q.0 c.in-Err.fault c.requires.seam.0 c.args.bytes.now (λ ys k. c.stopped-in-Err.ensures.told q.0 c.args.setting.now ys q.1 k) q.2
+    push_within (after c.args.setting.now c.requires.seam.0 now) new q.0 c.in-Err.fault c.requires.seam.0 c.args.bytes.now
+        (λ ys k. c.stopped-in-Err.ensures.reported q.0 c.args.setting.now ys q.1 k) q.2
 
 -- a sample is cut
 pub returns-then-bytes-width-gt0-clause-did : goal.returns-then-bytes-width-gt0-clause-did
@@ -85,7 +86,7 @@ returns-then-bytes-width-gt0-clause-did g c xs h =
     let same : length bytes % c.width-width.result ≡ length bytes % width s = ap (λ w. length bytes % w) c.width-width.ensures.value in
     let size : c.width-width.result * c.args.seam.now.samples ≡ width s * length xs = (λ i. c.width-width.ensures.value i * h.counts.samples i) in
     let limit : width s * length xs + length bytes ≤ 281474976710656 = omega (arith, size, h.limit, c.bytes_left.ensures.value, c.if-bytes-bytes_left.false) in
-    rest_cut s now new q.0 o.result.report xs bytes limit c.taken-index.result o.result.fault o.ensures.fault (c.taken-index.ensures ∙ sym q.1.samples) (λ ys k. o.ensures.told q.0 s ys q.1 k) q.2
+    rest_cut s now new q.0 o.result.report xs bytes limit c.taken-index.result o.result.fault o.ensures.fault (c.taken-index.ensures ∙ sym q.1.samples) (λ ys k. o.ensures.reported q.0 s ys q.1 k) q.2
     (omega (arith, same, c.if-bytes-width-gt0.true))
 
 pub returns-then-bytes-width-gt0-clause-bounds : goal.returns-then-bytes-width-gt0-clause-bounds
@@ -94,7 +95,7 @@ returns-then-bytes-width-gt0-clause-bounds g c =
     let q = c.in-Ok.ensures.did _ _ _ (c.put_bits_of_seam.ensures _ c.resume-encoding.ensures) (encoding_is_resumed _ _ _ _ c.requires.seam.1) in
     let ys = c.requires.seam.0 ++ q.2.more in
     let k = q.2.holds.counts in
-    within_early s c.stopped-then-bytes-width-gt0.result.report ys (settled_by s q.0 ys k) (c.stopped-then-bytes-width-gt0.ensures.told q.0 s ys q.1 k)
+    within_early s c.stopped-then-bytes-width-gt0.result.report ys (settled_by s q.0 ys k) (c.stopped-then-bytes-width-gt0.ensures.reported q.0 s ys q.1 k)
 
 -- all is taken
 pub finish-requires : goal.finish-requires
@@ -108,10 +109,10 @@ finish-requires g c =
         q.0,
         q.1,
         s,
-        behind s xs (g.O.Outlet.taken c.args.outlet.now),
+        after s xs (g.O.Outlet.taken c.args.outlet.now),
         xs ++ q.2.more,
         q.2.holds,
-        takes_few s (behind s xs (g.O.Outlet.taken c.args.outlet.now)) new q.0 xs c.args.bytes.now (omega (arith, few, c.if-bytes-bytes_left.false, c.requires.seam.1.counts.samples)) q.2,
+        takes_few s (after s xs (g.O.Outlet.taken c.args.outlet.now)) new q.0 xs c.args.bytes.now (omega (arith, few, c.if-bytes-bytes_left.false, c.requires.seam.1.counts.samples)) q.2,
       );
       writes = omega (arith, c.requires.writes, c.in-Ok.ensures.failures);
     }
@@ -124,7 +125,7 @@ returns-clause-did g c xs h =
     let bytes = c.args.bytes.now in
     let q = c.in-Ok.ensures.did _ _ _ (c.put_bits_of_seam.ensures _ c.resume-encoding.ensures) (encoding_is_resumed _ _ _ _ h) in
     let same : length bytes % c.width-width.result ≡ length bytes % width s = ap (λ w. length bytes % w) c.width-width.ensures.value in
-    let did = c.finish.ensures.did q.0 s (behind s xs (g.O.Outlet.taken c.args.outlet.now)) (xs ++ q.2.more) q.1 q.2.holds in
+    let did = c.finish.ensures.did q.0 s (after s xs (g.O.Outlet.taken c.args.outlet.now)) (xs ++ q.2.more) q.1 q.2.holds in
     let size : c.width-width.result * c.args.seam.now.samples ≡ width s * length xs = (λ i. c.width-width.ensures.value i * h.counts.samples i) in
     let limit : width s * length xs + length bytes ≤ 281474976710656 = omega (arith, size, h.limit, c.bytes_left.ensures.value, c.if-bytes-bytes_left.false) in
     rest_all s (g.O.Outlet.taken c.args.outlet.now) mid q.0 c.finish.result.report xs bytes limit c.finish.result.fault q.2 new (omega (arith, same, c.if-bytes-width-gt0.false)) did.0 did.1
@@ -134,5 +135,5 @@ returns-clause-bounds g c =
     let s = c.args.setting.now in
     let q = c.in-Ok.ensures.did _ _ _ (c.put_bits_of_seam.ensures _ c.resume-encoding.ensures) (encoding_is_resumed _ _ _ _ c.requires.seam.1) in
     let ys = c.requires.seam.0 ++ q.2.more in
-    let did = c.finish.ensures.did q.0 s (behind s c.requires.seam.0 (g.O.Outlet.taken c.args.outlet.now)) ys q.1 q.2.holds in
+    let did = c.finish.ensures.did q.0 s (after s c.requires.seam.0 (g.O.Outlet.taken c.args.outlet.now)) ys q.1 q.2.holds in
     within_all s c.finish.result.report ys (settled_by s q.0 ys q.2.holds.counts) did.0

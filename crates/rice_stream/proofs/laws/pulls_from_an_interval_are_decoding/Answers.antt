@@ -8,4 +8,4 @@ pub returns-clause-all : goal.returns-clause-all
 returns-clause-all c = pulled.pulls_from_an_interval_are_decoding
 
 pub returns-clause-enough : goal.returns-clause-enough
-returns-clause-enough c = pulled.enough_behind_is_decoding
+returns-clause-enough c = pulled.enough_after_is_decoding

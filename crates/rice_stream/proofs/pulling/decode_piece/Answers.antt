@@ -18,7 +18,7 @@ decode_all-init g c =
       reads = record {
         going = reader.going took;
         failed = reader.failed took;
-        told = reader.told took;
+        reported = reader.reported took;
         taken = omega (arith, reader.taken took);
         limit = omega (arith, c.requires.fits, ap length (reader.bits took), length-drop k (bits_of piece), length-bits_of piece);
       };

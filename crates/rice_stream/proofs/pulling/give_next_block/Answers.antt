@@ -54,7 +54,7 @@ returns g c =
     let old_run : p.run * p.setting.block ≡ stand.run * s.block = ap (λ (d : DecoderState). d.run * d.setting.block) c.requires.come.state in
     let new_run : q.run * q.setting.block ≡ q.run * s.block = ap (λ (d : DecoderState). d.run * d.setting.block) same in
     let steps : Steps s stand next old new c.tick.new.self meter says.samples = record {
-      state = subst (λ (d : DecoderState). IsDecoderState d.setting d.block d.before d.run d.stopped) same c.stand_behind-next.ensures.state;
+      state = subst (λ (d : DecoderState). IsDecoderState d.setting d.block d.before d.run d.stopped) same c.stand_after-next.ensures.state;
       advances = subst (λ (d : DecoderState). Advances old new c.tick.new.self meter (state_of s stand) d says.samples (Ok Block)) same at_stand;
       counted = says.counted;
       few = omega (arith, says.by_bits, old_run, new_run);
@@ -65,7 +65,7 @@ returns g c =
       steps_old = omega (arith, c.tick.ensures, c.new-meter.ensures);
       steps_are = omega (arith, c.block-size.ensures.value);
     } in
-    let given = subst (λ (t : Stand). GivesMore s stand t q old new says.samples) (sym c.stand_behind-next.ensures.numbers) (gives_one know.0 know.1 know.2 know.3 same steps) in
+    let given = subst (λ (t : Stand). GivesMore s stand t q old new says.samples) (sym c.stand_after-next.ensures.numbers) (gives_one know.0 know.1 know.2 know.3 same steps) in
     let spelled = subst (λ (t : Parameters). take (width t * length says.samples) bytes ≡ spellings t says.samples) setting_old (says.spelled (ap Ok c.in-Block.is)) in
     record {
       samples = says.samples;

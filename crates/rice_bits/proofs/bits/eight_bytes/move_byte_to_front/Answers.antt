@@ -7,9 +7,9 @@ use Rattle.rice_bits.proofs.bits.eight_bytes.move_byte_to_front.Goals as goal
 use Rattle.rice_bits.proofs.bits.eight_bytes.move_byte_to_front.Goals.{then-at-bytes, else-at-bytes}
 
 -- zeros, of which the first becomes a byte
-zeros_behind : (bytes zeros : List ℕ) (some count k : ℕ) → some ≡ suc count → some ≤ length bytes → zeros ≡ replicate some 0 ++ drop some bytes
+zeros_after : (bytes zeros : List ℕ) (some count k : ℕ) → some ≡ suc count → some ≤ length bytes → zeros ≡ replicate some 0 ++ drop some bytes
     → set zeros 0 k ≡ take (length bytes) (k ∷ replicate count 0 ++ drop (count + 1) bytes)
-zeros_behind bytes zeros some count k more most e =
+zeros_after bytes zeros some count k more most e =
     let next : count + 1 ≡ suc count = omega arith in
     let size : length (k ∷ replicate count 0 ++ drop (suc count) bytes) ≤ length bytes =
     omega (arith, length-append (replicate count 0) (drop (suc count) bytes), length-replicate {A = ℕ} count 0, length-drop (suc count) bytes) in
@@ -20,15 +20,15 @@ zeros_alone : (bytes zeros : List ℕ) (at size : ℕ) → size ≡ length bytes
     → set zeros 0 0 ≡ take size (0 ∷ replicate at 0 ++ drop (at + 1) bytes)
 zeros_alone bytes zeros at zero same some past e = absurd (omega arith)
 zeros_alone bytes zeros at (suc n) same some past e =
-    let behind : drop (suc n) bytes ≡ [] = drop_all (suc n) bytes (omega (arith, same)) in
+    let after : drop (suc n) bytes ≡ [] = drop_all (suc n) bytes (omega (arith, same)) in
     let long : n ≤ length (replicate {A = ℕ} at 0) = omega (arith, length-replicate {A = ℕ} at 0) in
-    rw (e, behind, append-nil {A = ℕ} (replicate n 0), take-append-le n (replicate {A = ℕ} at 0) (drop (at + 1) bytes) long, take-replicate {X = ℕ} n at 0 (omega arith)) refl
+    rw (e, after, append-nil {A = ℕ} (replicate n 0), take-append-le n (replicate {A = ℕ} at 0) (drop (at + 1) bytes) long, take-replicate {X = ℕ} n at 0 (omega arith)) refl
 
 front_kept : (bytes zeros : List ℕ) (at some k : ℕ) → 0 < length bytes → min (at + 1) (length bytes) ≤ some → some ≤ length bytes
     → zeros ≡ replicate some 0 ++ drop some bytes → k ≡ slice_index bytes at
     → (count : ℕ) × (at ≤ count) × (set zeros 0 k ≡ take (length bytes) (slice_index bytes at ∷ replicate count 0 ++ drop (count + 1) bytes))
 front_kept bytes zeros at some k full least most e byte = elim (cases_lt at (length bytes)) [
-  | inl i ↦ (some - 1, omega (arith, least), rw (← byte) (zeros_behind bytes zeros some (some - 1) k (omega (arith, least)) most e))
+  | inl i ↦ (some - 1, omega (arith, least), rw (← byte) (zeros_after bytes zeros some (some - 1) k (omega (arith, least)) most e))
   | inr i ↦
       let none : slice_index bytes at ≡ 0 = get_or_past bytes at 0 i in
       let all : some ≡ length bytes = omega (arith, least, most) in

@@ -147,7 +147,7 @@ first_and_last left next most =
     let size : 64 - left + left ≡ 64 = omega arith in
     ap (λ w. word w next) (sym size) ∙ (word-split (64 - left) left next ∙ ap (λ d. word (64 - left) (next / 2 ^ left) ++ d) (word-mod left left next (omega arith)))
 
--- 64 digits that are stored behind whole bytes
+-- 64 digits that are stored after whole bytes
 pub whole-put : (old : List ℕ) {new : List ℕ} (n value : ℕ) → n % 8 ≡ 0 → n + 64 ≤ 8 * length old → value < 2 ^ 64 → slice_index old (n / 8) < 256
     → drop n (bits_of old) ≡ replicate (8 * length old - n) false
     → new ≡ take (n / 8) old ++ (to_be_bytes w64 value ++ drop (n / 8 + 8) old)
@@ -229,17 +229,17 @@ next-joins {left} {last} next sew least most f g e whole =
       whole = whole;
     }
 
--- a few digits behind bits of a byte that is not whole
-pub record BehindBits (g count : ℕ) : Type 0 where
+-- a few digits after bits of a byte that is not whole
+pub record AfterBits (g count : ℕ) : Type 0 where
   pub inside : g < 8
   pub few : count ≤ 48
 
--- the first of the numbers that words spell, behind a value
-pub value-joins : {g count : ℕ} (value : ℕ) {first : ℕ} (width per : ℕ) {bits all : ℕ} (words : List ℕ) {old new : List ℕ} → BehindBits g count → width * per ≡ 64 → all % 8 ≡ 0
+-- the first of the numbers that words spell, after a value
+pub value-joins : {g count : ℕ} (value : ℕ) {first : ℕ} (width per : ℕ) {bits all : ℕ} (words : List ℕ) {old new : List ℕ} → AfterBits g count → width * per ≡ 64 → all % 8 ≡ 0
     → word 64 first ≡ flat_map (word width) (take (0 + per - 0) (drop 0 words))
     → Joins (word count value ++ word (64 - (g + count)) (first / 2 ^ (g + count))) (64 - g) bits all old new
     → JoinsAllBut (g + count) first (word count value ++ flat_map (word width) (take (per * 1) words)) (count + width * (per * 1)) bits all old new
-value-joins {g} {count} value {first} width per words behind sixty whole e f =
+value-joins {g} {count} value {first} width per words stands sixty whole e f =
     let left = g + count in
     let one : per * 1 ≡ per = omega arith in
     let plain : 0 + per - 0 ≡ per = omega arith in

@@ -25,7 +25,7 @@ use Rattle.rice_bits.proofs.lemmas.bits.FrontsOfWords.{front_below, take-front}
 use Rattle.rice_bits.proofs.lemmas.bits.WordsAndNumbers.{length-word}
 use Rattle.rice_bits.proofs.lemmas.fast.lanes.WordsInBytes.{byte_at, table_row}
 use Rattle.rice_bits.proofs.lemmas.fast.read.EndsAndGapsLemmas.{ends-append, ends-count, few-ends}
-use Rattle.rice_bits.specs.fast.lanes.Ends.{in_lanes, places_behind, row_of_place}
+use Rattle.rice_bits.specs.fast.lanes.Ends.{in_lanes, places_after, row_of_place}
 use Rattle.rice_bits.specs.declared.fast.lanes.ends.TheConstants.{SLIDE}
 use Rattle.rice_bits.specs.declared.fast.lanes.tables_of_ends.TheConstants.{ROWS}
 
@@ -40,11 +40,11 @@ abbrev from_slide : ℕ → List ℕ
 from_slide n = take 16 (drop (48 - n) SLIDE)
 
 -- sixteen numbers of the slide, from 48 less a count on, are for each lane the place so many lanes before it, or 128 where there is none
-pub slide_places : (count : ℕ) → count ≤ 48 → take 16 (drop (48 - count) SLIDE) ≡ places_behind count
+pub slide_places : (count : ℕ) → count ≤ 48 → take 16 (drop (48 - count) SLIDE) ≡ places_after count
 slide_places count h =
-    let all : map from_slide (range_with_len 0 49) ≡ map places_behind (range_with_len 0 49) = refl in
+    let all : map from_slide (range_with_len 0 49) ≡ map places_after (range_with_len 0 49) = refl in
     sym (get_or-map-range_with_len from_slide 0 49 count count [] (omega (arith, h)) (omega arith))
-    ∙ (ap (λ xs. get_or xs count []) all ∙ get_or-map-range_with_len places_behind 0 49 count count [] (omega (arith, h)) (omega arith))
+    ∙ (ap (λ xs. get_or xs count []) all ∙ get_or-map-range_with_len places_after 0 49 count count [] (omega (arith, h)) (omega arith))
 
 -- a row in lanes
 
@@ -86,19 +86,19 @@ row-lanes place byte row e =
 abbrev HasPlace : ℕ → Type 0
 HasPlace j = T (zeroes 16 w8 j || ltb j 16)
 
-behind_all : (n : ℕ) (js : List ℕ) → Each1 HasPlace js → Each1 HasPlace (replicate n 128 ++ js)
-behind_all zero js h = h
-behind_all (suc n) js h = (tt, behind_all n js h)
+after_all : (n : ℕ) (js : List ℕ) → Each1 HasPlace js → Each1 HasPlace (replicate n 128 ++ js)
+after_all zero js h = h
+after_all (suc n) js h = (tt, after_all n js h)
 
-length-behind : (count : ℕ) → length (places_behind count) ≡ 16
-length-behind count = length-take-le 16 (replicate count 128 ++ range_with_len 0 16) (omega (arith, length-append (replicate count 128) (range_with_len 0 16)))
+length-after : (count : ℕ) → length (places_after count) ≡ 16
+length-after count = length-take-le 16 (replicate count 128 ++ range_with_len 0 16) (omega (arith, length-append (replicate count 128) (range_with_len 0 16)))
 
--- each of the places behind a count is 128 or one of sixteen lanes, as a swizzle asks
-pub places_are_ok : (count : ℕ) → SwzOk w8 16 16 0 (places_behind count)
+-- each of the places after a count is 128 or one of sixteen lanes, as a swizzle asks
+pub places_are_ok : (count : ℕ) → SwzOk w8 16 16 0 (places_after count)
 places_are_ok count =
-    SwzOk-from_Each1 w8 16 1 16 0 (places_behind count) (omega arith) (omega (arith, length-behind count))
+    SwzOk-from_Each1 w8 16 1 16 0 (places_after count) (omega arith) (omega (arith, length-after count))
     (Each1-chunk HasPlace 0 16 (replicate count 128 ++ range_with_len 0 16)
-    (behind_all count (range_with_len 0 16) (tt, (tt, (tt, (tt, (tt, (tt, (tt, (tt, (tt, (tt, (tt, (tt, (tt, (tt, (tt, (tt, tt))))))))))))))))))
+    (after_all count (range_with_len 0 16) (tt, (tt, (tt, (tt, (tt, (tt, (tt, (tt, (tt, (tt, (tt, (tt, (tt, (tt, (tt, (tt, tt))))))))))))))))))
 
 abbrev picked : List ℕ → ℕ → ℕ
 picked xs j = cond (leb 128 j) 0 (get_or xs j 0)
@@ -115,16 +115,16 @@ take-map f zero xs = refl
 take-map f (suc n) [] = refl
 take-map f (suc n) (x ∷ xs) = ap (λ z. f x ∷ z) (take-map f n xs)
 
--- a swizzle by these places moves sixteen lanes behind so many zeros
-pub lanes-moved : (xs : List ℕ) (count : ℕ) → length xs ≡ 16 → swz_l w8 16 xs 0 (places_behind count) ≡ take 16 (replicate count 0 ++ xs)
+-- a swizzle by these places moves sixteen lanes after so many zeros
+pub lanes-moved : (xs : List ℕ) (count : ℕ) → length xs ≡ 16 → swz_l w8 16 xs 0 (places_after count) ≡ take 16 (replicate count 0 ++ xs)
 lanes-moved xs count n =
     let places = range_with_len 0 16 in
     let whole : map (picked xs) places ≡ xs = pick_l_whole 0 xs 16 n in
-    swizzle_picks xs 0 (places_behind count) (omega (arith, length-behind count))
+    swizzle_picks xs 0 (places_after count) (omega (arith, length-after count))
     ∙ (sym (take-map (picked xs) 16 (replicate count 128 ++ places))
     ∙ ap (take 16) (map-append (picked xs) (replicate count 128) places ∙ (λ k. map-replicate (picked xs) count 128 k ++ whole k)))
 
--- numbers in lanes, and those behind them
+-- numbers in lanes, and those after them
 
 zeros-joined : (k m : ℕ) (ys : List ℕ) → k ≤ m → zip2 bit_or (take k (replicate m 0)) (take k ys) ≡ take k ys
 zeros-joined zero m ys h = refl
@@ -141,16 +141,16 @@ lanes-joined (suc k) m (x ∷ xs) ys h =
     let rest = lanes-joined k m xs ys (omega (arith, h)) in
     λ i. or_zero_r x i ∷ rest i
 
-take-behind : (k n : ℕ) (xs ys : List ℕ) → k ≤ n → take k (xs ++ take n ys) ≡ take k (xs ++ ys)
-take-behind k n [] ys h = take-take k n ys h
-take-behind zero n (x ∷ xs) ys h = refl
-take-behind (suc k) n (x ∷ xs) ys h = ap (λ z. x ∷ z) (take-behind k n xs ys (omega (arith, h)))
+take-after : (k n : ℕ) (xs ys : List ℕ) → k ≤ n → take k (xs ++ take n ys) ≡ take k (xs ++ ys)
+take-after k n [] ys h = take-take k n ys h
+take-after zero n (x ∷ xs) ys h = refl
+take-after (suc k) n (x ∷ xs) ys h = ap (λ z. x ∷ z) (take-after k n xs ys (omega (arith, h)))
 
--- numbers in lanes, with others that are moved behind them, are both in lanes
+-- numbers in lanes, with others that are moved after them, are both in lanes
 pub joined-lanes : (xs ys : List ℕ) → zip2 bit_or (in_lanes xs) (take 16 (replicate (length xs) 0 ++ in_lanes ys)) ≡ in_lanes (xs ++ ys)
 joined-lanes xs ys =
     lanes-joined 16 16 xs (in_lanes ys) (omega arith)
-    ∙ (take-behind 16 16 xs (ys ++ replicate 16 0) (omega arith) ∙ ap (take 16) (sym (append_assoc xs ys (replicate 16 0))))
+    ∙ (take-after 16 16 xs (ys ++ replicate 16 0) (omega arith) ∙ ap (take 16) (sym (append_assoc xs ys (replicate 16 0))))
 
 -- the bytes of a word, and the ones in them
 
@@ -241,7 +241,7 @@ pub byte-of : (front place : ℕ) (bytes : List ℕ) → place < 8 → bytes ≡
 byte-of front place bytes h e =
     sym (byte_at place bytes (omega (arith, h, ap length e))) ∙ ap (λ b. take 8 (drop (8 * place) b)) (ap bits_of e ∙ bits_of-eight front)
 
--- one byte more: the ends of its ones, moved behind those before it and joined with them, are the ends of all in lanes
+-- one byte more: the ends of its ones, moved after those before it and joined with them, are the ends of all in lanes
 pub byte-joined : (front : ℕ) {place : ℕ} (byte : ℕ) {before more shifted : List ℕ} (count : ℕ) → place < 7
     → before ≡ in_lanes (ends_after 0 (take (8 * place) (word 64 front))) → word 8 byte ≡ take 8 (drop (8 * place) (word 64 front))
     → more ≡ in_lanes (ends_after (8 * place) (word 8 byte)) → count ≡ length (ends_after 0 (take (8 * place) (word 64 front)))
@@ -249,12 +249,12 @@ pub byte-joined : (front : ℕ) {place : ℕ} (byte : ℕ) {before more shifted 
 byte-joined front {place} byte {more} count h old byte_is new counted moved =
     let bits = word 64 front in
     let first = take (8 * place) bits in
-    let behind = take 8 (drop (8 * place) bits) in
+    let after = take 8 (drop (8 * place) bits) in
     let es = ends_after 0 first in
-    let fs = ends_after (8 * place) behind in
+    let fs = ends_after (8 * place) after in
     let n : 8 * (place + 1) ≡ 8 * place + 8 = omega arith in
     let len : 0 + length first ≡ 8 * place = omega (arith, length-take-le (8 * place) bits (omega (arith, h, length-word 64 front))) in
     let all : ends_after 0 (take (8 * (place + 1)) bits) ≡ es ++ fs =
-    ap (λ k. ends_after 0 (take k bits)) n ∙ (ap (ends_after 0) (take-add (8 * place) 8 bits) ∙ (ends-append 0 first behind ∙ ap (λ k. es ++ ends_after k behind) len)) in
+    ap (λ k. ends_after 0 (take k bits)) n ∙ (ap (ends_after 0) (take-add (8 * place) 8 bits) ∙ (ends-append 0 first after ∙ ap (λ k. es ++ ends_after k after) len)) in
     let lanes : more ≡ in_lanes fs = new ∙ ap (λ b. in_lanes (ends_after (8 * place) b)) byte_is in
     (λ i. zip2 bit_or (old i) ((moved ∙ (λ j. take 16 (replicate (counted j) 0 ++ lanes j))) i)) ∙ (joined-lanes es fs ∙ ap in_lanes (sym all))

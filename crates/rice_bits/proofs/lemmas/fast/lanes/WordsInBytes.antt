@@ -16,7 +16,7 @@ use Rattle.rice_bits.specs.declared.fast.lanes.words.TheConstants.{FACTORS, PLAC
 use Rattle.rice_bits.specs.declared.fast.lanes.wide_words.TheConstants.{FACTORS as WIDE_FACTORS, PLACES as WIDE_PLACES}
 use Rattle.rice_bits.proofs.lemmas.bits.FrontsOfWords.{front_below}
 use Rattle.rice_bits.proofs.lemmas.bits.WordsAndNumbers.{word-cat, word-nil}
-use Rattle.rice_bits.proofs.lemmas.read.WindowLemmas.{drop-bits_of, take-bits_of, word-behind}
+use Rattle.rice_bits.proofs.lemmas.read.WindowLemmas.{drop-bits_of, take-bits_of, word-after}
 
 -- lanes of numbers
 
@@ -45,7 +45,7 @@ table_row f n m table all w r h k =
     ap (λ t. get_or (get_or t w []) r []) (sym all)
     ∙ (ap (λ t. get_or t r []) (get_or-map-range_with_len (λ w. map (f w) (range_with_len 0 m)) 0 n w w [] h (omega arith)) ∙ get_or-map-range_with_len (f w) 0 m r r [] k (omega arith))
 
--- a place and those behind it, the last first
+-- a place and those after it, the last first
 abbrev places_from : (count place : ℕ) → List ℕ
 places_from zero q = []
 places_from (suc k) q = (q + k) ∷ places_from k q
@@ -158,7 +158,7 @@ module _ (bytes : List ℕ) (fit : (i : ℕ) → get_or bytes i 0 < 256) where
       let s = at % 8 in
       let size : s + (8 * k - s) ≡ 8 * k = omega arith in
       let there : 8 * q + s ≡ at = omega arith in
-      word-behind (8 * k) w s (number_at k q) (omega (arith, few))
+      word-after (8 * k) w s (number_at k q) (omega (arith, few))
       ∙ (ap (λ v. take w (drop s v)) (number_word k q h ∙ ap (λ m. take m (drop (8 * q) bits)) (sym size))
       ∙ (ap (take w) (drop-take s (8 * k - s) (drop (8 * q) bits) ∙ ap (take (8 * k - s)) (drop-drop s (8 * q) bits))
       ∙ (take-take w (8 * k - s) (drop (8 * q + s) bits) (omega (arith, few)) ∙ ap (λ m. take w (drop m bits)) there)))
@@ -184,7 +184,7 @@ module _ (bytes : List ℕ) (fit : (i : ℕ) → get_or bytes i 0 < 256) where
       (front_below (8 * k) w (number_at k ((r + j * w) / 8) * 2 ^ ((r + j * w) % 8) % 2 ^ (8 * k)) few (mod-lt (number_at k ((r + j * w) / 8) * 2 ^ ((r + j * w) % 8)) (pow_pos (8 * k))))
       (lanes_fit k w r js few)
 
--- words that lanes spell, of sixteen bytes behind some bits
+-- words that lanes spell, of sixteen bytes after some bits
 pub record SpellsWords (bytes : List ℕ) (w r n : ℕ) (lanes : List ℕ) : Type 0 where
   pub bits : flat_map (word w) lanes ≡ take (n * w) (drop r (bits_of bytes))
   pub fit : All (λ v. v < 2 ^ w) lanes

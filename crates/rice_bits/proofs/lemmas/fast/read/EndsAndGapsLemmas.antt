@@ -21,7 +21,7 @@ few-ends p [] = omega arith
 few-ends p (true ∷ bits) = omega (arith, few-ends (p + 1) bits)
 few-ends p (false ∷ bits) = omega (arith, few-ends (p + 1) bits)
 
--- the ends among two parts are those of the first, and then those of the second, which stands behind the first
+-- the ends among two parts are those of the first, and then those of the second, which stands after the first
 pub ends-append : (p : ℕ) (xs ys : List Bool) → ends_after p (xs ++ ys) ≡ ends_after p xs ++ ends_after (p + length xs) ys
 ends-append p [] ys = (let n : p ≡ p + 0 = omega arith in ap (λ k. ends_after k ys) n)
 ends-append p (true ∷ xs) ys =
@@ -70,23 +70,23 @@ gaps-spell p q (true ∷ bits) (suc t) le few =
     let es = ends_after (q + 1) bits in
     let used = get_or ((q + 1) ∷ es) t 0 in
     let front = fundamental_sequence (q + 1 - p - 1) in
-    let behind = gaps-spell (q + 1) (q + 1) bits t (omega arith) (omega (arith, few)) in
+    let after = gaps-spell (q + 1) (q + 1) bits t (omega arith) (omega (arith, few)) in
     let from : q + 1 ≤ used = ends-from (q + 1) (q + 1) bits t (omega arith) (omega (arith, few)) in
     let none : q + 1 - (q + 1) ≡ 0 = omega arith in
     let same : q + 1 - p - 1 ≡ q - p = omega (arith, le) in
-    let rest : flat_map fundamental_sequence (take t (gaps ((q + 1) ∷ es))) ≡ take (used - (q + 1)) bits = behind ∙ ap (λ k. take (used - (q + 1)) (replicate k false ++ bits)) none in
+    let rest : flat_map fundamental_sequence (take t (gaps ((q + 1) ∷ es))) ≡ take (used - (q + 1)) bits = after ∙ ap (λ k. take (used - (q + 1)) (replicate k false ++ bits)) none in
     let len : length front ≡ q - p + 1 = length-fundamental_sequence (q + 1 - p - 1) ∙ ap (λ k. k + 1) same in
     let count : length front + (used - (q + 1)) ≡ used - p = omega (arith, len, from, le) in
     let whole : front ++ bits ≡ replicate (q - p) false ++ true ∷ bits = ap (λ k. fundamental_sequence k ++ bits) same ∙ append_assoc (replicate (q - p) false) (true ∷ []) bits in
     ap (λ z. front ++ z) rest ∙ (sym (take-append-add front bits (used - (q + 1))) ∙ (λ j. take (count j) (whole j)))
 
 -- the first gaps are those of the first numbers
-pub take-gaps : (t n : ℕ) (told : List ℕ) → t ≤ n → take t (gaps told) ≡ take t (gaps (take (n + 1) told))
-take-gaps t n told h = (let m : suc n ≡ n + 1 = omega arith in firsts t n told h ∙ ap (λ k. take t (gaps (take k told))) m)
+pub take-gaps : (t n : ℕ) (reported : List ℕ) → t ≤ n → take t (gaps reported) ≡ take t (gaps (take (n + 1) reported))
+take-gaps t n reported h = (let m : suc n ≡ n + 1 = omega arith in firsts t n reported h ∙ ap (λ k. take t (gaps (take k reported))) m)
   where
-    firsts : (t n : ℕ) (told : List ℕ) → t ≤ n → take t (gaps told) ≡ take t (gaps (take (suc n) told))
-    firsts zero n told h = refl
-    firsts (suc t) zero told h = absurd (omega (arith, h))
+    firsts : (t n : ℕ) (reported : List ℕ) → t ≤ n → take t (gaps reported) ≡ take t (gaps (take (suc n) reported))
+    firsts zero n reported h = refl
+    firsts (suc t) zero reported h = absurd (omega (arith, h))
     firsts (suc t) (suc n) [] h = refl
     firsts (suc t) (suc n) (a ∷ []) h = refl
-    firsts (suc t) (suc n) (a ∷ b ∷ told) h = ap (λ z. (b - a - 1) ∷ z) (firsts t n (b ∷ told) (omega (arith, h)))
+    firsts (suc t) (suc n) (a ∷ b ∷ reported) h = ap (λ z. (b - a - 1) ∷ z) (firsts t n (b ∷ reported) (omega (arith, h)))

@@ -8,9 +8,9 @@ returns-then-k-eq0-clause-ok g c =
     let old = c.args.reader.now in
     let new = c.read_sequences.new.reader in
     let n = length c.args.residuals.now in
-    let told = c.read_sequences.new.counts in
-    IfOk-weaker c.read_sequences.result (λ small. CountRow old new c.args.most small n told) (λ small. PartsRead old new c.args.most c.args.k small n told)
-    (λ small row. rw c.if-k-eq0.true (counts_read old new c.args.most small n told row)) c.read_sequences.ensures.ok
+    let reported = c.read_sequences.new.counts in
+    IfOk-weaker c.read_sequences.result (λ small. CountRow old new c.args.most small n reported) (λ small. PartsRead old new c.args.most c.args.k small n reported)
+    (λ small row. rw c.if-k-eq0.true (counts_read old new c.args.most small n reported row)) c.read_sequences.ensures.ok
 
 pub returns-then-k-eq0-clause-err : goal.returns-then-k-eq0-clause-err
 returns-then-k-eq0-clause-err g c =

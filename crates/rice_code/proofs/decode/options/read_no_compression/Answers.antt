@@ -1,6 +1,6 @@
 use Rattle.std.proofs.Common.{arith, ◌^◌, ◌<◌, ◌∙◌, refl}
 use Rattle.rice_code.proofs.Words.{reference_place, flat_map, pow_pos, err_from_is_err_and, word, NoCompression, sent_residuals}
-use Rattle.rice_code.proofs.lemmas.decode.OptionsRead.{no_compression_read, residuals_behind_reference, row_after_others, coded_part, no_compression_cut, cut_at_reference}
+use Rattle.rice_code.proofs.lemmas.decode.OptionsRead.{no_compression_read, residuals_after_reference, row_after_others, coded_part, no_compression_cut, cut_at_reference}
 use Rattle.rice_code.proofs.decode.options.read_no_compression.Goals as goal
 
 pub returns-in_err-reference-clause-err : goal.returns-in_err-reference-clause-err
@@ -19,7 +19,7 @@ returns-clause-ok g c =
     let row = (rw c.bits-width.ensures.value at c.in_ok-read_words.ensures.ok) in
     no_compression_read c.in_ok-reference.ensures.reference part.1 (pow_pos s.bits) c.in_ok-reference.ensures.ok
     (row_after_others (λ v. v < 2 ^ s.bits) (reference_place c.in_ok-reference.reference) row
-    (residuals_behind_reference first.result c.in_ok-reference.reference first.new.residuals c.read_words.new.words first.ensures.place part.0))
+    (residuals_after_reference first.result c.in_ok-reference.reference first.new.residuals c.read_words.new.words first.ensures.place part.0))
     (omega (arith, c.in_ok-reference.ensures.steps, c.in_ok-read_words.ensures.steps))
 
 pub returns-in_err-read_words-clause-err : goal.returns-in_err-read_words-clause-err

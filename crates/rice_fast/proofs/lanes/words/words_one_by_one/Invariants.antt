@@ -4,6 +4,6 @@ use Rattle.rice_fast.proofs.lanes.words.words_one_by_one.Given as goal
 
 abbrev pub invariant-loop-i : goal.invariant-loop-i
 invariant-loop-i g l = record {
-  words : AreWords (drop l.skip l.reader.waiting) l.width l.i l.words;
+  words : AreWords (drop l.skip l.reader.buffered) l.width l.i l.words;
   long : length l.words ≡ 8;
 }

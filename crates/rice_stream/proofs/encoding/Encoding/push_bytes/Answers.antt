@@ -7,7 +7,7 @@ use Rattle.rice_samples.specs.bytes.Spelling.{Reads, IsNoSpelling}
 use Rattle.rice_samples.proofs.lemmas.bytes.SpellingLengths.{some_width}
 use Rattle.rice_samples.proofs.lemmas.bytes.ReadSamples.{reads_then}
 use Rattle.rice_stream.specs.EncodingState.{IsEncodingOf, MeetsFailure}
-use Rattle.rice_stream.proofs.lemmas.EncodingLemmas.{fails_behind}
+use Rattle.rice_stream.proofs.lemmas.EncodingLemmas.{fails_after}
 use Rattle.rice_stream.proofs.lemmas.SamplesOfFirstBytes.{few_more}
 use Rattle.rice_stream.proofs.encoding.Encoding.push_bytes.Goals as goal
 
@@ -20,8 +20,8 @@ read_from : (s : Parameters) (bytes : List ℕ) (at n w : ℕ) (ys : List ℤ) �
     → w ≡ width s → Reads s (drop at bytes) ys (drop (at + w * n) bytes)
 read_from s bytes at n w ys r e =
     let here = subst (λ (l : List ℕ). Reads s l ys (drop (width s * n) l)) (from at bytes) r in
-    let behind = drop-drop (width s * n) at bytes ∙ ap (λ w. drop (at + w * n) bytes) (sym e) in
-    subst (Reads s (drop at bytes) ys) behind here
+    let after = drop-drop (width s * n) at bytes ∙ ap (λ w. drop (at + w * n) bytes) (sym e) in
+    subst (Reads s (drop at bytes) ys) after here
 
 -- what the first samples of the bytes from a place on are, of all bytes
 taken_from : (s : Parameters) (bytes : List ℕ) (at n w : ℕ) (more ys : List ℤ) → Reads s bytes more (drop at bytes) → Reads s (take (length bytes - at) (drop at bytes)) ys
@@ -95,7 +95,7 @@ pub returns-in-Err-clause-did : goal.returns-in-Err-clause-did
 returns-in-Err-clause-did g c v old xs sees h =
     let p = c.loop-at.invariant.part v old xs sees h in
     let q = c.in-Err.ensures.did p.0 old (xs ++ p.2) p.1 p.4 in
-    (q.0, q.1, fails_behind p.3 (subst (λ l. MeetsFailure c.args.setting.now old (g.O.Outlet.taken c.push_some.new.outlet) q.0 (xs ++ p.2) l) (from c.loop-at.at c.args.bytes.now) q.2))
+    (q.0, q.1, fails_after p.3 (subst (λ l. MeetsFailure c.args.setting.now old (g.O.Outlet.taken c.push_some.new.outlet) q.0 (xs ++ p.2) l) (from c.loop-at.at c.args.bytes.now) q.2))
 
 pub loop-at-preserved : goal.loop-at-preserved
 loop-at-preserved g c =

@@ -12,8 +12,8 @@ use Rattle.rice_stream.proofs.takes.BlockCoderTakesBytes.push.Goals as goal
 -- only with the code of a segment that is whole is nothing ahead
 shows_by : (c : BlockCoder) (sink : List Bool) (meter : ℕ) (m m_new : Standing) (bits : ℕ) → StandsFor c sink meter m_new → (0 < bits → m_new.coder.residuals ≡ [])
     → (bits ≡ 0 → m_new.sink ≡ m.sink) → ShowsCode (bits == 0) m m_new sink
-shows_by c sink meter m m_new zero stands whole waits = waits refl
-shows_by c sink meter m m_new (suc bits) stands whole waits =
+shows_by c sink meter m m_new zero stands whole buffered = buffered refl
+shows_by c sink meter m m_new (suc bits) stands whole buffered =
     let some : (suc bits == 0) ≡ false = grind (arith, nat_tests) in subst (λ b. ShowsCode b m m_new sink) (sym some) (stands_between stands (whole (omega arith))).0
 
 pub push-pushed-requires : goal.push-pushed-requires
@@ -35,6 +35,6 @@ returns c m stands room =
         none = λ none. subst (λ s. IsNoSpelling s c.args.bytes.now) (sym same) (c.push-pushed.ensures.none none);
         pushes = t.pushes;
         before_last = t.before_last;
-        shows = shows_by c.push-pushed.new.self c.push-pushed.new.sink c.push-pushed.new.meter m p.0 c.push-pushed.result.bits p.1 t.whole t.waits;
+        shows = shows_by c.push-pushed.new.self c.push-pushed.new.sink c.push-pushed.new.meter m p.0 c.push-pushed.result.bits p.1 t.whole t.buffered;
       },
     )

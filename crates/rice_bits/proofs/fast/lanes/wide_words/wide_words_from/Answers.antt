@@ -18,4 +18,4 @@ returns-clause-bits c =
     let first = c.four_words_from-first in
     let second = c.four_words_from-second in
     ap (flat_map (word c.args.width)) (pick_l_whole 0 (first.result ++ second.result) 8 (omega (arith, first.ensures.len, second.ensures.len, length-append first.result second.result)))
-    ∙ words-joined c.args.width (bits_of c.args.bytes.now) c.args.at 4 4 first.result second.result (record { place = refl; front = first.ensures.bits; behind = second.ensures.bits })
+    ∙ words-joined c.args.width (bits_of c.args.bytes.now) c.args.at 4 4 first.result second.result (record { place = refl; front = first.ensures.bits; after = second.ensures.bits })

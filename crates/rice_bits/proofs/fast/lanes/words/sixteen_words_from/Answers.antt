@@ -24,4 +24,4 @@ returns-clause-bits c =
     let first = c.eight_words_from-first in
     let second = c.eight_words_from-second in
     ap (flat_map (word c.args.width)) (narrow-is first.result second.result first.ensures.len second.ensures.len)
-    ∙ words-joined c.args.width (bits_of c.args.bytes.now) c.args.at 8 8 first.result second.result (record { place = refl; front = first.ensures.bits; behind = second.ensures.bits })
+    ∙ words-joined c.args.width (bits_of c.args.bytes.now) c.args.at 8 8 first.result second.result (record { place = refl; front = first.ensures.bits; after = second.ensures.bits })

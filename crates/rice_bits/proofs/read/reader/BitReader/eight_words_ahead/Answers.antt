@@ -1,21 +1,21 @@
 use Rattle.std.proofs.Common.{◌*◌, ap, arith, drop, length, sym, take, ◌∙◌}
-use Rattle.rice_bits.proofs.lemmas.read.WindowLemmas.{place_ahead, part-waits}
+use Rattle.rice_bits.proofs.lemmas.read.WindowLemmas.{place_ahead, part-buffered}
 use Rattle.rice_bits.proofs.read.reader.BitReader.eight_words_ahead.Goals as goal
 
 pub overflow_add-self-inside : goal.overflow_add-self-inside
-overflow_add-self-inside g c = record { fits = omega (arith, place_ahead c.args.skip 128 c.self.invariant.window (ap (λ r. r.waiting) c.self.view_is) c.requires.there) }
+overflow_add-self-inside g c = record { fits = omega (arith, place_ahead c.args.skip 128 c.self.invariant.window (ap (λ r. r.buffered) c.self.view_is) c.requires.there) }
 
 pub eight_words_from-requires-clause-room : goal.eight_words_from-requires-clause-room
 eight_words_from-requires-clause-room g c = omega (
   arith,
   c.requires.width,
   c.self.invariant.window.size,
-  place_ahead c.args.skip 128 c.self.invariant.window (ap (λ r. r.waiting) c.self.view_is)
+  place_ahead c.args.skip 128 c.self.invariant.window (ap (λ r. r.buffered) c.self.view_is)
       c.requires.there,
 )
 
 pub returns-clause-bits : goal.returns-clause-bits
 returns-clause-bits g c =
-    let waits = ap (λ r. r.waiting) c.self.view_is in
-    c.eight_words_from.ensures.bits ∙ (sym (part-waits c.self.inside.window c.args.skip (8 * c.args.width) c.self.invariant.window
-    (omega (arith, ap length waits, c.requires.there, c.requires.width))) ∙ ap (λ bits. take (8 * c.args.width) (drop c.args.skip bits)) waits)
+    let buffered = ap (λ r. r.buffered) c.self.view_is in
+    c.eight_words_from.ensures.bits ∙ (sym (part-buffered c.self.inside.window c.args.skip (8 * c.args.width) c.self.invariant.window
+    (omega (arith, ap length buffered, c.requires.there, c.requires.width))) ∙ ap (λ bits. take (8 * c.args.width) (drop c.args.skip bits)) buffered)

@@ -21,10 +21,10 @@ returns-clause-below g c =
 pub returns-clause-bits : goal.returns-clause-bits
 returns-clause-bits g c =
     let w = c.self.inside.window in
-    let waits = ap (λ r. r.waiting) c.self.view_is in
+    let buffered = ap (λ r. r.buffered) c.self.view_is in
     let near = bits_near w in
-    let enough : 57 ≤ near = omega (arith, c.requires.there, ap length waits) in
+    let enough : 57 ≤ near = omega (arith, c.requires.there, ap length buffered) in
     let most : near ≤ 64 = omega arith in
     ap (word c.args.width) c.front_digits.ensures
     ∙ first-ahead (window_bits w) c.args.width near (64 - near) c.first_bits_ahead.result (omega (arith, enough, c.requires.width)) (omega (arith, most)) c.first_bits_ahead.ensures ∙ ap
-    (take c.args.width) waits
+    (take c.args.width) buffered

@@ -1,7 +1,7 @@
 use Rattle.std.proofs.Common.{◌<◌, length, arith, ◌≡◌, ap, sym, ◌∙◌, refl, None}
 use Rattle.rice_bits.specs.Bits.{word}
 use Rattle.rice_bits.proofs.lemmas.bits.WordsAndNumbers.{length-word}
-use Rattle.rice_bits.proofs.lemmas.read.DrawnBytes.{draws_nothing, draws-supplied}
+use Rattle.rice_bits.proofs.lemmas.read.RefilledBytes.{refills_nothing, refills-supplied}
 use Rattle.rice_bits.proofs.lemmas.read.BlankBits.{and-true}
 use Rattle.rice_bits.proofs.lemmas.read.ReaderLemmas.{takes_passed}
 use Rattle.rice_bits.proofs.read.reader.BitReader.take_some_digits.Goals as goal
@@ -9,11 +9,11 @@ use Rattle.rice_bits.proofs.read.reader.BitReader.take_some_digits.Goals as goal
 pub returns-in-Err-clause-err : goal.returns-in-Err-clause-err
 returns-in-Err-clause-err g c = rw (← c.self.view_is) record {
   middle = g.I.Intake.left c.self.inside.intake;
-  draws = draws_nothing _ _ c.in-Err.ensures.err.0;
+  refills = refills_nothing _ _ c.in-Err.ensures.err.0;
   refuses = rw (c.in-Err.ensures.taken, c.in-Err.ensures.blank) c.in-Err.ensures.err.2;
   taken = omega (arith, c.in-Err.ensures.taken);
   blank = c.in-Err.ensures.blank ∙ sym (and-true _);
-  waiting = c.in-Err.ensures.err.1;
+  buffered = c.in-Err.ensures.err.1;
   refusal = refl;
 }
 
@@ -22,8 +22,8 @@ returns-clause-ok g c =
     let none : c.self.inside.refusal ≡ None = ap (λ r. r.refusal) c.self.view_is ∙ c.requires.going in
     let passes = c.take_first_bits-digits.ensures.passes in
     let some : 0 < length (word c.min-count.result c.take_first_bits-digits.result) = omega
-    (arith, length-word c.min-count.result c.take_first_bits-digits.result, c.min-count.ensures, c.waiting.ensures.value, c.in_default.ensures.some, c.requires.some) in
-    rw (← c.self.view_is) (takes_passed _ _ (draws-supplied _ _ _ _ _ _ some c.in_default.ensures.ok passes.split)
+    (arith, length-word c.min-count.result c.take_first_bits-digits.result, c.min-count.ensures, c.buffered.ensures.value, c.in_default.ensures.some, c.requires.some) in
+    rw (← c.self.view_is) (takes_passed _ _ (refills-supplied _ _ _ _ _ _ some c.in_default.ensures.ok passes.split)
     c.in_default.ensures.taken c.in_default.ensures.blank none
     c.in_default.ensures.failures passes)
 

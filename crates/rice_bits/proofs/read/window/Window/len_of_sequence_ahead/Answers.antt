@@ -11,19 +11,19 @@ use Rattle.rice_bits.proofs.lemmas.bits.WordsAndNumbers.{length-fundamental_sequ
 use Rattle.rice_bits.proofs.lemmas.read.WindowLemmas.{length-window, run-within, near-there, window-front}
 use Rattle.rice_bits.proofs.read.window.Window.len_of_sequence_ahead.Goals as goal
 
-pub returns-then-behind_zero-eq0-clause-none : goal.returns-then-behind_zero-eq0-clause-none
-returns-then-behind_zero-eq0-clause-none c =
+pub returns-then-after_zero-eq0-clause-none : goal.returns-then-after_zero-eq0-clause-none
+returns-then-after_zero-eq0-clause-none c =
     let w = c.args.self.now in
-    let r = c.first_bits_ahead-behind_zero.result in
+    let r = c.first_bits_ahead-after_zero.result in
     let n = bits_near w in
     let few = min 57 (length (window_bits w)) in
     let near = take n (window_bits w) in
     let len : length near ≡ n = length-take-le n (window_bits w) (omega arith) in
-    let zeros : take 63 (word 64 r) ≡ replicate 63 false = take-front 64 63 r (omega arith) ∙ (ap (word 63) c.if-behind_zero-eq0.true ∙ word-zero 63) in
+    let zeros : take 63 (word 64 r) ≡ replicate 63 false = take-front 64 63 r (omega arith) ∙ (ap (word 63) c.if-after_zero-eq0.true ∙ word-zero 63) in
     let front : take few (word 64 r) ≡ replicate few false =
     sym (take-take few 63 (word 64 r) (omega arith)) ∙ (ap (take few) zeros ∙ take-replicate few 63 false (omega arith)) in
     sym (take-take few n (window_bits w) (omega arith)) ∙ (sym (take-append-le few near (replicate (64 - n) false) (omega (arith, len)))
-    ∙ (ap (take few) (sym c.first_bits_ahead-behind_zero.ensures) ∙ front))
+    ∙ (ap (take few) (sym c.first_bits_ahead-after_zero.ensures) ∙ front))
 
 -- a fundamental sequence stands at the front of a word that is not 0, and has as many bits as zeros stand there after one zero more
 begins : (r : ℕ) → 0 < r / 2 → r < 2 ^ 64
@@ -41,14 +41,14 @@ begins r some fits =
 pub returns-clause-some : goal.returns-clause-some
 returns-clause-some c =
     let w = c.args.self.now in
-    let r = c.first_bits_ahead-behind_zero.result in
+    let r = c.first_bits_ahead-after_zero.result in
     let z = count_leading_zeros 64 r in
-    let front = begins r (omega (arith, c.if-behind_zero-eq0.false)) (omega arith) in
+    let front = begins r (omega (arith, c.if-after_zero-eq0.false)) (omega arith) in
     let same : count_leading_zeros 64 (r / 2) - 1 ≡ z = omega (arith, front.0) in
-    let short = run-within z _ _ _ (sym front.2 ∙ c.first_bits_ahead-behind_zero.ensures) in
+    let short = run-within z _ _ _ (sym front.2 ∙ c.first_bits_ahead-after_zero.ensures) in
     let len = length-fundamental_sequence z in
     let there = near-there w (fundamental_sequence z) c.requires (omega (arith, short, len)) in
-    let split = (window-front (w.at + (z + 1)) r (fundamental_sequence z) _ c.requires c.first_bits_ahead-behind_zero.ensures front.2 (omega (arith, short, len)) (omega (arith, len))).split in (
+    let split = (window-front (w.at + (z + 1)) r (fundamental_sequence z) _ c.requires c.first_bits_ahead-after_zero.ensures front.2 (omega (arith, short, len)) (omega (arith, len))).split in (
       omega (arith, front.0),
       omega (arith, front.0, len, there, length-window w c.requires),
       rw same (ap (take (count_leading_zeros 64 (r / 2))) split ∙ take_at (fundamental_sequence z) _ (count_leading_zeros 64 (r / 2)) (len ∙ sym front.0)),

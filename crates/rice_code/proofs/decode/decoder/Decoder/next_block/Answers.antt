@@ -11,7 +11,7 @@ invariant_of-self g c =
     let last = c.restore_zero_block-self-inside in
     let f : SFits w64 last.result = search rules in
     rw (to_z-of_z w64 last.result f) (place_moves (st.run - 1) last.result st.stopped
-    state.legal state.within c.place_behind-self-inside.ensures last.ensures.sample
+    state.legal state.within c.place_of_block_after-self-inside.ensures last.ensures.sample
     (λ h. omega (arith, state.run_fits c.if-self-gt0.true)) state.no_block)
 
 pub returns-then-self-gt0-clause-in_run : goal.returns-then-self-gt0-clause-in_run
@@ -22,7 +22,7 @@ returns-then-self-gt0-clause-in_run g c none pos =
     let b : SFits w64 st.before = search rules in
     rw (← c.self.view_is, to_z-of_z w64 last.result f) (
       refl,
-      goes_on st.setting st.block st.before st.stopped c.if-self-gt0.true c.place_behind-self-inside.ensures (rw (to_z-of_z w64 st.before b) at last.ensures.last) (record {
+      goes_on st.setting st.block st.before st.stopped c.if-self-gt0.true c.place_of_block_after-self-inside.ensures (rw (to_z-of_z w64 st.before b) at last.ensures.last) (record {
         len = last.ensures.len;
         legal = last.ensures.legal;
         block_is = rw (to_z-of_z w64 st.before b) at last.ensures.contents;

@@ -45,8 +45,8 @@ returns-else-not-sound-clause-waiting g c =
     let set = block_given st.before c.in-Ok-Residuals.head last.new.samples.items read c.if-not-sound.false last.ensures.len last.ensures.legal contents in
     let same : c.mark.new.self.taken ≡ c.args.reader.now.taken = ap (λ r. r.taken) (c.mark.ensures.going c.requires.going) in
     let bound = samples_by_bits c.self.invariant.legal set in
-    let waits : c.go_to_next_block.new.self.run ≡ 0 = ap (λ r. r.run) c.go_to_next_block.ensures.moves in
-    rw waits (omega (arith, bound, same, c.go_to_next_block.ensures.few))
+    let buffered : c.go_to_next_block.new.self.run ≡ 0 = ap (λ r. r.run) c.go_to_next_block.ensures.moves in
+    rw buffered (omega (arith, bound, same, c.go_to_next_block.ensures.few))
 
 pub returns-in-Some-clause-reads : goal.returns-in-Some-clause-reads
 returns-in-Some-clause-reads g c =
@@ -94,9 +94,9 @@ returns-in-Some-clause-waiting g c =
     let same : c.mark.new.self.taken ≡ c.args.reader.now.taken = ap (λ r. r.taken) (c.mark.ensures.going c.requires.going) in
     let bound = samples_by_bits c.self.invariant.legal set in
     let moves = rw (← c.self.view_is) at c.go_to_next_block-in-Some.ensures.moves in
-    let waits : c.go_to_next_block-in-Some.new.self.run ≡ c.in-Some.count - 1 = ap (λ r. r.run) moves in
+    let buffered : c.go_to_next_block-in-Some.new.self.run ≡ c.in-Some.count - 1 = ap (λ r. r.run) moves in
     let size : c.go_to_next_block-in-Some.new.self.setting.block ≡ st.setting.block = ap (λ r. r.setting.block) moves in
-    rw (waits, size) (omega (arith, bound, same, c.go_to_next_block-in-Some.ensures.few))
+    rw (buffered, size) (omega (arith, bound, same, c.go_to_next_block-in-Some.ensures.few))
 
 pub returns-in-Err-clause-reads : goal.returns-in-Err-clause-reads
 returns-in-Err-clause-reads g c =

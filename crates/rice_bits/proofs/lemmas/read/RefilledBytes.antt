@@ -1,0 +1,86 @@
+-- Bytes that are read from an intake, and the bits taken of them.
+use Rattle.std.proofs.Common.{◌+◌, ◌-◌, ◌*◌, inl, inr, ◌≡◌, ℕ, ◌<◌, length-append, Bool, List, [], ◌++◌, length, refl, sym, ◌∙◌, ap, arith, append_assoc, Option, Some, None}
+use Rattle.std.specs.Io.KnownBytes.{Consumes}
+use Rattle.std.proofs.lemmas.List.{append-nil}
+use Rattle.rice_bits.specs.Limits.{most_at_once}
+use Rattle.rice_bits.specs.Bits.{bits_of}
+use Rattle.std.proofs.lemmas.Bool.{cases_lt}
+use Rattle.rice_bits.specs.read.Reader.{Refills, Supplies}
+use Rattle.rice_bits.proofs.lemmas.bits.BytesAndBits.{bits_of-nil, bits_of-append, length-bits_of}
+
+-- so nothing is read where what is known of the bytes is the same before and after
+pub consumes-nil : (a : Option (List ℕ)) → Consumes a a []
+consumes-nil None = tt
+consumes-nil (Some xs) = refl
+
+-- one part is read after another
+pub consumes-append : (a b c : Option (List ℕ)) (xs ys : List ℕ) → Consumes a b xs → Consumes b c ys → Consumes a c (xs ++ ys)
+consumes-append None b c xs ys p q = tt
+consumes-append (Some u) None c xs ys p q = absurd p
+consumes-append (Some u) (Some v) None xs ys p q = absurd q
+consumes-append (Some u) (Some v) (Some w) xs ys p q = p ∙ ap (λ z. xs ++ z) q ∙ sym (append_assoc xs ys w)
+
+-- two refills, one after the other: their bytes, the bits that they serve, and the bits between them
+record RefilledInTurn (old mid a b ab xs ys xys : ℕ) : Type 0 where
+  bytes : ab ≡ a + b
+  bits : xys ≡ xs + ys
+  between : old + 8 * a ≡ xs + mid
+
+-- what is needed for the bits of the second part alone is needed for both
+needed-append : {old mid a b ab xs ys xys : ℕ} → RefilledInTurn old mid a b ab xs ys xys
+    → (0 < a → old + 8 * (a - most_at_once) < xs) → (0 < b → mid + 8 * (b - most_at_once) < ys) → 0 < ab → old + 8 * (ab - most_at_once) < xys
+needed-append {b} turns p q some = elim (cases_lt 0 b) [
+  | inl more ↦ (let second = q more in omega (arith, second, turns.bytes, turns.bits, turns.between))
+  | inr none ↦ (let first = p (omega (arith, turns.bytes, some, none)) in omega (arith, first, turns.bytes, turns.bits, none))
+]
+
+-- bits that are taken by one refill, and others by the next, are taken by both together
+pub refills-append : {a b c : Option (List ℕ)} {old mid new xs ys : List Bool} → Refills a b old mid xs → Refills b c mid new ys → Refills a c old new (xs ++ ys)
+refills-append {a} {b} {c} {old} {mid} {new} {xs} {ys} p q =
+    let lengths : length old + 8 * length p.given ≡ length xs + length mid =
+    omega (arith, ap length p.split, length-append old (bits_of p.given), length-append xs mid, length-bits_of p.given) in
+    record {
+      given = p.given ++ q.given;
+      consumed = consumes-append a b c p.given q.given p.consumed q.consumed;
+      needed = λ some. needed-append (record { bytes = length-append p.given q.given; bits = length-append xs ys; between = lengths }) p.needed q.needed some;
+      split =
+          rw (
+            bits_of-append p.given q.given,
+            ← append_assoc old (bits_of p.given) (bits_of q.given),
+            p.split,
+            append_assoc xs mid (bits_of q.given),
+            q.split,
+          ) (sym (append_assoc xs ys new));
+    }
+
+-- nothing is supplied
+pub supplies-none : (a : Option (List ℕ)) (old : List Bool) → Supplies a a old old
+supplies-none a old = record {
+  given = [];
+  consumed = consumes-nil a;
+  split = rw bits_of-nil (append-nil old);
+  at_once = omega arith;
+  needed = λ some. absurd (omega arith);
+}
+
+-- bits are taken of those that are buffered, and nothing is read
+pub refills-buffered : (a : Option (List ℕ)) (old new xs : List Bool) → old ≡ xs ++ new → Refills a a old new xs
+refills-buffered a old new xs e = record {
+  given = [];
+  consumed = consumes-nil a;
+  split = rw bits_of-nil (append-nil old ∙ e);
+  needed = λ some. absurd (omega arith);
+}
+
+-- at least one bit is taken of those that are buffered after a supply
+pub refills-supplied : (a b : Option (List ℕ)) (old mid new xs : List Bool) → 0 < length xs → Supplies a b old mid → mid ≡ xs ++ new → Refills a b old new xs
+refills-supplied a b old mid new xs taken s e = record {
+  given = s.given;
+  consumed = s.consumed;
+  split = s.split ∙ e;
+  needed = λ some. omega (arith, s.at_once, ap length (s.needed some));
+}
+
+-- nothing is read where nothing is buffered
+pub refills_nothing : (a : Option (List ℕ)) (old : List Bool) → old ≡ [] → Refills a a old [] []
+refills_nothing a old e = refills-buffered a old [] [] e
