@@ -21,7 +21,7 @@ use rice_code::encode::blocks::{put_pending_run, reference_of};
 use rice_code::encode::held_block::HeldBlock;
 use rice_code::encode::open_segment::{next_residual, next_start, note_reference, pad_interval};
 use rice_code::{SegmentSink, known_or};
-use rice_samples::{Block, Setting, pattern, sample_of};
+use rice_samples::{Block, Bytes, Halves, Setting, Words, pattern, sample_of};
 
 /// What `BlockCoder::push` took and appended.
 #[derive(Clone, Copy, Debug, PartialEq, Eq)]
@@ -238,7 +238,7 @@ impl BlockCoder {
         }
     }
 
-    /// Takes the samples of a whole block by their bytes, and returns whether it did: `residuals_of_bytes` tells where it does not.
+    /// Takes the samples of a whole block by their bytes, and returns whether it did. It does not where `residuals_of_bytes` gives none.
     #[inline(always)]
     fn take_block<const SIZE: usize>(
         &mut self,
@@ -303,11 +303,18 @@ impl BlockCoder {
         requires below { self.now.previous < value_count self.now.setting }
         ensures { result ≡ true → GoesOn self.now bytes.now }
     {
-        let size = self.setting.block() as usize;
-        if self.run == 0 || !self.setting.preprocess() {
+        let setting = self.setting;
+        if self.run == 0 || !setting.preprocess() {
             return false;
         }
-        repeat_sample::<SIZE>(&self.setting, bytes, size, self.previous)
+        let bits = setting.bits();
+        if bits > 16 {
+            return repeat_sample::<Words, SIZE>(&setting, bytes, self.previous);
+        }
+        if bits > 8 || known_or::<SIZE>(setting.block() as usize) % 16 != 0 {
+            return repeat_sample::<Halves, SIZE>(&setting, bytes, self.previous);
+        }
+        repeat_sample::<Bytes, SIZE>(&setting, bytes, self.previous)
     }
 
     /// Returns what stands before the sample that the bytes spell first, or `None` if they spell none.

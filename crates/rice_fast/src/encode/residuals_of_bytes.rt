@@ -11,8 +11,8 @@ use rice_code::known_or;
 use rice_samples::{Bytes, Halves, Lanes, Setting, Words, patterns_of_levels, ranks};
 
 /// Writes the residuals of the samples that the bytes spell: of the first one after the sample at level `before`, and of each other after
-/// the one before it. Without preprocessing these are their patterns. Returns the level of the last sample, or `None` if they are no
-/// multiple of eight, or if some bytes spell no sample.
+/// the one before it. Without preprocessing these are their patterns. Returns the level of the last sample, or `None` if their number
+/// is no multiple of eight, or if some bytes spell no sample.
 #[inline(always)]
 pub fn residuals_of_bytes<const SIZE: usize>(
     setting: &Setting,

@@ -247,6 +247,11 @@ part-buffered w skip n h there =
     ap (λ k. take n (drop skip (take k (drop w.at bits)))) (sym room)
     ∙ (ap (take n) (drop-take skip (all - skip) (drop w.at bits)) ∙ (take-take n (all - skip) (drop skip (drop w.at bits)) (omega (arith, there, len)) ∙ ap (take n) (drop-drop skip w.at bits)))
 
+-- and so they stand in the buffer
+pub as_buffered : {w : Window} {buffered : List Bool} (skip n : ℕ) → IsWindow w → window_bits w ≡ buffered → skip + n ≤ length buffered
+    → take n (drop (w.at + skip) (bits_of w.buffer)) ≡ take n (drop skip buffered)
+as_buffered {w} skip n h buffered there = sym (part-buffered w skip n h (omega (arith, ap length buffered, there))) ∙ ap (λ bits. take n (drop skip bits)) buffered
+
 -- a word after the first digits of a longer one
 pub word-after : (size w s x : ℕ) → s + w ≤ size → word w (x * 2 ^ s % 2 ^ size / 2 ^ (size - w)) ≡ take w (drop s (word size x))
 word-after size w s x h =

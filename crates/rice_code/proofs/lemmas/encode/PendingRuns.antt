@@ -6,7 +6,8 @@ use Rattle.rice_code.proofs.Words.{CodedDataSet, ZeroBlocks, RemainderOfSegment,
 use Rattle.rice_code.proofs.Words.{block_with, AreSoundBlocks}
 use Rattle.rice_code.proofs.lemmas.meaning.CoveredBlocks.{bool_cases, skipped, run_cons, skipped_go, skipped_plain, skipped_nil, data_sets_inside, data_sets_start, data_sets_plain}
 
-zeros_are_zero : (n : ℕ) → list_all (λ d. d == 0) (replicate n 0) ≡ true
+-- zeros alone are zero
+pub zeros_are_zero : (n : ℕ) → list_all (λ d. d == 0) (replicate n 0) ≡ true
 zeros_are_zero zero = refl
 zeros_are_zero (suc n) = zeros_are_zero n
 

@@ -129,7 +129,8 @@ is_empty-by_counts (d ∷ ds) j n held one e = some_held j n held e
     some_held j (suc n) zero e = grind (arith, nat_tests)
     some_held j n (suc held) e = grind (arith, nat_tests)
 
-later_copies : (s : Parameters) (n : ℕ) (x : ℤ) → later_residuals s x (replicate n x) ≡ replicate n (cond s.preprocess (rank s x x) (pattern s x))
+-- the residuals of one sample again and again after itself
+pub later_copies : (s : Parameters) (n : ℕ) (x : ℤ) → later_residuals s x (replicate n x) ≡ replicate n (cond s.preprocess (rank s x x) (pattern s x))
 later_copies s zero x = refl
 later_copies s (suc n) x = ap (λ v. cond s.preprocess (rank s x x) (pattern s x) ∷ v) (later_copies s n x)
 

@@ -5,6 +5,7 @@ use Rattle.std.specs.Int.Bits.{bit_xor, xor_add_and}
 use Rattle.std.specs.Simd.Lanes.{Each1, zip2}
 use Rattle.std.proofs.lemmas.Nat.{and_le_l, and_le_r}
 use Rattle.std.proofs.Math.Seq.{take-add}
+use Rattle.std.proofs.lemmas.Simd.{Each1-replicate}
 use Rattle.std.proofs.lemmas.List.{map-append, take_all}
 use Rattle.rice_samples.specs.Parameters.{Parameters, value_at, values_at, width}
 use Rattle.rice_samples.specs.bytes.Spelling.{spellings}
@@ -60,15 +61,11 @@ copies : (level : ℕ) (levels : List ℕ) → Each1 (λ l. l ≡ level) levels 
 copies level [] h = refl
 copies level (l ∷ levels) h = λ j. h.0 j ∷ copies level levels h.1 j
 
-zeros : (n : ℕ) → Each1 (λ x. x ≤ 0) (replicate n 0)
-zeros zero = tt
-zeros (suc n) = (omega arith, zeros n)
-
 -- Where no digit of any row differs, one sample is spelled again and again.
 pub sample_repeated : {s : Parameters} {level at count : ℕ} {bytes other : List ℕ} (n : ℕ) → RowsCompared s level at bytes other → at ≡ count → length bytes ≡ width s * count → other ≡ replicate n 0
     → bytes ≡ spellings s (replicate count (value_at s level))
 sample_repeated {s} {level} {at} {count} {bytes} {other} n rows whole len none =
-    let same = copies level rows.levels (rows.same (subst (Each1 (λ x. x ≤ 0)) (sym none) (zeros n))) in
+    let same = copies level rows.levels (rows.same (subst (Each1 (λ x. x ≤ 0)) (sym none) (Each1-replicate (λ x. x ≤ 0) n 0 (let none : 0 ≤ 0 = omega arith in none)))) in
     let most : width s * count ≡ width s * at = ap (λ m. width s * m) (sym whole) in
     sym (take_all (width s * at) bytes (omega (arith, len, most)))
     ∙ (rows.spelled ∙ ap (spellings s) (ap (values_at s) (same ∙ ap (λ m. replicate m level) (rows.number ∙ whole)) ∙ values count))

@@ -1,6 +1,5 @@
 -- A block of the sample before, again and again, which goes on a run of zero blocks.
 use Rattle.std.proofs.Common.{◌≡◌, ℕ, zero, suc, ◌+◌, ◌*◌, ◌<◌, ◌≤◌, ◌^◌, ◌==◌, Bool, true, false, ◌&&◌, cond, List, [], ◌∷◌, ◌++◌, length, ap, refl, sym, arith, ◌∙◌, append-nil, replicate, ℤ}
-use Rattle.std.specs.List.{list_all}
 use Rattle.std.proofs.lemmas.Bool.Decides.{nat_tests}
 use Rattle.std.proofs.lemmas.List.Elements.{All-replicate}
 use Rattle.rice_samples.specs.Parameters.{Parameters, IsSample, value_at, value_count, width}
@@ -9,10 +8,11 @@ use Rattle.rice_samples.specs.predict.Residuals.{pattern, rank}
 use Rattle.rice_samples.proofs.lemmas.setting.ValuesAboveLeast.{sample_at}
 use Rattle.rice_code.specs.encode.OpenSegment.{later_residuals}
 use Rattle.rice_code.proofs.lemmas.code.RepeatedSamples.{last_replicate, same_rank}
-use Rattle.rice_code.proofs.lemmas.encode.PendingRuns.{held_len}
+use Rattle.rice_code.proofs.lemmas.encode.PendingRuns.{held_len, zeros_are_zero}
 use Rattle.rice_fast.specs.encode.OpenBlocks.{GoesOn, IsBefore, StandsAfter, StandsWith, is_at_first}
 use Rattle.rice_fast.specs.encode.Standing.{HasResidualsOf, HasRoomAt, Standing}
 use Rattle.rice_fast.specs.declared.encode.coder.BlockCoder.{BlockCoder}
+use Rattle.rice_fast.proofs.lemmas.encode.HeldResiduals.{later_copies}
 use Rattle.rice_fast.proofs.lemmas.encode.StandingCoders.{room_for_look, with_block, zeros_are_put}
 use Rattle.rice_fast.proofs.lemmas.encode.TakenSamples.{block_held}
 
@@ -28,11 +28,7 @@ not_first p held blocks start some = none p (held == 0) (blocks == 0) (start == 
 
 -- where samples are predicted, the residuals of one sample again and again after itself are zeros
 no_change : (s : Parameters) (x : ℤ) (n : ℕ) → s.preprocess ≡ true → later_residuals s x (replicate n x) ≡ replicate n 0
-no_change s x zero e = refl
-no_change s x (suc n) e =
-    let first : cond s.preprocess (rank s x x) (pattern s x) ≡ 0 = ap (λ p. cond p (rank s x x) (pattern s x)) e ∙ same_rank (value_count s) _ in
-    let rest = no_change s x n e in
-    λ j. first j ∷ rest j
+no_change s x n e = later_copies s n x ∙ ap (replicate n) (ap (λ p. cond p (rank s x x) (pattern s x)) e ∙ same_rank (value_count s) _)
 
 -- and they are those of the bytes that spell it
 pub repeated_residuals : {s : Parameters} {level : ℕ} {bytes : List ℕ} (n : ℕ) → s.preprocess ≡ true → level < value_count s → bytes ≡ spellings s (replicate n (value_at s level))
@@ -44,10 +40,6 @@ repeated_residuals {s} {level} {bytes} n predicted below spelled = record {
   residuals_are = sym (no_change s (value_at s level) n predicted);
   last_is = sym (last_replicate (value_at s level) n);
 }
-
-all_zeros : (n : ℕ) → list_all (λ d. d == 0) (replicate n 0) ≡ true
-all_zeros zero = refl
-all_zeros (suc n) = all_zeros n
 
 -- What stands before such a block, where blocks are pending
 before_run : {c : BlockCoder} {sink : List Bool} {meter : ℕ} {m : Standing} {xs : List ℤ} (bytes : List ℕ) → StandsAfter c sink meter m xs → 0 < c.run → IsBefore c bytes c.reference c.previous
@@ -66,4 +58,4 @@ pub run_goes_on : {c : BlockCoder} {sink : List Bool} {meter : ℕ} {m : Standin
 run_goes_on {c} {bytes = bytes} h room none less len goes =
     let read = repeated_residuals c.setting.block goes.predicted h.stands.holds.below goes.spelled in
     let held = block_held h none less len (before_run bytes h goes.pending) read in
-    (room_for_look held.2 room held.1 less, read.samples, read.reads, held.0, zeros_are_put held.2 held.1 less (all_zeros c.setting.block))
+    (room_for_look held.2 room held.1 less, read.samples, read.reads, held.0, zeros_are_put held.2 held.1 less (zeros_are_zero c.setting.block))

@@ -1,5 +1,5 @@
-use Rattle.std.proofs.Common.{◌*◌, ap, arith, drop, length, sym, take, ◌∙◌}
-use Rattle.rice_bits.proofs.lemmas.read.WindowLemmas.{place_ahead, part-buffered}
+use Rattle.std.proofs.Common.{◌*◌, ap, arith, ◌∙◌}
+use Rattle.rice_bits.proofs.lemmas.read.WindowLemmas.{as_buffered, place_ahead}
 use Rattle.rice_bits.proofs.read.reader.BitReader.eight_words_ahead.Goals as goal
 
 pub overflow_add-self-inside : goal.overflow_add-self-inside
@@ -16,6 +16,5 @@ eight_words_from-requires-clause-room g c = omega (
 
 pub returns-clause-bits : goal.returns-clause-bits
 returns-clause-bits g c =
-    let buffered = ap (λ r. r.buffered) c.self.view_is in
-    c.eight_words_from.ensures.bits ∙ (sym (part-buffered c.self.inside.window c.args.skip (8 * c.args.width) c.self.invariant.window
-    (omega (arith, ap length buffered, c.requires.there, c.requires.width))) ∙ ap (λ bits. take (8 * c.args.width) (drop c.args.skip bits)) buffered)
+    c.eight_words_from.ensures.bits
+    ∙ as_buffered c.args.skip (8 * c.args.width) c.self.invariant.window (ap (λ r. r.buffered) c.self.view_is) (omega (arith, c.requires.there, c.requires.width))

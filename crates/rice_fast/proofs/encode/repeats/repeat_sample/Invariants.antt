@@ -1,6 +1,6 @@
 use Rattle.std.proofs.Common.{◌-◌, ◌≤◌}
 use Rattle.rice_fast.proofs.lemmas.encode.Repeats.{RowsCompared}
-use Rattle.rice_fast.proofs.encode.repeats.repeat_in_lanes.Given as goal
+use Rattle.rice_fast.proofs.encode.repeats.repeat_sample.Given as goal
 
 abbrev pub invariant-loop-at : goal.invariant-loop-at
 invariant-loop-at g l = record {
