@@ -43,6 +43,20 @@ fn best_split<const SIZE: usize, const REFERENCE: bool>(
     (stop.k, cost, high)
 }
 
+/// Returns true only if the residuals are so large that the last split is the best one, and no compression is not longer.
+#[inline(always)]
+fn are_large(setting: &Setting, block: &HeldBlock<'_>, whole: u64) -> bool
+    requires sound { IsSoundData setting.now block.now }
+    requires whole { whole ≡ sum_by (λ d. d / 2 ^ 0) block.now.residuals }
+    ensures best { result ≡ true → IsBestSplit setting.now block.now (k_max setting.now) }
+    ensures costs { result ≡ true → cost setting.now (NoCompression block.now) ≤
+        cost setting.now (Split (k_max setting.now) block.now) }
+{
+    let size = block.residuals().len() as u64;
+    let coded = coded_len(setting, block) as u64;
+    whole >= (size + 2 * coded) << setting.k_max()
+}
+
 /// Returns the option of minimal cost, and for a split the residuals without the digits that are split off.
 /// `whole` is the sum of the residuals.
 ///
@@ -69,6 +83,10 @@ pub fn choose<const SIZE: usize, const REFERENCE: bool>(
     ensures split { IsSplitWithin (k_max setting.now) result.0 }
 {
     let size = setting.block() as u64;
+    if are_large(setting, block, whole) {
+        meter.tick(size * (setting.k_max() + 2) as u64);
+        return (Choice::NoCompression, [0; 64]);
+    }
     let (k, split, high) = best_split::<SIZE, REFERENCE>(setting, block, whole);
     // Residuals that are worth a split are so large that second extension is longer.
     let (second_extension, looks) = if k == 0 {

@@ -58,15 +58,19 @@ sum_rest (d ∷ ds) k = rw (sum_by-cons (λ d. d / 2 ^ 0) d ds, sum_by-cons (λ 
     one : (d s n q t p : ℕ) → d + 1 ≤ (q + 1) * p → s + n ≤ (t + n) * p → d / 2 ^ 0 + s + suc n ≤ (q + t + suc n) * p
     one d s n q t p h l = omega (arith, h, l)
 
--- while a sum is so large, the next digit takes more than so much off
-pub large_falls : (ds : List ℕ) (price k : ℕ) → 0 < length ds → (length ds + 2 * price) * 2 ^ k ≤ cut_sum ds 0 → cut_sum ds (k + 1) + price < cut_sum ds k
-large_falls ds price k some large =
+-- what is left of so large a sum
+pub large_leaves : (ds : List ℕ) (price k : ℕ) → 0 < length ds → (length ds + 2 * price) * 2 ^ k ≤ cut_sum ds 0 → 2 * price < cut_sum ds k
+large_leaves ds price k some large =
     elim (cases_lt (2 * price) (cut_sum ds k)) [
-      | inl lt ↦ omega (arith, lt, sum_halves ds k)
+      | inl lt ↦ lt
       | inr le ↦
           let le2 : (cut_sum ds k + length ds) * 2 ^ k ≤ (length ds + 2 * price) * 2 ^ k = mul-le-mul_right (2 ^ k) (omega (arith, le)) in
           absurd (omega (arith, le2, large, some, sum_rest ds k))
     ]
+
+-- so the next digit takes more than the price off
+pub large_falls : (ds : List ℕ) (price k : ℕ) → 0 < length ds → (length ds + 2 * price) * 2 ^ k ≤ cut_sum ds 0 → cut_sum ds (k + 1) + price < cut_sum ds k
+large_falls ds price k some large = omega (arith, large_leaves ds price k some large, sum_halves ds k)
 
 small_total : (ds : List ℕ) → All (λ d. d < 2 ^ 26) ds → cut_sum ds 0 ≤ length ds * (2 ^ 26 - 1)
 small_total [] h = omega arith
