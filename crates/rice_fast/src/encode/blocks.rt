@@ -19,8 +19,8 @@ use rice_code::encode::held_block::HeldBlock;
 use rice_code::{SegmentSink, known_or};
 use rice_samples::{Block, Setting};
 
-/// Appends the shortest code of a block that is not zero, of `SIZE` residuals, or of several times eight if `SIZE` is 0. It has the reference `word`
-/// if `REFERENCE` is true, and else none. `whole` is the sum of its residuals.
+/// Appends the shortest code of a block that is not zero, of `SIZE` residuals, or of any eight or more if `SIZE` is 0. It has the reference
+/// `word` if `REFERENCE` is true, and else none. `whole` is the sum of its residuals.
 ///
 /// It is never inlined, so that the loop over the blocks stays short, and takes the parts of the block, which are passed in registers.
 #[inline(never)]
@@ -33,7 +33,7 @@ fn code_block_not_zero<const SIZE: usize, const REFERENCE: bool>(
     meter: &mut Meter,
 )
     requires size { 0 < SIZE → SIZE ≡ length residuals }
-    requires eights { length residuals % 8 ≡ 0 }
+    requires long { 8 ≤ length residuals }
     requires sound { IsSoundData setting.now
         (block_with (if REFERENCE then Some word else None) residuals) }
     requires whole { whole ≡ sum_by (λ d. d / 2 ^ 0) residuals }
@@ -53,20 +53,20 @@ fn code_block_not_zero<const SIZE: usize, const REFERENCE: bool>(
         residuals.sized(known_or::<SIZE>(residuals.len())),
     );
     let mut steps = Meter::new();
-    code_eights::<SIZE, REFERENCE>(&own, &block, whole, sink, &mut steps);
+    code_in_rows::<SIZE, REFERENCE>(&own, &block, whole, sink, &mut steps);
     meter.tick(steps.steps());
 }
 
-/// Appends the shortest code of a block of several times eight residuals, not all zero.
+/// Appends the shortest code of a block of eight residuals or more, not all zero.
 #[inline(always)]
-fn code_eights<const SIZE: usize, const REFERENCE: bool>(
+fn code_in_rows<const SIZE: usize, const REFERENCE: bool>(
     setting: &Setting,
     block: &HeldBlock<'_>,
     whole: u64,
     sink: &mut SegmentSink,
     meter: &mut Meter,
 )
-    requires eights { length block.now.residuals % 8 ≡ 0 }
+    requires long { 8 ≤ length block.now.residuals }
     requires sound { IsSoundData setting.now block.now }
     requires whole { whole ≡ sum_by (λ d. d / 2 ^ 0) block.now.residuals }
     requires whole_fits { whole ≤ 2 ^ 38 }
@@ -131,7 +131,7 @@ pub fn code_next_or_add_to_run<const SIZE: usize>(
         return run + 1;
     }
     put_run_before_block(setting, reference, first, run, sink, meter);
-    if block.residuals().len() % 8 != 0 {
+    if block.residuals().len() < 8 {
         code_block(setting, &block, sink, meter);
         return 0;
     }

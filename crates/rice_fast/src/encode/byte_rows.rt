@@ -1,5 +1,5 @@
 //! Rows of sixteen numbers in bytes.
-ghost use Rattle.std.specs.Prelude.{◌≡◌, ◌+◌, ◌*◌, ◌/◌, ◌^◌, ◌<◌, ◌≤◌, ◌++◌, All, drop, length, map, replicate, take};
+ghost use Rattle.std.specs.Prelude.{◌≡◌, ◌+◌, ◌-◌, ◌*◌, ◌/◌, ◌^◌, ◌<◌, ◌≤◌, ◌++◌, All, drop, length, map, replicate, take};
 ghost use Rattle.std.specs.Simd.Lanes.{put_chunk, sum_l};
 
 use std::simd::prelude::*;
@@ -75,4 +75,18 @@ pub fn eight_cut(items: &[u32], at: usize, k: u32) -> u8x16
         u8x8::splat(0),
         [0, 1, 2, 3, 4, 5, 6, 7, 8, 9, 10, 11, 12, 13, 14, 15],
     )
+}
+
+/// Returns fewer than sixteen residuals without their `k` lowest digits, and zeros after them.
+#[inline(never)]
+pub fn rest_cut(items: &[u32], k: u32) -> u8x16
+    requires few { length items.now < 16 }
+    requires shift { k < 32 }
+    requires small { All (λ d. d / 2 ^ k < 2 ^ 8) items.now }
+    ensures value { result ≡ map (λ d. d / 2 ^ k) items.now ++ replicate (16 - length items.now) 0 }
+    ensures len { length result ≡ 16 }
+{
+    let mut row = [0; 16];
+    row[..items.len()].copy_from_slice(items);
+    sixteen_cut(&row, 0, k)
 }

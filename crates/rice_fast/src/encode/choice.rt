@@ -23,7 +23,7 @@ fn best_split<const SIZE: usize, const REFERENCE: bool>(
     whole: u64,
 ) -> (u32, u64, [u8; 64])
     requires sound { IsSoundData setting.now block.now }
-    requires eights { length block.now.residuals % 8 ≡ 0 }
+    requires long { 8 ≤ length block.now.residuals }
     requires whole { whole ≡ sum_by (λ d. d / 2 ^ 0) block.now.residuals }
     requires whole_fits { whole ≤ 2 ^ 38 }
     ensures best { IsBestSplit setting.now block.now result.0 }
@@ -69,7 +69,7 @@ pub fn choose<const SIZE: usize, const REFERENCE: bool>(
     meter: &mut Meter,
 ) -> (Choice, [u8; 64])
     requires sound { IsSoundData setting.now block.now }
-    requires eights { length block.now.residuals % 8 ≡ 0 }
+    requires long { 8 ≤ length block.now.residuals }
     requires whole { whole ≡ sum_by (λ d. d / 2 ^ 0) block.now.residuals }
     requires whole_fits { whole ≤ 2 ^ 38 }
     requires meter { meter.old + setting.now.block * (k_max setting.now + 2) < step_limit }

@@ -4,7 +4,7 @@ ghost use Rattle.rice_code.specs.encode.SentParts.{HasRoomForSequences, AddsSequ
 ghost use Rattle.rice_fast.specs.encode.HighParts.{with_zeros};
 
 use crate::encode::bit_buffer::BitBuffer;
-use crate::encode::byte_rows::{eight_cut, row_at, row_cut, row_sum, sixteen_cut, store_row};
+use crate::encode::byte_rows::{eight_cut, rest_cut, row_at, row_cut, row_sum, sixteen_cut, store_row};
 use crate::encode::sequences_by_products::{are_at_most_six, joined_sequences, len_of_sequences};
 use rice_bits::Meter;
 use rice_code::SegmentSink;
@@ -13,7 +13,6 @@ use std::simd::prelude::*;
 /// Returns the numbers without their `k` lowest digits, and zeros after them.
 #[inline(always)]
 pub fn high_parts(items: &[u32], k: u32) -> [u8; 64]
-    requires eights { length items.now % 8 ≡ 0 }
     requires few { length items.now ≤ 64 }
     requires split { k < 32 }
     requires small { All (λ d. d / 2 ^ k < 2 ^ 8) items.now }
@@ -24,8 +23,11 @@ pub fn high_parts(items: &[u32], k: u32) -> [u8; 64]
     for i in 0..sixteens {
         store_row(&mut high, i, sixteen_cut(items, 16 * i, k));
     }
-    if items.len() % 16 != 0 {
+    let rest = &items[16 * sixteens..];
+    if rest.len() == 8 {
         store_row(&mut high, sixteens, eight_cut(items, 16 * sixteens, k));
+    } else if rest.len() > 0 {
+        store_row(&mut high, sixteens, rest_cut(rest, k));
     }
     high
 }
@@ -69,7 +71,7 @@ pub fn put_high<const SIZE: usize, const REFERENCE: bool>(
     meter: &mut Meter,
 ) -> BitBuffer
     requires from { from ≤ 1 }
-    requires len { (8 ≤ len) × (len ≤ 64) × (len % 8 ≡ 0) }
+    requires len { (8 ≤ len) × (len ≤ 64) }
     requires zeros { numbers.now ≡ with_zeros (take len numbers.now) }
     requires room { HasRoomForSequences (slice_range numbers.now from len)
         (length sink.old + length fields) (meter.old + length fields) }
@@ -77,7 +79,7 @@ pub fn put_high<const SIZE: usize, const REFERENCE: bool>(
         sink.old fields sink.new result meter.old meter.new }
 {
     let mut fields = put_row(row_at(numbers, 0), from, len.min(16), fields, sink, meter);
-    for i in 1..(len + 8) / 16 {
+    for i in 1..(len + 15) / 16 {
         let row = row_at(numbers, i);
         fields = put_row(row, 0, (len - 16 * i).min(16), fields, sink, meter);
     }
@@ -97,7 +99,7 @@ fn put_row(
 ) -> BitBuffer
     requires lanes { length numbers ≡ 16 }
     requires from { from ≤ 1 }
-    requires count { (8 ≤ count) × (count ≤ 16) }
+    requires count { (1 ≤ count) × (count ≤ 16) }
     requires zeros { numbers ≡ take count numbers ++ replicate (16 - count) 0 }
     requires room { HasRoomForSequences (slice_range numbers from count)
         (length sink.old + length fields) (meter.old + length fields) }

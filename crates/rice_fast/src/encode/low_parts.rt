@@ -1,4 +1,4 @@
-//! Writes the lowest digits of residuals, eight residuals at a time.
+//! Writes the lowest digits of residuals, eight residuals at a time, and fewer one by one.
 ghost use Rattle.std.specs.Prelude.{◌≡◌, ◌+◌, ◌-◌, ◌*◌, ◌%◌, ◌^◌, ◌<◌, ◌≤◌, All, drop, flat_map, length};
 ghost use Rattle.rice_bits.specs.Bits.{word};
 ghost use Rattle.rice_code.specs.encode.BitBuffer.{HasRoomForBits, AddsBits};
@@ -10,7 +10,7 @@ use rice_code::SegmentSink;
 use std::simd::prelude::*;
 
 /// Adds the `width` lowest digits of each residual from number `from`, 0 or 1, on, and returns the buffer. Where the digits are whole bytes,
-/// 64 are put at once.
+/// and the residuals come in eights, 64 are put at once.
 #[inline(never)]
 pub fn put_words(
     items: &[u32],
@@ -22,14 +22,14 @@ pub fn put_words(
 ) -> BitBuffer
     requires width { width ≤ 32 }
     requires from { from ≤ 1 }
-    requires eights { (8 ≤ length items.now) × (length items.now % 8 ≡ 0) }
+    requires long { 8 ≤ length items.now }
     requires some { from ≡ 0 → (1 ≤ length fields) × (length fields ≤ 48) }
     requires room { HasRoomForBits (flat_map (word width) (drop from items.now))
         (length sink.old + length fields) (meter.old + length fields) }
     ensures { AddsBits (flat_map (word width) (drop from items.now))
         sink.old fields sink.new result meter.old meter.new }
 {
-    if from == 0 && (width == 8 || width == 16 || width == 32) {
+    if from == 0 && items.len() % 8 == 0 && (width == 8 || width == 16 || width == 32) {
         fields.put_then_whole_words(items, width, sink, meter);
         return BitBuffer::new();
     }
@@ -51,7 +51,7 @@ pub fn put_low<const SIZE: usize, const REFERENCE: bool, const OF_SPLIT: bool>(
 )
     requires width { width ≤ 32 }
     requires from { from ≤ 1 }
-    requires eights { (8 ≤ length items.now) × (length items.now % 8 ≡ 0) }
+    requires long { 8 ≤ length items.now }
     requires room { HasRoomForBits (flat_map (word width) (drop from items.now))
         (length sink.old + length fields.old) (meter.old + length fields.old) }
     ensures { AddsBits (flat_map (word width) (drop from items.now))
@@ -61,8 +61,13 @@ pub fn put_low<const SIZE: usize, const REFERENCE: bool, const OF_SPLIT: bool>(
         return;
     }
     put_eight(&items[..8], from, width, fields, sink, meter);
-    for i in 1..items.len() / 8 {
+    let eights = items.len() / 8;
+    for i in 1..eights {
         put_eight(&items[8 * i..8 * i + 8], 0, width, fields, sink, meter);
+    }
+    if items.len() % 8 != 0 {
+        let held = std::mem::replace(fields, BitBuffer::new());
+        *fields = put_in_turn(&items[8 * eights..], 0, width, held, sink, meter);
     }
 }
 
@@ -131,10 +136,10 @@ fn add_numbers(
     }
 }
 
-/// Adds the `width` lowest digits of each of eight residuals from number `from` on, one after another, and returns the buffer.
+/// Adds the `width` lowest digits of each of eight residuals or fewer from number `from` on, one after another, and returns the buffer.
 #[inline(never)]
 fn put_in_turn(
-    eight: &[u32],
+    some: &[u32],
     from: usize,
     width: u32,
     mut fields: BitBuffer,
@@ -142,15 +147,15 @@ fn put_in_turn(
     meter: &mut Meter,
 ) -> BitBuffer
     requires width { width ≤ 32 }
-    requires from { from ≤ 1 }
-    requires eight { length eight.now ≡ 8 }
-    requires room { HasRoomForBits (flat_map (word width) (drop from eight.now))
+    requires from { from ≤ length some.now }
+    requires few { length some.now ≤ 8 }
+    requires room { HasRoomForBits (flat_map (word width) (drop from some.now))
         (length sink.old + length fields) (meter.old + length fields) }
-    ensures { AddsBits (flat_map (word width) (drop from eight.now))
+    ensures { AddsBits (flat_map (word width) (drop from some.now))
         sink.old fields sink.new result meter.old meter.new }
 {
-    for i in from..8 {
-        fields.add(low_digits(eight[i], width), width, sink, meter);
+    for i in from..some.len() {
+        fields.add(low_digits(some[i], width), width, sink, meter);
     }
     fields
 }

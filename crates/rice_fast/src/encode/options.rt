@@ -58,7 +58,7 @@ pub fn put_no_compression(
     meter: &mut Meter,
 )
     requires sound { IsSoundData setting.now block.now }
-    requires eights { length block.now.residuals % 8 ≡ 0 }
+    requires long { 8 ≤ length block.now.residuals }
     requires room { HasRoomForOption setting.now (NoCompression block.now) sink.old meter.old }
     ensures { PutsSet setting.now (NoCompression block.now) (setting.now.block - 1)
         (2 * setting.now.block) sink.old sink.new meter.old meter.new }
@@ -108,7 +108,7 @@ pub fn put_split<const SIZE: usize, const REFERENCE: bool>(
     meter: &mut Meter,
 )
     requires sound { IsSoundData setting.now block.now }
-    requires eights { length block.now.residuals % 8 ≡ 0 }
+    requires long { 8 ≤ length block.now.residuals }
     requires split { k ≤ k_max setting.now }
     requires high { high.now ≡ with_zeros (map (λ d. d / 2 ^ k) block.now.residuals) }
     requires room { HasRoomForOption setting.now (Split k block.now) sink.old meter.old }

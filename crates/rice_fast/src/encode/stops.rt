@@ -25,7 +25,7 @@ pub fn first_stop<const SIZE: usize, const REFERENCE: bool>(
     limit: u32,
     price: u32,
 ) -> Stop
-    requires eights { (8 ≤ length items.now) × (length items.now % 8 ≡ 0) }
+    requires long { 8 ≤ length items.now }
     requires few { length items.now ≤ 64 }
     requires whole { whole ≡ sum_by (λ d. d / 2 ^ 0) items.now }
     requires whole_fits { whole ≤ 2 ^ 38 }

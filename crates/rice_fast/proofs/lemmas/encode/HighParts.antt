@@ -4,7 +4,7 @@ use Rattle.std.proofs.Common.{take, map, min, replicate, refl, ap, arith, sym, �
 use Rattle.std.specs.Prelude.{flat_map, slice_range}
 use Rattle.std.specs.Simd.Lanes.{put_chunk, zip2, Each1, Steps, fold_l, sum_l}
 use Rattle.std.proofs.lemmas.Simd.{zip2_splat, fold-sum, sum_fits, take_more_put_chunk}
-use Rattle.std.proofs.lemmas.List.Elements.{All-nil, All-cons, All-head, All-tail}
+use Rattle.std.proofs.lemmas.List.Elements.{All-drop, All-head, All-tail, All-take}
 use Rattle.std.proofs.Math.Seq.{take-append_seam, take-add}
 use Rattle.std.proofs.lemmas.List.{drop-append-le, drop-drop, drop-map, drop-take, length-map, length-drop, length-replicate, length-take-le, map-append, take-replicate, take-take, take_all}
 use Rattle.std.proofs.lemmas.List.Folds.{flat_map-map}
@@ -53,23 +53,8 @@ pub cut_lanes_fit : (xs : List ℕ) (at n k : ℕ) → at + n ≤ length xs → 
 cut_lanes_fit xs at n k room small =
     let row = take n (drop at xs) in
     let len : length row ≡ n = length-take-le n (drop at xs) (omega (arith, length-drop at xs, room)) in
-    subst (Each1 (Fits w8)) (sym (zip2_splat (λ d s. d / 2 ^ s) row n k len)) (each row (All-take n (drop at xs) (All-drop at xs small)))
+    subst (Each1 (Fits w8)) (sym (zip2_splat (λ d s. d / 2 ^ s) row n k len)) (each row (All-take (λ d. d / 2 ^ k < 2 ^ 8) n (drop at xs) (All-drop (λ d. d / 2 ^ k < 2 ^ 8) at xs small)))
   where
-    All-drop : (i : ℕ) (xs : List ℕ) → All (λ d. d / 2 ^ k < 2 ^ 8) xs → All (λ d. d / 2 ^ k < 2 ^ 8) (drop i xs)
-    All-drop i [] h = subst (All (λ d. d / 2 ^ k < 2 ^ 8)) (sym (none i)) h
-      where
-        none : (i : ℕ) → drop {A = ℕ} i [] ≡ []
-        none zero = refl
-        none (suc i) = refl
-    All-drop zero xs h = h
-    All-drop (suc i) (x ∷ xs) h = All-drop i xs (All-tail (λ d. d / 2 ^ k < 2 ^ 8) x xs h)
-
-    All-take : (i : ℕ) (xs : List ℕ) → All (λ d. d / 2 ^ k < 2 ^ 8) xs → All (λ d. d / 2 ^ k < 2 ^ 8) (take i xs)
-    All-take zero xs h = All-nil (λ d. d / 2 ^ k < 2 ^ 8)
-    All-take (suc i) [] h = h
-    All-take (suc i) (x ∷ xs) h =
-        All-cons (λ d. d / 2 ^ k < 2 ^ 8) x (take i xs) (All-head (λ d. d / 2 ^ k < 2 ^ 8) x xs h) (All-take i xs (All-tail (λ d. d / 2 ^ k < 2 ^ 8) x xs h))
-
     each : (xs : List ℕ) → All (λ d. d / 2 ^ k < 2 ^ 8) xs → Each1 (Fits w8) (map (λ d. d / 2 ^ k) xs)
     each [] h = tt
     each (x ∷ xs) h = (record { fits = All-head (λ d. d / 2 ^ k < 2 ^ 8) x xs h }, each xs (All-tail (λ d. d / 2 ^ k < 2 ^ 8) x xs h))

@@ -24,7 +24,7 @@ tick-requires g c =
     let same : c.new-block.result ≡ b = c.new-block.ensures ∙ (λ i. block_with (which i) (c.sized.ensures i)) in
     let price = ap (λ b. cost s (shortest s b)) same in
     let few = few_looks s.block (best_split s c.new-block.result) (k_max s) in
-    omega (arith, few, price, c.steps.ensures.value, c.code_eights.ensures.steps_to, c.new-steps.ensures, c.requires.room.steps)
+    omega (arith, few, price, c.steps.ensures.value, c.code_in_rows.ensures.steps_to, c.new-steps.ensures, c.requires.room.steps)
 
 pub returns : goal.returns
 returns g c =
@@ -40,7 +40,7 @@ returns g c =
     let best = ap (best_split s) same in
     let least = ap (λ k. s.block * (k + 3)) best in
     let most = ap (λ k. s.block * (min (k + 1) (k_max s) + 4)) best in
-    let did = c.code_eights.ensures in
+    let did = c.code_in_rows.ensures in
     record {
       bits = did.bits ∙ ap (λ b. c.args.sink.now ++ bits_of_set s (shortest s b)) same;
       len = omega (arith, price, did.len);

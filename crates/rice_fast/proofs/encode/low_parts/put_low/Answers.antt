@@ -13,7 +13,7 @@ put_eight-requires-clause-room g c =
     let n = length xs in
     let first = flat_map f (slice_range xs from 8) in
     same_room (ap (flat_map f) (sym (head_slice xs from 8 (omega (arith, c.requires.from)))))
-    (room_for_first first (flat_map f (slice_range xs 8 n)) (same_room (bits_of_parts f xs from 8 n (omega (arith, c.requires.from)) c.requires.eights.0)
+    (room_for_first first (flat_map f (slice_range xs 8 n)) (same_room (bits_of_parts f xs from 8 n (omega (arith, c.requires.from)) c.requires.long)
     (room_to_end f xs from n refl c.requires.room)))
 
 pub loop-i-init : goal.loop-i-init

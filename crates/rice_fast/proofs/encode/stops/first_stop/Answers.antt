@@ -10,7 +10,7 @@ high_parts-high-requires-clause-small g c =
     let d = c.digits_above.ensures in
     let r = c.requires in
     begins_in_bytes ds r.few r.price.0 r.small
-    (begins ds c.args.limit c.args.price c.digits_above.result (omega (arith, r.eights)) c.min-first.ensures refl (omega (arith, d.below, r.whole)) (λ j h. omega (arith, d.above j h, r.whole)))
+    (begins ds c.args.limit c.args.price c.digits_above.result (omega (arith, r.long)) c.min-first.ensures refl (omega (arith, d.below, r.whole)) (λ j h. omega (arith, d.above j h, r.whole)))
 
 pub returns-then-first-limit-clause-stop : goal.returns-then-first-limit-clause-stop
 returns-then-first-limit-clause-stop g c =
@@ -18,7 +18,7 @@ returns-then-first-limit-clause-stop g c =
     let d = c.digits_above.ensures in
     let r = c.requires in
     let k = c.min-first.result in
-    let at = begins ds c.args.limit c.args.price c.digits_above.result (omega (arith, r.eights)) c.min-first.ensures refl (omega (arith, d.below, r.whole)) (λ j h. omega (
+    let at = begins ds c.args.limit c.args.price c.digits_above.result (omega (arith, r.long)) c.min-first.ensures refl (omega (arith, d.below, r.whole)) (λ j h. omega (
       arith,
       d.above j h,
       r.whole,
@@ -35,7 +35,7 @@ returns-then-first-limit-2-clause-stop g c =
     let d = c.digits_above.ensures in
     let r = c.requires in
     let k = c.min-first.result in
-    let at = begins ds c.args.limit c.args.price c.digits_above.result (omega (arith, r.eights)) c.min-first.ensures refl (omega (arith, d.below, r.whole)) (λ j h. omega (
+    let at = begins ds c.args.limit c.args.price c.digits_above.result (omega (arith, r.long)) c.min-first.ensures refl (omega (arith, d.below, r.whole)) (λ j h. omega (
       arith,
       d.above j h,
       r.whole,
@@ -62,7 +62,7 @@ returns-clause-stop g c =
     let d = c.digits_above.ensures in
     let r = c.requires in
     let k = c.min-first.result in
-    let at = begins ds c.args.limit c.args.price c.digits_above.result (omega (arith, r.eights)) c.min-first.ensures refl (omega (arith, d.below, r.whole)) (λ j h. omega (
+    let at = begins ds c.args.limit c.args.price c.digits_above.result (omega (arith, r.long)) c.min-first.ensures refl (omega (arith, d.below, r.whole)) (λ j h. omega (
       arith,
       d.above j h,
       r.whole,

@@ -9,7 +9,7 @@ use Rattle.rice_code.specs.encode.HeldBlocks.{PutsShortest}
 use Rattle.rice_code.specs.encode.SetOfChoice.{chosen_set}
 use Rattle.rice_code.proofs.lemmas.encode.ChosenSets.{puts_chosen}
 use Rattle.rice_code.proofs.lemmas.encode.SegmentBlocksInTurn.{steps_least}
-use Rattle.rice_fast.proofs.encode.blocks.code_eights.Goals as goal
+use Rattle.rice_fast.proofs.encode.blocks.code_in_rows.Goals as goal
 
 -- the shortest option is put, after the looks of the search
 shortest_put : {s : Parameters} (b : BlockData) {set : CodedDataSet} {old new : List Bool} {m0 m1 m2 : ℕ} → set ≡ shortest s b → m0 + s.block * (best_split s b + 2) ≤ m1
