@@ -20,9 +20,9 @@ TOP = """# What a reader trusts
 
 Made by `scripts/trusted.py --write`, and compared with the sources by `scripts/trusted.py`.
 
-Each promise is a contract, and a contract speaks in definitions. These are the ones that the contracts of `encode` and of `decode`
-([encoding.rt](../crates/rice_stream/src/encoding.rt), [decoding.rt](../crates/rice_stream/src/decoding.rt)) name, and those that these
-name in turn, by files. Whoever trusts the promises reads them, and what [PROOFS.md](PROOFS.md#what-is-trusted) says of the toolchain.
+Each promise is a contract, and a contract speaks in definitions. Listed by file are the definitions that the contracts of `encode` and
+`decode` ([encoding.rt](../crates/rice_stream/src/encoding.rt), [decoding.rt](../crates/rice_stream/src/decoding.rt)) name, and all
+definitions that these use. To trust the promises, read them, and what [PROOFS.md](PROOFS.md#what-is-trusted) says of the toolchain.
 No other line of `specs/` or `proofs/` changes what they mean. The toolchain's library defines `length`, `take`, `All` and similar words.
 """
 
