@@ -6,6 +6,7 @@ pub mod HeldResiduals
 pub mod HighParts
 pub mod JoinedSequences
 pub mod JoinedWords
+pub mod LargeResiduals
 pub mod LowParts
 pub mod Repeats
 pub mod ResidualsOfBytes

@@ -1,5 +1,5 @@
 //! The search for the option that codes a block in the fewest bits.
-ghost use Rattle.std.specs.Prelude.{◌≡◌, ℕ, List, All, ◌+◌, ◌*◌, ◌/◌, ◌%◌, ◌^◌, ◌<◌, ◌≤◌, length, map, sum_by};
+ghost use Rattle.std.specs.Prelude.{◌≡◌, ℕ, List, All, true, ◌+◌, ◌*◌, ◌/◌, ◌%◌, ◌^◌, ◌<◌, ◌≤◌, length, map, sum_by};
 ghost use Rattle.rice_bits.specs.Limits.{step_limit};
 ghost use Rattle.rice_samples.specs.Parameters.{k_max};
 ghost use Rattle.rice_code.specs.code.CodedDataSets.{NoCompression, SecondExtension, Split, cost};
@@ -52,6 +52,7 @@ fn are_large(setting: &Setting, block: &HeldBlock<'_>, whole: u64) -> bool
     ensures costs { result ≡ true → cost setting.now (NoCompression block.now) ≤
         cost setting.now (Split (k_max setting.now) block.now) }
 {
+    let _bits = setting.bits();
     let size = block.residuals().len() as u64;
     let coded = coded_len(setting, block) as u64;
     whole >= (size + 2 * coded) << setting.k_max()

@@ -66,8 +66,7 @@ pub fn put_low<const SIZE: usize, const REFERENCE: bool, const OF_SPLIT: bool>(
         put_eight(&items[8 * i..8 * i + 8], 0, width, fields, sink, meter);
     }
     if items.len() % 8 != 0 {
-        let held = std::mem::replace(fields, BitBuffer::new());
-        *fields = put_in_turn(&items[8 * eights..], 0, width, held, sink, meter);
+        put_some(&items[8 * eights..], 0, width, fields, sink, meter);
     }
 }
 
@@ -90,8 +89,7 @@ fn put_eight(
         sink.old fields.old sink.new fields.new meter.old meter.new }
 {
     if width > 28 {
-        let held = std::mem::replace(fields, BitBuffer::new());
-        *fields = put_in_turn(eight, from, width, held, sink, meter);
+        put_some(eight, from, width, fields, sink, meter);
         return;
     }
     let low = lowest_digits(u32x8::from_slice(eight), width);
@@ -136,7 +134,29 @@ fn add_numbers(
     }
 }
 
-/// Adds the `width` lowest digits of each of eight residuals or fewer from number `from` on, one after another, and returns the buffer.
+/// Adds the `width` lowest digits of each of eight residuals or fewer from number `from` on, one after another.
+#[inline(always)]
+fn put_some(
+    some: &[u32],
+    from: usize,
+    width: u32,
+    fields: &mut BitBuffer,
+    sink: &mut SegmentSink,
+    meter: &mut Meter,
+)
+    requires width { width ≤ 32 }
+    requires from { from ≤ length some.now }
+    requires few { length some.now ≤ 8 }
+    requires room { HasRoomForBits (flat_map (word width) (drop from some.now))
+        (length sink.old + length fields.old) (meter.old + length fields.old) }
+    ensures { AddsBits (flat_map (word width) (drop from some.now))
+        sink.old fields.old sink.new fields.new meter.old meter.new }
+{
+    let held = std::mem::replace(fields, BitBuffer::new());
+    *fields = put_in_turn(some, from, width, held, sink, meter);
+}
+
+/// Adds these digits, and returns the buffer. It takes no reference to the buffer, so that its bits stay in registers elsewhere.
 #[inline(never)]
 fn put_in_turn(
     some: &[u32],

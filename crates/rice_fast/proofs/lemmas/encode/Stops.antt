@@ -44,7 +44,8 @@ cut_again : (k j : ℕ) (ds : List ℕ) → map (λ m. m / 2 ^ j) (map (λ d. d 
 cut_again k j [] = refl
 cut_again k j (d ∷ ds) = λ i. one_cut d k j i ∷ cut_again k j ds i
 
-zeros_cut : (j n : ℕ) → map (λ m. m / 2 ^ j) (replicate n 0) ≡ replicate n 0
+-- zeros without digits are zeros
+pub zeros_cut : (j n : ℕ) → map (λ m. m / 2 ^ j) (replicate n 0) ≡ replicate n 0
 zeros_cut j zero = refl
 zeros_cut j (suc n) = λ i. zero-div (2 ^ j) i ∷ zeros_cut j n i
 

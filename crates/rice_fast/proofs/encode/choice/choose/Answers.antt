@@ -1,6 +1,8 @@
 use Rattle.std.proofs.Common.{◌≡◌, ℕ, ◌+◌, ◌*◌, ◌/◌, ◌≤◌, ◌⊎◌, ◌∙◌, ap, arith, inl, inr}
 use Rattle.std.proofs.Math.Nat.{mul-le-mul_left}
 use Rattle.rice_code.proofs.lemmas.cost.PairsAreLonger.{pairs_are_longer}
+use Rattle.rice_code.proofs.lemmas.encode.ChoiceLemmas.{best_split_is, takes_no_compression}
+use Rattle.rice_samples.specs.Parameters.{k_max}
 use Rattle.rice_fast.proofs.lemmas.encode.Stops.{last_split}
 use Rattle.rice_fast.proofs.encode.choice.choose.Goals as goal
 use Rattle.rice_fast.proofs.encode.choice.choose.Goals.{then-k-eq0, else-k-eq0}
@@ -15,8 +17,34 @@ looks_of : {k limit looks : ℕ} → 1 ≤ limit → k ≤ limit → ((k ≡ 0) 
 looks_of some le (inl h) = record { least = omega (arith, h); most = omega (arith, h); within = omega (arith, h, some) }
 looks_of some le (inr h) = record { least = omega (arith, h); most = omega (arith, h); within = omega (arith, h, le) }
 
-pub tick-requires : goal.tick-requires
-tick-requires g c =
+pub returns-then-are_large-clause-value : goal.returns-then-are_large-clause-value
+returns-then-are_large-clause-value g c =
+    let s = c.args.setting.now in
+    let b = c.args.block.now in
+    let best = c.are_large.ensures.best c.if-are_large.true in
+    let costs = c.are_large.ensures.costs c.if-are_large.true in
+    let n : s.block ≡ 2 * (s.block / 2) = omega (arith, c.block-size.ensures.legal.block) in
+    let long = pairs_are_longer s b (k_max s) (s.block / 2) best (omega (arith, last_split s (omega (arith, c.block-size.ensures.legal.bits_from)))) (c.requires.sound.len ∙ n) in
+    takes_no_compression s b (k_max s) best (omega (arith, costs, long)) costs
+
+pub returns-then-are_large-clause-steps_from : goal.returns-then-are_large-clause-steps_from
+returns-then-are_large-clause-steps_from g c =
+    let s = c.args.setting.now in
+    let best = best_split_is s c.args.block.now (k_max s) (c.are_large.ensures.best c.if-are_large.true) in
+    let looks : c.block-size.result * (c.k_max.result + 2) ≡ s.block * (k_max s + 2) = λ i. c.block-size.ensures.value i * (c.k_max.ensures.value i + 2) in
+    let named = ap (λ k. s.block * (k + 2)) best in
+    omega (arith, c.tick.ensures, looks, named)
+
+pub returns-then-are_large-clause-steps_to : goal.returns-then-are_large-clause-steps_to
+returns-then-are_large-clause-steps_to g c =
+    let s = c.args.setting.now in
+    let best = best_split_is s c.args.block.now (k_max s) (c.are_large.ensures.best c.if-are_large.true) in
+    let looks : c.block-size.result * (c.k_max.result + 2) ≡ s.block * (k_max s + 2) = λ i. c.block-size.ensures.value i * (c.k_max.ensures.value i + 2) in
+    let named = ap (λ k. s.block * (k + 3)) best in
+    omega (arith, c.tick.ensures, looks, named)
+
+pub tick-requires-2 : goal.tick-requires-2
+tick-requires-2 g c =
     let s = c.args.setting.now in
     let k = c.best_split-k.result.0 in
     let best = c.best_split-k.ensures.best in
@@ -54,7 +82,7 @@ returns-clause-steps_from g c =
     let least = mul-le-mul_left s.block looks.least in
     let same = ap (λ n. n * c.if-k-eq0.second_extension.1) c.block-size.ensures.value in
     let named = ap (λ n. s.block * (n + 2)) c.best_split-k.ensures.named in
-    omega (arith, least, same, named, c.tick.ensures)
+    omega (arith, least, same, named, c.tick-2.ensures)
 
 pub returns-clause-steps_to : goal.returns-clause-steps_to
 returns-clause-steps_to g c =
@@ -69,7 +97,7 @@ returns-clause-steps_to g c =
     let most = mul-le-mul_left s.block looks.most in
     let same = ap (λ n. n * c.if-k-eq0.second_extension.1) c.block-size.ensures.value in
     let named = ap (λ n. s.block * (n + 3)) c.best_split-k.ensures.named in
-    omega (arith, most, same, named, c.tick.ensures)
+    omega (arith, most, same, named, c.tick-2.ensures)
 
 pub returns-clause-steps_limit : goal.returns-clause-steps_limit
 returns-clause-steps_limit g c =
@@ -83,4 +111,4 @@ returns-clause-steps_limit g c =
     ]) in
     let most = mul-le-mul_left s.block looks.within in
     let same = ap (λ n. n * c.if-k-eq0.second_extension.1) c.block-size.ensures.value in
-    omega (arith, most, same, c.tick.ensures)
+    omega (arith, most, same, c.tick-2.ensures)

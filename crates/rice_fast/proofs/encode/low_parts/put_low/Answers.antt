@@ -1,4 +1,4 @@
-use Rattle.std.proofs.Common.{◌≡◌, ◌+◌, ◌*◌, ◌∙◌, ap, arith, drop, length, refl, sym}
+use Rattle.std.proofs.Common.{◌≡◌, ◌+◌, ◌*◌, ◌/◌, ◌∙◌, ap, arith, drop, length, refl, sym}
 use Rattle.std.specs.Prelude.{flat_map, slice_range}
 use Rattle.rice_bits.specs.Bits.{word}
 use Rattle.rice_code.proofs.lemmas.encode.OptionTexts.{no_digits}
@@ -43,10 +43,30 @@ loop-i-preserved g c =
           (range_added f xs c.args.from (8 * l.i) (8 * l.i + 8) (omega (arith, c.requires.from, l.invariant.after)) (omega arith) refl l.invariant.adds c.put_eight-in-loop-i.ensures);
     }
 
-pub returns : goal.returns
-returns g c =
+pub put_some-requires-clause-room : goal.put_some-requires-clause-room
+put_some-requires-clause-room g c =
+    let f = word c.args.width in
     let l = c.loop-i in
-    added_to_end (word c.args.width) c.args.items.now c.args.from (8 * l.i) (omega (arith, l.auto.i-end, c.loop-i-test.false, c.requires.eights)) l.invariant.adds
+    let xs = c.args.items.now in
+    let n = length xs in
+    let end : l.i ≡ n / 8 = omega (arith, l.auto.i-end, c.loop-i-test.false, c.requires.long) in
+    room_for_range f xs c.args.from (8 * l.i) n n (omega (arith, c.requires.from, l.invariant.after)) (omega (arith, end)) (omega arith) (ap (λ i. flat_map f (slice_range xs (8 * i) n)) (sym end))
+    (room_to_end f xs c.args.from n refl c.requires.room) l.invariant.adds
+
+pub returns-then-items-ne0 : goal.returns-then-items-ne0
+returns-then-items-ne0 g c =
+    let f = word c.args.width in
+    let l = c.loop-i in
+    let xs = c.args.items.now in
+    let n = length xs in
+    let end : l.i ≡ n / 8 = omega (arith, l.auto.i-end, c.loop-i-test.false, c.requires.long) in
+    added_to_end f xs c.args.from n refl
+    (range_added f xs c.args.from (8 * l.i) n (omega (arith, c.requires.from, l.invariant.after)) (omega (arith, end)) (ap (λ i. flat_map f (slice_range xs (8 * i) n)) (sym end)) l.invariant.adds c.put_some.ensures)
+
+pub returns-else-items-ne0 : goal.returns-else-items-ne0
+returns-else-items-ne0 g c =
+    let l = c.loop-i in
+    added_to_end (word c.args.width) c.args.items.now c.args.from (8 * l.i) (omega (arith, l.auto.i-end, c.loop-i-test.false, c.if-items-ne0.false, c.requires.long)) l.invariant.adds
 
 pub returns-then-width-eq0 : goal.returns-then-width-eq0
 returns-then-width-eq0 g c =
