@@ -73,14 +73,14 @@ impl<C: TakesBytes> Encoding<C> {
             width s * length xs ≤ most_input → IsSeam s result xs }
     {
         let waiting_bits = self.sink.len() as u32;
-        let buffered = take_waiting_number(&mut self.sink);
+        let waiting = take_waiting_number(&mut self.sink);
         Seam {
             samples: self.samples,
             bits: self.bits,
             steps: self.meter.steps(),
             previous: self.coder.previous(),
             start: self.coder.start(),
-            buffered,
+            waiting,
             waiting_bits,
         }
     }
