@@ -3,8 +3,19 @@ use Rattle.std.specs.Prelude.{◌≡◌, ℕ, ◌+◌, ◌*◌, ◌/◌, ◌<◌
 use Rattle.rice_samples.specs.Parameters.{Parameters, IsLegal, IsSample, value_count}
 use Rattle.rice_samples.specs.Places.{place, begins_segment, blocks_left}
 use Rattle.rice_samples.specs.predict.Residuals.{pattern, rank, last_of}
-use Rattle.rice_code.specs.{Bounds.block_bound, code.Blocks.BlockData, code.Code.data_sets, code.CodedDataSets.CodedDataSet, code.CodedDataSets.bits_of_set, encode.BitBuffer.sink_bits,
-    code.SoundBlocks.AreSoundBlocks, CoderSteps.least_looks, CoderSteps.most_looks, encode.HeldBlocks.held_blocks, code.Layout.layout}
+use Rattle.rice_code.specs.{
+  Bounds.block_bound,
+  code.Blocks.BlockData,
+  code.Code.data_sets,
+  code.CodedDataSets.CodedDataSet,
+  code.CodedDataSets.bits_of_set,
+  encode.BitBuffer.sink_bits,
+  code.SoundBlocks.AreSoundBlocks,
+  CoderSteps.least_looks,
+  CoderSteps.most_looks,
+  encode.HeldBlocks.held_blocks,
+  code.Layout.layout,
+}
 
 -- the residuals of the segment so far and its reference, the sample before the next, and the place at which the segment begins
 pub record CoderState : Type 0 where

@@ -1,10 +1,12 @@
 //! The high parts of a block's residuals: what is left of each without its lowest digits, in a byte, and their fundamental sequences.
-ghost use Rattle.std.specs.Prelude.{◌≡◌, ◌+◌, ◌-◌, ◌*◌, ◌/◌, ◌%◌, ◌^◌, ◌<◌, ◌≤◌, ◌++◌, All, length, map, replicate, slice_range, sum_by, take};
+ghost use Rattle.std.specs.Prelude.{◌≡◌, ◌+◌, ◌-◌, ◌*◌, ◌/◌, ◌^◌, ◌<◌, ◌≤◌, ◌++◌, All, length, map, replicate, slice_range, sum_by, take};
 ghost use Rattle.rice_code.specs.encode.SentParts.{HasRoomForSequences, AddsSequences};
 ghost use Rattle.rice_fast.specs.encode.HighParts.{with_zeros};
 
 use crate::encode::bit_buffer::BitBuffer;
-use crate::encode::byte_rows::{eight_cut, rest_cut, row_at, row_cut, row_sum, sixteen_cut, store_row};
+use crate::encode::byte_rows::{
+    eight_cut, rest_cut, row_at, row_cut, row_sum, sixteen_cut, store_row,
+};
 use crate::encode::sequences_by_products::{are_at_most_six, joined_sequences, len_of_sequences};
 use rice_bits::Meter;
 use rice_code::SegmentSink;

@@ -1,5 +1,5 @@
 //! Writes the lowest digits of residuals, eight residuals at a time, and fewer one by one.
-ghost use Rattle.std.specs.Prelude.{◌≡◌, ◌+◌, ◌-◌, ◌*◌, ◌%◌, ◌^◌, ◌<◌, ◌≤◌, All, drop, flat_map, length};
+ghost use Rattle.std.specs.Prelude.{◌≡◌, ◌+◌, ◌-◌, ◌*◌, ◌^◌, ◌<◌, ◌≤◌, All, drop, flat_map, length};
 ghost use Rattle.rice_bits.specs.Bits.{word};
 ghost use Rattle.rice_code.specs.encode.BitBuffer.{HasRoomForBits, AddsBits};
 ghost use Rattle.rice_fast.specs.encode.LowParts.{low_digits_of_each, joined_in_pairs};

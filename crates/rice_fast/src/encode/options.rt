@@ -1,5 +1,5 @@
 //! Writes coded data sets: a block by each option.
-ghost use Rattle.std.specs.Prelude.{◌≡◌, ◌+◌, ◌-◌, ◌*◌, ◌/◌, ◌%◌, ◌^◌, ◌<◌, ◌≤◌, ◌++◌, None, length, map, IfSome};
+ghost use Rattle.std.specs.Prelude.{◌≡◌, ◌+◌, ◌-◌, ◌*◌, ◌/◌, ◌^◌, ◌<◌, ◌≤◌, ◌++◌, None, length, map, IfSome};
 ghost use Rattle.rice_bits.specs.Bits.{word};
 ghost use Rattle.rice_samples.specs.Parameters.{k_max, value_count};
 ghost use Rattle.rice_code.specs.code.CodedDataSets.{NoCompression, SecondExtension, Split, reference_bits, reference_len};

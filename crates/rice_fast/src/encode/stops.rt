@@ -1,5 +1,5 @@
 //! Where one more digit no longer lowers the sum of residuals by enough.
-ghost use Rattle.std.specs.Prelude.{◌≡◌, All, ℕ, ◌*◌, ◌/◌, ◌%◌, ◌^◌, ◌<◌, ◌≤◌, length, map, sum_by};
+ghost use Rattle.std.specs.Prelude.{◌≡◌, All, ℕ, ◌*◌, ◌/◌, ◌^◌, ◌<◌, ◌≤◌, length, map, sum_by};
 ghost use Rattle.rice_fast.specs.encode.Stops.{IsFirstStop};
 ghost use Rattle.rice_fast.specs.encode.HighParts.{with_zeros};
 

@@ -32,9 +32,9 @@ last_is_best s c sound some large =
     let least = length c.residuals + 2 * length (sent_residuals c) in
     sum_stop_is_best s c (k_max s) sound.zero (omega arith)
     (λ j lt. large_falls c.residuals (length (sent_residuals c)) j some (
-      let less : 2 ^ j ≤ 2 ^ k_max s = pow-le-pow_right {n = 2} (omega arith) {i = j} {j = k_max s} (omega (arith, lt)) in
-      let within : least * 2 ^ j ≤ least * 2 ^ k_max s = mul-le-mul_left least less in
-      omega (arith, within, large)))
+    let less : 2 ^ j ≤ 2 ^ k_max s = pow-le-pow_right {n = 2} (omega arith) {i = j} {j = k_max s} (omega (arith, lt)) in
+    let within : least * 2 ^ j ≤ least * 2 ^ k_max s = mul-le-mul_left least less in
+    omega (arith, within, large)))
     (λ lt. absurd (omega (arith, lt)))
 
 -- it leaves three bits of a sample at most

@@ -55,7 +55,7 @@ pub returns-in-Err-clause-call : goal.returns-in-Err-clause-call
 returns-in-Err-clause-call g c =
     let i = c.encode_all.invariant in
     drawing_ends c.refill.new.self c.in-Err.fault i.runs i.few c.in-Err.ensures.err c.in-Err.ensures.limit
-        (λ xs k. c.stopped.ensures.reported i.value c.args.setting.now xs i.sees k) c.stopped.ensures.fault
+    (λ xs k. c.stopped.ensures.reported i.value c.args.setting.now xs i.sees k) c.stopped.ensures.fault
 
 pub returns-in-Err-clause-failures : goal.returns-in-Err-clause-failures
 returns-in-Err-clause-failures g c =

@@ -72,7 +72,7 @@ returns-in-Err-clause-bounds g c =
     let new = g.O.Outlet.taken c.push_bytes.new.outlet in
     let q = c.in-Err.ensures.did _ _ _ (c.put_bits_of_seam.ensures _ c.resume-encoding.ensures) (encoding_is_resumed _ _ _ _ c.requires.seam.1) in
     push_within (after c.args.setting.now c.requires.seam.0 now) new q.0 c.in-Err.fault c.requires.seam.0 c.args.bytes.now
-        (λ ys k. c.stopped-in-Err.ensures.reported q.0 c.args.setting.now ys q.1 k) q.2
+    (λ ys k. c.stopped-in-Err.ensures.reported q.0 c.args.setting.now ys q.1 k) q.2
 
 -- a sample is cut
 pub returns-then-bytes-width-gt0-clause-did : goal.returns-then-bytes-width-gt0-clause-did

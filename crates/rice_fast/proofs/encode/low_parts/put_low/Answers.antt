@@ -61,7 +61,8 @@ returns-then-items-ne0 g c =
     let n = length xs in
     let end : l.i ≡ n / 8 = omega (arith, l.auto.i-end, c.loop-i-test.false, c.requires.long) in
     added_to_end f xs c.args.from n refl
-    (range_added f xs c.args.from (8 * l.i) n (omega (arith, c.requires.from, l.invariant.after)) (omega (arith, end)) (ap (λ i. flat_map f (slice_range xs (8 * i) n)) (sym end)) l.invariant.adds c.put_some.ensures)
+    (range_added f xs c.args.from (8 * l.i) n (omega (arith, c.requires.from, l.invariant.after)) (omega (arith, end))
+    (ap (λ i. flat_map f (slice_range xs (8 * i) n)) (sym end)) l.invariant.adds c.put_some.ensures)
 
 pub returns-else-items-ne0 : goal.returns-else-items-ne0
 returns-else-items-ne0 g c =
