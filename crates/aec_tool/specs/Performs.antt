@@ -12,31 +12,8 @@ use Rattle.rice_stream.specs.declared.outcome.Fault.TheVariants.{Read, Write}
 use Rattle.aec_tool.specs.OneAfter.{StopsLooking, has_one_after}
 use Rattle.aec_command.specs.Plan.{PlanView}
 use Rattle.aec_command.specs.TestPlan.{TestView}
-use Rattle.aec_tool.specs.Outside.{
-  Outside,
-  Said,
-  CannotOpen,
-  CannotCreate,
-  LacksMemory,
-  Stopped,
-  Faulty,
-  Holds,
-  HasTakenNothing,
-  closing,
-  finding,
-  losing,
-  missing,
-  new_mode,
-  refusing,
-  saying,
-  is_standard,
-  is_read_again,
-  source_bytes,
-  source_id,
-  place_of,
-  is_creatable,
-  AreOneFile,
-}
+use Rattle.aec_tool.specs.Outside.{Outside, Said, CannotOpen, CannotCreate, LacksMemory, Stopped, Faulty, Holds, HasTakenNothing, closing, finding}
+use Rattle.aec_tool.specs.Outside.{losing, missing, new_mode, refusing, saying, is_standard, is_read_again, source_bytes, source_id, place_of, is_creatable, AreOneFile}
 
 -- what the engine that the plan asks for has done
 abbrev pub EngineOf : Bool → PlanView → Call → Outcome → Type 0

@@ -2,6 +2,6 @@
 mod columns;
 mod commands;
 mod plans;
+mod reporting_commands;
 mod reporting_system;
 mod runtime_in_memory;
-mod reporting_commands;

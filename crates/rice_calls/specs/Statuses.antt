@@ -10,22 +10,8 @@ use Rattle.rice_stream.specs.declared.stand.Pause.TheVariants as pauses
 use Rattle.rice_calls.specs.AskedSetting.{setting_asked}
 use Rattle.rice_calls.specs.declared.setting.RiceSetting.{RiceSetting}
 use Rattle.rice_calls.specs.declared.status.Status.{Status}
-use Rattle.rice_calls.specs.declared.status.Status.TheVariants.{
-  Done,
-  BadBits,
-  BadBlock,
-  BadInterval,
-  SampleOutOfRange,
-  InputCut,
-  CodeEnds,
-  RunPastSegment,
-  ResidualTooLarge,
-  NoRoom,
-  TooLong,
-  OnlyZeros,
-  MoreCode,
-  BadPlace,
-}
+use Rattle.rice_calls.specs.declared.status.Status.TheVariants.{Done, BadBits, BadBlock, BadInterval, SampleOutOfRange, InputCut, CodeEnds}
+use Rattle.rice_calls.specs.declared.status.Status.TheVariants.{RunPastSegment, ResidualTooLarge, NoRoom, TooLong, OnlyZeros, MoreCode, BadPlace}
 
 -- the number that C sees
 abbrev pub status_number : Status → ℕ

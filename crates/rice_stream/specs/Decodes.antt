@@ -1,17 +1,19 @@
 -- What decoding does: each way in which it ends.
 use Rattle.std.specs.Io.KnownBytes.{IsAtEnd}
 use Rattle.std.specs.Prelude.{◌≡◌, ◌≢◌, ℕ, ◌+◌, ◌-◌, ◌*◌, ◌/◌, ◌≤◌, ◌⊎◌, Bool, List, [], ◌++◌, length, sum_by, take, min, Option, Some, None, IfSome, IsSome, ℤ}
-use Rattle.rice_bits.specs.Limits.{most_bits_read, most_bytes_read, most_at_once}
+use Rattle.rice_bits.specs.Limits.{most_bits_read}
+use Rattle.rice_bits.specs.Limits.{most_bytes_read, most_at_once}
 use Rattle.rice_bits.specs.device.OutletRoom.{Room}
 use Rattle.rice_bits.specs.read.Reader.{Reader}
 use Rattle.rice_bits.specs.read.Window.{most_buffered}
 use Rattle.rice_code.specs.Bounds.{decoder_step_bound}
 use Rattle.rice_code.specs.Limits.{most_samples_of_bit}
-use Rattle.rice_code.specs.code.Decoded.{Decoded, AreTaken, BeginsUnsound, EndsWith, Ending, Reached, Ended, CutOff, Past, Large}
+use Rattle.rice_code.specs.code.Decoded.{Decoded, AreTaken, BeginsUnsound}
 use Rattle.rice_samples.specs.Parameters.{Parameters}
 use Rattle.rice_samples.specs.bytes.Spelling.{spellings}
 use Rattle.rice_bits.specs.Bits.{bits_of}
 use Rattle.rice_code.specs.code.CodedDataSets.{CodedDataSet, turns}
+use Rattle.rice_code.specs.code.Decoded.{EndsWith, Ending, Reached, Ended, CutOff, Past, Large}
 use Rattle.rice_code.specs.code.Forms.{RunIsSound, ResidualsAreSound, blocks_in_all}
 use Rattle.rice_code.specs.code.Layout.{Lies}
 use Rattle.rice_code.specs.declared.decode.call_results.CodeFault.{CodeFault}

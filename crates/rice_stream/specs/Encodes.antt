@@ -4,9 +4,10 @@ use Rattle.std.specs.Prelude.{◌≡◌, ◌≢◌, ℕ, ◌+◌, ◌-◌, ◌*�
 use Rattle.rice_bits.specs.Limits.{most_at_once}
 use Rattle.rice_bits.specs.device.OutletRoom.{Room}
 use Rattle.rice_samples.specs.Limits.{most_input}
-use Rattle.rice_samples.specs.Parameters.{Parameters, IsSample, width}
+use Rattle.rice_samples.specs.Parameters.{Parameters, IsSample}
 use Rattle.rice_code.specs.Bounds.{bit_bound, step_bound, amortised_step_bound}
 use Rattle.rice_code.specs.code.Code.{code_bits, output, early_output, complete_samples}
+use Rattle.rice_samples.specs.Parameters.{width}
 use Rattle.rice_samples.specs.bytes.Spelling.{Spells, spellings, SpellingEnd, AtEnd, NoSpelling, TooFew}
 use Rattle.rice_code.specs.CoderSteps.{least_steps, most_steps}
 use Rattle.rice_code.specs.code.Blocks.{fill_count_of}

@@ -11,14 +11,8 @@ use Rattle.rice_samples.specs.bytes.Spelling.{Reads, EndsSpelling, IsNoSpelling,
 use Rattle.rice_code.specs.CoderSteps.{least_steps, most_steps}
 use Rattle.rice_code.specs.encode.OpenSegment.{CoderState}
 use Rattle.rice_fast.specs.encode.Standing.{Standing}
-use Rattle.rice_stream.specs.{
-  BufferedBytes.BufferedBytes,
-  DevicesInCalls.StopsBetween,
-  declared.encoding.Encoding.Encoding,
-  declared.outcome.Fault.Fault,
-  declared.outcome.Fault.TheVariants.Write,
-  declared.outcome.Fault.TheVariants.SampleOutOfRange,
-}
+use Rattle.rice_stream.specs.{BufferedBytes.BufferedBytes, DevicesInCalls.StopsBetween, declared.encoding.Encoding.Encoding}
+use Rattle.rice_stream.specs.{declared.outcome.Fault.Fault, declared.outcome.Fault.TheVariants.Write, declared.outcome.Fault.TheVariants.SampleOutOfRange}
 
 -- An encoding whose coder puts the code of a segment only when it is whole.
 pub record EncodingValue : Type 0 where

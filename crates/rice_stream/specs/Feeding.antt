@@ -9,16 +9,9 @@ use Rattle.rice_samples.specs.Limits.{most_input}
 use Rattle.rice_samples.specs.Parameters.{Parameters, IsSample, width}
 use Rattle.rice_samples.specs.Places.{cut}
 use Rattle.rice_samples.specs.bytes.Spelling.{Reads, spellings, SpellingEnd, EndsSpelling, NoSpelling, TooFew}
-use Rattle.rice_stream.specs.{
-  declared.encoding.Encoding.Encoding,
-  TakenBytes.standing_between,
-  Encodes.ReportsTaken,
-  Encodes.ReportsAll,
-  declared.outcome.Fault.Fault,
-  declared.outcome.Report.Report,
-  declared.seam.Seam.Seam,
-}
+use Rattle.rice_stream.specs.{declared.encoding.Encoding.Encoding, TakenBytes.standing_between, Encodes.ReportsTaken, Encodes.ReportsAll, declared.outcome.Fault.Fault, declared.outcome.Report.Report}
 use Rattle.rice_fast.specs.encode.Standing.{Standing}
+use Rattle.rice_stream.specs.{declared.seam.Seam.Seam}
 use Rattle.rice_stream.specs.EncodingState.{EncodingValue, CountsSamples, Beginning, Follows, FollowsBetween}
 use Rattle.rice_stream.specs.declared.outcome.Fault.TheVariants.{Write, TooLong, SampleOutOfRange, SampleCut}
 

@@ -4,12 +4,13 @@ use Rattle.rice_bits.specs.Limits.{most_bits_read}
 use Rattle.rice_bits.specs.read.Reader.{Reader}
 use Rattle.rice_code.specs.code.CodedDataSets.{CodedDataSet, turns}
 use Rattle.rice_code.specs.code.Decoded.{Ended, CutOff, Past, Large, EndsWith}
-use Rattle.rice_code.specs.decode.DecoderState.{DecoderState, IsDecoderState}
+use Rattle.rice_code.specs.decode.DecoderState.{DecoderState}
 use Rattle.rice_samples.specs.Limits.{most_samples_counted}
 use Rattle.rice_samples.specs.Parameters.{Parameters, width}
 use Rattle.rice_samples.specs.Places.{place}
 use Rattle.rice_samples.specs.bytes.Spelling.{spellings}
 use Rattle.rice_samples.specs.predict.Residuals.{last_of}
+use Rattle.rice_code.specs.decode.DecoderState.{IsDecoderState}
 use Rattle.rice_code.specs.declared.decode.call_results.CodeFault.{CodeFault}
 use Rattle.rice_bits.specs.Bits.{bits_of}
 use Rattle.rice_stream.specs.{declared.stand.Pause.Pause, declared.stand.Stand.Stand}
