@@ -18,12 +18,12 @@ USE = re.compile(r"(?m)^(?:ghost )?(?:pub )?use (Rattle\.\w+\.specs(?:\.[\w.]+)?
 WORD = re.compile(r"[^\s(){}\[\],;.]+")
 TOP = """# What a reader trusts
 
-Made by `scripts/trusted.py --write`, and compared with the sources by `scripts/trusted.py`.
+`scripts/trusted.py --write` makes this page, and `scripts/trusted.py` compares it with the sources.
 
-Each promise is a contract, and a contract speaks in definitions. Listed by file are the definitions that the contracts of `encode` and
+Each promise is a contract, and a contract names definitions. The tables list, by file, the definitions that the contracts of `encode` and
 `decode` ([encoding.rt](../crates/rice_stream/src/encoding.rt), [decoding.rt](../crates/rice_stream/src/decoding.rt)) name, and all
-definitions that these use. To trust the promises, read them, and what [PROOFS.md](PROOFS.md#what-is-trusted) says of the toolchain.
-No other line of `specs/` or `proofs/` changes what they mean. The toolchain's library defines `length`, `take`, `All` and similar words.
+definitions that these use. To trust these contracts, read the definitions, and [PROOFS.md](PROOFS.md#what-is-trusted) on the toolchain.
+No other line of `specs/` or `proofs/` changes what the contracts mean. The toolchain defines `length`, `take`, `All` and similar words.
 """
 
 
