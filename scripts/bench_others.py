@@ -3,8 +3,8 @@
 on this machine and its load.
 
 A size is that of the samples alone. A speed is over 8 MiB of copies of them, each with another constant added, so that no copy repeats
-another. It is by CPU time, the best of some runs: for blosc that of its call, for the others that of the program from file to file, by
-hyperfine. A second table has samples that bench.py generates, with the sizes of aec and zstd -1 and the speeds of decompression.
+another. (After xz's delta filter they do, so xz with that filter gets no speeds.) It is by CPU time, the best of some runs: for blosc that
+of its call, for the others that of the program from file to file, by hyperfine. A second table has samples that bench.py generates, with the sizes of aec and zstd -1 and the speeds of decompression.
 
 usage: bench_others.py PROGRAM [--json FILE]
 """
@@ -204,6 +204,8 @@ def rows(program):
                 found[name]["sizes"][kind] = measured(tool, Files(folder, samples), False)[0]
             many = Files(folder, copies(samples))
             for name, tool in tools(program).items():
+                if tool is xz_with_delta:
+                    continue
                 _, forth, back = measured(tool, many, True)
                 found[name]["forth"][kind], found[name]["back"][kind] = (many.samples.nbytes / 1e6 / each for each in (forth, back))
     return sizes, found
@@ -243,7 +245,7 @@ def main():
     print("|---|" + "---|" * (len(KINDS) + 2))
     print("| the samples | " + " | ".join(str(sizes[kind]) for kind in KINDS) + " | | |")
     for name, row in found.items():
-        speeds = [f"{mean(row[way].values()):.0f}" for way in ("forth", "back")]
+        speeds = [f"{mean(row[way].values()):.0f}" if row[way] else "" for way in ("forth", "back")]
         print(f"| {name} | " + " | ".join(str(row["sizes"][kind]) for kind in KINDS) + f" | {' | '.join(speeds)} |", flush=True)
     print()
     print_generated(program)

@@ -261,7 +261,7 @@ def others():
     panels[0].set_xlabel("size, in percent of the samples; shorter is better")
     panels[0].set_xlim(0, 155)
     panels[0].legend(fontsize=9, loc="upper right")
-    for row in tools:
+    for row in (row for row in tools if row[-1]):
         there, back = number(row[-2]), number(row[-1])
         panels[1].plot(there, back, "o", color="black")
         panels[1].annotate(row[0], (there, back), xytext=(5, -11 if row[0] in ("fpack", "zstd -1") else 3), textcoords="offset points", size=8.5)
