@@ -7,8 +7,9 @@ ghost use Rattle.rice_fast.specs.BlocksAhead.{SpelledAhead};
 ghost use Rattle.rice_fast.specs.CopiedBlocks.{IsCopied, WordsAhead, copied_bits};
 
 use crate::one_pass::WrittenBlock;
+use crate::vectors::bytes_of_patterns;
 use rice_bits::{BitReader, Intake};
-use rice_samples::{Setting, bytes_of_patterns, level_of_pattern};
+use rice_samples::{Setting, level_of_pattern};
 
 /// The bits after a block that are looked at with it, at most.
 const AFTER: u64 = 128;

@@ -3,8 +3,8 @@ ghost use Rattle.std.specs.Prelude.{◌≡◌, ◌+◌, ◌-◌, ◌*◌, ◌<�
 ghost use Rattle.rice_fast.specs.FieldsAhead.{HighsAhead, rows_len};
 
 use crate::rows::placed;
+use crate::vectors::Bytes;
 use rice_bits::{BitReader, Intake, Sequences};
-use rice_samples::Bytes;
 use std::simd::prelude::*;
 
 /// Returns the number of samples of row `row` of a block of `size` samples.

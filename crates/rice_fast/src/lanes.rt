@@ -10,8 +10,9 @@ mod bytes;
 mod halves;
 mod words;
 
+use crate::vectors::Lanes;
 use rice_bits::{BitReader, Intake};
-use rice_samples::{Lanes, Setting};
+use rice_samples::Setting;
 
 /// The lanes in which samples of some numbers of bits are decoded.
 pub trait SampleLanes: Lanes {

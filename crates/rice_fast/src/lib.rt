@@ -11,6 +11,7 @@ pub mod lanes;
 pub mod one_pass;
 mod pairs;
 mod rows;
+pub mod vectors;
 
 pub use encode::coder::{BlockCoder, Pushed};
 pub use one_pass::pass;

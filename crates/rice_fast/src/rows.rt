@@ -10,8 +10,9 @@ ghost use Rattle.rice_fast.specs.RowsAhead.{RowsAhead, SpellsParts};
 
 use crate::fields::Fields;
 use crate::lanes::SampleLanes;
+use crate::vectors::{join_parts, near_levels_of_parts};
 use rice_bits::{BitReader, Intake};
-use rice_samples::{Setting, join_parts, level_of_pattern, near_levels_of_parts};
+use rice_samples::{Setting, level_of_pattern};
 
 /// The least level that so many others are near to that near ones are expected after it.
 const FEW_NEAR: u32 = 8;

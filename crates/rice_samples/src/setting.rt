@@ -70,7 +70,7 @@ impl Model for Setting {
 }
 
 /// Returns the greatest level of samples of `bits` bits.
-pub(crate) fn greatest_level(bits: u32) -> u32
+pub fn greatest_level(bits: u32) -> u32
     requires { (1 ≤ bits) × (bits ≤ 32) }
     ensures { result + 1 ≡ 2 ^ bits }
 {
@@ -293,7 +293,7 @@ impl Setting {
 
     /// Returns the number of legal values below 0.
     #[inline]
-    pub(crate) fn offset(&self) -> u64
+    pub fn offset(&self) -> u64
         ensures value { result ≡ offset self.now }
         ensures range { result ≤ 2 ^ 31 }
         ensures legal { IsLegal self.now }

@@ -8,7 +8,8 @@ ghost use Rattle.rice_stream.specs.DecodingState.{AnswersBytes};
 use rice_bits::{BitReader, Intake, Meter};
 use rice_code::Decoder;
 use rice_fast::pass;
-use rice_samples::{Bytes, Halves, Setting, Words};
+use rice_fast::vectors::{Bytes, Halves, Words};
+use rice_samples::Setting;
 
 /// A pass over a block. `SIZE`, unless it is 0, is the number of samples of a block. `WIDTH`, unless it is 0, is the number of bytes of a
 /// sample.

@@ -10,7 +10,8 @@ use rice_base_tests::cases::Cases;
 use rice_bits::{BitReader, Intake, MemoryIn, Meter};
 use rice_code::{CodeFault, Decoder, Step};
 use rice_fast::pass;
-use rice_samples::{Bytes, Setting};
+use rice_fast::vectors::Bytes;
+use rice_samples::Setting;
 use std::alloc::Global;
 use std::test::Fail;
 

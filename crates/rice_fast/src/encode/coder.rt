@@ -16,12 +16,13 @@ ghost use Rattle.rice_fast.specs.encode.Standing.{HasRoomAt, Standing, TakesSpel
 use crate::encode::blocks::code_next_or_add_to_run;
 use crate::encode::repeats::repeat_sample;
 use crate::encode::residuals_of_bytes::residuals_of_bytes;
+use crate::vectors::{Bytes, Halves, Words};
 use rice_bits::Meter;
 use rice_code::encode::blocks::{put_pending_run, reference_of};
 use rice_code::encode::held_block::HeldBlock;
 use rice_code::encode::open_segment::{next_residual, next_start, note_reference, pad_interval};
 use rice_code::{SegmentSink, known_or};
-use rice_samples::{Block, Bytes, Halves, Setting, Words, pattern, sample_of};
+use rice_samples::{Block, Setting, pattern, sample_of};
 
 /// What `BlockCoder::push` took and appended.
 #[derive(Clone, Copy, Debug, PartialEq, Eq)]

@@ -4,10 +4,11 @@ ghost use Rattle.rice_samples.specs.Parameters.{values_at, width as width_of};
 ghost use Rattle.rice_samples.specs.bytes.Spelling.{spellings};
 ghost use Rattle.rice_fast.specs.BlocksAhead.{HasBits};
 
-use rice_samples::{
-    Bytes, Halves, Lanes, Setting, Words, levels_in_bytes, levels_in_halves, levels_in_words,
+use crate::vectors::{
+    Bytes, Halves, Lanes, Words, levels_in_bytes, levels_in_halves, levels_in_words,
     levels_of_bytes_in_halves, levels_of_threes_in_words,
 };
+use rice_samples::Setting;
 
 /// The lanes in which the levels of samples of some numbers of bits are read.
 pub trait LevelLanes: Lanes {

@@ -7,8 +7,9 @@ ghost use Rattle.rice_fast.specs.BlocksAhead.{HasBits};
 ghost use Rattle.rice_fast.specs.encode.Standing.{HasResidualsOf};
 
 use crate::encode::level_lanes::LevelLanes;
+use crate::vectors::{Bytes, Halves, Lanes, Words, patterns_of_levels, ranks};
 use rice_code::known_or;
-use rice_samples::{Bytes, Halves, Lanes, Setting, Words, patterns_of_levels, ranks};
+use rice_samples::Setting;
 
 /// Writes the residuals of the samples that the bytes spell: of the first one after the sample at level `before`, and of each other after
 /// the one before it. Without preprocessing these are their patterns. Returns the level of the last sample, or `None` if their number

@@ -3,8 +3,9 @@ ghost use Rattle.std.proofs.Common.{rules};
 ghost use Rattle.rice_samples.proofs.lemmas.setting.BitsOfLanes.{byte_id, byte_splits, byte_row};
 
 use crate::lanes::SampleLanes;
+use crate::vectors::{Bytes, bytes_in_turn, spelled_in_one_byte};
 use rice_bits::{BitReader, Intake};
-use rice_samples::{Bytes, Setting, bytes_in_turn, spelled_in_one_byte};
+use rice_samples::Setting;
 use std::simd::prelude::*;
 
 /// Ones in all bits of sixteen lanes, and then zeros: a mask of the first `n` lanes begins `16 - n` places after the front.

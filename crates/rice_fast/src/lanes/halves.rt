@@ -3,8 +3,9 @@ ghost use Rattle.std.proofs.Common.{rules};
 ghost use Rattle.rice_samples.proofs.lemmas.setting.BitsOfLanes.{half_id, half_splits, half_row};
 
 use crate::lanes::SampleLanes;
+use crate::vectors::{Halves, halves_in_turn, spelled_in_two_bytes};
 use rice_bits::{BitReader, Intake};
-use rice_samples::{Halves, Setting, halves_in_turn, spelled_in_two_bytes};
+use rice_samples::Setting;
 use std::simd::prelude::*;
 
 /// The greatest width of words that eight lanes of 16 bits take from one load.

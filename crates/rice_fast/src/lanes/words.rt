@@ -5,8 +5,9 @@ ghost use Rattle.rice_bits.specs.Bits.{word};
 ghost use Rattle.rice_samples.proofs.lemmas.setting.BitsOfLanes.{word_id, word_splits, word_row};
 
 use crate::lanes::SampleLanes;
+use crate::vectors::{Words, spelled_in_four_bytes, spelled_in_three_bytes, words_in_turn};
 use rice_bits::{BitReader, Intake};
-use rice_samples::{Setting, Words, spelled_in_four_bytes, spelled_in_three_bytes, words_in_turn};
+use rice_samples::Setting;
 use std::simd::prelude::*;
 
 /// The greatest width of words that are taken in lanes.

@@ -1,6 +1,6 @@
 //! Residuals of samples, each predicted by the sample before, and samples from residuals.
 ghost use Rattle.std.specs.Prelude.{◌≡◌, ◌+◌, ◌^◌, ◌<◌, ◌≤◌, ℤ};
-ghost use Rattle.rice_samples.specs.Parameters.{IsSample, value_count};
+ghost use Rattle.rice_samples.specs.Parameters.{IsSample, value_at, value_count};
 ghost use Rattle.rice_samples.specs.predict.Residuals.{pattern as pattern_of, rank, rank_below};
 ghost use Rattle.rice_samples.specs.predict.NearNumbers.{way as way_of};
 
@@ -99,4 +99,15 @@ fn way(d: u32) -> u32
     ensures { result ≡ way_of (2 ^ 32) d }
 {
     (d >> 1) ^ 0u32.wrapping_sub(d & 1)
+}
+
+/// Returns the level of the sample with the n-bit pattern `v`.
+#[inline(always)]
+pub fn level_of_pattern(setting: &Setting, v: u32) -> u32
+    requires { v < value_count setting.now }
+    ensures below { result < value_count setting.now }
+    ensures pattern { pattern_of setting.now (value_at setting.now result) ≡ v }
+{
+    let greatest = (setting.number_of_values() - 1) as u32;
+    v.wrapping_add(setting.offset() as u32) & greatest
 }

@@ -1,0 +1,186 @@
+//! Numbers from their ranks, one after another. It is for numbers of which many are far from the one before.
+ghost use Rattle.std.specs.Prelude.{◌≡◌, ◌+◌, ◌-◌, ◌/◌, ◌^◌, ◌<◌, ◌≤◌, All, drop, length, map, replicate, true};
+ghost use Rattle.rice_samples.specs.predict.Residuals.{last_number, rank_below, ranks_below};
+ghost use Rattle.rice_samples.specs.predict.NearNumbers.{way as way_of};
+
+use crate::vectors::lanes::Lanes;
+use crate::vectors::lanes::bytes::Bytes;
+use crate::vectors::lanes::halves::Halves;
+use crate::vectors::lanes::words::Words;
+use crate::vectors::restoring::near::near_ways;
+use std::simd::prelude::*;
+
+/// Returns sixteen numbers up to `greatest` with these ranks: the first from `p`, and each other from the one before it.
+#[inline(always)]
+pub fn bytes_in_turn(greatest: u32, p: u32, ranks: Bytes) -> Bytes
+    requires greatest { greatest < 2 ^ 8 }
+    requires before { p ≤ greatest }
+    requires ranks { All (λ d. d ≤ greatest) ranks.lanes }
+    ensures fit { All (λ x. x ≤ greatest) result.lanes }
+    ensures ranks { ranks_below (greatest + 1) p result.lanes ≡ ranks.lanes }
+{
+    let all = ranks.lanes.to_array();
+    let ways = near_ways(ranks).lanes.to_array();
+    let half_ranks = half_ranks(ranks).lanes.to_array();
+    let highs = distances_below(greatest, ranks).lanes.to_array();
+    if !last_eight_are_zeros(ranks) {
+        let mut numbers = [0; 16];
+        write_selected::<Bytes, 16>(greatest, p, &all, &ways, &half_ranks, &highs, &mut numbers);
+        return Bytes::of(u8x16::from_array(numbers));
+    }
+    let mut first = [0; 8];
+    let last = write_selected::<Bytes, 8>(
+        greatest,
+        p,
+        &all[..8],
+        &ways[..8],
+        &half_ranks[..8],
+        &highs[..8],
+        &mut first,
+    );
+    let mut numbers = [last as u8; 16];
+    numbers[..8].copy_from_slice(&first);
+    Bytes::of(u8x16::from_array(numbers))
+}
+
+/// Returns whether the last eight numbers are zeros, as they are after a block of eight.
+#[inline(always)]
+fn last_eight_are_zeros(numbers: Bytes) -> bool
+    ensures { result ≡ true → drop 8 numbers.lanes ≡ replicate 8 0 }
+{
+    last_eight_widened(numbers.lanes).is_zero()
+}
+
+/// Returns the last eight numbers, in lanes of 16 bits.
+#[inline(always)]
+fn last_eight_widened(numbers: u8x16) -> Halves
+    requires { length numbers ≡ 16 }
+    ensures { result.lanes ≡ drop 8 numbers }
+{
+    Halves::of(
+        numbers
+            .shuffle(numbers, [8, 9, 10, 11, 12, 13, 14, 15])
+            .cast::<u16>(),
+    )
+}
+
+/// Returns eight numbers up to `greatest` with these ranks: the first from `p`, and each other from the one before it.
+#[inline(always)]
+pub fn halves_in_turn(greatest: u32, p: u32, ranks: Halves) -> Halves
+    requires greatest { greatest < 2 ^ 16 }
+    requires before { p ≤ greatest }
+    requires ranks { All (λ d. d ≤ greatest) ranks.lanes }
+    ensures fit { All (λ x. x ≤ greatest) result.lanes }
+    ensures ranks { ranks_below (greatest + 1) p result.lanes ≡ ranks.lanes }
+{
+    // So it is after a block of eight.
+    if ranks.is_zero() {
+        return Halves::splat(p);
+    }
+    let ways = near_ways(ranks).lanes.to_array();
+    let half_ranks = half_ranks(ranks).lanes.to_array();
+    let highs = distances_below(greatest, ranks).lanes.to_array();
+    let all = ranks.lanes.to_array();
+    let mut numbers = [0; 8];
+    write_selected::<Halves, 8>(greatest, p, &all, &ways, &half_ranks, &highs, &mut numbers);
+    Halves::of(u16x8::from_array(numbers))
+}
+
+/// Returns eight numbers up to `greatest` with these ranks: the first from `p`, and each other from the one before it.
+#[inline(always)]
+pub fn words_in_turn(greatest: u32, p: u32, ranks: Words) -> Words
+    requires before { p ≤ greatest }
+    requires ranks { All (λ d. d ≤ greatest) ranks.lanes }
+    ensures fit { All (λ x. x ≤ greatest) result.lanes }
+    ensures ranks { ranks_below (greatest + 1) p result.lanes ≡ ranks.lanes }
+{
+    let ways = near_ways(ranks).lanes.to_array();
+    let half_ranks = half_ranks(ranks).lanes.to_array();
+    let highs = distances_below(greatest, ranks).lanes.to_array();
+    let all = ranks.lanes.to_array();
+    let mut numbers = [0; 8];
+    write_selected::<Words, 8>(greatest, p, &all, &ways, &half_ranks, &highs, &mut numbers);
+    Words::of(u32x8::from_array(numbers))
+}
+
+/// Returns half of each rank, up.
+#[inline(always)]
+fn half_ranks<L: Lanes>(ranks: L) -> L
+    ensures { L.numbers result ≡ map (λ d. (d + 1) / 2) (L.numbers ranks) }
+{
+    ranks.half().plus(ranks.and(L::splat(1)))
+}
+
+/// Returns how far each rank is below `greatest`.
+#[inline(always)]
+fn distances_below<L: Lanes>(greatest: u32, ranks: L) -> L
+    requires greatest { greatest < 2 ^ L.bits }
+    requires ranks { All (λ d. d ≤ greatest) (L.numbers ranks) }
+    ensures { L.numbers result ≡ map (λ d. greatest - d) (L.numbers ranks) }
+{
+    L::splat(greatest).minus(ranks)
+}
+
+/// Writes `N` numbers up to `greatest` with these ranks: the first from `p`, and each other from the one before it. Of each rank there
+/// are the way to a number that is near, half of it, and how far it is below `greatest`. Returns the last number. It is never inlined:
+/// in a loop, branches would be made of its selections.
+#[inline(never)]
+fn write_selected<L: Lanes, const N: usize>(
+    greatest: u32,
+    p: u32,
+    ranks: &[L::Number],
+    ways: &[L::Number],
+    half_ranks: &[L::Number],
+    highs: &[L::Number],
+    numbers: &mut [L::Number],
+) -> u32
+    requires greatest { greatest < 2 ^ L.bits }
+    requires before { p ≤ greatest }
+    requires ranks { All (λ d. d ≤ greatest) (map L.number ranks.now) }
+    requires ways { map L.number ways.now ≡ map (way_of (2 ^ L.bits)) (map L.number ranks.now) }
+    requires half_ranks { map L.number half_ranks.now ≡ map (λ d. (d + 1) / 2) (map L.number ranks.now) }
+    requires highs { map L.number highs.now ≡ map (λ d. greatest - d) (map L.number ranks.now) }
+    requires count { length ranks.now ≡ N }
+    requires len { length numbers.old ≡ N }
+    ensures len { length numbers.new ≡ N }
+    ensures fit { All (λ x. x ≤ greatest) (map L.number numbers.new) }
+    ensures ranks { ranks_below (greatest + 1) p (map L.number numbers.new) ≡ map L.number ranks.now }
+    ensures last { result ≡ last_number p (map L.number numbers.new) }
+    ensures within { result ≤ greatest }
+{
+    let mut number = p;
+    for i in 0..N {
+        number = selected(
+            greatest,
+            number,
+            L::value(ranks[i]),
+            L::widened_way(ways[i]),
+            L::value(half_ranks[i]),
+            L::value(highs[i]),
+        );
+        numbers[i] = L::number_of(number);
+    }
+    number
+}
+
+/// Returns the number up to `greatest` with rank `d` from `p`: `way` away from `p` if it is near, `d` if `p` is too low for that, and
+/// `high` if `p` is too high. Of the rank there is `half` too.
+#[inline(always)]
+fn selected(greatest: u32, p: u32, d: u32, way: u32, half: u32, high: u32) -> u32
+    requires before { p ≤ greatest }
+    requires way { way ≡ way_of (2 ^ 32) d }
+    requires half { half ≡ (d + 1) / 2 }
+    requires high { high + d ≡ greatest }
+    ensures fits { result ≤ greatest }
+    ensures rank { rank_below (greatest + 1) p result ≡ d }
+{
+    // All are computed, so that the machine selects one and does not branch. They are widened, so that no comparison is with a number that
+    // is loaded for it alone, of which a branch would be made.
+    let near = p.wrapping_add(way);
+    let below = if p < half { d } else { near };
+    if p as u64 + half as u64 > greatest as u64 {
+        high
+    } else {
+        below
+    }
+}

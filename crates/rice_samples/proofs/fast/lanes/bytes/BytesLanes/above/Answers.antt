@@ -1,6 +1,0 @@
-use Rattle.std.proofs.Common.{◌∙◌, w8}
-use Rattle.rice_samples.proofs.lemmas.lanes.OneVector.{above_is}
-use Rattle.rice_samples.proofs.fast.lanes.bytes.BytesLanes.above.Goals as goal
-
-pub returns : goal.returns
-returns c = c.of.ensures ∙ above_is w8 c.args.self.lanes c.args.other.lanes c.args.self.fits c.args.other.fits

@@ -1,6 +1,0 @@
-use Rattle.std.proofs.Common.{◌∙◌, ◌/◌, ◌^◌, ℕ}
-use Rattle.std.proofs.lemmas.Simd.{zip2_splat}
-use Rattle.rice_samples.proofs.fast.lanes.words.WordsLanes.half.Goals as goal
-
-pub returns : goal.returns
-returns c = c.of.ensures ∙ zip2_splat (λ (d s : ℕ). d / 2 ^ s) c.args.self.lanes 8 1 c.args.self.len

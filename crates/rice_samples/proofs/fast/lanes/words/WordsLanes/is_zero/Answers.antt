@@ -1,5 +1,0 @@
-use Rattle.rice_samples.proofs.lemmas.lanes.OneVector.{none_set}
-use Rattle.rice_samples.proofs.fast.lanes.words.WordsLanes.is_zero.Goals as goal
-
-pub returns : goal.returns
-returns c = λ e. none_set 8 c.args.self.lanes c.args.self.len e

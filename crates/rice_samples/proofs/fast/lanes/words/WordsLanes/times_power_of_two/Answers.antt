@@ -1,6 +1,0 @@
-use Rattle.std.proofs.Common.{◌∙◌}
-use Rattle.rice_samples.proofs.lemmas.lanes.OneVector.{raised}
-use Rattle.rice_samples.proofs.fast.lanes.words.WordsLanes.times_power_of_two.Goals as goal
-
-pub returns : goal.returns
-returns c = λ small. c.of.ensures ∙ raised 32 c.args.width 8 c.args.self.lanes c.args.self.len small

@@ -1,9 +1,0 @@
-use Rattle.std.proofs.Common.{refl}
-use Rattle.std.proofs.lemmas.Simd.{pick_l_whole}
-use Rattle.rice_samples.proofs.fast.level_lanes.last_threes.Goals as goal
-
-pub returns-then-msb : goal.returns-then-msb
-returns-then-msb c = rw (c.if-msb.true, ← pick_l_whole 0 c.args.bytes 16 c.requires) refl
-
-pub returns : goal.returns
-returns c = rw (c.if-msb.false, ← pick_l_whole 0 c.args.bytes 16 c.requires) refl

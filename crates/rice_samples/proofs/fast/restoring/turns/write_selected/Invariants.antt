@@ -1,9 +1,0 @@
-use Rattle.std.proofs.Common.{◌≡◌, ◌+◌, length, map}
-use Rattle.rice_samples.proofs.lemmas.predict.RestoredLevels.{AreRestored}
-use Rattle.rice_samples.proofs.fast.restoring.turns.write_selected.Given as goal
-
-abbrev pub invariant-loop-i : goal.invariant-loop-i
-invariant-loop-i g l = record {
-  len : length l.numbers ≡ g.row.N;
-  restored : AreRestored (l.greatest + 1) l.p l.i l.number (map g.L.Lanes.number l.numbers) (map g.L.Lanes.number l.ranks);
-}

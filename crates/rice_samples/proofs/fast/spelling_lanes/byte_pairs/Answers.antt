@@ -1,9 +1,0 @@
-use Rattle.std.proofs.Common.{refl}
-use Rattle.std.proofs.lemmas.Simd.{pick_l_whole}
-use Rattle.rice_samples.proofs.fast.spelling_lanes.byte_pairs.Goals as goal
-
-pub returns-then-turned : goal.returns-then-turned
-returns-then-turned c = rw (c.if-turned.true, ← pick_l_whole 0 c.args.bytes 16 c.requires) refl
-
-pub returns : goal.returns
-returns c = rw (c.if-turned.false, ← pick_l_whole 0 c.args.bytes 16 c.requires) refl
