@@ -6,7 +6,8 @@
 
 #[cfg(test)]
 mod calls;
-pub mod calls_by_types;
+#[cfg(test)]
+mod calls_by_types;
 #[cfg(test)]
 mod coder;
 #[cfg(test)]
