@@ -51,8 +51,8 @@ pub use Rattle.rice_fast.proofs.lemmas.encode.TakenBytes.{one_sample}
 pub use Rattle.rice_fast.specs.encode.Standing.{HasRoomAt, Standing}
 pub use Rattle.rice_stream.specs.{DecodingState.Advances, DecodingState.AnswersBytes, DevicesInCalls.TakesPart, BufferedBytes.FillsBuffer, BufferedBytes.with_last, declared.outcome.Fault.Fault}
 pub use Rattle.rice_stream.specs.{declared.outcome.Report.Report, declared.seam.Seam.Seam, declared.stand.Pause.Pause, declared.stand.Stand.Stand, declared.takes.Taken.Taken}
-pub use Rattle.rice_stream.specs.Decodes.{CountsSteps, DecodesBetween, DecodesBytes, EndsDecoding, EndsInTurns, Reports, RunsOut, at_most, ended_fault, refusal_fault, wanted_of}
-pub use Rattle.rice_stream.specs.DecodingState.{AreOfRun, DecodedSoFar, DecodingProgress, Gains, HasRead, HasSets, FailsInRun, WritesRun, repeated}
+pub use Rattle.rice_stream.specs.Decodes.{CountsSteps, DecodesBetween, DecodesBytes, DecodesWithin, EndsDecoding, EndsInTurns, Reports, RunsOut, at_most, ended_fault, refusal_fault, wanted_of}
+pub use Rattle.rice_stream.specs.DecodingState.{AreOfRun, DecodedSoFar, DecodingProgress, Gains, HasRead, HasSets, HasSteps, FailsInRun, WritesRun, repeated}
 pub use Rattle.rice_stream.specs.DevicesInCalls.{Call, Fails, IsWithinLimit, PassesLimit, StopsBetween}
 pub use Rattle.rice_stream.specs.Encodes.{EncodesBetween, EncodesWithin, EndsEncoding, LeavesEarly, ReportsAll, ReportsTaken, SpellsSoFar}
 pub use Rattle.rice_stream.specs.EncodingState.{Beginning, CountsSamples, EncodingProgress, EncodingValue, FailsAt, Follows, FollowsBetween, HoldsCode, IsEncodingOf, MeetsFailure, PushFails, Pushes}

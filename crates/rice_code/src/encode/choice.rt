@@ -2,7 +2,7 @@
 ghost use Rattle.std.specs.Prelude.{◌≡◌, ◌+◌, ◌*◌, ◌<◌, ◌≤◌, min};
 ghost use Rattle.rice_bits.specs.Limits.{step_limit};
 ghost use Rattle.rice_samples.specs.Parameters.{k_max};
-ghost use Rattle.rice_code.specs.{code.CodedDataSets.Split, code.CodedDataSets.cost, code.SoundBlocks.IsSoundData, encode.SetOfChoice.chosen_set, encode.SetOfChoice.IsSplitWithin};
+ghost use Rattle.rice_code.specs.{code.CodedDataSets.SecondExtension, code.CodedDataSets.Split, code.CodedDataSets.cost, code.SoundBlocks.IsSoundData, encode.SetOfChoice.chosen_set, encode.SetOfChoice.IsSplitWithin};
 ghost use Rattle.rice_code.specs.code.Choice.{shortest, IsBestSplit, best_split};
 
 use crate::encode::cost::{no_compression_cost, second_extension_cost, split_cost};
@@ -57,17 +57,34 @@ pub fn choose(setting: &Setting, block: &HeldBlock<'_>, meter: &mut Meter) -> Ch
 {
     let _block = setting.block();
     let (k, split) = best_split(setting, block, meter);
-    let no_compression = no_compression_cost(setting, block);
     // Residuals that are worth a split are so large that second extension is longer.
-    if 0 < k && k < setting.k_max() {
-        if split < no_compression {
-            return Choice::Split(k);
-        }
-        return Choice::NoCompression;
-    }
-    let second_extension = second_extension_cost(setting, block, meter);
-    let no_compression = no_compression as u128;
-    let split = split as u128;
+    let second_extension = if 0 < k && k < setting.k_max() {
+        split as u128 + 1
+    } else {
+        second_extension_cost(setting, block, meter)
+    };
+    shortest_of(setting, block, k, split as u128, second_extension)
+}
+
+/// Returns the option of minimal cost: `k` is the best split, and these are its cost and that of second extension, or less if the split
+/// is shorter.
+fn shortest_of(
+    setting: &Setting,
+    block: &HeldBlock<'_>,
+    k: u32,
+    split: u128,
+    second_extension: u128,
+) -> Choice
+    requires sound { IsSoundData setting.now block.now }
+    requires best { IsBestSplit setting.now block.now k }
+    requires split { split ≡ cost setting.now (Split k block.now) }
+    requires second_extension_from { second_extension ≤ cost setting.now (SecondExtension block.now) }
+    requires second_extension_is { second_extension ≤ split →
+        second_extension ≡ cost setting.now (SecondExtension block.now) }
+    ensures value { chosen_set result block.now ≡ shortest setting.now block.now }
+    ensures split { IsSplitWithin (k_max setting.now) result }
+{
+    let no_compression = no_compression_cost(setting, block) as u128;
     if second_extension < no_compression {
         if split < second_extension {
             Choice::Split(k)

@@ -7,7 +7,7 @@ use Rattle.rice_stream.proofs.Words.{is_blank, new_reader, most_buffered, BitFau
 use Rattle.rice_stream.proofs.Words.{EndsWith, Reached, Ended, CutOff, Past, Large, BeginsUnsound, IsWanted, cut_to, last_append, place_step, CodedDataSet, bits_of_set, turns, StopsBy, SetEnds}
 use Rattle.rice_stream.proofs.Words.{SetRefused, with_mark, DecoderState, state_after_block, next_block_place, IsForm, SetCut, CodeFault, AreCounted, spellings-append, bits_of, Call, StopsBetween}
 use Rattle.rice_stream.proofs.Words.{CountsSteps, DecodesBetween, EndsInTurns, Reports, EndsDecoding, DecodesBytes, RunsOut, at_most, wanted_of, ended_fault, refusal_fault, DecodedSoFar, Gains}
-use Rattle.rice_stream.proofs.Words.{DecodingProgress, HasRead, HasSets, TakesPart, Report, Fault, Read, Write, TooLong, CodeEnds, Follows, take-nil}
+use Rattle.rice_stream.proofs.Words.{DecodingProgress, HasRead, HasSets, HasSteps, DecodesWithin, TakesPart, Report, Fault, Read, Write, TooLong, CodeEnds, Follows, take-nil}
 use Rattle.rice_stream.proofs.lemmas.{EncodingLemmas.Follows-all, EncodingLemmas.part_follows, DecodingLemmas.still_asked, SetsRead.sets-none}
 use Rattle.rice_bits.specs.declared.read.fault.BitFault.TheVariants as bit_faults
 use Rattle.rice_code.specs.declared.decode.call_results.CodeFault.TheVariants as faults
@@ -583,3 +583,29 @@ progress_at_start {I = I} {s = s} {intake = intake} {left = left} {failed = fail
     from_none : (asked : Option ℕ) → IfSome asked (λ n. 0 ≤ n)
     from_none None = tt
     from_none (Some n) = omega arith
+
+-- the bounds of what is reported, after samples of a run too
+pub reports_within : {I : Type 0} {asked : Option ℕ} {new : Reader I} {steps steps_new taken written in_run turns all last : ℕ} {rep : Report} {f fault : Option Fault} {left : Option (List ℕ)} {failed : ℕ}
+    (more : ℕ) → more ≤ in_run → HasSteps steps taken written in_run turns → AreCounted steps steps_new taken new.taken → IfSome asked (λ n. all ≤ n) → all ≡ written + more → last ≡ steps_new + more
+    → Reports rep f left failed new all last fault → DecodesWithin asked rep
+reports_within {asked = asked} more few has counted asked_for all_is last_is tells =
+    let samples = tells.samples_are in
+    let bits = tells.bits_are in
+    let steps = tells.steps_are in
+    record {
+      asked_for = subst (λ (n : ℕ). IfSome asked (λ m. n ≤ m)) (sym samples) asked_for;
+      by_bits = omega (arith, few, has.by_bits, counted.forward, samples, bits, all_is);
+      at_least = omega (arith, has.count, counted.least, samples, bits, steps, all_is, last_is);
+      at_most = omega (arith, has.most, counted.most, samples, bits, steps, all_is, last_is);
+    }
+
+-- and after whole blocks
+pub ends_within : {I : Type 0} {s : Parameters} {asked : Option ℕ} {start : Reader I} {out_old out : Option Room} {p : DecoderState} {r new : Reader I} {steps steps_new written : ℕ}
+    {rep : Report} {f fault : Option Fault} {left : Option (List ℕ)} {failed : ℕ} → DecodingProgress s asked start out_old out p r steps written
+    → AreCounted steps steps_new r.taken new.taken → Reports rep f left failed new written steps_new fault → DecodesWithin asked rep
+ends_within runs counted tells = reports_within 0 (omega arith) runs.has_steps counted runs.has_written.asked_for (omega arith) (omega arith) tells
+
+-- where nothing more was read
+pub nothing_read : {I : Type 0} {s : Parameters} {asked : Option ℕ} {start : Reader I} {out_old out : Option Room} {p : DecoderState} {r : Reader I} {steps written : ℕ}
+    → DecodingProgress s asked start out_old out p r steps written → AreCounted steps steps r.taken r.taken
+nothing_read runs = record { forward = omega arith; limit = runs.limit; least = omega arith; most = omega arith }

@@ -4,8 +4,8 @@ use Rattle.std.proofs.Common.{replicate, refl, sym, ◌∙◌, ap, subst, arith,
 use Rattle.rice_stream.proofs.Words.{IfSome, Ok, copy_within, div-add-mod, lt_of_mul-lt-mul_left, mod-lt, mul-le-mul_left, mul-le-mul_right, paste, take-append-add, take-append_seam, take-paste}
 use Rattle.rice_stream.proofs.Words.{length-replicate, drop-drop, take-append-le, replicate-append-replicate, take_all, Reader, Room, Appends, Parameters, IsLegal, width, spelling, spellings}
 use Rattle.rice_stream.proofs.Words.{zero_block, GivesFromRun, RepeatsBlocks, DecoderState, last_replicate, cut_to, Block, Appends-trans, length-spellings, spellings-append, wanted_of}
-use Rattle.rice_stream.proofs.Words.{DecodingProgress, FailsInRun, WritesRun, repeated, TakesPart, DecodesBetween, Reports, Report, Fault, Write, Advances}
-use Rattle.rice_stream.proofs.lemmas.{DecodingEnds.progress_with_block, DecodingEnds.write_ends, DecodingLemmas.gains_block}
+use Rattle.rice_stream.proofs.Words.{DecodingProgress, FailsInRun, WritesRun, repeated, TakesPart, DecodesBetween, DecodesWithin, Reports, Report, Fault, Write, Advances}
+use Rattle.rice_stream.proofs.lemmas.{DecodingEnds.nothing_read, DecodingEnds.progress_with_block, DecodingEnds.reports_within, DecodingEnds.write_ends, DecodingLemmas.gains_block}
 
 -- the front of a repeated pattern
 pub take-repeated : (m n : ℕ) (xs : List ℕ) → m ≤ n → take (length xs * m) (repeated n xs) ≡ repeated m xs
@@ -188,6 +188,19 @@ run_fails {s = s} {asked = asked} {start = start} {out_old = out_old} {out = out
     one_more : (asked : Option ℕ) → IfSome asked (λ n. written + count + s.block ≤ n) → IfSome asked (λ k. written + count + s.block * suc 0 ≤ k)
     one_more None h = tt
     one_more (Some k) h = let le : written + count + s.block ≤ k = h in omega (arith, le)
+
+-- and what is reported there is within the bounds
+pub run_within : {I : Type 0} {s : Parameters} {asked : Option ℕ} {start : Reader I} {out_old out out_new : Option Room} {p : DecoderState} {r : Reader I}
+    {steps written count steps_new all : ℕ} {rep : Report} {f fault : Option Fault} {left : Option (List ℕ)} {failed : ℕ}
+    → DecodingProgress s asked start out_old out p r steps written → FailsInRun s asked written p out out_new count → steps_new ≡ steps + count → all ≡ written + count
+    → Reports rep f left failed r all steps_new fault → DecodesWithin asked rep
+run_within {s = s} {asked = asked} {p = p} {written = written} {count} {all = all} runs w ticked are tells =
+    let some : w.blocks * s.block ≤ p.run * s.block = mul-le-mul_right s.block (omega (arith, w.within)) in
+    reports_within count (omega (arith, some, w.count_is)) runs.has_steps (nothing_read runs) (by_asked asked w.wanted) are ticked tells
+  where
+    by_asked : (asked : Option ℕ) → IfSome asked (λ n. written + count + s.block ≤ n) → IfSome asked (λ n. all ≤ n)
+    by_asked None h = tt
+    by_asked (Some k) h = let le : written + count + s.block ≤ k = h in omega (arith, le, are)
 
 -- the first copy of a pattern
 pub first-copy : (pattern front old : List ℕ) (count : ℕ) → front ≡ pattern → 1 ≤ count → length old ≡ length pattern * count

@@ -1,17 +1,16 @@
 -- Residuals so large that the last split is the best one, and no compression is not longer.
-use Rattle.std.proofs.Common.{◌≡◌, ℕ, ◌+◌, ◌-◌, ◌*◌, ◌%◌, ◌^◌, ◌<◌, ◌≤◌, length, ap, arith, inl, inr, leb-true, true}
-use Rattle.std.proofs.lemmas.Bool.{cases_lt}
+use Rattle.std.proofs.Common.{◌≡◌, ℕ, ◌+◌, ◌*◌, ◌%◌, ◌^◌, ◌<◌, ◌≤◌, length, arith, leb-true, true}
 use Rattle.std.proofs.Math.Dec.{leb}
 use Rattle.std.proofs.Math.Nat.{mod-eq_of_lt, mul-le-mul, mul-le-mul_left, pow-le-pow_right}
 use Rattle.rice_samples.specs.Parameters.{Parameters, k_max}
 use Rattle.rice_samples.proofs.lemmas.blocks.FallingSums.{cut_sum, large_falls, large_leaves}
-use Rattle.rice_samples.proofs.lemmas.setting.BitsOfLanes.{byte_id, half_id, word_id}
 use Rattle.rice_code.specs.code.Blocks.{BlockData}
 use Rattle.rice_code.specs.code.Choice.{IsBestSplit}
 use Rattle.rice_code.specs.code.CodedDataSets.{NoCompression, Split, cost, sent_residuals}
 use Rattle.rice_code.specs.code.SoundBlocks.{IsSoundData}
 use Rattle.rice_code.proofs.lemmas.cost.SplitSavings.{coded_sum, sum_stop_is_best}
 use Rattle.rice_code.proofs.lemmas.encode.ChoiceLemmas.{all_sent}
+use Rattle.rice_fast.proofs.lemmas.encode.Stops.{bits_of_last_split}
 
 -- where a comparison says so, the sum is so large
 pub so_large : (s : Parameters) (c : BlockData) {size coded k whole : ℕ} → size ≡ length c.residuals → coded ≡ length (sent_residuals c) → k ≡ k_max s → whole ≡ cut_sum c.residuals 0
@@ -37,22 +36,12 @@ last_is_best s c sound some large =
     omega (arith, within, large)))
     (λ lt. absurd (omega (arith, lt)))
 
--- it leaves three bits of a sample at most
-last_split_from : (s : Parameters) → s.bits ≤ 32 → s.bits ≤ k_max s + 3
-last_split_from s most = elim (cases_lt 8 s.bits) [
-  | inl more ↦ elim (cases_lt 16 s.bits) [
-    | inl wide ↦ let k : k_max s ≡ 29 = ap (λ n. 2 ^ n - 3) (word_id s wide) in omega (arith, k, most)
-    | inr few ↦ let k : k_max s ≡ 13 = ap (λ n. 2 ^ n - 3) (half_id s more few) in omega (arith, k, few)
-  ]
-  | inr few ↦ let k : k_max s ≡ 5 = ap (λ n. 2 ^ n - 3) (byte_id s few) in omega (arith, k, few)
-]
-
--- and its high parts have two bits more than the residuals at least, so that no compression is not longer
+-- it leaves three bits of a sample at most, and its high parts have two bits more than the residuals at least, so that no compression is not longer
 pub split_is_not_shorter : (s : Parameters) (c : BlockData) → IsSoundData s c → s.bits ≤ 32 → 0 < length c.residuals
     → (length c.residuals + 2 * length (sent_residuals c)) * 2 ^ k_max s ≤ cut_sum c.residuals 0 → cost s (NoCompression c) ≤ cost s (Split (k_max s) c)
 split_is_not_shorter s c sound most some large =
     let n = length (sent_residuals c) in
-    let few : n * s.bits ≤ n * (k_max s + 3) = mul-le-mul_left n (last_split_from s most) in
+    let few : n * s.bits ≤ n * (k_max s + 3) = mul-le-mul_left n (bits_of_last_split s most) in
     omega (
       arith,
       few,

@@ -174,7 +174,7 @@ summed ds k {high} e a b c =
     record { first = a ∙ (all 0 ∙ ap (cut_sum ds) here); next = b ∙ all 1; last = c ∙ all 2 }
 
 -- samples have at most three bits more than the last split takes
-bits_of_last_split : (s : Parameters) → s.bits ≤ 32 → s.bits ≤ k_max s + 3
+pub bits_of_last_split : (s : Parameters) → s.bits ≤ 32 → s.bits ≤ k_max s + 3
 bits_of_last_split s most = elim (cases_lt 8 s.bits) [
   | inl more ↦ elim (cases_lt 16 s.bits) [
     | inl wide ↦ let k : k_max s ≡ 29 = ap (λ n. 2 ^ n - 3) (word_id s wide) in omega (arith, k, most)

@@ -2,8 +2,8 @@ use Rattle.std.proofs.Common.{arith, ◌*◌, ap, refl, sym, ◌∙◌, subst, t
 use Rattle.rice_stream.proofs.Words.{Ok, DecoderState, Advances, AnswersBytes, wanted_of, refusal_fault}
 use Rattle.rice_stream.proofs.lemmas.BytesOfBlocks.{block_fails, block_written, progress_unchanged}
 use Rattle.rice_stream.proofs.lemmas.DecodingLemmas.{decoding_is_done, stops_in_no_run}
-use Rattle.rice_stream.proofs.lemmas.DecodingEnds.{reports_as, block_is_wanted, progress_at_start, refusal_ends, ended_ends, reached_ends}
-use Rattle.rice_stream.proofs.lemmas.RunsWritten.{progress_with_run, run_fails, run_shrinks}
+use Rattle.rice_stream.proofs.lemmas.DecodingEnds.{reports_as, block_is_wanted, progress_at_start, refusal_ends, ended_ends, ends_within, nothing_read, reached_ends}
+use Rattle.rice_stream.proofs.lemmas.RunsWritten.{progress_with_run, run_fails, run_shrinks, run_within}
 use Rattle.rice_stream.proofs.decoding.decode_blocks.Goals as goal
 
 pub decode_all-init : goal.decode_all-init
@@ -100,3 +100,29 @@ decode_all-smaller-in-Ok-write_run g c =
     c.in-Ok-write_run.ensures.ok in
     let same = c.pass_whole.ensures.none c.if-pass_whole.false in
     omega (arith, less, ap (λ r. r.taken) same.1, ap (λ (d : DecoderState). d.run * d.setting.block) same.0)
+
+pub returns-then-count-eq0-clause-bounds : goal.returns-then-count-eq0-clause-bounds
+returns-then-count-eq0-clause-bounds g c = let runs = c.decode_all.invariant.runs in ends_within runs (nothing_read runs) c.ended.ensures.reports
+
+pub returns-in-Err-clause-bounds : goal.returns-in-Err-clause-bounds
+returns-in-Err-clause-bounds g c = ends_within c.decode_all.invariant.runs (c.pass_whole.ensures.some c.if-pass_whole.true).counted c.ended-in-Err.ensures.reports
+
+pub returns-in-Err-write_run-clause-bounds : goal.returns-in-Err-write_run-clause-bounds
+returns-in-Err-write_run-clause-bounds g c =
+    let runs = progress_unchanged (c.pass_whole.ensures.none c.if-pass_whole.false) c.decode_all.invariant.runs in
+    run_within runs c.in-Err-write_run.ensures.err c.tick-in-Err-write_run.ensures refl c.ended-in-Err-write_run.ensures.reports
+
+pub returns-in-Err-answer-clause-bounds : goal.returns-in-Err-answer-clause-bounds
+returns-in-Err-answer-clause-bounds g c =
+    let runs = progress_unchanged (c.pass_whole.ensures.none c.if-pass_whole.false) c.decode_all.invariant.runs in
+    ends_within runs c.in-Err-answer.ensures.gives.counted c.ended-in-Err-answer.ensures.reports
+
+pub returns-in-Done-clause-bounds : goal.returns-in-Done-clause-bounds
+returns-in-Done-clause-bounds g c =
+    let runs = progress_unchanged (c.pass_whole.ensures.none c.if-pass_whole.false) c.decode_all.invariant.runs in
+    ends_within runs c.in-Ok-answer.ensures.gives.counted c.ended-in-Done.ensures.reports
+
+pub returns-in-Err-write_all-clause-bounds : goal.returns-in-Err-write_all-clause-bounds
+returns-in-Err-write_all-clause-bounds g c =
+    let runs = progress_unchanged (c.pass_whole.ensures.none c.if-pass_whole.false) c.decode_all.invariant.runs in
+    ends_within runs c.in-Ok-answer.ensures.gives.counted c.ended-in-Err-write_all.ensures.reports

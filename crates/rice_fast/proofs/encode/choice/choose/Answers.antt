@@ -1,4 +1,4 @@
-use Rattle.std.proofs.Common.{◌≡◌, ℕ, ◌+◌, ◌*◌, ◌/◌, ◌≤◌, ◌⊎◌, ◌∙◌, ap, arith, inl, inr}
+use Rattle.std.proofs.Common.{◌≡◌, ℕ, ◌+◌, ◌*◌, ◌/◌, ◌≤◌, ◌⊎◌, ◌∙◌, sym, ap, arith, inl, inr}
 use Rattle.std.proofs.Math.Nat.{mul-le-mul_left}
 use Rattle.rice_code.proofs.lemmas.cost.PairsAreLonger.{pairs_are_longer}
 use Rattle.rice_code.proofs.lemmas.encode.ChoiceLemmas.{best_split_is, takes_no_compression}
@@ -17,6 +17,10 @@ looks_of : {k limit looks : ℕ} → 1 ≤ limit → k ≤ limit → ((k ≡ 0) 
 looks_of some le (inl h) = record { least = omega (arith, h); most = omega (arith, h); within = omega (arith, h, some) }
 looks_of some le (inr h) = record { least = omega (arith, h); most = omega (arith, h); within = omega (arith, h, le) }
 
+-- The last split takes two looks more than it has digits, as many as the plain search.
+last_looks : {size block looks last best : ℕ} → size ≡ block → looks ≡ last → best ≡ last → size * (looks + 2) ≡ block * (best + 2)
+last_looks is at named = λ i. is i * ((at ∙ sym named) i + 2)
+
 pub returns-then-are_large-clause-value : goal.returns-then-are_large-clause-value
 returns-then-are_large-clause-value g c =
     let s = c.args.setting.now in
@@ -29,19 +33,13 @@ returns-then-are_large-clause-value g c =
 
 pub returns-then-are_large-clause-steps_from : goal.returns-then-are_large-clause-steps_from
 returns-then-are_large-clause-steps_from g c =
-    let s = c.args.setting.now in
-    let best = best_split_is s c.args.block.now (k_max s) (c.are_large.ensures.best c.if-are_large.true) in
-    let looks : c.block-size.result * (c.k_max.result + 2) ≡ s.block * (k_max s + 2) = λ i. c.block-size.ensures.value i * (c.k_max.ensures.value i + 2) in
-    let named = ap (λ k. s.block * (k + 2)) best in
-    omega (arith, c.tick.ensures, looks, named)
+    let best = best_split_is c.args.setting.now c.args.block.now (k_max c.args.setting.now) (c.are_large.ensures.best c.if-are_large.true) in
+    omega (arith, c.tick.ensures, last_looks c.block-size.ensures.value c.k_max.ensures.value best)
 
 pub returns-then-are_large-clause-steps_to : goal.returns-then-are_large-clause-steps_to
 returns-then-are_large-clause-steps_to g c =
-    let s = c.args.setting.now in
-    let best = best_split_is s c.args.block.now (k_max s) (c.are_large.ensures.best c.if-are_large.true) in
-    let looks : c.block-size.result * (c.k_max.result + 2) ≡ s.block * (k_max s + 2) = λ i. c.block-size.ensures.value i * (c.k_max.ensures.value i + 2) in
-    let named = ap (λ k. s.block * (k + 3)) best in
-    omega (arith, c.tick.ensures, looks, named)
+    let best = best_split_is c.args.setting.now c.args.block.now (k_max c.args.setting.now) (c.are_large.ensures.best c.if-are_large.true) in
+    omega (arith, c.tick.ensures, last_looks c.block-size.ensures.value c.k_max.ensures.value best)
 
 pub tick-requires-2 : goal.tick-requires-2
 tick-requires-2 g c =
