@@ -1,7 +1,22 @@
-use Rattle.std.proofs.Common.{◌≡◌, ◌+◌, ◌-◌, ◌*◌, ◌∙◌, arith, w64, to_z, of_z, to_z-of_z}
-use Rattle.rice_stream.proofs.Words.{common_steps, stand_at}
+use Rattle.std.proofs.Common.{◌≡◌, ℕ, ◌+◌, ◌-◌, ◌*◌, ◌/◌, ◌<◌, ◌≤◌, ◌∙◌, arith, inl, inr, length, max, w64, to_z, of_z, to_z-of_z}
+use Rattle.rice_stream.proofs.Words.{cases_lt, common_steps, mul-le-mul_left, mul-le-mul_right, stand_at}
 use Rattle.rice_stream.proofs.lemmas.PulledRuns.{run_written}
 use Rattle.rice_stream.proofs.pulled_runs.write_next_of_run.Goals as goal
+
+-- samples of whole blocks that fit, whatever their width, have room
+blocks_fit : (w n block at len : ℕ) {fit : ℕ} → w ≤ 4 → n ≤ fit → fit ≡ max ((len - at) / 4) block → at + w * block ≤ len → at + w * n ≤ len
+blocks_fit w n block at len {fit} few within is room = elim (cases_lt block ((len - at) / 4)) [
+  | inl lt ↦ let le : w * n ≤ 4 * n = mul-le-mul_right n few in omega (arith, le, within, is, lt, room)
+  | inr ge ↦ let le : w * n ≤ w * block = mul-le-mul_left w (omega (arith, within, is, ge)) in omega (arith, le, room)
+]
+
+pub slice_bounds-spell_copies_of_sample-end : goal.slice_bounds-spell_copies_of_sample-end
+slice_bounds-spell_copies_of_sample-end c =
+    let s = c.args.setting.now in
+    let fits : c.max-fit.result ≡ max ((length c.args.samples.now - c.args.at) / 4) c.block-block.result = omega (arith, c.max-fit.ensures) in
+    let n : c.block-block.result * c.blocks_at_once-blocks.result ≤ c.max-fit.result = let b = c.block-block.ensures.value in let wanted = c.blocks_at_once-blocks.ensures.wanted in rw b (omega (arith, wanted)) in
+    let room : c.args.at + c.width-width.result * c.block-block.result ≤ length c.args.samples.now = let w = c.width-width.ensures.value in let b = c.block-block.ensures.value in rw (w, b) c.requires.room in
+    blocks_fit _ _ c.block-block.result _ (length c.args.samples.now) (omega (arith, c.width-width.ensures.range)) n fits room
 
 pub returns-clause-gives : goal.returns-clause-gives
 returns-clause-gives c =
