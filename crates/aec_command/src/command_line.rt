@@ -15,6 +15,20 @@ const ABOUT: &str =
 const NOTES: &str =
     "Decompress with the options that compressed. A code does not tell how many samples{n}it has: without --samples, those that fill its last block or run are written too.{n}{n}Examples:{n}  aec -n 8 -j 32 -r 128 frame.raw code.aec     # a byte a sample{n}  aec -n 12 -j 32 -r 128 camera.raw code.aec   # two bytes a sample, the upper four bits 0{n}  aec -n 16 -j 32 -r 128 samples.bin code.aec{n}  aec -d -n 16 -j 32 -r 128 --samples 5000 code.aec samples.bin{n}  aec --test -n 16 -j 32 -r 128 --samples 5000 code.aec";
 
+/// Returns what stands after the options in the help. Long texts are functions of their own, since the check writes each out at every
+/// step of a function that holds it.
+fn notes<'a>() -> &'a str {
+    NOTES
+}
+
+fn help_of_test<'a>() -> &'a str {
+    "Test a code: decompress without DEST, and tell what is found"
+}
+
+fn help_of_verbose<'a>() -> &'a str {
+    "Tell samples, bytes, ratio and seconds at the end"
+}
+
 fn flag<'a>(alloc: Global, id: &'a str, letter: char, long: &'a str, help: &'a str) -> Arg<'a>
     ensures rule { rule_of result ≡ flag_rule id.entry.now letter long.entry.now }
     ensures local { result.global ≡ false }
@@ -182,7 +196,7 @@ pub fn command_with_one_name<'a>(alloc: Global) -> Result<Command<'a>, AllocErro
         .bin_name("aec")?
         .version(VERSION)
         .about(ABOUT)
-        .after_help(NOTES);
+        .after_help(notes());
     let begun = with_options_up_to_j(described, alloc)?;
     let lettered = with_options_from_m(begun, alloc)?;
     with_long_options(lettered, alloc)?.arg(source(alloc))
@@ -230,14 +244,6 @@ fn with_long_options<'a>(command: Command<'a>, alloc: Global) -> Result<Command<
 {
     command
         .arg(samples(alloc))?
-        .arg(long_flag(
-            alloc,
-            "test",
-            "Test a code: decompress without DEST, and tell what is found",
-        ))?
-        .arg(long_flag(
-            alloc,
-            "verbose",
-            "Tell samples, bytes, ratio and seconds at the end",
-        ))
+        .arg(long_flag(alloc, "test", help_of_test()))?
+        .arg(long_flag(alloc, "verbose", help_of_verbose()))
 }
