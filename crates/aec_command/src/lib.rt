@@ -7,8 +7,6 @@ pub mod entries;
 pub mod matches;
 pub mod plan;
 pub mod test_plan;
-#[cfg(test)]
-mod tests;
 
 pub use command_line::command;
 pub use entries::{is_test, is_verbose, plan_of, test_plan_of};

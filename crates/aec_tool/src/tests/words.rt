@@ -1,5 +1,5 @@
 //! Worked examples: from words to their plan.
-use crate::{is_test, is_verbose, matches_of, plan_of, test_plan_of};
+use aec_command::{is_test, is_verbose, matches_of, plan_of, test_plan_of};
 use std::test::Fail;
 
 #[test]
