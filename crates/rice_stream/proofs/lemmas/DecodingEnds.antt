@@ -585,8 +585,9 @@ progress_at_start {I = I} {s = s} {intake = intake} {left = left} {failed = fail
     from_none (Some n) = omega arith
 
 -- the bounds of what is reported, after samples of a run too
-pub reports_within : {I : Type 0} {asked : Option ℕ} {new : Reader I} {steps steps_new taken written in_run turns all last : ℕ} {rep : Report} {f fault : Option Fault} {left : Option (List ℕ)} {failed : ℕ}
-    (more : ℕ) → more ≤ in_run → HasSteps steps taken written in_run turns → AreCounted steps steps_new taken new.taken → IfSome asked (λ n. all ≤ n) → all ≡ written + more → last ≡ steps_new + more
+pub reports_within : {I : Type 0} {asked : Option ℕ} {new : Reader I} {steps steps_new taken written in_run turns all last : ℕ} {rep : Report}
+    {f fault : Option Fault} {left : Option (List ℕ)} {failed : ℕ} (more : ℕ) → more ≤ in_run → HasSteps steps taken written in_run turns
+    → AreCounted steps steps_new taken new.taken → IfSome asked (λ n. all ≤ n) → all ≡ written + more → last ≡ steps_new + more
     → Reports rep f left failed new all last fault → DecodesWithin asked rep
 reports_within {asked = asked} more few has counted asked_for all_is last_is tells =
     let samples = tells.samples_are in

@@ -14,8 +14,10 @@ pub slice_bounds-spell_copies_of_sample-end : goal.slice_bounds-spell_copies_of_
 slice_bounds-spell_copies_of_sample-end c =
     let s = c.args.setting.now in
     let fits : c.max-fit.result ≡ max ((length c.args.samples.now - c.args.at) / 4) c.block-block.result = omega (arith, c.max-fit.ensures) in
-    let n : c.block-block.result * c.blocks_at_once-blocks.result ≤ c.max-fit.result = let b = c.block-block.ensures.value in let wanted = c.blocks_at_once-blocks.ensures.wanted in rw b (omega (arith, wanted)) in
-    let room : c.args.at + c.width-width.result * c.block-block.result ≤ length c.args.samples.now = let w = c.width-width.ensures.value in let b = c.block-block.ensures.value in rw (w, b) c.requires.room in
+    let n : c.block-block.result * c.blocks_at_once-blocks.result ≤ c.max-fit.result =
+    (let b = c.block-block.ensures.value in let wanted = c.blocks_at_once-blocks.ensures.wanted in rw b (omega (arith, wanted))) in
+    let room : c.args.at + c.width-width.result * c.block-block.result ≤ length c.args.samples.now =
+    (let w = c.width-width.ensures.value in let b = c.block-block.ensures.value in rw (w, b) c.requires.room) in
     blocks_fit _ _ c.block-block.result _ (length c.args.samples.now) (omega (arith, c.width-width.ensures.range)) n fits room
 
 pub returns-clause-gives : goal.returns-clause-gives

@@ -1,5 +1,6 @@
 use Rattle.std.proofs.Common.{rules, arith, refl, w64, FitsSigned, ℤ, ◌<◌, ◌≡◌, ◌+◌, ◌*◌, ◌++◌, ◌∙◌, ap, sym, subst, length, length-drop, take, drop, Option}
-use Rattle.rice_stream.proofs.Words.{Ok, IfSome, ◌%◌, mul-pos, to_z-of_z, length-take, length-take-le, length-bits_of, width, spellings, bits_of, DecodesMore, GoesOnAt, TakesNext, ahead, state_of, Pause, Stand}
+use Rattle.rice_stream.proofs.Words.{Ok, IfSome, ◌%◌, mul-pos, to_z-of_z, length-take, length-take-le, length-bits_of, width, spellings, bits_of, DecodesMore, GoesOnAt, TakesNext, ahead, state_of}
+use Rattle.rice_stream.proofs.Words.{Pause, Stand}
 use Rattle.rice_code.specs.declared.decode.call_results.CodeFault.TheVariants as faults
 use Rattle.rice_stream.specs.declared.stand.Pause.TheVariants as pauses
 use Rattle.rice_stream.proofs.lemmas.PulledPieceSoFar.{ends_so, failed_once, has_none, has_room, more_so_far, never_too_long, none_so_far, nothing_ahead, refused_so}
