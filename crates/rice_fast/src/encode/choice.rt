@@ -9,7 +9,7 @@ ghost use Rattle.rice_code.specs.encode.SetOfChoice.{chosen_set, head_len, IsSpl
 ghost use Rattle.rice_fast.specs.encode.HighParts.{with_zeros, IsHighOfChoice};
 
 use crate::encode::cost::{coded_len, no_compression_cost, second_extension_cost, split_cost};
-use crate::encode::stops::first_stop;
+use crate::encode::stops::{digits_above, first_stop};
 use rice_bits::Meter;
 use rice_code::encode::choice::Choice;
 use rice_code::encode::held_block::HeldBlock;
@@ -48,14 +48,20 @@ fn best_split<const SIZE: usize, const REFERENCE: bool>(
 fn are_large(setting: &Setting, block: &HeldBlock<'_>, whole: u64) -> bool
     requires sound { IsSoundData setting.now block.now }
     requires whole { whole ≡ sum_by (λ d. d / 2 ^ 0) block.now.residuals }
+    requires whole_fits { whole ≤ 2 ^ 38 }
     ensures best { result ≡ true → IsBestSplit setting.now block.now (k_max setting.now) }
     ensures costs { result ≡ true → cost setting.now (NoCompression block.now) ≤
         cost setting.now (Split (k_max setting.now) block.now) }
 {
     let _bits = setting.bits();
-    let size = block.residuals().len() as u64;
-    let coded = coded_len(setting, block) as u64;
-    whole >= (size + 2 * coded) << setting.k_max()
+    let limit = setting.k_max();
+    let size = block.residuals().len() as u32;
+    let coded = coded_len(setting, block);
+    let digits = digits_above(whole, size + 2 * coded);
+    if digits <= limit {
+        return false;
+    }
+    true
 }
 
 /// Returns the option of minimal cost, and for a split the residuals without the digits that are split off.

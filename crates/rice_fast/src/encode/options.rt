@@ -70,8 +70,7 @@ pub fn put_no_compression(
     let _block = setting.block();
     let fields = begin_set(setting, (1 << id) - 1, id, block.reference(), sink, meter);
     meter.tick(residuals.len() as u64);
-    let mut fields = put_words(residuals, from, bits, fields, sink, meter);
-    fields.put(sink, meter);
+    put_words(residuals, from, bits, fields, sink, meter);
 }
 
 /// Appends the block, coded by second extension. Each residual is looked at once.
@@ -123,6 +122,6 @@ pub fn put_split<const SIZE: usize, const REFERENCE: bool>(
     let fields = begin_set(setting, k + 1, id, block.reference(), sink, meter);
     meter.tick(2 * residuals.len() as u64);
     let mut fields = put_high::<SIZE, REFERENCE>(high, residuals.len(), from, fields, sink, meter);
-    put_low::<SIZE, REFERENCE, true>(residuals, from, k, &mut fields, sink, meter);
+    put_low(residuals, from, k, &mut fields, sink, meter);
     fields.put(sink, meter);
 }

@@ -66,7 +66,7 @@ pub fn first_stop<const SIZE: usize, const REFERENCE: bool>(
 
 /// Returns the number of lowest digits without which `sum` is below `least`: with one fewer it is not.
 #[inline(always)]
-fn digits_above(sum: u64, least: u32) -> u32
+pub fn digits_above(sum: u64, least: u32) -> u32
     requires sum { sum ≤ 2 ^ 38 }
     requires least { (1 ≤ least) × (least ≤ 192) }
     ensures below { sum < least * 2 ^ result }

@@ -47,6 +47,10 @@ pub word_added : (width value : ℕ) {sink fields sink1 fields1 : List Bool} {me
     → AddsBits (word width value) sink fields sink1 fields1 meter meter1
 word_added width value h = let n = length-word width value in record { bits = h.bits; len = omega (arith, n, h.len); steps = omega (arith, n, h.steps) }
 
+-- and there is room for it
+pub room_for_word : (width value : ℕ) {bits meter : ℕ} → HasRoomForBits (word width value) bits meter → HasRoomFor width width bits meter
+room_for_word width value h = let n = length-word width value in record { room = omega (arith, n, h.room); steps = omega (arith, n, h.steps) }
+
 -- those of a sequence are one more than its zeros
 pub sequence_added : (m : ℕ) {sink fields sink1 fields1 : List Bool} {meter meter1 : ℕ}
     → AddsFields (fundamental_sequence m) (m + 1) (m + 1) sink fields sink1 fields1 meter meter1 → AddsBits (fundamental_sequence m) sink fields sink1 fields1 meter meter1

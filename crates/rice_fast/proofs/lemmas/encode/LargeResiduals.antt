@@ -1,7 +1,6 @@
 -- Residuals so large that the last split is the best one, and no compression is not longer.
-use Rattle.std.proofs.Common.{◌≡◌, ℕ, ◌+◌, ◌*◌, ◌%◌, ◌^◌, ◌<◌, ◌≤◌, length, arith, leb-true, true}
-use Rattle.std.proofs.Math.Dec.{leb}
-use Rattle.std.proofs.Math.Nat.{mod-eq_of_lt, mul-le-mul, mul-le-mul_left, pow-le-pow_right}
+use Rattle.std.proofs.Common.{◌≡◌, ℕ, ◌+◌, ◌*◌, ◌^◌, ◌<◌, ◌≤◌, length, arith}
+use Rattle.std.proofs.Math.Nat.{mul-le-mul_left, pow-le-pow_right}
 use Rattle.rice_samples.specs.Parameters.{Parameters, k_max}
 use Rattle.rice_samples.proofs.lemmas.blocks.FallingSums.{cut_sum, large_falls, large_leaves}
 use Rattle.rice_code.specs.code.Blocks.{BlockData}
@@ -12,17 +11,12 @@ use Rattle.rice_code.proofs.lemmas.cost.SplitSavings.{coded_sum, sum_stop_is_bes
 use Rattle.rice_code.proofs.lemmas.encode.ChoiceLemmas.{all_sent}
 use Rattle.rice_fast.proofs.lemmas.encode.Stops.{bits_of_last_split}
 
--- where a comparison says so, the sum is so large
+-- the sum is as large, in these words
 pub so_large : (s : Parameters) (c : BlockData) {size coded k whole : ℕ} → size ≡ length c.residuals → coded ≡ length (sent_residuals c) → k ≡ k_max s → whole ≡ cut_sum c.residuals 0
-    → size ≤ 64 → coded ≤ 64 → k ≤ 29 → leb ((size + 2 * coded) * 2 ^ k % 18446744073709551616) whole ≡ true
-    → (length c.residuals + 2 * length (sent_residuals c)) * 2 ^ k_max s ≤ cut_sum c.residuals 0
-so_large s c {size} {coded} {k} {whole} all sent last is few less within large =
-    let power : 2 ^ k ≤ 2 ^ 29 = pow-le-pow_right {n = 2} (omega arith) {i = k} {j = 29} within in
-    let most : (size + 2 * coded) * 2 ^ k ≤ 192 * 2 ^ 29 = mul-le-mul {n₂ = 192} (omega (arith, few, less)) power in
-    let same : (size + 2 * coded) * 2 ^ k % 18446744073709551616 ≡ (size + 2 * coded) * 2 ^ k = mod-eq_of_lt (omega (arith, most)) in
-    let le : (size + 2 * coded) * 2 ^ k % 18446744073709551616 ≤ whole = leb-true ((size + 2 * coded) * 2 ^ k % 18446744073709551616) whole large in
+    → (size + 2 * coded) * 2 ^ k ≤ whole → (length c.residuals + 2 * length (sent_residuals c)) * 2 ^ k_max s ≤ cut_sum c.residuals 0
+so_large s c {size} {coded} {k} {whole} all sent last is large =
     let least : (size + 2 * coded) * 2 ^ k ≡ (length c.residuals + 2 * length (sent_residuals c)) * 2 ^ k_max s = λ i. (all i + 2 * sent i) * 2 ^ last i in
-    omega (arith, same, le, least, is)
+    omega (arith, least, large, is)
 
 -- at so large a sum each digit takes more than its price off, so the last split is the best one
 pub last_is_best : (s : Parameters) (c : BlockData) → IsSoundData s c → 0 < length c.residuals

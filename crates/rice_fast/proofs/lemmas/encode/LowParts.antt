@@ -117,30 +117,30 @@ first_of_words width skipped (v ∷ vs) le some =
     drop-append-le skipped (word width v) (flat_map (word width) vs) (omega (arith, length-word width v, le))
     ∙ ap (λ us. drop skipped (word width v) ++ flat_map (word width) us) (sym rest)
 
--- a pair, joined in a lane of 64 bits
-pair_joined : (w x y : ℕ) → w ≤ 28 → x < 2 ^ w → y < 2 ^ w → bit_or (x * 2 ^ w % 2 ^ 64) y ≡ x * 2 ^ w + y
-pair_joined w x y few h k =
-    let le : 2 ^ (w + w) ≤ 2 ^ 56 = pow-le-pow_right {n = 2} (omega arith) {i = w + w} {j = 56} (omega (arith, few)) in
+-- a pair, joined in a lane of `n` bits
+pair_joined : (n w x y : ℕ) → w + w ≤ n → x < 2 ^ w → y < 2 ^ w → bit_or (x * 2 ^ w % 2 ^ n) y ≡ x * 2 ^ w + y
+pair_joined n w x y few h k =
+    let le : 2 ^ (w + w) ≤ 2 ^ n = pow-le-pow_right {n = 2} (omega arith) {i = w + w} {j = n} few in
     let b = join_below w w x y h k in
-    let same : x * 2 ^ w % 2 ^ 64 ≡ x * 2 ^ w = mod-eq_of_lt (omega (arith, b, le)) in
+    let same : x * 2 ^ w % 2 ^ n ≡ x * 2 ^ w = mod-eq_of_lt (omega (arith, b, le)) in
     ap (λ v. bit_or v y) same ∙ or_shifted x w y k
 
 -- each two of four lanes,
-pub four_joined : (w : ℕ) (xs : List ℕ) → length xs ≡ 4 → w ≤ 28 → Each1 (λ x. x < 2 ^ w) xs →
-    bit_or (get_or (xs ++ xs) 0 0 * 2 ^ w % 2 ^ 64) (get_or (xs ++ xs) 1 0) ∷ bit_or (get_or (xs ++ xs) 2 0 * 2 ^ w % 2 ^ 64) (get_or (xs ++ xs) 3 0) ∷ []
+pub four_joined : (n w : ℕ) (xs : List ℕ) → length xs ≡ 4 → w + w ≤ n → Each1 (λ x. x < 2 ^ w) xs →
+    bit_or (get_or (xs ++ xs) 0 0 * 2 ^ w % 2 ^ n) (get_or (xs ++ xs) 1 0) ∷ bit_or (get_or (xs ++ xs) 2 0 * 2 ^ w % 2 ^ n) (get_or (xs ++ xs) 3 0) ∷ []
     ≡ joined_in_pairs w xs
-four_joined w (a ∷ b ∷ c ∷ d ∷ []) len few h = λ i. pair_joined w a b few h.0 h.1.0 i ∷ pair_joined w c d few h.1.1.0 h.1.1.1.0 i ∷ []
-four_joined w _ len few h = absurd (omega arith)
+four_joined n w (a ∷ b ∷ c ∷ d ∷ []) len few h = λ i. pair_joined n w a b few h.0 h.1.0 i ∷ pair_joined n w c d few h.1.1.0 h.1.1.1.0 i ∷ []
+four_joined n w _ len few h = absurd (omega arith)
 
 -- and of eight
-pub eight_joined : (w : ℕ) (xs : List ℕ) → length xs ≡ 8 → w ≤ 28 → Each1 (λ x. x < 2 ^ w) xs →
-    bit_or (get_or (xs ++ xs) 0 0 * 2 ^ w % 2 ^ 64) (get_or (xs ++ xs) 1 0) ∷ bit_or (get_or (xs ++ xs) 2 0 * 2 ^ w % 2 ^ 64) (get_or (xs ++ xs) 3 0)
-    ∷ bit_or (get_or (xs ++ xs) 4 0 * 2 ^ w % 2 ^ 64) (get_or (xs ++ xs) 5 0) ∷ bit_or (get_or (xs ++ xs) 6 0 * 2 ^ w % 2 ^ 64) (get_or (xs ++ xs) 7 0) ∷ []
+pub eight_joined : (n w : ℕ) (xs : List ℕ) → length xs ≡ 8 → w + w ≤ n → Each1 (λ x. x < 2 ^ w) xs →
+    bit_or (get_or (xs ++ xs) 0 0 * 2 ^ w % 2 ^ n) (get_or (xs ++ xs) 1 0) ∷ bit_or (get_or (xs ++ xs) 2 0 * 2 ^ w % 2 ^ n) (get_or (xs ++ xs) 3 0)
+    ∷ bit_or (get_or (xs ++ xs) 4 0 * 2 ^ w % 2 ^ n) (get_or (xs ++ xs) 5 0) ∷ bit_or (get_or (xs ++ xs) 6 0 * 2 ^ w % 2 ^ n) (get_or (xs ++ xs) 7 0) ∷ []
     ≡ joined_in_pairs w xs
-eight_joined w (a ∷ b ∷ c ∷ d ∷ e ∷ f ∷ g ∷ k ∷ []) len few h =
-    λ i. pair_joined w a b few h.0 h.1.0 i ∷ pair_joined w c d few h.1.1.0 h.1.1.1.0 i ∷ pair_joined w e f few h.1.1.1.1.0 h.1.1.1.1.1.0 i
-    ∷ pair_joined w g k few h.1.1.1.1.1.1.0 h.1.1.1.1.1.1.1.0 i ∷ []
-eight_joined w _ len few h = absurd (omega arith)
+eight_joined n w (a ∷ b ∷ c ∷ d ∷ e ∷ f ∷ g ∷ k ∷ []) len few h =
+    λ i. pair_joined n w a b few h.0 h.1.0 i ∷ pair_joined n w c d few h.1.1.0 h.1.1.1.0 i ∷ pair_joined n w e f few h.1.1.1.1.0 h.1.1.1.1.1.0 i
+    ∷ pair_joined n w g k few h.1.1.1.1.1.1.0 h.1.1.1.1.1.1.1.0 i ∷ []
+eight_joined n w _ len few h = absurd (omega arith)
 
 -- two numbers of at most 28 digits are joined without a wrap
 pub joined_digits : (width : ℕ) (numbers : List ℕ) → length numbers ≡ 2 → width ≤ 28 → Each1 (λ v. v < 2 ^ width) numbers

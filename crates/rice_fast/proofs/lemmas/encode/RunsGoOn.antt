@@ -1,5 +1,5 @@
 -- A block of the sample before, again and again, which goes on a run of zero blocks.
-use Rattle.std.proofs.Common.{◌≡◌, ℕ, zero, suc, ◌+◌, ◌*◌, ◌<◌, ◌≤◌, ◌^◌, ◌==◌, Bool, true, false, ◌&&◌, cond, List, [], ◌∷◌, ◌++◌, length, ap, refl, sym, arith, ◌∙◌, append-nil, replicate, ℤ}
+use Rattle.std.proofs.Common.{◌≡◌, ℕ, ◌+◌, ◌*◌, ◌<◌, ◌≤◌, ◌^◌, ◌==◌, Bool, true, false, ◌&&◌, cond, List, [], ◌++◌, length, ap, refl, sym, arith, ◌∙◌, append-nil, replicate, ℤ}
 use Rattle.std.proofs.lemmas.Bool.Decides.{nat_tests}
 use Rattle.std.proofs.lemmas.List.Elements.{All-replicate}
 use Rattle.rice_samples.specs.Parameters.{Parameters, IsSample, value_at, value_count, width}

@@ -8,8 +8,7 @@ returns-clause-best c = λ yes.
     let b = c.args.block.now in
     let len = c.len-size.ensures.value ∙ ap length c.residuals.ensures in
     last_is_best s b c.requires.sound (omega (arith, len, c.len-size.ensures.range))
-    (so_large s b len c.coded_len-coded.ensures.value c.k_max.ensures.value c.requires.whole
-    (omega (arith, c.len-size.ensures.range)) c.coded_len-coded.ensures.limit c.k_max.ensures.range.1 yes)
+    (so_large s b len c.coded_len-coded.ensures.value c.k_max-limit.ensures.value c.requires.whole (c.digits_above-digits.ensures.above c.k_max-limit.result (omega (arith, c.if-digits-limit.false))))
 
 pub returns-clause-costs : goal.returns-clause-costs
 returns-clause-costs c = λ yes.
@@ -17,5 +16,4 @@ returns-clause-costs c = λ yes.
     let b = c.args.block.now in
     let len = c.len-size.ensures.value ∙ ap length c.residuals.ensures in
     split_is_not_shorter s b c.requires.sound c.bits-bits.ensures.legal.bits_to (omega (arith, len, c.len-size.ensures.range))
-    (so_large s b len c.coded_len-coded.ensures.value c.k_max.ensures.value c.requires.whole
-    (omega (arith, c.len-size.ensures.range)) c.coded_len-coded.ensures.limit c.k_max.ensures.range.1 yes)
+    (so_large s b len c.coded_len-coded.ensures.value c.k_max-limit.ensures.value c.requires.whole (c.digits_above-digits.ensures.above c.k_max-limit.result (omega (arith, c.if-digits-limit.false))))

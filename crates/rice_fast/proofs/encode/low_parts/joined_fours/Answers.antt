@@ -1,7 +1,7 @@
-use Rattle.std.proofs.Common.{◌^◌, ◌<◌}
+use Rattle.std.proofs.Common.{◌^◌, ◌<◌, arith}
 use Rattle.rice_fast.proofs.lemmas.encode.JoinedSequences.{each_of}
 use Rattle.rice_fast.proofs.lemmas.encode.LowParts.{four_joined}
 use Rattle.rice_fast.proofs.encode.low_parts.joined_fours.Goals as goal
 
 pub returns-clause-value : goal.returns-clause-value
-returns-clause-value c = four_joined c.args.width c.args.pairs c.requires.lanes c.requires.width (each_of (λ v. v < 2 ^ c.args.width) c.args.pairs c.requires.fit)
+returns-clause-value c = four_joined 64 c.args.width c.args.pairs c.requires.lanes (omega (arith, c.requires.width)) (each_of (λ v. v < 2 ^ c.args.width) c.args.pairs c.requires.fit)

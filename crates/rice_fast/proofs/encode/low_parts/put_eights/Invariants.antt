@@ -2,7 +2,7 @@ use Rattle.std.proofs.Common.{◌*◌, ◌≤◌}
 use Rattle.std.specs.Prelude.{flat_map, slice_range}
 use Rattle.rice_bits.specs.Bits.{word}
 use Rattle.rice_code.specs.encode.BitBuffer.{AddsBits}
-use Rattle.rice_fast.proofs.encode.low_parts.put_low.Given as goal
+use Rattle.rice_fast.proofs.encode.low_parts.put_eights.Given as goal
 
 abbrev pub invariant-loop-i : goal.invariant-loop-i
 invariant-loop-i g l = record {
