@@ -22,10 +22,9 @@ pub fn bytes_in_turn(greatest: u32, p: u32, ranks: Bytes) -> Bytes
     let all = ranks.lanes.to_array();
     let ways = near_ways(ranks).lanes.to_array();
     let half_ranks = half_ranks(ranks).lanes.to_array();
-    let highs = distances_below(greatest, ranks).lanes.to_array();
     if !last_eight_are_zeros(ranks) {
         let mut numbers = [0; 16];
-        write_selected::<Bytes, 16>(greatest, p, &all, &ways, &half_ranks, &highs, &mut numbers);
+        write_selected::<Bytes, 16>(greatest, p, &all, &ways, &half_ranks, &mut numbers);
         return Bytes::of(u8x16::from_array(numbers));
     }
     let mut first = [0; 8];
@@ -35,7 +34,6 @@ pub fn bytes_in_turn(greatest: u32, p: u32, ranks: Bytes) -> Bytes
         &all[..8],
         &ways[..8],
         &half_ranks[..8],
-        &highs[..8],
         &mut first,
     );
     let mut numbers = [last as u8; 16];
@@ -79,10 +77,9 @@ pub fn halves_in_turn(greatest: u32, p: u32, ranks: Halves) -> Halves
     }
     let ways = near_ways(ranks).lanes.to_array();
     let half_ranks = half_ranks(ranks).lanes.to_array();
-    let highs = distances_below(greatest, ranks).lanes.to_array();
     let all = ranks.lanes.to_array();
     let mut numbers = [0; 8];
-    write_selected::<Halves, 8>(greatest, p, &all, &ways, &half_ranks, &highs, &mut numbers);
+    write_selected::<Halves, 8>(greatest, p, &all, &ways, &half_ranks, &mut numbers);
     Halves::of(u16x8::from_array(numbers))
 }
 
@@ -96,10 +93,9 @@ pub fn words_in_turn(greatest: u32, p: u32, ranks: Words) -> Words
 {
     let ways = near_ways(ranks).lanes.to_array();
     let half_ranks = half_ranks(ranks).lanes.to_array();
-    let highs = distances_below(greatest, ranks).lanes.to_array();
     let all = ranks.lanes.to_array();
     let mut numbers = [0; 8];
-    write_selected::<Words, 8>(greatest, p, &all, &ways, &half_ranks, &highs, &mut numbers);
+    write_selected::<Words, 8>(greatest, p, &all, &ways, &half_ranks, &mut numbers);
     Words::of(u32x8::from_array(numbers))
 }
 
@@ -111,19 +107,9 @@ fn half_ranks<L: Lanes>(ranks: L) -> L
     ranks.half().plus(ranks.and(L::splat(1)))
 }
 
-/// Returns how far each rank is below `greatest`.
-#[inline(always)]
-fn distances_below<L: Lanes>(greatest: u32, ranks: L) -> L
-    requires greatest { greatest < 2 ^ L.bits }
-    requires ranks { All (λ d. d ≤ greatest) (L.numbers ranks) }
-    ensures { L.numbers result ≡ map (λ d. greatest - d) (L.numbers ranks) }
-{
-    L::splat(greatest).minus(ranks)
-}
-
 /// Writes `N` numbers up to `greatest` with these ranks: the first from `p`, and each other from the one before it. Of each rank there
-/// are the way to a number that is near, half of it, and how far it is below `greatest`. Returns the last number. It is never inlined:
-/// in a loop, branches would be made of its selections.
+/// are the way to a number that is near, and half of it. Returns the last number. It is never inlined: in a loop, branches would be made
+/// of its selections.
 #[inline(never)]
 fn write_selected<L: Lanes, const N: usize>(
     greatest: u32,
@@ -131,7 +117,6 @@ fn write_selected<L: Lanes, const N: usize>(
     ranks: &[L::Number],
     ways: &[L::Number],
     half_ranks: &[L::Number],
-    highs: &[L::Number],
     numbers: &mut [L::Number],
 ) -> u32
     requires greatest { greatest < 2 ^ L.bits }
@@ -139,7 +124,6 @@ fn write_selected<L: Lanes, const N: usize>(
     requires ranks { All (λ d. d ≤ greatest) (map L.number ranks.now) }
     requires ways { map L.number ways.now ≡ map (way_of (2 ^ L.bits)) (map L.number ranks.now) }
     requires half_ranks { map L.number half_ranks.now ≡ map (λ d. (d + 1) / 2) (map L.number ranks.now) }
-    requires highs { map L.number highs.now ≡ map (λ d. greatest - d) (map L.number ranks.now) }
     requires count { length ranks.now ≡ N }
     requires len { length numbers.old ≡ N }
     ensures len { length numbers.new ≡ N }
@@ -156,7 +140,6 @@ fn write_selected<L: Lanes, const N: usize>(
             L::value(ranks[i]),
             L::widened_way(ways[i]),
             L::value(half_ranks[i]),
-            L::value(highs[i]),
         );
         numbers[i] = L::number_of(number);
     }
@@ -164,22 +147,22 @@ fn write_selected<L: Lanes, const N: usize>(
 }
 
 /// Returns the number up to `greatest` with rank `d` from `p`: `way` away from `p` if it is near, `d` if `p` is too low for that, and
-/// `high` if `p` is too high. Of the rank there is `half` too.
+/// as far below `greatest` if `p` is too high. Of the rank there is `half` too.
 #[inline(always)]
-fn selected(greatest: u32, p: u32, d: u32, way: u32, half: u32, high: u32) -> u32
+fn selected(greatest: u32, p: u32, d: u32, way: u32, half: u32) -> u32
     requires before { p ≤ greatest }
+    requires rank { d ≤ greatest }
     requires way { way ≡ way_of (2 ^ 32) d }
     requires half { half ≡ (d + 1) / 2 }
-    requires high { high + d ≡ greatest }
     ensures fits { result ≤ greatest }
     ensures rank { rank_below (greatest + 1) p result ≡ d }
 {
-    // All are computed, so that the machine selects one and does not branch. They are widened, so that no comparison is with a number that
-    // is loaded for it alone, of which a branch would be made.
+    // All are computed, so that the machine selects one and does not branch. No number is loaded to be selected alone: of a selection
+    // from memory, the compiler makes a branch.
     let near = p.wrapping_add(way);
     let below = if p < half { d } else { near };
-    if p as u64 + half as u64 > greatest as u64 {
-        high
+    if p > greatest - half {
+        greatest - d
     } else {
         below
     }

@@ -12,21 +12,6 @@ use Rattle.rice_samples.proofs.lemmas.predict.RestoredLevels.{ranks_below-append
 use Rattle.std.proofs.lemmas.List.Elements.{All-append, All-head, All-tail}
 use Rattle.std.proofs.Math.Nat.{add-mod_right, mod-eq_of_lt, pow-le-pow_right}
 
--- how far each rank is below the greatest number
-pub lanes_below : (m greatest n : ℕ) (ds : List ℕ) → greatest < m → length ds ≡ n → All (λ d. d ≤ greatest) ds
-    → zip2 (λ a b. (a + (m - b)) % m) (replicate n greatest) ds ≡ map (λ d. greatest - d) ds
-lanes_below m greatest zero [] fits e h = refl
-lanes_below m greatest zero (d ∷ ds) fits e h = absurd (omega arith)
-lanes_below m greatest (suc n) [] fits e h = absurd (omega arith)
-lanes_below m greatest (suc n) (d ∷ ds) fits e h =
-    let one : (greatest + (m - d)) % m ≡ greatest - d = wrapped d (All-head (λ d. d ≤ greatest) d ds h) in
-    let others = lanes_below m greatest n ds fits (omega arith) (All-tail (λ d. d ≤ greatest) d ds h) in
-    λ j. one j ∷ others j
-  where
-    wrapped : (d : ℕ) → d ≤ greatest → (greatest + (m - d)) % m ≡ greatest - d
-    wrapped d below = ap (λ x. x % m) (let e : greatest + (m - d) ≡ greatest - d + m = omega (arith, below, fits) in e)
-        ∙ (add-mod_right (greatest - d) m ∙ mod-eq_of_lt (omega (arith, below, fits)))
-
 -- half of each rank, up
 pub lanes_halved : (m n : ℕ) (ds : List ℕ) → 1 < m → length ds ≡ n → ((i : ℕ) → get_or ds i 0 < m)
     → zip2 (λ a b. (a + b) % m) (map (λ a. a / 2) ds) (zip2 bit_and ds (replicate n 1)) ≡ map (λ d. (d + 1) / 2) ds

@@ -24,15 +24,13 @@ selected-number-requires-clause-half g c =
     made g.L.Lanes.number (λ d. (d + 1) / 2) c.args.ranks.now c.args.half_ranks.now c.loop-i.i c.index-ranks-i.result c.index-half_ranks-i.result
     (omega (arith, c.loop-i-test.true, c.requires.count)) c.index-ranks-i.is c.value.ensures c.index-half_ranks-i.is c.value-in-loop-i.ensures c.requires.half_ranks
 
-pub selected-number-requires-clause-high : goal.selected-number-requires-clause-high
-selected-number-requires-clause-high g c =
+pub selected-number-requires-clause-rank : goal.selected-number-requires-clause-rank
+selected-number-requires-clause-rank g c =
     let f = g.L.Lanes.number in
     let ranks = c.args.ranks.now in
     let inside : c.loop-i.i < length ranks = omega (arith, c.loop-i-test.true, c.requires.count) in
-    let is = made f (λ d. c.args.greatest - d) ranks c.args.highs.now c.loop-i.i c.index-ranks-i.result c.index-highs-i.result inside c.index-ranks-i.is c.value.ensures c.index-highs-i.is
-    c.value-in-loop-i-2.ensures c.requires.highs in
     let here = element f ranks c.loop-i.i c.index-ranks-i.result inside c.index-ranks-i.is c.value.ensures in
-    omega (arith, is, here, c.requires.ranks c.loop-i.i 0 (omega (arith, inside, length-map ranks f)))
+    omega (arith, here, c.requires.ranks c.loop-i.i 0 (omega (arith, inside, length-map ranks f)))
 
 pub loop-i-preserved : goal.loop-i-preserved
 loop-i-preserved g c =
