@@ -11,10 +11,13 @@ pub struct TestPlan<'a> {
     pub source: &'a str,
 }
 
+/// The name of the option that requests a test.
+const TEST: &str = "test";
+
 /// Why a parsed command line of a test is refused.
 #[derive(Clone, Copy, Debug, PartialEq, Eq, Error)]
 pub enum TestFault {
-    #[error("--test takes no DEST")]
+    #[error("--{option} takes no DEST", option = TEST)]
     WithDest,
     #[error("option value cannot be read")]
     Unreadable,
