@@ -23,6 +23,7 @@ TOP = """# What a reader trusts
 Each promise is a contract, and a contract names definitions. The tables list, by file, the definitions that the contracts of `encode` and
 `decode` ([encoding.rt](../crates/rice_stream/src/encoding.rt), [decoding.rt](../crates/rice_stream/src/decoding.rt)) name, and all
 definitions that these use. To trust these contracts, read the definitions, and [PROOFS.md](PROOFS.md#what-is-trusted) on the toolchain.
+Read also `Report` and `Fault` (`outcome.rt`), and the ghosts of devices (`device.rt`).
 No other line of `specs/` or `proofs/` changes what the contracts mean. The toolchain defines `length`, `take`, `All` and similar words.
 """
 
