@@ -16,7 +16,7 @@ LIBRARY_CODES ?= 1000000
 .PHONY: help library small compat python install install-command install-library install-documents install-compat uninstall check clean dist release deb released two-builds test edit rows hostile interop exhaustive any-block refused-memory installed recipes documents options guesses vectors pictures imports lemmas progress bench-others bench examples stack small-sizes compare-small header axioms hostile-library hostile-pulls clients hostile-compat python-tests aarch64 bench-compat wrappers trusted plant
 
 help:
-	@echo 'make aec                    prove and build the program, as ./aec (some fifteen minutes the first time)'
+	@echo 'make aec                    prove and build the program, as ./aec (some twenty minutes the first time)'
 	@echo 'make library                prove and build the library for C, as ./librice.a and ./librice.so (as long)'
 	@echo 'make library TARGET=aarch64-unknown-linux-gnu   the same for another processor, in out/TARGET'
 	@echo 'make small                  prove and build the small library for C, as ./librice_small.a (with TARGET=.. too)'
