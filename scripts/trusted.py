@@ -20,11 +20,12 @@ TOP = """# What a reader trusts
 
 `scripts/trusted.py --write` makes this page, and `scripts/trusted.py` compares it with the sources.
 
-Each promise is a contract, and a contract names definitions. The tables list, by file, the definitions that the contracts of `encode` and
-`decode` ([encoding.rt](../crates/rice_stream/src/encoding.rt), [decoding.rt](../crates/rice_stream/src/decoding.rt)) name, and all
-definitions that these use. To trust these contracts, read the definitions, and [PROOFS.md](PROOFS.md#what-is-trusted) on the toolchain.
-Read also `Report` and `Fault` (`outcome.rt`), and the ghosts of devices (`device.rt`).
-No other line of `specs/` or `proofs/` changes what the contracts mean. The toolchain defines `length`, `take`, `All` and similar words.
+The contracts of `encode` and `decode` ([encoding.rt](../crates/rice_stream/src/encoding.rt),
+[decoding.rt](../crates/rice_stream/src/decoding.rt)) name definitions. The tables list, by file, these definitions and all others on which
+they depend. To trust both contracts, read these definitions, and [PROOFS.md](PROOFS.md#what-is-trusted) on the toolchain.
+Read also the types `Report` and `Fault` (`rice_stream/src/outcome.rt`), and the `ghost` lines of the traits of devices
+(`rice_bits/src/device.rt`). No other line of `specs/` or `proofs/` changes what both contracts mean. The toolchain defines `length`,
+`take`, `All` and similar words.
 """
 
 
