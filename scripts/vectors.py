@@ -80,7 +80,9 @@ def taken_by(vector, theirs):
     back, _ = run(theirs, ["-d", *vector.words()], vector.path("code"))
     if (back or b"")[: len(samples)] != samples:
         return "no"
-    again = run(theirs, vector.words(), vector.path("samples"))[0] if vector.does == "both" else None
+    if vector.does != "both":
+        return "reads"
+    again, _ = run(theirs, vector.words(), vector.path("samples"))
     return "both" if len(again or b"") == len(code) else "reads"
 
 
