@@ -259,7 +259,7 @@ def others():
     panels[0].set_yticks(range(len(tools)), [row[0] for row in tools])
     panels[0].invert_yaxis()
     panels[0].set_xlabel("size, in percent of the samples; shorter is better")
-    panels[0].set_xlim(0, 155)
+    panels[0].set_xlim(0, 175)
     panels[0].legend(fontsize=9, loc="upper right")
     for row in (row for row in tools if row[-1]):
         there, back = number(row[-2]), number(row[-1])
