@@ -2,4 +2,6 @@
 
 pub(crate) mod digits;
 pub(crate) mod eight_bytes;
+mod put_words;
 pub mod sink;
+mod whole_words;

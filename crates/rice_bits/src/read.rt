@@ -1,5 +1,6 @@
 //! Reads the bits of an intake's bytes, as words and fundamental sequences.
 
+mod ahead;
 pub mod fault;
 pub mod reader;
 pub(crate) mod window;

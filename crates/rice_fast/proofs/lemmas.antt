@@ -10,3 +10,4 @@ pub mod Pairs
 pub mod Residuals
 pub mod Rows
 pub mod WordsOneByOne
+pub mod ahead

@@ -5,3 +5,4 @@ pub mod FieldsAhead
 pub mod encode
 pub mod PartsOfResiduals
 pub mod RowsAhead
+pub mod ahead

@@ -6,6 +6,7 @@ ghost use Rattle.rice_samples.specs.predict.Residuals.{pattern};
 ghost use Rattle.rice_fast.specs.BlocksAhead.{SpelledAhead};
 ghost use Rattle.rice_fast.specs.CopiedBlocks.{IsCopied, WordsAhead, copied_bits};
 
+use crate::ahead::{first_number_ahead, number_ahead, words_ahead};
 use crate::one_pass::WrittenBlock;
 use crate::vectors::bytes_of_patterns;
 use rice_bits::{BitReader, Intake};
@@ -88,7 +89,7 @@ fn is_copied_ahead<I: Intake, const WIDTH: usize>(
     if reader.buffered() < copied_len::<WIDTH>(setting, size) as u64 + AFTER {
         return false;
     }
-    reader.first_number_ahead(known_id_len::<WIDTH>(setting) as u32) == known_id::<WIDTH>(setting)
+    first_number_ahead(reader, known_id_len::<WIDTH>(setting) as u32) == known_id::<WIDTH>(setting)
 }
 
 /// Writes the bytes of the samples of the next block, of `size` samples, which is not compressed. It takes nothing, and may write up to
@@ -109,7 +110,7 @@ fn write_copied_ahead<I: Intake, const WIDTH: usize>(
     let count = block_bytes::<WIDTH>(setting, size);
     let head = known_id_len::<WIDTH>(setting);
     for i in 0..(count + 15) / 16 {
-        let patterns = reader.words_ahead(head + 128 * i, 8);
+        let patterns = words_ahead(reader, head + 128 * i, 8);
         let spelled = bytes_of_patterns::<WIDTH>(setting, patterns);
         spelled.copy_to_slice(&mut bytes[16 * i..]);
     }
@@ -132,7 +133,7 @@ fn last_copied<I: Intake, const WIDTH: usize>(
         reader.now.buffered) }
 {
     let before = known_id_len::<WIDTH>(setting) + 8 * (block_bytes::<WIDTH>(setting, size) - WIDTH);
-    level_of_pattern(setting, reader.number_ahead(before, 8 * WIDTH as u32))
+    level_of_pattern(setting, number_ahead(reader, before, 8 * WIDTH as u32))
 }
 
 /// Writes the bytes of the buffered block of `size` samples, if its samples are not predicted, use all bits of `WIDTH` bytes, and are not

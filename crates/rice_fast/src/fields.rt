@@ -6,6 +6,7 @@ ghost use Rattle.rice_samples.specs.Places.{is_reference};
 ghost use Rattle.rice_fast.specs.BlocksAhead.{HasBits};
 ghost use Rattle.rice_fast.specs.FieldsAhead.{AreFields, HeadAhead};
 
+use crate::ahead::{first_number_ahead, number_ahead};
 use crate::high_parts::high_parts_ahead;
 use crate::lanes::SampleLanes;
 use crate::pairs::pairs_ahead;
@@ -69,7 +70,7 @@ fn head_ahead<I: Intake, const REFERENCE: bool>(
 {
     if REFERENCE {
         let bits = setting.bits();
-        let from = level_of_pattern(setting, reader.number_ahead(skip, bits));
+        let from = level_of_pattern(setting, number_ahead(reader, skip, bits));
         return Head {
             from,
             omitted: 1,
@@ -105,7 +106,7 @@ pub fn fields_ahead<L: SampleLanes, I: Intake, const SIZE: usize, const REFERENC
     if reader.buffered() < LOOK {
         return None;
     }
-    let id = reader.first_number_ahead(L::ID_LEN);
+    let id = first_number_ahead(reader, L::ID_LEN);
     if id == 0 {
         return pair_fields_ahead::<L, I, SIZE, REFERENCE>(
             setting, size, block, before, reader, highs,
@@ -209,7 +210,7 @@ fn pair_fields_ahead<L: SampleLanes, I: Intake, const SIZE: usize, const REFEREN
 {
     let _taken = reader.taken();
     let _block = setting.block();
-    let bit = reader.number_ahead(L::ID_LEN as usize, 1);
+    let bit = number_ahead(reader, L::ID_LEN as usize, 1);
     if bit == 0 {
         return None;
     }

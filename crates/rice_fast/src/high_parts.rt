@@ -2,9 +2,11 @@
 ghost use Rattle.std.specs.Prelude.{◌≡◌, ◌+◌, ◌-◌, ◌*◌, ◌<◌, ◌≤◌, ◌++◌, IfSome, length, take};
 ghost use Rattle.rice_fast.specs.FieldsAhead.{HighsAhead, rows_len};
 
+use crate::ahead::sequences::Sequences;
+use crate::ahead::sequences_ahead;
 use crate::rows::placed;
 use crate::vectors::Bytes;
-use rice_bits::{BitReader, Intake, Sequences};
+use rice_bits::{BitReader, Intake};
 use std::simd::prelude::*;
 
 /// Returns the number of samples of row `row` of a block of `size` samples.
@@ -71,7 +73,7 @@ fn high_parts_of_row_ahead<I: Intake>(
     if reader.buffered() < skip as u64 + 64 {
         return None;
     }
-    let sequences = reader.sequences_ahead(skip, bytes, count - omitted)?;
+    let sequences = sequences_ahead(reader, skip, bytes, count - omitted)?;
     let row = placed(Bytes::of(sequences.numbers), omitted, count);
     Some(Sequences {
         numbers: row.lanes,

@@ -3,6 +3,7 @@
 //! is left to the plain core: blocks that the pass leaves, and the code of blocks of fewer than eight samples.
 #![tactic(auto)]
 
+mod ahead;
 mod copied_blocks;
 pub mod encode;
 pub mod fields;

@@ -7,3 +7,4 @@ pub mod WordsReadInOneWay
 pub mod FieldsAtFront
 pub mod WordsAndNumbers
 pub mod SinkBytes
+pub mod WholeWords

@@ -5,7 +5,7 @@ use Rattle.std.proofs.Math.Seq.{take-add, take-append-add}
 use Rattle.std.proofs.lemmas.Grind.{flat_map-append}
 use Rattle.std.proofs.lemmas.List.{drop-append-le, drop-drop, length-take-le, take-append-le}
 use Rattle.rice_bits.specs.Bits.{word, fundamental_sequence}
-use Rattle.rice_bits.specs.fast.lanes.Sequences.{BeginWithSequences}
+use Rattle.rice_fast.specs.ahead.Sequences.{BeginWithSequences}
 use Rattle.rice_samples.specs.Parameters.{Parameters, value_at, value_count}
 use Rattle.rice_samples.specs.Places.{is_reference}
 use Rattle.rice_samples.specs.predict.Residuals.{pattern}

@@ -10,7 +10,7 @@ use Rattle.std.proofs.lemmas.List.{drop-append-le, drop-replicate, get_or-take, 
 use Rattle.std.proofs.lemmas.List.Elements.{All-append, All-cons, All-nil, All-replicate, All-take}
 use Rattle.rice_bits.specs.Bits.{word}
 use Rattle.rice_bits.specs.read.JoinedParts.{joined_parts}
-use Rattle.rice_bits.proofs.lemmas.read.WindowLemmas.{words-front}
+use Rattle.rice_fast.proofs.lemmas.ahead.WordsInTurn.{words-front}
 use Rattle.rice_samples.specs.Parameters.{Parameters, value_at, value_count, values_at, width}
 use Rattle.rice_samples.specs.bytes.Spelling.{spelling, spellings}
 use Rattle.rice_samples.specs.predict.Residuals.{last_number, pattern, ranks_below}

@@ -2,6 +2,7 @@
 ghost use Rattle.std.proofs.Common.{rules};
 ghost use Rattle.rice_samples.proofs.lemmas.setting.BitsOfLanes.{byte_id, byte_splits, byte_row};
 
+use crate::ahead::words_ahead;
 use crate::lanes::SampleLanes;
 use crate::vectors::{Bytes, bytes_in_turn, spelled_in_one_byte};
 use rice_bits::{BitReader, Intake};
@@ -41,7 +42,7 @@ impl SampleLanes for Bytes {
 
     #[inline(always)]
     fn words_ahead<I: Intake>(reader: &BitReader<I>, skip: usize, width: u32) -> Self {
-        Bytes::of(reader.words_ahead(skip, width))
+        Bytes::of(words_ahead(reader, skip, width))
     }
 
     #[inline(always)]

@@ -2,6 +2,7 @@
 ghost use Rattle.std.proofs.Common.{rules};
 ghost use Rattle.rice_samples.proofs.lemmas.setting.BitsOfLanes.{half_id, half_splits, half_row};
 
+use crate::ahead::{eight_words_ahead, wide_words_ahead};
 use crate::lanes::SampleLanes;
 use crate::vectors::{Halves, halves_in_turn, spelled_in_two_bytes};
 use rice_bits::{BitReader, Intake};
@@ -44,9 +45,9 @@ impl SampleLanes for Halves {
     #[inline(always)]
     fn words_ahead<I: Intake>(reader: &BitReader<I>, skip: usize, width: u32) -> Self {
         if width <= MOST_OF_ONE_LOAD {
-            return Halves::of(reader.eight_words_ahead(skip, width));
+            return Halves::of(eight_words_ahead(reader, skip, width));
         }
-        Halves::of(reader.wide_words_ahead(skip, width).cast::<u16>())
+        Halves::of(wide_words_ahead(reader, skip, width).cast::<u16>())
     }
 
     #[inline(always)]

@@ -4,6 +4,7 @@ ghost use Rattle.std.proofs.Common.{rules};
 ghost use Rattle.rice_bits.specs.Bits.{word};
 ghost use Rattle.rice_samples.proofs.lemmas.setting.BitsOfLanes.{word_id, word_splits, word_row};
 
+use crate::ahead::{number_ahead, wide_words_ahead};
 use crate::lanes::SampleLanes;
 use crate::vectors::{Words, spelled_in_four_bytes, spelled_in_three_bytes, words_in_turn};
 use rice_bits::{BitReader, Intake};
@@ -30,7 +31,7 @@ fn words_one_by_one<I: Intake>(reader: &BitReader<I>, skip: usize, width: u32) -
     let _taken = reader.taken();
     let mut words = [0; 8];
     for i in 0..8 {
-        words[i] = reader.number_ahead(skip + i * width as usize, width);
+        words[i] = number_ahead(reader, skip + i * width as usize, width);
     }
     Words::of(u32x8::from_array(words))
 }
@@ -65,7 +66,7 @@ impl SampleLanes for Words {
         if width == 0 || width > MOST_IN_LANES {
             return words_one_by_one(reader, skip, width);
         }
-        Words::of(reader.wide_words_ahead(skip, width))
+        Words::of(wide_words_ahead(reader, skip, width))
     }
 
     #[inline(always)]

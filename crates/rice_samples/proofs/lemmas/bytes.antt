@@ -4,6 +4,7 @@ pub mod LevelsSpelledInByteLanes
 pub mod ReadSamples
 pub mod LevelPatterns
 pub mod LevelsInLanes
+pub mod NumbersInLanes
 pub mod SamplesInTurn
 pub mod UnusedBits
 pub mod SpellingLemmas

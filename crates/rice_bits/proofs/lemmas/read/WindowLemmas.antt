@@ -2,7 +2,6 @@
 use Rattle.std.proofs.Common.{◌≡◌, ℕ, zero, suc, inl, inr, ◌+◌, ◌-◌, ◌*◌, ◌/◌, ◌%◌, ◌^◌, ◌<◌, ◌≤◌, ◌≢◌, Bool, true, false}
 use Rattle.std.proofs.Common.{List, [], ◌∷◌, ◌++◌, length, take, drop, replicate, length-append, refl, sym, ◌∙◌, ap, arith, take-take, append_assoc}
 use Rattle.std.specs.Prelude.{flat_map, slice_range, ◌==◌, ◌&&◌}
-use Rattle.std.proofs.lemmas.Grind.{flat_map-append}
 use Rattle.rice_bits.specs.read.Reader.{is_blank}
 use Rattle.rice_bits.proofs.lemmas.read.BlankBits.{blank-append, blank-word}
 use Rattle.std.specs.Int.{to_be_bytes, w64}
@@ -10,9 +9,10 @@ use Rattle.std.proofs.Math.Seq.{drop-append_seam, take-add, take-append_seam}
 use Rattle.std.proofs.lemmas.Bool.{cases_lt}
 use Rattle.std.proofs.lemmas.Bool.Decides.{nat_tests}
 use Rattle.std.proofs.lemmas.List.{drop-drop, drop-take, length-drop, length-replicate, length-take-le}
-use Rattle.std.proofs.lemmas.List.{replicate-append-replicate, take-append-drop, take-append-le, take-replicate, take_at}
+use Rattle.std.proofs.lemmas.List.{replicate-append-replicate, take-append-drop, take-append-le, take-replicate, take_all}
 use Rattle.rice_bits.specs.Bits.{fundamental_sequence, word, bits_of}
-use Rattle.rice_bits.specs.read.Window.{IsWindow, Passes, bits_near, most_buffered, window_bits, window_passed}
+use Rattle.rice_bits.specs.read.Ahead.{AreBitsFrom}
+use Rattle.rice_bits.specs.read.Window.{IsWindow, Passes, bits_near, window_bits, window_passed}
 use Rattle.rice_bits.specs.declared.read.window.Window.{Window}
 use Rattle.rice_bits.proofs.lemmas.bits.BytesAndBits.{bits_of-append, bits_of-zeros, length-bits_of}
 use Rattle.rice_bits.proofs.lemmas.bits.EightBytes.{bits_of-eight}
@@ -76,10 +76,6 @@ pub length-window : (w : Window) → IsWindow w → length (window_bits w) ≡ w
 unfolding window_bits
 length-window w h =
     length-take-le (w.end - w.at) (drop w.at (bits_of w.buffer)) (omega (arith, length-drop w.at (bits_of w.buffer), length-bits_of w.buffer, h.size, h.fits))
-
--- so bits that are buffered after others stand before its end, which its buffer holds
-pub place_ahead : {w : Window} {buffered : List Bool} (skip n : ℕ) → IsWindow w → window_bits w ≡ buffered → skip + n ≤ length buffered → (w.at + skip + n ≤ w.end) × (w.end ≤ most_buffered)
-place_ahead {w} skip n h buffered there = (omega (arith, ap length buffered, there, length-window w h, h.ordered), h.fits)
 
 -- a window of which bits were taken
 pub window-moved : (w : Window) (at : ℕ) → IsWindow w → w.at ≤ at → at ≤ w.end → IsWindow (record w { at = at })
@@ -207,37 +203,13 @@ pub length-words : (width : ℕ) (xs : List ℕ) → length (flat_map (word widt
 length-words width [] = omega arith
 length-words width (x ∷ xs) = omega (arith, length-append (word width x) (flat_map (word width) xs), length-word width x, length-words width xs)
 
--- words that were read from a place on, and words after them
-pub record WordsInTurn (width : ℕ) (bits : List Bool) (from at m k : ℕ) (xs ys : List ℕ) : Type 0 where
-  pub place : at ≡ from + m * width
-  pub front : flat_map (word width) xs ≡ take (m * width) (drop from bits)
-  pub after : flat_map (word width) ys ≡ take (k * width) (drop at bits)
-
--- words, and those after them
-pub words-joined : (width : ℕ) (bits : List Bool) (from : ℕ) {at : ℕ} (m k : ℕ) (xs ys : List ℕ) → WordsInTurn width bits from at m k xs ys
-    → flat_map (word width) (xs ++ ys) ≡ take ((m + k) * width) (drop from bits)
-words-joined width bits from m k xs ys both =
-    let n : m * width + k * width ≡ (m + k) * width = grind arith in
-    let rest : flat_map (word width) ys ≡ take (k * width) (drop (m * width) (drop from bits)) =
-    both.after ∙ ap (take (k * width)) (ap (λ a. drop a bits) both.place ∙ sym (drop-drop (m * width) from bits)) in
-    flat_map-append (word width) xs ys ∙ ((λ j. both.front j ++ rest j) ∙ (sym (take-add (m * width) (k * width) (drop from bits)) ∙ ap (λ a. take a (drop from bits)) n))
-
--- the first of some words are spelled by the first digits of all
-pub words-front : (width n : ℕ) (xs : List ℕ) → n ≤ length xs → flat_map (word width) (take n xs) ≡ take (n * width) (flat_map (word width) xs)
-words-front width n xs h =
-    let front = flat_map (word width) (take n xs) in
-    let len : length front ≡ n * width = length-words width (take n xs) ∙ ap (λ k. k * width) (length-take-le n xs h) in
-    let both : flat_map (word width) xs ≡ front ++ flat_map (word width) (drop n xs) = ap (flat_map (word width)) (sym (take-append-drop n xs))
-    ∙ flat_map-append (word width) (take n xs) (drop n xs) in
-    sym (ap (take (n * width)) both ∙ take_at front (flat_map (word width) (drop n xs)) (n * width) len)
-
 -- the first bits that are buffered
 pub front-buffered : (w : Window) (n : ℕ) → n ≤ w.end - w.at → take n (window_bits w) ≡ take n (drop w.at (bits_of w.buffer))
 unfolding window_bits
 front-buffered w n h = take-take n (w.end - w.at) (drop w.at (bits_of w.buffer)) h
 
 -- bits that are buffered after others
-pub part-buffered : (w : Window) (skip n : ℕ) → IsWindow w → skip + n ≤ length (window_bits w) → take n (drop skip (window_bits w)) ≡ take n (drop (w.at + skip) (bits_of w.buffer))
+part-buffered : (w : Window) (skip n : ℕ) → IsWindow w → skip + n ≤ length (window_bits w) → take n (drop skip (window_bits w)) ≡ take n (drop (w.at + skip) (bits_of w.buffer))
 unfolding window_bits
 part-buffered w skip n h there =
     let bits = bits_of w.buffer in
@@ -247,19 +219,18 @@ part-buffered w skip n h there =
     ap (λ k. take n (drop skip (take k (drop w.at bits)))) (sym room)
     ∙ (ap (take n) (drop-take skip (all - skip) (drop w.at bits)) ∙ (take-take n (all - skip) (drop skip (drop w.at bits)) (omega (arith, there, len)) ∙ ap (take n) (drop-drop skip w.at bits)))
 
--- and so they stand in the buffer
-pub as_buffered : {w : Window} {buffered : List Bool} (skip n : ℕ) → IsWindow w → window_bits w ≡ buffered → skip + n ≤ length buffered
-    → take n (drop (w.at + skip) (bits_of w.buffer)) ≡ take n (drop skip buffered)
-as_buffered {w} skip n h buffered there = sym (part-buffered w skip n h (omega (arith, ap length buffered, there))) ∙ ap (λ bits. take n (drop skip bits)) buffered
-
--- a word after the first digits of a longer one
-pub word-after : (size w s x : ℕ) → s + w ≤ size → word w (x * 2 ^ s % 2 ^ size / 2 ^ (size - w)) ≡ take w (drop s (word size x))
-word-after size w s x h =
-    let front = word s (x / 2 ^ (size - s)) in
-    let rest : drop s (word size x) ≡ word (size - s) x =
-    ap (drop s) (word-parts size s x (omega arith)) ∙ drop-seam front (word (size - s) x) s (length-word s (x / 2 ^ (size - s))) in
-    sym (take-front size w (x * 2 ^ s % 2 ^ size) (omega arith)) ∙ (ap (take w) (word-moved size s x (omega arith))
-    ∙ (take-append-le w (word (size - s) x) (replicate s false) (omega (arith, length-word (size - s) x)) ∙ ap (take w) (sym rest)))
+-- the buffer has the buffered bits after others
+pub ahead_in_buffer : {w : Window} {buffered : List Bool} (skip : ℕ) → IsWindow w → window_bits w ≡ buffered → skip ≤ length buffered → AreBitsFrom w.buffer (w.at + skip) (drop skip buffered)
+ahead_in_buffer {w} {buffered} skip h e there =
+    let bits = drop skip buffered in
+    let n = length bits in
+    let len : skip + n ≡ length buffered = omega (arith, there, length-drop skip buffered) in
+    let all : length buffered ≡ w.end - w.at = ap length (sym e) ∙ length-window w h in
+    record {
+      begin = sym (part-buffered w skip n h (omega (arith, len, ap length e))) ∙ (ap (λ xs. take n (drop skip xs)) e ∙ take_all n bits (omega arith));
+      room = omega (arith, len, all, h.ordered, h.fits, h.size);
+      small = omega (arith, there, all, h.ordered, h.fits);
+    }
 
 -- a part of bits has no 1 where neither of its two parts has
 blank-parts : (bits : List Bool) (a s e : ℕ) → a ≤ s → s ≤ e

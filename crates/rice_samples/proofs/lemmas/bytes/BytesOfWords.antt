@@ -8,9 +8,9 @@ use Rattle.std.proofs.Math.Seq.{take-add}
 use Rattle.std.proofs.lemmas.List.{length-drop, length-reverse, length-take-le, reverse-append, reverse-reverse}
 use Rattle.std.proofs.lemmas.List.Elements.{All-drop, All-take}
 use Rattle.std.proofs.lemmas.List.Sorted.{All-permutation, IsPermutation-reverse}
-use Rattle.rice_bits.proofs.lemmas.fast.lanes.WordsInBytes.{lane-more, number-append, number_below}
 use Rattle.rice_samples.specs.bytes.PatternLanes.{in_order, words_in_order}
 use Rattle.rice_samples.specs.bytes.Spelling.{ordered_bytes}
+use Rattle.rice_samples.proofs.lemmas.bytes.NumbersInLanes.{lane-more, number-append, number_below}
 
 -- a power of 256 is not 0
 pub pow_some : (k : ℕ) → 0 < 256 ^ k

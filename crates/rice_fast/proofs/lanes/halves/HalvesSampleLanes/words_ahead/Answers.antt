@@ -1,7 +1,6 @@
-use Rattle.std.proofs.Common.{◌^◌, ◌<◌, ◌∙◌, ap, subst, sym}
+use Rattle.std.proofs.Common.{◌^◌, ◌<◌, ◌∙◌, ap, map-id, subst, sym}
 use Rattle.std.specs.Prelude.{All, flat_map}
 use Rattle.rice_bits.specs.Bits.{word}
-use Rattle.rice_bits.proofs.lemmas.fast.lanes.WordsInTwoBytes.{map_same}
 use Rattle.rice_fast.proofs.lemmas.LaneLaws.{narrow_enough}
 use Rattle.rice_fast.proofs.lanes.halves.HalvesSampleLanes.words_ahead.Goals as goal
 
@@ -11,9 +10,9 @@ overflow_cast-wide_words_ahead g c = narrow_enough c.args.width c.wide_words_ahe
 pub returns-clause-fit : goal.returns-clause-fit
 returns-clause-fit g c =
     let words = c.wide_words_ahead in
-    subst (All (λ v. v < 2 ^ c.args.width)) (sym (c.of-2.ensures ∙ map_same words.result)) words.ensures.fit
+    subst (All (λ v. v < 2 ^ c.args.width)) (sym (c.of-2.ensures ∙ map-id words.result)) words.ensures.fit
 
 pub returns-clause-bits : goal.returns-clause-bits
 returns-clause-bits g c =
     let words = c.wide_words_ahead in
-    ap (flat_map (word c.args.width)) (c.of-2.ensures ∙ map_same words.result) ∙ words.ensures.bits
+    ap (flat_map (word c.args.width)) (c.of-2.ensures ∙ map-id words.result) ∙ words.ensures.bits

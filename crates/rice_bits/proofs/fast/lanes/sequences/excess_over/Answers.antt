@@ -1,8 +1,0 @@
-use Rattle.std.proofs.Common.{nat_lt, ◌∙◌, ap, w8}
-use Rattle.std.specs.Simd.Lanes.{sel_l, zip2}
-use Rattle.std.proofs.lemmas.Simd.{tops_compared}
-use Rattle.rice_bits.proofs.lemmas.fast.read.EndsAndGapsLemmas.{lanes_above_or_zero, wrapped_sub}
-use Rattle.rice_bits.proofs.fast.lanes.sequences.excess_over.Goals as goal
-
-pub returns : goal.returns
-returns c = ap (λ ms. zip2 wrapped_sub (sel_l ms c.args.b c.args.a) c.args.b) (tops_compared w8 nat_lt c.args.a c.args.b) ∙ lanes_above_or_zero c.args.a c.args.b c.fits-a.1 c.fits-b.1

@@ -1,5 +1,0 @@
-use Rattle.rice_bits.proofs.lemmas.fast.lanes.EndsInLanes.{row_of}
-use Rattle.rice_bits.proofs.fast.lanes.tables_of_ends.row_of_byte_at.Goals as goal
-
-pub returns : goal.returns
-returns c = row_of c.args.place c.args.byte c.requires c.ranges.byte.fits

@@ -1,2 +1,0 @@
--- Words that are joined several at a time.
-pub mod WholeWords

@@ -1,2 +1,0 @@
--- Digits of words, joined several words at a time.
-pub mod WholeWords

@@ -1,2 +1,0 @@
--- Words and fundamental sequences that are taken many at a time.
-pub mod EndsAndGaps

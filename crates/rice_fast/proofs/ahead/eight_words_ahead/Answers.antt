@@ -1,0 +1,11 @@
+use Rattle.std.proofs.Common.{◌*◌, ◌∙◌, arith}
+use Rattle.rice_fast.proofs.lemmas.ahead.BitsAhead.{first-from, there_after}
+use Rattle.rice_fast.proofs.ahead.eight_words_ahead.Goals as goal
+
+pub eight_words_from-requires-clause-room : goal.eight_words_from-requires-clause-room
+eight_words_from-requires-clause-room g c = omega (arith, c.requires.width, c.ahead-at.ensures.room, there_after c.args.skip 128 c.args.reader.now.buffered c.requires.there)
+
+pub returns-clause-bits : goal.returns-clause-bits
+returns-clause-bits g c =
+    c.eight_words_from.ensures.bits
+    ∙ first-from (8 * c.args.width) c.ahead-at.ensures (there_after c.args.skip (8 * c.args.width) c.args.reader.now.buffered (omega (arith, c.requires.there, c.requires.width)))

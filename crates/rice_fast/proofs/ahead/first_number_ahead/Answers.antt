@@ -1,0 +1,30 @@
+use Rattle.std.proofs.Common.{◌-◌, ◌%◌, ◌≤◌, ◌∙◌, ap, arith, drop}
+use Rattle.std.proofs.Math.Nat.{pow-le-pow_right}
+use Rattle.rice_bits.specs.Bits.{bits_of, word}
+use Rattle.rice_bits.proofs.lemmas.bits.FrontsOfWords.{front_below}
+use Rattle.rice_bits.proofs.lemmas.read.WindowLemmas.{first-ahead}
+use Rattle.rice_fast.proofs.lemmas.ahead.BitsAhead.{first-from}
+use Rattle.rice_fast.proofs.ahead.first_number_ahead.Goals as goal
+
+pub at_least_57_bits_from-requires : goal.at_least_57_bits_from-requires
+at_least_57_bits_from-requires g c = omega (arith, c.ahead-at.ensures.room)
+
+pub overflow_cast-result : goal.overflow_cast-result
+overflow_cast-result g c =
+    let few : c.args.width ≤ 64 = omega (arith, c.requires.width) in
+    let below = front_below 64 c.args.width c.at_least_57_bits_from.result few (omega (arith, c.at_least_57_bits_from.type_inv)) in
+    omega (arith, below, c.front_digits.ensures, c.requires.width, pow-le-pow_right {n = 2} (omega arith) {i = c.args.width} {j = 32} c.requires.width)
+
+pub returns-clause-below : goal.returns-clause-below
+returns-clause-below g c =
+    let few : c.args.width ≤ 64 = omega (arith, c.requires.width) in
+    let below = front_below 64 c.args.width c.at_least_57_bits_from.result few (omega (arith, c.at_least_57_bits_from.type_inv)) in
+    omega (arith, below, c.front_digits.ensures)
+
+pub returns-clause-bits : goal.returns-clause-bits
+returns-clause-bits g c =
+    let front = c.at_least_57_bits_from in
+    let at = c.ahead-at.result.1 in
+    ap (word c.args.width) c.front_digits.ensures
+    ∙ (first-ahead (drop at (bits_of c.ahead-at.result.0.now)) c.args.width (64 - at % 8) (at % 8) front.result (omega (arith, c.requires.width)) (omega arith) front.ensures
+    ∙ first-from c.args.width c.ahead-at.ensures (omega (arith, c.requires.width, c.requires.there)))

@@ -1,0 +1,12 @@
+use Rattle.std.proofs.Common.{arith}
+use Rattle.rice_fast.proofs.lemmas.ahead.BitsAhead.{there_after}
+use Rattle.rice_fast.proofs.lemmas.ahead.SequencesAhead.{sequences-from}
+use Rattle.rice_fast.proofs.ahead.sequences_ahead.Goals as goal
+
+pub at_least_57_bits_from-front-requires : goal.at_least_57_bits_from-front-requires
+at_least_57_bits_from-front-requires g c = omega (arith, c.ahead-at.ensures.room)
+
+pub returns : goal.returns
+returns g c =
+    sequences-from c.args.count c.at_least_57_bits_from-front.result c.first_sequences.result c.ahead-at.ensures (there_after c.args.skip 64 c.args.reader.now.buffered c.requires.there)
+    c.at_least_57_bits_from-front.ensures c.first_sequences.ensures.begin
