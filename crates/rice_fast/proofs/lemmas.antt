@@ -11,3 +11,4 @@ pub mod Residuals
 pub mod Rows
 pub mod WordsOneByOne
 pub mod ahead
+pub mod vectors

@@ -2,7 +2,9 @@
 pub mod BlocksAhead
 pub mod CopiedBlocks
 pub mod FieldsAhead
+pub mod LevelsOfParts
 pub mod encode
 pub mod PartsOfResiduals
 pub mod RowsAhead
+pub mod RunningSums
 pub mod ahead

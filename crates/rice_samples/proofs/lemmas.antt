@@ -2,5 +2,4 @@
 pub mod setting
 pub mod bytes
 pub mod predict
-pub mod lanes
 pub mod blocks

@@ -5,7 +5,7 @@ use Rattle.rice_bits.specs.read.Reader.{Reader, Takes}
 use Rattle.rice_samples.specs.Parameters.{Parameters, IsLegal, value_at, values_at, width}
 use Rattle.rice_samples.specs.predict.Residuals.{last_of}
 use Rattle.rice_samples.proofs.lemmas.setting.ValuesAtLevels.{last_value, length-values}
-use Rattle.rice_samples.proofs.lemmas.predict.HalfLanes.{last_is as last_at}
+use Rattle.rice_fast.proofs.lemmas.vectors.HalfLanes.{last_is as last_at}
 use Rattle.rice_code.specs.code.CodedDataSets.{bits_of_set}
 use Rattle.rice_code.specs.code.Layout.{padding}
 use Rattle.rice_code.specs.decode.Decoder.{Skips, TakesSet, with_mark}

@@ -18,7 +18,7 @@ use Rattle.rice_samples.specs.Places.{place}
 use Rattle.rice_samples.specs.predict.Residuals.{last_number, last_of, pattern}
 use Rattle.rice_samples.specs.bytes.PatternLanes.{OrdersWords}
 use Rattle.rice_samples.specs.bytes.Spelling.{ordered_bytes, spellings}
-use Rattle.rice_samples.proofs.lemmas.bytes.LanesOfWholeBytes.{SamplesOfWords, samples_of_words}
+use Rattle.rice_fast.proofs.lemmas.vectors.LanesOfWholeBytes.{SamplesOfWords, samples_of_words}
 use Rattle.rice_samples.proofs.lemmas.predict.DistinctPatternsAndResiduals.{same_pattern}
 use Rattle.rice_samples.proofs.lemmas.setting.ValuesAboveLeast.{sample_at}
 use Rattle.rice_samples.proofs.lemmas.setting.LevelsOfSamples.{pattern_fits}

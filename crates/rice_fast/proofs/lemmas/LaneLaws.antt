@@ -6,7 +6,7 @@ use Rattle.std.proofs.Math.Nat.{pow-le-pow_right}
 use Rattle.std.proofs.lemmas.Simd.{take_more_put_chunk}
 use Rattle.std.proofs.lemmas.Bool.Decides.{nat_tests}
 use Rattle.rice_samples.specs.Parameters.{Parameters, width}
-use Rattle.rice_samples.proofs.lemmas.predict.NumbersThatFit16Bits.{each_of_all}
+use Rattle.rice_fast.proofs.lemmas.ahead.EightWordsLemmas.{each-of}
 use Rattle.rice_fast.specs.BlocksAhead.{HasBits}
 
 -- of these, those that have not three have four
@@ -17,7 +17,7 @@ four_bytes s has other = (let more = has.more in grind (arith, nat_tests))
 pub narrow_enough : (k : ℕ) (xs : List ℕ) → k ≤ 16 → All (λ v. v < 2 ^ k) xs → Each1 (Fits w16) xs
 narrow_enough k xs most all =
     let fits : 2 ^ k ≤ 2 ^ 16 = pow-le-pow_right {n = 2} (omega arith) {i = k} {j = 16} most in
-    each_of_all (Fits w16) xs (λ i d lt. (let small = all i d lt in record { fits = omega (arith, small, fits) }))
+    each-of (Fits w16) xs (λ i d lt. (let small = all i d lt in record { fits = omega (arith, small, fits) }))
 
 -- lanes of bytes that are written to the front of others, and the first of them
 pub lanes_written : {w many : ℕ} (n width : ℕ) (old lanes : List ℕ) {spelled : List ℕ} → width ≡ w → w * n ≤ many → length lanes ≡ many → many ≤ length old → take (w * n) lanes ≡ spelled

@@ -11,13 +11,13 @@ use Rattle.std.proofs.lemmas.List.{length-take-le, take-append-drop}
 use Rattle.std.proofs.lemmas.List.Elements.{All-cons, All-nil}
 use Rattle.rice_samples.specs.Parameters.{Parameters, least, value_at, value_count, values_at}
 use Rattle.rice_samples.specs.bytes.ValueRange.{offset}
-use Rattle.rice_samples.specs.predict.LevelsOfParts.{AreLevelsOfParts}
+use Rattle.rice_fast.specs.LevelsOfParts.{AreLevelsOfParts}
 use Rattle.rice_samples.specs.predict.Residuals.{last_number, pattern, rank_below, ranks_below}
 use Rattle.rice_samples.proofs.lemmas.bytes.LevelPatterns.{level_of_pattern}
 use Rattle.rice_samples.proofs.lemmas.bytes.SpellingLemmas.{level_from_pattern}
-use Rattle.rice_samples.proofs.lemmas.predict.LaneRanks.{length-ranks_below}
+use Rattle.rice_fast.proofs.lemmas.vectors.LaneRanks.{length-ranks_below}
 use Rattle.rice_samples.proofs.lemmas.predict.Ranks.{rank_fits}
-use Rattle.rice_samples.proofs.lemmas.predict.RestoredLevels.{ranks_below-append}
+use Rattle.rice_fast.proofs.lemmas.vectors.RestoredLevels.{ranks_below-append}
 use Rattle.rice_samples.proofs.lemmas.setting.LevelsOfSamples.{pattern_fits}
 use Rattle.rice_samples.proofs.lemmas.setting.ValuesAboveLeast.{gap_above, sample_at}
 use Rattle.rice_fast.specs.PartsOfResiduals.{HaveParts, residuals_at}

@@ -15,7 +15,7 @@ use Rattle.rice_samples.specs.Parameters.{Parameters, value_at, value_count, val
 use Rattle.rice_samples.specs.bytes.Spelling.{spelling, spellings}
 use Rattle.rice_samples.specs.predict.Residuals.{last_number, pattern, ranks_below}
 use Rattle.rice_samples.proofs.lemmas.bytes.SpellingLengths.{length-spellings}
-use Rattle.rice_samples.proofs.lemmas.predict.HalfLanes.{last_is as last_at}
+use Rattle.rice_fast.proofs.lemmas.vectors.HalfLanes.{last_is as last_at}
 use Rattle.rice_samples.proofs.lemmas.setting.ValuesAtLevels.{length-values}
 use Rattle.rice_fast.specs.FieldsAhead.{LowsAhead}
 use Rattle.rice_fast.specs.PartsOfResiduals.{HaveParts, residuals_at}

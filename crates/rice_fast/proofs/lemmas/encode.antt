@@ -7,6 +7,7 @@ pub mod HighParts
 pub mod JoinedSequences
 pub mod JoinedWords
 pub mod LargeResiduals
+pub mod LargeSums
 pub mod LowParts
 pub mod Repeats
 pub mod ResidualsOfBytes

@@ -17,7 +17,7 @@ use Rattle.rice_fast.specs.declared.ahead.wide_words.TheConstants.{FACTORS as WI
 use Rattle.rice_bits.proofs.lemmas.bits.FrontsOfWords.{front_below, take-front, word-moved, word-parts}
 use Rattle.rice_bits.proofs.lemmas.bits.WordsAndNumbers.{length-word, word-cat, word-nil}
 use Rattle.rice_bits.proofs.lemmas.read.WindowLemmas.{drop-bits_of, drop-seam, take-bits_of}
-use Rattle.rice_samples.proofs.lemmas.bytes.NumbersInLanes.{lane-more, number-append, number_below}
+use Rattle.rice_fast.proofs.lemmas.vectors.NumbersInLanes.{lane-more, number-append, number_below}
 
 -- the tables
 

@@ -2,7 +2,8 @@
 use Rattle.std.proofs.Common.{◌≡◌, ℕ, ◌+◌, ◌*◌, ◌^◌, ◌<◌, ◌≤◌, length, arith}
 use Rattle.std.proofs.Math.Nat.{mul-le-mul_left, pow-le-pow_right}
 use Rattle.rice_samples.specs.Parameters.{Parameters, k_max}
-use Rattle.rice_samples.proofs.lemmas.blocks.FallingSums.{cut_sum, large_falls, large_leaves}
+use Rattle.rice_samples.proofs.lemmas.blocks.FallingSums.{cut_sum}
+use Rattle.rice_fast.proofs.lemmas.encode.LargeSums.{large_falls, large_leaves}
 use Rattle.rice_code.specs.code.Blocks.{BlockData}
 use Rattle.rice_code.specs.code.Choice.{IsBestSplit}
 use Rattle.rice_code.specs.code.CodedDataSets.{NoCompression, Split, cost, sent_residuals}

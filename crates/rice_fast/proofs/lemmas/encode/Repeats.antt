@@ -9,8 +9,8 @@ use Rattle.std.proofs.lemmas.Simd.{Each1-replicate}
 use Rattle.std.proofs.lemmas.List.{map-append, take_all}
 use Rattle.rice_samples.specs.Parameters.{Parameters, value_at, values_at, width}
 use Rattle.rice_samples.specs.bytes.Spelling.{spellings}
-use Rattle.rice_samples.proofs.lemmas.blocks.EightsInLanes.{parts_below}
-use Rattle.rice_samples.proofs.lemmas.bytes.LevelsInLanes.{Each1-append}
+use Rattle.rice_fast.proofs.lemmas.vectors.NearLanes.{parts_below}
+use Rattle.rice_fast.proofs.lemmas.vectors.LevelsInLanes.{Each1-append}
 use Rattle.rice_samples.proofs.lemmas.bytes.SpellingLengths.{spellings-append}
 
 -- What a loop that compares levels with one level has read: where no digit differs, all levels are that one.

@@ -9,13 +9,13 @@ use Rattle.std.proofs.lemmas.Simd.{Each1-get_or, Each1-weaker, take_more_put_chu
 use Rattle.rice_samples.specs.Parameters.{Parameters, value_at, value_count, values_at, width}
 use Rattle.rice_samples.specs.predict.Residuals.{last_number, last_of, rank_below, ranks_below}
 use Rattle.rice_samples.specs.bytes.Spelling.{spellings}
-use Rattle.rice_samples.proofs.lemmas.blocks.EightsInLanes.{parts_below}
-use Rattle.rice_samples.proofs.lemmas.bytes.LevelsInLanes.{Each1-append}
+use Rattle.rice_fast.proofs.lemmas.vectors.NearLanes.{parts_below}
+use Rattle.rice_fast.proofs.lemmas.vectors.LevelsInLanes.{Each1-append}
 use Rattle.rice_samples.proofs.lemmas.bytes.SpellingLengths.{spellings-append}
-use Rattle.rice_samples.proofs.lemmas.lanes.RankedLanes.{each_taken, ranked_taken}
-use Rattle.rice_samples.proofs.lemmas.predict.LaneRanks.{last_of_row, row_long}
-use Rattle.rice_samples.proofs.lemmas.predict.NearVectors.{none_above}
-use Rattle.rice_samples.proofs.lemmas.predict.NumbersThatFit16Bits.{each_of_all}
+use Rattle.rice_fast.proofs.lemmas.vectors.RankedLanes.{each_taken, ranked_taken}
+use Rattle.rice_fast.proofs.lemmas.vectors.LaneRanks.{last_of_row, row_long}
+use Rattle.rice_fast.proofs.lemmas.vectors.NearVectors.{none_above}
+use Rattle.rice_fast.proofs.lemmas.ahead.EightWordsLemmas.{each-of}
 use Rattle.rice_samples.proofs.lemmas.setting.ValuesAtLevels.{legal_values, ranks_of_values, value_at_last}
 use Rattle.rice_code.specs.encode.OpenSegment.{later_residuals}
 use Rattle.rice_code.proofs.lemmas.encode.SeveralSamplesHeld.{later_ranks}
@@ -144,7 +144,7 @@ rows_read {s} {n} {before} {at} {bytes} {earlier} {seen} {residuals} g last {fir
     residuals_spelled s before last bytes rows.levels residuals all spelled (sym (take_all at residuals whole) ∙ rows.coded each) below (ap (value_at s) end ∙ value_at_last s before rows.levels)
   where
     fit : Each1 (λ x. x ≤ g) rows.levels
-    fit = rows.all_seen g (each_of_all (λ x. x ≤ g) seen (none_above n g seen over (overs ∙ ap (zip2 (λ a b. a - b) seen) firsts) many none))
+    fit = rows.all_seen g (each-of (λ x. x ≤ g) seen (none_above n g seen over (overs ∙ ap (zip2 (λ a b. a - b) seen) firsts) many none))
 
     each : Each1 (λ l. l < value_count s) rows.levels
     each = Each1-weaker (λ l. l ≤ g) (λ l. l < value_count s) (λ l h. omega (arith, h, above)) rows.levels fit

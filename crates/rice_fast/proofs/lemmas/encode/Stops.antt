@@ -14,7 +14,8 @@ use Rattle.std.proofs.Math.Nat.{div-div-eq-div-mul, div-lt_iff_lt-mul, div-mul-l
 use lib.Count.{count_leading_zeros}
 use Rattle.rice_samples.specs.Parameters.{Parameters, k_max, value_count}
 use Rattle.rice_samples.proofs.lemmas.setting.BitsOfLanes.{byte_id, half_id, word_id}
-use Rattle.rice_samples.proofs.lemmas.blocks.FallingSums.{cut_sum, falls_more, large_falls, sum_halves, zeros_joined}
+use Rattle.rice_samples.proofs.lemmas.blocks.FallingSums.{cut_sum, sum_halves}
+use Rattle.rice_fast.proofs.lemmas.encode.LargeSums.{falls_more, large_falls, zeros_joined}
 use Rattle.rice_fast.specs.encode.HighParts.{with_zeros}
 use Rattle.rice_fast.specs.encode.Stops.{IsFirstStop}
 

@@ -1,7 +1,7 @@
 use Rattle.std.proofs.Common.{◌-◌, ◌/◌, ◌^◌, ◌∙◌, ap, arith, refl, replicate}
 use Rattle.std.specs.Simd.Lanes.{zip2}
-use Rattle.rice_samples.proofs.lemmas.lanes.NearLanes.{both_zeros}
-use Rattle.rice_samples.proofs.lemmas.predict.NearVectors.{none_above}
+use Rattle.rice_fast.proofs.lemmas.vectors.NearLanes.{both_zeros}
+use Rattle.rice_fast.proofs.lemmas.vectors.NearVectors.{none_above}
 use Rattle.rice_fast.proofs.lemmas.Rows.{greatest_fits}
 use Rattle.rice_fast.proofs.rows.sound_residuals.Goals as goal
 

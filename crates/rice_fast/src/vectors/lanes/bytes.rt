@@ -140,7 +140,7 @@ impl Lanes for Bytes {
         self.lanes.to_array()[15] as u32
     }
 
-    #[tactic(auto, using(rice_samples::proofs::lemmas::predict::LaneRanks::last_and_others))]
+    #[tactic(auto, using(crate::proofs::lemmas::vectors::LaneRanks::last_and_others))]
     #[inline(always)]
     fn before(self, earlier: Self) -> Self {
         Bytes::of(

@@ -139,7 +139,7 @@ impl Lanes for Words {
         self.lanes.to_array()[7]
     }
 
-    #[tactic(auto, using(rice_samples::proofs::lemmas::predict::LaneRanks::last_and_others))]
+    #[tactic(auto, using(crate::proofs::lemmas::vectors::LaneRanks::last_and_others))]
     #[inline(always)]
     fn before(self, earlier: Self) -> Self {
         Words::of(

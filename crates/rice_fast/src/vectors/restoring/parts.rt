@@ -2,7 +2,7 @@
 ghost use Rattle.std.specs.Prelude.{◌≡◌, ◌-◌, ◌/◌, ◌^◌, ◌<◌, ◌≤◌, All, IfSome};
 ghost use Rattle.rice_bits.specs.read.JoinedParts.{joined_parts};
 ghost use Rattle.rice_samples.specs.Parameters.{value_count};
-ghost use Rattle.rice_samples.specs.predict.LevelsOfParts.{AreLevelsOfParts};
+ghost use Rattle.rice_fast.specs.LevelsOfParts.{AreLevelsOfParts};
 
 use crate::vectors::lanes::Lanes;
 use crate::vectors::restoring::near::{excess_over_near, near_numbers};

@@ -46,11 +46,6 @@ sum_limit k limit (x ∷ xs) h = rw (sum_by-cons (λ d. d / 2 ^ k) x xs)
 pub lanes_without_digits : (k : ℕ) (xs : List ℕ) → length xs ≡ 8 → zip2 (λ d s. d / 2 ^ s) xs (replicate 8 k) ≡ map (λ d. d / 2 ^ k) xs
 lanes_without_digits k xs e = zip2_splat (λ d s. d / 2 ^ s) xs 8 k e
 
--- a function makes as many numbers as there were
-pub length-map : (f : ℕ → ℕ) (xs : List ℕ) → length (map f xs) ≡ length xs
-length-map f [] = refl
-length-map f (x ∷ xs) = ap (λ n. suc n) (length-map f xs)
-
 -- the sum in the lanes and that of the next chunk, without k digits each, are the sum up to the end of this chunk
 pub next_sum : (k i : ℕ) (xs total : List ℕ) → length total ≡ 8 → 8 * i + 8 ≤ length xs → sum_l total ≡ sum_by (λ d. d / 2 ^ k) (take (8 * i) xs) →
     sum_l total + sum_l (zip2 (λ d s. d / 2 ^ s) (chunk (8 * i) 8 xs) (replicate 8 k)) ≡ sum_by (λ d. d / 2 ^ k) (take (8 * (i + 1)) xs)
@@ -62,11 +57,6 @@ next_sum k i xs total lanes room value =
       sum_by-append (λ d. d / 2 ^ k) (take (8 * i) xs) (chunk (8 * i) 8 xs),
       value,
     ) refl
-
--- numbers of which each is left as it is are the same
-pub map_same : (xs : List ℕ) → map (λ d. d) xs ≡ xs
-map_same [] = refl
-map_same (x ∷ xs) = ap (λ ys. x ∷ ys) (map_same xs)
 
 -- digits
 
@@ -81,17 +71,6 @@ fold_or_above a (x ∷ xs) =
 -- no number is above the digits of all together, joined by or
 pub lanes_below_digits : (xs : List ℕ) → Each1 (λ x. x ≤ fold_l bit_or 0 xs) xs
 lanes_below_digits xs = (fold_or_above 0 xs).1
-
--- where the digits of each two lanes together are within a limit, so are both lanes
-pub parts_below : (limit : ℕ) (xs ys : List ℕ) → length xs ≡ length ys → Each1 (λ x. x ≤ limit) (zip2 bit_or xs ys) → Each1 (λ x. x ≤ limit) xs × Each1 (λ x. x ≤ limit) ys
-parts_below limit [] [] n h = (tt, tt)
-parts_below limit [] (y ∷ ys) n h = absurd (omega arith)
-parts_below limit (x ∷ xs) [] n h = absurd (omega arith)
-parts_below limit (x ∷ xs) (y ∷ ys) n h =
-    let rest = parts_below limit xs ys (omega arith) h.1 in
-    let l = le_or_l x y in
-    let r = le_or_r x y in
-    ((omega (arith, h.0), rest.0), (omega (arith, h.0), rest.1))
 
 -- zeros
 

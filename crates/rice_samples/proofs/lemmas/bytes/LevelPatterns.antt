@@ -1,15 +1,14 @@
 -- Levels, and the patterns and words of the values at these.
-use Rattle.std.proofs.Common.{◌≡◌, ℕ, ◌+◌, ◌-◌, ◌*◌, ◌%◌, ◌^◌, ◌<◌, ◌≤◌, zero, suc, inl, inr, mod-eq_of_lt, Bool, true, false, cond}
-use Rattle.std.proofs.Common.{refl, ap, arith, sym, ◌∙◌, pos, negsuc, neg_ℤ, ◌+ℤ◌}
+use Rattle.std.proofs.Common.{◌≡◌, ℕ, ◌+◌, ◌-◌, ◌*◌, ◌%◌, ◌^◌, ◌<◌, ◌≤◌}
+use Rattle.std.proofs.Common.{ap, arith, sym, ◌∙◌}
 use Rattle.std.specs.Prelude.{bit_and}
-use Rattle.std.proofs.lemmas.Int.{ints}
 use Rattle.std.proofs.lemmas.Nat.{and_mask, mod-mul-add, mod_below, pow-add, pow_pos}
 use Rattle.std.proofs.Math.Nat.{mod-add-mod, mul-le-mul_right}
 use Rattle.std.proofs.Math.Pow.{mod-mod-pow, pow_mono}
 use Rattle.rice_samples.specs.Parameters.{Parameters, least, level, value_at, value_count}
 use Rattle.rice_samples.specs.predict.Residuals.{pattern, twos_complement}
 use Rattle.rice_samples.specs.bytes.ValueRange.{offset, IsValue}
-use Rattle.rice_samples.proofs.lemmas.bytes.SpellingLemmas.{level_from_pattern, mod_once, offset_limit, same_offset, wider_value}
+use Rattle.rice_samples.proofs.lemmas.bytes.SpellingLemmas.{level_from_pattern, offset_limit, same_offset, wider_value}
 use Rattle.rice_samples.proofs.lemmas.predict.InverseRanksAndPatterns.{has_pattern}
 use Rattle.rice_samples.proofs.lemmas.setting.ValuesAboveLeast.{gap_above, sample_at}
 use Rattle.rice_samples.proofs.lemmas.setting.LevelsOfSamples.{pattern_fits}
@@ -71,32 +70,3 @@ word_in_lane s wide more l o h le few e lt =
 pub word_of_level : (s : Parameters) (more l o : ℕ) → 1 ≤ s.bits → s.bits ≤ more → more ≤ 32 → o ≡ offset s → l < value_count s
     → (l + (2 ^ 32 - o)) % 2 ^ 32 % 2 ^ more ≡ twos_complement more (value_at s l)
 word_of_level s more l o h le few e lt = word_in_lane s 32 more l o h le few e lt
-
--- the level that is read from a word tells the word, also where it is not legal
-pub level_of_word : (s : Parameters) (more word o : ℕ) → 1 ≤ s.bits → s.bits ≤ more → more ≤ 32 → o ≡ offset s → word < 2 ^ more
-    → twos_complement more (value_at s ((word + o) % 2 ^ 32 % 2 ^ more)) ≡ word
-level_of_word s more word o h le few e lt =
-    let all : 32 ≡ 32 - more + more = omega arith in
-    let low : (word + o) % 2 ^ 32 % 2 ^ more ≡ (word + offset s) % 2 ^ more = ap (λ k. (word + o) % 2 ^ k % 2 ^ more) all
-    ∙ (mod-mod-pow (word + o) (32 - more) more ∙ ap (λ m. (word + m) % 2 ^ more) e) in
-    ap (λ l. twos_complement more (value_at s l)) low ∙ by_sign s.signed
-  where
-    halves : (half count : ℕ) → count ≡ 2 ^ more → half ≤ count → 0 < half → word < count → twos_complement more (neg_ℤ (pos half) +ℤ pos ((word + half) % count)) ≡ word
-    halves zero count e le some lt = absurd (omega arith)
-    halves (suc half) count e le some lt =
-        elim (mod_once (word + suc half) count (omega arith)) [
-          | inl p ↦
-              let v : neg_ℤ (pos (suc half)) +ℤ pos ((word + suc half) % count) ≡ pos word = ap (λ m. neg_ℤ (pos (suc half)) +ℤ pos m) p.0 ∙ (omega (arith, ints)) in
-              ap (twos_complement more) v
-          | inr p ↦
-              let m : (word + suc half) % count ≡ word + suc half - count = omega (arith, p.0) in
-              let v : neg_ℤ (pos (suc half)) +ℤ pos ((word + suc half) % count) ≡ negsuc (count - 1 - word) = ap (λ m. neg_ℤ (pos (suc half)) +ℤ pos m) m ∙ (omega (arith, ints, p.1)) in
-              ap (twos_complement more) v ∙ omega (arith, e, lt)
-        ]
-
-    by_sign : (b : Bool) → twos_complement more (cond b (neg_ℤ (pos (2 ^ (s.bits - 1)))) (pos 0) +ℤ pos ((word + cond b (2 ^ (s.bits - 1)) 0) % 2 ^ more)) ≡ word
-    by_sign true = halves (2 ^ (s.bits - 1)) (2 ^ more) refl (pow_mono {i = s.bits - 1} {j = more} (omega arith)) (pow_pos (s.bits - 1)) lt
-    by_sign false =
-        let m : (word + 0) % 2 ^ more ≡ word = let same : word + 0 ≡ word = omega arith in ap (λ n. n % 2 ^ more) same ∙ mod-eq_of_lt lt in
-        let z : pos 0 +ℤ pos word ≡ pos word = omega (arith, ints) in
-        ap (λ n. twos_complement more (pos 0 +ℤ pos n)) m ∙ ap (twos_complement more) z

@@ -1,12 +1,11 @@
 -- Samples that are read, and written, one after the other.
-use Rattle.std.proofs.Common.{◌≡◌, ℕ, ◌+◌, ◌-◌, ◌*◌, ◌<◌, ◌≤◌, List, [], ◌∷◌, ◌++◌, length, take, drop, All, ap, sym, subst, arith, ◌∙◌, append-nil, length-drop, slice_set, get_or, map, ℤ}
+use Rattle.std.proofs.Common.{◌≡◌, ℕ, ◌+◌, ◌-◌, ◌*◌, ◌<◌, ◌≤◌, List, [], ◌∷◌, ◌++◌, length, take, drop, ap, sym, arith, ◌∙◌, append-nil, length-drop, get_or, map, ℤ}
 use Rattle.std.specs.Prelude.{flat_map}
 use Rattle.std.proofs.lemmas.Grind.{flat_map-append}
-use Rattle.std.proofs.lemmas.List.{map_more, take_more_set, length-take-le}
+use Rattle.std.proofs.lemmas.List.{map_more, length-take-le}
 use Rattle.std.proofs.lemmas.Slice.{take-put_mid}
 use borrow.Rule.Slice.PartMut.{put_mid}
 use Rattle.std.proofs.Math.Nat.{mul-le-mul_left}
-use Rattle.std.proofs.lemmas.List.Elements.{All-push}
 
 -- the bytes of one
 pub one_len : (w i n : ℕ) (bytes : List ℕ) → i < n → length bytes ≡ w * n → length (take (w * i + w - w * i) (drop (w * i) bytes)) ≡ w
@@ -18,10 +17,6 @@ one_len w i n bytes h e =
 -- one element more adds what is made of it after what was made of those before it
 pub flat_map-push : {X A : Type 0} (f : X → List A) (xs : List X) (x : X) → flat_map f (xs ++ x ∷ []) ≡ flat_map f xs ++ f x
 flat_map-push f xs x = flat_map-append f xs (x ∷ []) ∙ ap (λ v. flat_map f xs ++ v) (append-nil (f x))
-
--- one sample more is legal
-pub one_legal : {X : Type 0} (P : X → Type 0) (i : ℕ) (xs : List X) (x : X) → i < length xs → All P (take i xs) → P x → All P (take (i + 1) (slice_set xs i x))
-one_legal P i xs x h all p = subst (All P) (sym (take_more_set xs i x h)) (All-push P (take i xs) x all p)
 
 -- one more level, and the bytes of a sample where there are bytes for all levels
 pub record RoomForOne (w i : ℕ) (bytes ys levels : List ℕ) : Type 0 where

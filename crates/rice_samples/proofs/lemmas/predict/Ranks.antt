@@ -1,5 +1,5 @@
 -- Each number below count has one rank from p, and each rank is that of one number.
-use Rattle.std.proofs.Common.{◌≡◌, ℕ, zero, suc, ◌+◌, ◌-◌, ◌*◌, ◌/◌, ◌%◌, ◌<◌, ◌≤◌, min, max, cond, nat_lt, nat_le, ap, arith, ◌∙◌, if◌then◌else◌, ◌==◌}
+use Rattle.std.proofs.Common.{◌≡◌, ℕ, zero, suc, ◌+◌, ◌-◌, ◌*◌, ◌/◌, ◌%◌, ◌<◌, min, max, cond, nat_lt, nat_le, ap, arith, ◌∙◌, if◌then◌else◌, ◌==◌}
 use Rattle.std.specs.Prelude.{count_by}
 use Rattle.std.specs.List.{range_with_len}
 use Rattle.std.specs.Int.{abs_diff}
@@ -14,14 +14,6 @@ rank_fits count p x hp hx = grind (arith, nat_tests)
 -- two numbers with the same rank from p are the same
 pub rank_injective : (count p x y : ℕ) → p < count → x < count → y < count → rank_below count p x ≡ rank_below count p y → x ≡ y
 rank_injective count p x y hp hx hy e = grind (arith, nat_tests)
-
--- the fold
-pub rank_above : (count p x : ℕ) → p < count → x < count → p ≤ x → x - p ≤ min p (count - 1 - p) → rank_below count p x ≡ 2 * (x - p)
-rank_above count p x hp hx le near = grind (arith, nat_tests)
-
--- below p it is one less than twice the distance, as far as the range reaches to both sides
-pub rank_under : (count p x : ℕ) → p < count → x < count → x < p → p - x ≤ min p (count - 1 - p) → suc (rank_below count p x) ≡ 2 * (p - x)
-rank_under count p x hp hx lt near = grind (arith, nat_tests)
 
 -- the number with that rank
 unfoldable pub number_with : ℕ → ℕ → ℕ → ℕ

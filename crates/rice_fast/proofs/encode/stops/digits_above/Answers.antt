@@ -3,7 +3,7 @@ use Rattle.std.specs.Prelude.{bit_or}
 use Rattle.std.proofs.lemmas.Bool.{cases_lt}
 use Rattle.std.proofs.lemmas.Nat.{pow-add}
 use lib.Count.{count_leading_zeros}
-use Rattle.rice_samples.proofs.lemmas.blocks.FallingSums.{zeros_below, zeros_joined}
+use Rattle.rice_fast.proofs.lemmas.encode.LargeSums.{zeros_below, zeros_joined}
 use Rattle.rice_fast.proofs.lemmas.encode.Stops.{zeros_above}
 use Rattle.rice_fast.proofs.encode.stops.digits_above.Goals as goal
 

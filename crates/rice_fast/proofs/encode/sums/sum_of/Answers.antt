@@ -1,5 +1,5 @@
 use Rattle.std.proofs.Common.{arith}
-use Rattle.rice_samples.proofs.lemmas.blocks.FallingSums.{small_sums}
+use Rattle.rice_fast.proofs.lemmas.encode.LargeSums.{small_sums}
 use Rattle.rice_code.proofs.lemmas.encode.ChoiceLemmas.{few_bits}
 use Rattle.rice_fast.proofs.encode.sums.sum_of.Goals as goal
 

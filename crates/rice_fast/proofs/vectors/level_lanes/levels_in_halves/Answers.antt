@@ -1,6 +1,6 @@
 use Rattle.std.proofs.Common.{◌∙◌, ap, sym}
 use Rattle.std.specs.Simd.Lanes.{digits_l, number_l}
-use Rattle.rice_samples.proofs.lemmas.bytes.LevelsInLanes.{words_of_lanes}
+use Rattle.rice_fast.proofs.lemmas.vectors.LevelsInLanes.{words_of_lanes}
 use Rattle.rice_fast.proofs.vectors.level_lanes.levels_in_halves.Goals as goal
 
 pub returns : goal.returns

@@ -1,5 +1,5 @@
 use Rattle.std.proofs.Common.{◌*◌, ◌≤◌, arith}
-use Rattle.rice_samples.proofs.lemmas.bytes.LevelsInLanes.{greatest_fits, offset_fits, words_spelled}
+use Rattle.rice_fast.proofs.lemmas.vectors.LevelsInLanes.{greatest_fits, offset_fits, words_spelled}
 use Rattle.rice_fast.proofs.vectors.level_lanes.levels_of_words.Goals as goal
 
 pub splat-requires : goal.splat-requires

@@ -1,5 +1,5 @@
 use Rattle.std.proofs.Common.{◌^◌}
-use Rattle.rice_samples.proofs.lemmas.lanes.RankedLanes.{lanes_ranked}
+use Rattle.rice_fast.proofs.lemmas.vectors.RankedLanes.{lanes_ranked}
 use Rattle.rice_fast.proofs.vectors.rank_lanes.ranks.Goals as goal
 
 pub returns : goal.returns

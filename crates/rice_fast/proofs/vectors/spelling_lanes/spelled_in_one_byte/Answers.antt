@@ -1,6 +1,6 @@
 use Rattle.std.proofs.Common.{◌+◌, ◌-◌, ◌%◌, ◌∙◌, replicate}
 use Rattle.std.proofs.lemmas.Simd.{length-zip2}
-use Rattle.rice_samples.proofs.lemmas.bytes.LevelsSpelledInByteLanes.{bytes-spelled, one_byte}
+use Rattle.rice_fast.proofs.lemmas.vectors.LevelsSpelledInByteLanes.{bytes-spelled, one_byte}
 use Rattle.rice_fast.proofs.vectors.spelling_lanes.spelled_in_one_byte.Goals as goal
 
 pub returns-clause-value : goal.returns-clause-value

@@ -1,5 +1,5 @@
 use Rattle.std.proofs.Common.{true, false, sym, ◌∙◌}
-use Rattle.rice_samples.proofs.lemmas.bytes.LevelsSpelledInByteLanes.{threes-spelled}
+use Rattle.rice_fast.proofs.lemmas.vectors.LevelsSpelledInByteLanes.{threes-spelled}
 use Rattle.rice_fast.proofs.vectors.spelling_lanes.spelled_in_three_bytes.Goals as goal
 
 pub returns-then-msb-clause-value : goal.returns-then-msb-clause-value

@@ -1,21 +1,21 @@
-use Rattle.std.proofs.Common.{arith, w64}
+use Rattle.std.proofs.Common.{arith, map-id, w64}
 use Rattle.std.proofs.lemmas.Simd.{adds_fit, sum_fits}
-use Rattle.rice_samples.proofs.lemmas.blocks.EightsInLanes.{map_same, sums_fit, sum_added, lanes_added, whole_sum, total_fits, sum_limited}
+use Rattle.rice_samples.proofs.lemmas.blocks.EightsInLanes.{sums_fit, sum_added, lanes_added, whole_sum, total_fits, sum_limited}
 use Rattle.rice_samples.proofs.blocks.tests_and_sums.sum_shifted_in_lanes_of_64.Goals as goal
 
 pub overflow_add-total : goal.overflow_add-total
 overflow_add-total c =
     let l = c.loop-i in
     let xs = c.args.items.now in
-    adds_fit w64 l.total _ (rw map_same (sums_fit c.args.k l.i xs l.total l.invariant.lanes (omega arith) c.requires.few (λ j. omega (arith, c.type_inv.items j)) l.invariant.value))
+    adds_fit w64 l.total _ (rw map-id (sums_fit c.args.k l.i xs l.total l.invariant.lanes (omega arith) c.requires.few (λ j. omega (arith, c.type_inv.items j)) l.invariant.value))
 
 pub loop-i-preserved : goal.loop-i-preserved
 loop-i-preserved c =
     let l = c.loop-i in
     let xs = c.args.items.now in
     record {
-      lanes = rw map_same (lanes_added c.args.k l.i xs l.total l.invariant.lanes (omega arith));
-      value = rw map_same (sum_added c.args.k l.i xs l.total l.invariant.lanes (omega arith) l.invariant.value);
+      lanes = rw map-id (lanes_added c.args.k l.i xs l.total l.invariant.lanes (omega arith));
+      value = rw map-id (sum_added c.args.k l.i xs l.total l.invariant.lanes (omega arith) l.invariant.value);
     }
 
 pub overflow_add-result : goal.overflow_add-result

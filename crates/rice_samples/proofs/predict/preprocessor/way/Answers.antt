@@ -1,4 +1,4 @@
-use Rattle.rice_samples.proofs.lemmas.predict.NearEights.{way_lane}
+use Rattle.rice_samples.proofs.lemmas.predict.Ways.{way_lane}
 use Rattle.rice_samples.proofs.predict.preprocessor.way.Goals as goal
 
 pub returns : goal.returns

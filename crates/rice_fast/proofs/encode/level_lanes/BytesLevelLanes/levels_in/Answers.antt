@@ -1,5 +1,5 @@
 use Rattle.std.proofs.Common.{◌*◌, ◌∙◌, ap}
-use Rattle.rice_samples.proofs.lemmas.bytes.LevelsSpelledInByteLanes.{one_byte}
+use Rattle.rice_fast.proofs.lemmas.vectors.LevelsSpelledInByteLanes.{one_byte}
 use Rattle.rice_fast.proofs.encode.level_lanes.BytesLevelLanes.levels_in.Goals as goal
 
 pub levels_in_bytes-requires : goal.levels_in_bytes-requires

@@ -1,4 +1,4 @@
-use Rattle.rice_samples.proofs.lemmas.lanes.NearLanes.{lanes_are_near}
+use Rattle.rice_fast.proofs.lemmas.vectors.NearLanes.{lanes_are_near}
 use Rattle.rice_fast.proofs.vectors.restoring.near.excess_over_near.Goals as goal
 
 pub returns-clause-fit : goal.returns-clause-fit

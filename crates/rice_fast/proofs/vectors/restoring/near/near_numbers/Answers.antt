@@ -1,6 +1,6 @@
 use Rattle.std.proofs.Common.{◌^◌, ap, ◌∙◌}
-use Rattle.rice_samples.specs.predict.RunningSums.{running_sums}
-use Rattle.rice_samples.proofs.lemmas.predict.NearVectors.{sums_of_ways}
+use Rattle.rice_fast.specs.RunningSums.{running_sums}
+use Rattle.rice_fast.proofs.lemmas.vectors.NearVectors.{sums_of_ways}
 use Rattle.rice_fast.proofs.vectors.restoring.near.near_numbers.Goals as goal
 
 pub returns : goal.returns

@@ -1,4 +1,4 @@
-use Rattle.rice_samples.proofs.lemmas.lanes.NearLanes.{lanes_of_ways}
+use Rattle.rice_fast.proofs.lemmas.vectors.NearLanes.{lanes_of_ways}
 use Rattle.rice_fast.proofs.vectors.restoring.near.near_ways.Goals as goal
 
 pub returns : goal.returns

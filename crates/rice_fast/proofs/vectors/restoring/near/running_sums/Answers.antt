@@ -1,5 +1,5 @@
 use Rattle.std.proofs.Common.{◌^◌}
-use Rattle.rice_samples.proofs.lemmas.lanes.SumsInLanes.{sums_are}
+use Rattle.rice_fast.proofs.lemmas.vectors.SumsInLanes.{sums_are}
 use Rattle.rice_fast.proofs.vectors.restoring.near.running_sums.Goals as goal
 
 pub returns : goal.returns

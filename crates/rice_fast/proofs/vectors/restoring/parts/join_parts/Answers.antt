@@ -1,5 +1,5 @@
 use Rattle.std.proofs.Common.{◌∙◌, sym}
-use Rattle.rice_samples.proofs.lemmas.lanes.NearLanes.{lanes_joined}
+use Rattle.rice_fast.proofs.lemmas.vectors.NearLanes.{lanes_joined}
 use Rattle.rice_fast.proofs.vectors.restoring.parts.join_parts.Goals as goal
 
 pub returns : goal.returns

@@ -1,29 +1,28 @@
-use Rattle.std.proofs.Common.{◌≡◌, ◌+◌, ◌≤◌, ◌∙◌, ◌++◌, replicate, ap, subst, sym, take}
+use Rattle.std.proofs.Common.{◌≡◌, ◌+◌, ◌≤◌, ◌∙◌, ◌++◌, replicate, ap, map-id, subst, sym, take}
 use Rattle.std.specs.Prelude.{All}
 use Rattle.std.proofs.lemmas.List.Elements.{All-take}
 use Rattle.rice_samples.specs.predict.Residuals.{last_number, ranks_below}
-use Rattle.rice_samples.proofs.lemmas.blocks.EightsInLanes.{map_same}
-use Rattle.rice_samples.proofs.lemmas.lanes.RanksForTurns.{repeated, repeated_fit}
+use Rattle.rice_fast.proofs.lemmas.vectors.RanksForTurns.{repeated, repeated_fit}
 use Rattle.rice_fast.proofs.vectors.restoring.turns.bytes_in_turn.Goals as goal
 
 pub write_selected-last-requires-clause-ranks : goal.write_selected-last-requires-clause-ranks
 write_selected-last-requires-clause-ranks c =
-    subst (All (λ d. d ≤ c.args.greatest)) (sym (map_same (take 8 c.args.ranks.lanes))) (All-take (λ d. d ≤ c.args.greatest) 8 c.args.ranks.lanes c.requires.ranks)
+    subst (All (λ d. d ≤ c.args.greatest)) (sym (map-id (take 8 c.args.ranks.lanes))) (All-take (λ d. d ≤ c.args.greatest) 8 c.args.ranks.lanes c.requires.ranks)
 
 pub returns-clause-fit : goal.returns-clause-fit
 returns-clause-fit c =
     let turned = c.write_selected-last in
     let whole : c.of-2.result.lanes ≡ turned.new.numbers ++ replicate 8 turned.result = c.of-2.ensures ∙ ap (λ xs. xs ++ replicate 8 turned.result) c.copy_from_slice.ensures.after in
     subst (All (λ x. x ≤ c.args.greatest)) (sym whole)
-    (repeated_fit c.args.greatest 8 turned.result turned.new.numbers turned.ensures.within (subst (All (λ x. x ≤ c.args.greatest)) (map_same turned.new.numbers) turned.ensures.fit))
+    (repeated_fit c.args.greatest 8 turned.result turned.new.numbers turned.ensures.within (subst (All (λ x. x ≤ c.args.greatest)) (map-id turned.new.numbers) turned.ensures.fit))
 
 pub returns-clause-ranks : goal.returns-clause-ranks
 returns-clause-ranks c =
     let turned = c.write_selected-last in
-    let same = map_same turned.new.numbers in
+    let same = map-id turned.new.numbers in
     let whole : c.of-2.result.lanes ≡ turned.new.numbers ++ replicate 8 turned.result = c.of-2.ensures ∙ ap (λ xs. xs ++ replicate 8 turned.result) c.copy_from_slice.ensures.after in
     ap (ranks_below (c.args.greatest + 1) c.args.p) whole
     ∙ repeated c.args.greatest c.args.p 8 turned.result c.args.ranks.lanes turned.new.numbers turned.ensures.within
     (turned.ensures.last ∙ ap (last_number c.args.p) same)
-    (ap (ranks_below (c.args.greatest + 1) c.args.p) (sym same) ∙ (turned.ensures.ranks ∙ map_same (take 8 c.args.ranks.lanes)))
+    (ap (ranks_below (c.args.greatest + 1) c.args.p) (sym same) ∙ (turned.ensures.ranks ∙ map-id (take 8 c.args.ranks.lanes)))
     (c.last_eight_are_zeros.ensures (c.if-not-last_eight_are_zeros.false))

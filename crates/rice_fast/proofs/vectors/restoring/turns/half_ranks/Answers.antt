@@ -1,5 +1,5 @@
 use Rattle.std.proofs.Common.{◌^◌}
-use Rattle.rice_samples.proofs.lemmas.lanes.RanksForTurns.{lanes_halved}
+use Rattle.rice_fast.proofs.lemmas.vectors.RanksForTurns.{lanes_halved}
 use Rattle.rice_fast.proofs.vectors.restoring.turns.half_ranks.Goals as goal
 
 pub returns : goal.returns

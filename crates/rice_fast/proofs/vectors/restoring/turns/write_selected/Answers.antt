@@ -2,8 +2,8 @@ use Rattle.std.proofs.Common.{◌+◌, ◌-◌, ◌/◌, ◌^◌, ◌<◌, ◌�
 use Rattle.std.specs.Prelude.{slice_set}
 use Rattle.std.proofs.lemmas.List.{length-map, map-set}
 use Rattle.rice_samples.specs.predict.NearNumbers.{way}
-use Rattle.rice_samples.proofs.lemmas.lanes.RanksForTurns.{element, made, way_widened}
-use Rattle.rice_samples.proofs.lemmas.predict.RestoredLevels.{AreRestored, restored-more}
+use Rattle.rice_fast.proofs.lemmas.vectors.RanksForTurns.{element, made, way_widened}
+use Rattle.rice_fast.proofs.lemmas.vectors.RestoredLevels.{AreRestored, restored-more}
 use Rattle.rice_fast.proofs.vectors.restoring.turns.write_selected.Goals as goal
 
 pub selected-number-requires-clause-way : goal.selected-number-requires-clause-way

@@ -1,5 +1,5 @@
 use Rattle.std.proofs.Common.{◌≡◌, ◌+◌, length, map}
-use Rattle.rice_samples.proofs.lemmas.predict.RestoredLevels.{AreRestored}
+use Rattle.rice_fast.proofs.lemmas.vectors.RestoredLevels.{AreRestored}
 use Rattle.rice_fast.proofs.vectors.restoring.turns.write_selected.Given as goal
 
 abbrev pub invariant-loop-i : goal.invariant-loop-i

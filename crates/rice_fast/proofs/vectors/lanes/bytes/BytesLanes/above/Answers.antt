@@ -1,5 +1,5 @@
 use Rattle.std.proofs.Common.{◌∙◌, w8}
-use Rattle.rice_samples.proofs.lemmas.lanes.OneVector.{above_is}
+use Rattle.rice_fast.proofs.lemmas.vectors.OneVector.{above_is}
 use Rattle.rice_fast.proofs.vectors.lanes.bytes.BytesLanes.above.Goals as goal
 
 pub returns : goal.returns

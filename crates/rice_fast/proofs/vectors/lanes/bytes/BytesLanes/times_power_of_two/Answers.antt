@@ -1,6 +1,6 @@
 use Rattle.std.proofs.Common.{◌∙◌, arith, w8}
-use Rattle.rice_samples.proofs.lemmas.lanes.OneVector.{each_fits}
-use Rattle.rice_samples.proofs.lemmas.predict.JoinedPartsInLanes.{highs-raised}
+use Rattle.rice_fast.proofs.lemmas.vectors.OneVector.{each_fits}
+use Rattle.rice_fast.proofs.lemmas.vectors.JoinedPartsInLanes.{highs-raised}
 use Rattle.rice_fast.proofs.vectors.lanes.bytes.BytesLanes.times_power_of_two.Goals as goal
 
 pub returns : goal.returns

@@ -1,4 +1,4 @@
-use Rattle.rice_samples.proofs.lemmas.lanes.OneVector.{none_set}
+use Rattle.rice_fast.proofs.lemmas.vectors.OneVector.{none_set}
 use Rattle.rice_fast.proofs.vectors.lanes.halves.HalvesLanes.is_zero.Goals as goal
 
 pub returns : goal.returns

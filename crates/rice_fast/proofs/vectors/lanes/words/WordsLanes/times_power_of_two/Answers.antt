@@ -1,5 +1,5 @@
 use Rattle.std.proofs.Common.{◌∙◌}
-use Rattle.rice_samples.proofs.lemmas.lanes.OneVector.{raised}
+use Rattle.rice_fast.proofs.lemmas.vectors.OneVector.{raised}
 use Rattle.rice_fast.proofs.vectors.lanes.words.WordsLanes.times_power_of_two.Goals as goal
 
 pub returns : goal.returns

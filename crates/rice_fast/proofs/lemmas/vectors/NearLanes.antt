@@ -3,16 +3,15 @@ use Rattle.std.proofs.Common.{◌≡◌, ℕ, zero, suc, ◌+◌, ◌-◌, ◌*�
 use Rattle.std.specs.Prelude.{All, bit_and, bit_or}
 use Rattle.std.specs.Int.Bits.{bit_xor}
 use Rattle.std.specs.Simd.Lanes.{Each1, zip2}
-use Rattle.rice_samples.proofs.lemmas.blocks.EightsInLanes.{parts_below}
-use Rattle.rice_samples.proofs.lemmas.lanes.OneVector.{zeros_below, each_zero}
+use Rattle.rice_fast.proofs.lemmas.vectors.OneVector.{zeros_below, each_zero}
 use Rattle.std.proofs.lemmas.List.{get_or-replicate}
 use Rattle.rice_samples.specs.predict.Residuals.{ranks_below}
-use Rattle.std.proofs.lemmas.Nat.{pow_pos, pow-add}
+use Rattle.std.proofs.lemmas.Nat.{le_or_l, le_or_r, pow_pos, pow-add}
 use Rattle.std.proofs.Math.Nat.{div-lt_iff_lt-mul, mod-eq_of_lt, mul-le-mul_right}
 use Rattle.rice_bits.specs.read.JoinedParts.{joined_parts}
 use Rattle.rice_samples.specs.predict.NearNumbers.{way, near_numbers, bound}
-use Rattle.rice_samples.proofs.lemmas.predict.NearEights.{way_lane}
-use Rattle.rice_samples.proofs.lemmas.predict.NearVectors.{vector_is_near}
+use Rattle.rice_samples.proofs.lemmas.predict.Ways.{way_lane}
+use Rattle.rice_fast.proofs.lemmas.vectors.NearVectors.{vector_is_near}
 
 -- half of each rank, with its digits turned over where the rank is odd, is its way
 pub lanes_of_ways : (k n : ℕ) (ds : List ℕ) → length ds ≡ n → ((i : ℕ) → get_or ds i 0 < 2 ^ k)
@@ -38,6 +37,17 @@ pub lanes_are_near : {m g p n : ℕ} (ds xs : List ℕ) {first before last left 
 lanes_are_near {m} {g} {p} {n} ds xs {before} low high some many long numbers firsts shifted lasts lefts reaches bounds overs =
     vector_is_near ds low high many numbers (shifted ∙ ap (λ q. take n (q ∷ xs)) (ap (λ qs. get_or qs (n - 1) 0) firsts ∙ get_or-replicate n (n - 1) p 0 (omega arith)))
     (bounds ∙ rw (reaches, lefts, lasts) (lanes_of_bounds m g n before long)) overs
+
+-- where the digits of each two lanes together are within a limit, so are both lanes
+pub parts_below : (limit : ℕ) (xs ys : List ℕ) → length xs ≡ length ys → Each1 (λ x. x ≤ limit) (zip2 bit_or xs ys) → Each1 (λ x. x ≤ limit) xs × Each1 (λ x. x ≤ limit) ys
+parts_below limit [] [] n h = (tt, tt)
+parts_below limit [] (y ∷ ys) n h = absurd (omega arith)
+parts_below limit (x ∷ xs) [] n h = absurd (omega arith)
+parts_below limit (x ∷ xs) (y ∷ ys) n h =
+    let rest = parts_below limit xs ys (omega arith) h.1 in
+    let l = le_or_l x y in
+    let r = le_or_r x y in
+    ((omega (arith, h.0), rest.0), (omega (arith, h.0), rest.1))
 
 -- where the digits of two vectors together are 0, both are zeros
 pub both_zeros : (n : ℕ) (xs ys : List ℕ) {zs : List ℕ} → length xs ≡ n → length ys ≡ n → zs ≡ zip2 bit_or xs ys → zs ≡ replicate n 0 → (xs ≡ replicate n 0) × (ys ≡ replicate n 0)

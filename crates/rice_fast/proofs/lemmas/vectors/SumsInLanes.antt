@@ -5,7 +5,7 @@ use Rattle.std.proofs.lemmas.Bool.{cases_lt}
 use Rattle.std.proofs.lemmas.List.{ext_get_or, get_or-replicate, get_or-take, get_or_append_left, get_or-append_right, length-append, length-replicate, length-take-le}
 use Rattle.std.proofs.lemmas.Simd.{get_or-zip2, length-zip2}
 use Rattle.std.proofs.Math.Nat.{mod-add-mod, add-mod-mod, mod-mod}
-use Rattle.rice_samples.specs.predict.RunningSums.{running_sums}
+use Rattle.rice_fast.specs.RunningSums.{running_sums}
 
 -- the sum of the first i numbers
 abbrev before : List ℕ → ℕ → ℕ

@@ -1,49 +1,16 @@
 -- Near numbers, eight at a time; `near_ranks` holds for any number of them.
-use Rattle.std.proofs.Common.{◌≡◌, ℕ, zero, suc, ◌+◌, ◌-◌, ◌*◌, ◌/◌, ◌%◌, ◌^◌, ◌<◌, ◌≤◌, min, max, cond}
+use Rattle.std.proofs.Common.{◌≡◌, ℕ, zero, suc, ◌+◌, ◌-◌, ◌*◌, ◌/◌, ◌%◌, ◌<◌, ◌≤◌, min, max, cond}
 use Rattle.std.proofs.Common.{List, [], ◌∷◌, map, length, take, refl, sym, ◌∙◌, ap, subst, arith, nat_lt, ◌==◌}
-use Rattle.std.specs.Prelude.{bit_and}
-use Rattle.std.specs.Int.Bits.{bit_xor, xor_add_and, xor_zero_r}
 use Rattle.std.specs.Simd.Lanes.{zip2, Each1, Each2, sel_l}
 use Rattle.std.proofs.lemmas.Bool.Decides.{nat_tests}
-use Rattle.std.proofs.lemmas.Nat.{and_mask, pow_pos}
 use Rattle.std.proofs.Math.Nat.{mod-eq_of_lt, add-mod_right}
 use Rattle.rice_samples.specs.predict.Residuals.{rank_below, ranks_below}
 use Rattle.rice_samples.specs.predict.NearNumbers.{way, near_numbers, reach, bound}
-use Rattle.rice_samples.proofs.lemmas.predict.Ranks.{rank_above, rank_under}
-
--- ways
-
--- half of a rank, with each of its k digits turned over where the rank is odd, is the way of this rank
-pub way_lane : (k d : ℕ) → d < 2 ^ k → bit_xor (d / 2) ((0 + (2 ^ k - bit_and d 1)) % 2 ^ k) ≡ way (2 ^ k) d
-way_lane k d h =
-    let odd : bit_and d 1 ≡ d % 2 = and_mask d 1 in
-    rw odd (by_digit (d % 2) (omega arith) refl)
-  where
-    some : 0 < 2 ^ k
-    some = pow_pos k
-
-    by_digit : (r : ℕ) → r < 2 → d % 2 ≡ r → bit_xor (d / 2) ((0 + (2 ^ k - d % 2)) % 2 ^ k) ≡ way (2 ^ k) d
-    by_digit zero lt e =
-        let s = some in
-        let none : (0 + (2 ^ k - 0)) % 2 ^ k ≡ 0 = ap (λ n. n % 2 ^ k) (let f : 0 + (2 ^ k - 0) ≡ 0 + 2 ^ k = omega arith in f) ∙ (add-mod_right 0 (2 ^ k) ∙ mod-eq_of_lt s) in
-        rw e (ap (bit_xor (d / 2)) none ∙ xor_zero_r (d / 2))
-    by_digit (suc zero) lt e =
-        let s = some in
-        let ones : (0 + (2 ^ k - 1)) % 2 ^ k ≡ 2 ^ k - 1 = ap (λ n. n % 2 ^ k) (let f : 0 + (2 ^ k - 1) ≡ 2 ^ k - 1 = omega arith in f) ∙ mod-eq_of_lt (omega arith) in
-        let small : d / 2 % 2 ^ k ≡ d / 2 = mod-eq_of_lt (omega arith) in
-        let both = and_mask (d / 2) k in
-        let sum = xor_add_and (d / 2) (2 ^ k - 1) in
-        rw e (ap (bit_xor (d / 2)) ones ∙ omega (arith, small, both, sum))
-    by_digit (suc (suc r)) lt e = absurd (omega arith)
-
--- sums
 
 -- there are as many near numbers as ranks
 pub length-near_numbers : (m p : ℕ) (ds : List ℕ) → length (near_numbers m p ds) ≡ length ds
 length-near_numbers m p [] = refl
 length-near_numbers m p (d ∷ ds) = ap (λ n. suc n) (length-near_numbers m ((p + way m d) % m) ds)
-
--- bounds
 
 -- where the first of two lanes is picked if it is the lesser, and else the second, each is the lesser of both
 pub select_min : (xs ys : List ℕ) → sel_l (zip2 nat_lt xs ys) xs ys ≡ zip2 min xs ys
@@ -61,7 +28,13 @@ select_max (x ∷ xs) (y ∷ ys) =
     let one : cond (nat_lt x y) y x ≡ max x y = grind (arith, nat_tests) in
     λ j. one j ∷ select_max xs ys j
 
--- the test
+-- from p up a rank is twice the distance, as far as the range reaches to both sides
+rank_above : (count p x : ℕ) → p < count → x < count → p ≤ x → x - p ≤ min p (count - 1 - p) → rank_below count p x ≡ 2 * (x - p)
+rank_above count p x hp hx le near = grind (arith, nat_tests)
+
+-- below p it is one less than that
+rank_under : (count p x : ℕ) → p < count → x < count → x < p → p - x ≤ min p (count - 1 - p) → suc (rank_below count p x) ≡ 2 * (p - x)
+rank_under count p x hp hx lt near = grind (arith, nat_tests)
 
 bound_is : (m g p : ℕ) → p ≤ g → g < m → bound m g p ≡ 2 * min p (g - p)
 bound_is m g p h k =

@@ -1,9 +1,9 @@
 -- Levels that are restored one after the other.
 use Rattle.std.proofs.Common.{◌≡◌, ℕ, ◌+◌, ◌<◌, List, [], ◌∷◌, ◌++◌}
-use Rattle.std.proofs.Common.{length, take, refl, ap, sym, ◌∙◌, get_or, slice_set, All}
+use Rattle.std.proofs.Common.{length, take, refl, ap, sym, ◌∙◌, get_or, slice_set, subst, All}
 use Rattle.std.proofs.lemmas.List.{take_more, take_more_set}
+use Rattle.std.proofs.lemmas.List.Elements.{All-push}
 use Rattle.rice_samples.specs.predict.Residuals.{rank_below, ranks_below, last_number}
-use Rattle.rice_samples.proofs.lemmas.bytes.SamplesInTurn.{one_legal}
 
 last_number-push : (p : ℕ) (xs : List ℕ) (x : ℕ) → last_number p (xs ++ x ∷ []) ≡ x
 last_number-push p [] x = refl
@@ -13,6 +13,10 @@ last_number-push p (y ∷ xs) x = last_number-push y xs x
 pub ranks_below-append : (count p : ℕ) (xs ys : List ℕ) → ranks_below count p (xs ++ ys) ≡ ranks_below count p xs ++ ranks_below count (last_number p xs) ys
 ranks_below-append count p [] ys = refl
 ranks_below-append count p (x ∷ xs) ys = ap (λ v. rank_below count p x ∷ v) (ranks_below-append count x xs ys)
+
+-- with one number more of which it holds, it holds of all
+one_legal : {X : Type 0} (P : X → Type 0) (i : ℕ) (xs : List X) (x : X) → i < length xs → All P (take i xs) → P x → All P (take (i + 1) (slice_set xs i x))
+one_legal P i xs x h all p = subst (All P) (sym (take_more_set xs i x h)) (All-push P (take i xs) x all p)
 
 -- The first `i` levels have the first residuals, and `reached` is the last of them.
 pub record AreRestored (count before i reached : ℕ) (levels ds : List ℕ) : Type 0 where
@@ -35,7 +39,3 @@ restored-more {count} {before} {i} {next} above {levels} {ds} h k so_far within 
       last_is = sym (ap (last_number before) more ∙ last_number-push before (take i levels) next);
       within = within;
     }
-
--- a row more
-
--- ---- two halves

@@ -1,11 +1,12 @@
 -- Levels in lanes: of the values that words spell, and to their patterns.
-use Rattle.std.proofs.Common.{◌≡◌, ℕ, zero, suc, ◌+◌, ◌-◌, ◌*◌, ◌%◌, ◌^◌, ◌<◌, ◌≤◌, Bool, true, false, cond}
-use Rattle.std.proofs.Common.{List, [], ◌∷◌, ◌++◌, get_or, length, map, replicate, drop, take, refl, sym, subst, ◌∙◌, ap, arith}
+use Rattle.std.proofs.Common.{◌≡◌, ℕ, zero, suc, ◌+◌, ◌-◌, ◌*◌, ◌%◌, ◌^◌, ◌<◌, ◌≤◌, inl, inr, mod-eq_of_lt, Bool, true, false, cond}
+use Rattle.std.proofs.Common.{List, [], ◌∷◌, ◌++◌, get_or, length, map, replicate, drop, take, refl, sym, subst, ◌∙◌, ap, arith, pos, negsuc, neg_ℤ, ◌+ℤ◌}
 use Rattle.std.specs.Prelude.{All, bit_and, flat_map}
 use Rattle.std.specs.Simd.Lanes.{Each1, digits_l, number_l, zip2}
 use Rattle.std.proofs.lemmas.Grind.{flat_map-append}
 use Rattle.std.proofs.lemmas.List.{drop-drop, length-drop, length-take-le, take-append-drop, take-take, take_all}
 use Rattle.std.proofs.lemmas.List.Elements.{All-drop, All-from_get_or, All-take}
+use Rattle.std.proofs.lemmas.Int.{ints}
 use Rattle.std.proofs.lemmas.Nat.{and_mask, pow_pos}
 use Rattle.std.proofs.Math.Pow.{mod-mod-pow, pow_mono}
 use Rattle.rice_samples.specs.Parameters.{Parameters, value_at, value_count, values_at, width}
@@ -13,9 +14,39 @@ use Rattle.rice_samples.specs.predict.Residuals.{pattern, twos_complement}
 use Rattle.rice_samples.specs.bytes.PatternLanes.{words_in_order}
 use Rattle.rice_samples.specs.bytes.Spelling.{ordered_bytes, spelling, spellings}
 use Rattle.rice_samples.specs.bytes.ValueRange.{offset}
-use Rattle.rice_samples.proofs.lemmas.bytes.BytesOfWords.{AreWords, words_read}
-use Rattle.rice_samples.proofs.lemmas.bytes.LevelPatterns.{level_of_word, word_in_lane}
+use Rattle.rice_samples.proofs.lemmas.bytes.LevelPatterns.{word_in_lane}
+use Rattle.rice_samples.proofs.lemmas.bytes.SpellingLemmas.{mod_once}
 use Rattle.rice_samples.proofs.lemmas.setting.LevelsOfSamples.{half_pow}
+use Rattle.rice_fast.proofs.lemmas.vectors.WordsOfBytes.{AreWords, words_read}
+
+-- the level that is read from a word tells the word, also where it is not legal
+level_of_word : (s : Parameters) (more word o : ℕ) → 1 ≤ s.bits → s.bits ≤ more → more ≤ 32 → o ≡ offset s → word < 2 ^ more
+    → twos_complement more (value_at s ((word + o) % 2 ^ 32 % 2 ^ more)) ≡ word
+level_of_word s more word o h le few e lt =
+    let all : 32 ≡ 32 - more + more = omega arith in
+    let low : (word + o) % 2 ^ 32 % 2 ^ more ≡ (word + offset s) % 2 ^ more = ap (λ k. (word + o) % 2 ^ k % 2 ^ more) all
+    ∙ (mod-mod-pow (word + o) (32 - more) more ∙ ap (λ m. (word + m) % 2 ^ more) e) in
+    ap (λ l. twos_complement more (value_at s l)) low ∙ by_sign s.signed
+  where
+    halves : (half count : ℕ) → count ≡ 2 ^ more → half ≤ count → 0 < half → word < count → twos_complement more (neg_ℤ (pos half) +ℤ pos ((word + half) % count)) ≡ word
+    halves zero count e le some lt = absurd (omega arith)
+    halves (suc half) count e le some lt =
+        elim (mod_once (word + suc half) count (omega arith)) [
+          | inl p ↦
+              let v : neg_ℤ (pos (suc half)) +ℤ pos ((word + suc half) % count) ≡ pos word = ap (λ m. neg_ℤ (pos (suc half)) +ℤ pos m) p.0 ∙ (omega (arith, ints)) in
+              ap (twos_complement more) v
+          | inr p ↦
+              let m : (word + suc half) % count ≡ word + suc half - count = omega (arith, p.0) in
+              let v : neg_ℤ (pos (suc half)) +ℤ pos ((word + suc half) % count) ≡ negsuc (count - 1 - word) = ap (λ m. neg_ℤ (pos (suc half)) +ℤ pos m) m ∙ (omega (arith, ints, p.1)) in
+              ap (twos_complement more) v ∙ omega (arith, e, lt)
+        ]
+
+    by_sign : (b : Bool) → twos_complement more (cond b (neg_ℤ (pos (2 ^ (s.bits - 1)))) (pos 0) +ℤ pos ((word + cond b (2 ^ (s.bits - 1)) 0) % 2 ^ more)) ≡ word
+    by_sign true = halves (2 ^ (s.bits - 1)) (2 ^ more) refl (pow_mono {i = s.bits - 1} {j = more} (omega arith)) (pow_pos (s.bits - 1)) lt
+    by_sign false =
+        let m : (word + 0) % 2 ^ more ≡ word = let same : word + 0 ≡ word = omega arith in ap (λ n. n % 2 ^ more) same ∙ mod-eq_of_lt lt in
+        let z : pos 0 +ℤ pos word ≡ pos word = omega (arith, ints) in
+        ap (λ n. twos_complement more (pos 0 +ℤ pos n)) m ∙ ap (twos_complement more) z
 
 -- the number of values below 0 fits lanes that have room for samples
 pub offset_fits : (s : Parameters) (k : ℕ) → 1 ≤ s.bits → s.bits ≤ k → offset s < 2 ^ k

@@ -15,8 +15,8 @@ use Rattle.rice_samples.specs.Parameters.{Parameters, IsSample, value_count, wid
 use Rattle.rice_samples.specs.predict.Residuals.{pattern, twos_complement}
 use Rattle.rice_samples.specs.bytes.PatternLanes.{OrdersWords, in_order, words_in_order}
 use Rattle.rice_samples.specs.bytes.Spelling.{spelling, spellings, ordered_bytes}
-use Rattle.rice_samples.proofs.lemmas.bytes.BytesOfWords.{fit-in_order, length-in_order, words_read}
-use Rattle.rice_samples.proofs.lemmas.bytes.LevelsSpelledInByteLanes.{length-digits}
+use Rattle.rice_fast.proofs.lemmas.vectors.WordsOfBytes.{fit-in_order, length-in_order, words_read}
+use Rattle.rice_fast.proofs.lemmas.vectors.LevelsSpelledInByteLanes.{length-digits}
 use Rattle.rice_samples.proofs.lemmas.predict.InverseRanksAndPatterns.{has_pattern}
 
 -- words whose bytes stay in their order

@@ -12,7 +12,8 @@ use Rattle.rice_samples.specs.predict.Residuals.{twos_complement}
 use Rattle.rice_samples.specs.bytes.PatternLanes.{in_order, words_in_order}
 use Rattle.rice_samples.specs.bytes.Spelling.{ordered_bytes, spelling, spellings}
 use Rattle.rice_samples.specs.bytes.ValueRange.{offset}
-use Rattle.rice_samples.proofs.lemmas.bytes.BytesOfWords.{bytes_are_digits, pow_some}
+use Rattle.rice_samples.proofs.lemmas.bytes.BytesOfWords.{bytes_are_digits}
+use Rattle.rice_fast.proofs.lemmas.vectors.WordsOfBytes.{pow_some}
 use Rattle.rice_samples.proofs.lemmas.bytes.LevelPatterns.{word_in_lane}
 
 -- samples of at most 8 bits have a byte each

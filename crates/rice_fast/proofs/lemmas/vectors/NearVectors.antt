@@ -6,17 +6,16 @@ use Rattle.std.specs.Int.{Width}
 use mir.Val.{bits, hbits}
 use Rattle.std.specs.Simd.Lanes.{zip2, Each1, Each2, sel_l, top}
 use Rattle.std.proofs.lemmas.Bool.{cases_lt}
-use Rattle.std.proofs.lemmas.List.{length-replicate, length-take-le}
+use Rattle.std.proofs.lemmas.List.{length-map, length-replicate, length-take-le}
 use Rattle.std.proofs.lemmas.Simd.{tops_compared, Each1-get_or}
 use Rattle.std.proofs.Math.Nat.{mod-eq_of_lt, add-mod_right}
 use Rattle.rice_samples.specs.predict.Residuals.{ranks_below}
-use Rattle.rice_samples.specs.predict.RunningSums.{running_sums}
+use Rattle.rice_fast.specs.RunningSums.{running_sums}
 use Rattle.rice_bits.specs.read.JoinedParts.{joined_parts}
 use Rattle.rice_samples.specs.Parameters.{Parameters, value_count}
-use Rattle.rice_samples.specs.predict.LevelsOfParts.{AreLevelsOfParts}
+use Rattle.rice_fast.specs.LevelsOfParts.{AreLevelsOfParts}
 use Rattle.rice_samples.specs.predict.NearNumbers.{way, near_numbers, bound}
-use Rattle.rice_samples.proofs.lemmas.blocks.EightsInLanes.{length-map}
-use Rattle.rice_samples.proofs.lemmas.predict.NearEights.{select_max, length-near_numbers, near_ranks}
+use Rattle.rice_fast.proofs.lemmas.vectors.NearEights.{select_max, length-near_numbers, near_ranks}
 
 -- ways
 
@@ -71,7 +70,7 @@ pub vector_is_near : {n m g p : ℕ} (ds : List ℕ) {bs xs before over : List �
 vector_is_near {n} {m} {g} {p} ds {bs} {xs} {before} h k len numbers shifted bounds are test =
     let all : bs ≡ map (bound m g) (take (length ds) (p ∷ near_numbers m p ds)) = bounds ∙ (ap (map (bound m g)) shifted ∙ (λ j. map (bound m g) (take (sym len j) (p ∷ numbers j)))) in
     let many : length ds ≡ length bs = len ∙ sym
-    (ap length bounds ∙ (length-map (bound m g) before
+    (ap length bounds ∙ (length-map before (bound m g)
     ∙ (ap length shifted ∙ length-take-le n (p ∷ xs) (omega (arith, len, ap length numbers, length-near_numbers m p ds))))) in
     let each = no_excess_in_vector n ds bs many (sym are ∙ test) in
     let near = near_ranks m g p ds h k (subst (λ (ys : List ℕ). Each2 (λ d b. d ≤ b) ds ys) all each) in

@@ -8,9 +8,9 @@ use Rattle.std.proofs.lemmas.List.{length-map, get_or-map, get_or-replicate, len
 use Rattle.std.proofs.lemmas.Nat.{and_mask, pow-add}
 use Rattle.rice_samples.specs.predict.NearNumbers.{way}
 use Rattle.rice_samples.specs.predict.Residuals.{last_number, rank_below, ranks_below}
-use Rattle.rice_samples.proofs.lemmas.predict.RestoredLevels.{ranks_below-append}
-use Rattle.std.proofs.lemmas.List.Elements.{All-append, All-head, All-tail}
-use Rattle.std.proofs.Math.Nat.{add-mod_right, mod-eq_of_lt, pow-le-pow_right}
+use Rattle.rice_fast.proofs.lemmas.vectors.RestoredLevels.{ranks_below-append}
+use Rattle.std.proofs.lemmas.List.Elements.{All-append}
+use Rattle.std.proofs.Math.Nat.{mod-eq_of_lt, pow-le-pow_right}
 
 -- half of each rank, up
 pub lanes_halved : (m n : ℕ) (ds : List ℕ) → 1 < m → length ds ≡ n → ((i : ℕ) → get_or ds i 0 < m)
