@@ -28,3 +28,9 @@ abbrev pub StoppedBy : {I : Type 0} → (I → ℕ) → ℕ → BitFault → Res
 StoppedBy failed count (bit_faults.End blank) result = result ≡ Ok false
 StoppedBy {I} failed count bit_faults.Read result = (result ≡ Err Read) × ((after : I) × (failed after ≡ count))
 StoppedBy failed count bit_faults.TooLong result = result ≡ Err TooLong
+
+-- what such a look comes to where it answers with an option
+abbrev pub LooksOnceMore : {I : Type 0} → (I → ℕ) → Option (List ℕ) → ℕ → Result (Option Bool) Fault → Type 0
+LooksOnceMore failed left bits (Ok None) = ⊥
+LooksOnceMore failed left bits (Ok (Some more)) = LooksAfter failed 0 left bits (Ok more)
+LooksOnceMore failed left bits (Err fault) = LooksAfter failed 0 left bits (Err fault)

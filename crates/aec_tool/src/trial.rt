@@ -1,7 +1,8 @@
 //! Tests a code: decodes it, and writes no samples.
-ghost use Rattle.std.specs.Prelude.{◌≡◌, ℕ, ◌⊎◌, ◌&&◌, List, Some, None, is_some};
+ghost use Rattle.std.specs.Prelude.{◌≡◌, ℕ, ◌⊎◌, ◌&&◌, List, Some, None, Err, IfErr, IfOk, is_some};
 ghost use Rattle.aec_command.specs.TestPlan.{test_view};
 ghost use Rattle.aec_tool.specs.Outside.{Outside, IsFresh, GivesAll, Stopped, finding, losing, is_read_again, said_of, saying, source_bytes, source_id};
+ghost use Rattle.aec_tool.specs.OneAfter.{LooksOnceMore};
 ghost use Rattle.aec_tool.specs.Performs.{PerformsTest, Tests, Judges, Looks, faulty};
 ghost use Rattle.rice_stream.specs.declared.outcome.Fault.TheVariants as faults;
 
@@ -13,8 +14,9 @@ use crate::nowhere::Nowhere;
 use crate::one_after::look_after;
 use crate::perform::{Done, STANDARD, fail, open, write_closing_line};
 use crate::same_file::FileId;
-use crate::system::System;
+use crate::system::{OpenFault, System};
 use aec_command::TestPlan;
+use rice_bits::Intake;
 use rice_samples::Setting;
 use rice_stream::{Fault, Outcome, Report, decode};
 
@@ -160,10 +162,24 @@ fn look_for_one_after<'a, S: System<'a>>(
     if !is_looked_for(plan, id) {
         return Ok(None);
     }
-    let source = match system.reopen(plan.source) {
-        Ok(source) => source,
-        Err(_) => return Err(Fault::Read),
-    };
-    let more = look_after(source, bits)?;
-    Ok(Some(more))
+    look_once_more(system.reopen(plan.source), bits)
+}
+
+/// Returns whether a 1 is left after the first `bits` bits of a source that was opened once more. A source that cannot be opened is a
+/// failed read.
+fn look_once_more<I: Intake + Drop>(
+    source: Result<I, OpenFault>,
+    bits: u64,
+) -> Result<Option<bool>, Fault>
+    requires { IfOk source (λ s. I.failed s ≡ 0) }
+    ensures looks { IfOk source (λ s. LooksOnceMore I.failed (I.left s) bits result) }
+    ensures gone { IfErr source (λ e. result ≡ Err faults.Read) }
+{
+    match source {
+        Ok(source) => match look_after(source, bits) {
+            Ok(more) => Ok(Some(more)),
+            Err(fault) => Err(fault),
+        },
+        Err(_) => Err(Fault::Read),
+    }
 }

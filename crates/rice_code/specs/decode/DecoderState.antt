@@ -3,6 +3,7 @@ use Rattle.std.specs.Prelude.{◌≡◌, ◌≢◌, ℕ, ◌+◌, ◌*◌, ◌<�
 use Rattle.rice_samples.specs.Parameters.{Parameters, IsLegal, IsSample}
 use Rattle.rice_samples.specs.Places.{blocks_left, begins_segment}
 use Rattle.rice_samples.specs.predict.Residuals.{last_of, rank, pattern, residuals}
+use Rattle.rice_code.specs.code.Blocks.{BlockData, block_data}
 use Rattle.rice_code.specs.{declared.decode.call_results.Step.Step, declared.decode.call_results.Step.TheVariants.Block, declared.decode.call_results.CodeFault.CodeFault}
 
 -- The state of a decoder.
@@ -41,6 +42,14 @@ state_after_block p samples run = record p { block = next_block_place p.setting 
 -- the residual of a sample that is restored, by whether it is the first of a block with a reference
 abbrev pub residual_at : Parameters → Option ℕ → Bool → ℤ → ℤ → ℕ
 residual_at s reference first p x = if s.preprocess then (if first && is_some reference then 0 else rank s p x) else pattern s x
+
+-- these are the samples of a block with these contents after the sample p, and `last` is the last of them
+pub record RestoresBlock (s : Parameters) (b : ℕ) (p : ℤ) (contents : BlockData) (samples : List ℤ) (last : ℤ) : Type 0 where
+  pub len : length samples ≡ s.block
+  pub legal : All (IsSample s) samples
+  pub contents_are : block_data s b p samples ≡ contents
+  pub last_is : last ≡ last_of p samples
+  pub sample : IsSample s last
 
 -- the samples of the first i residuals of block b, after the sample p
 pub record IsRestored (s : Parameters) (b : ℕ) (p : ℤ) (reference : Option ℕ) (ds : List ℕ) (i : ℕ) (samples : List ℤ) (last : ℤ) : Type 0 where

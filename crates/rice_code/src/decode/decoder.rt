@@ -10,7 +10,7 @@ ghost use Rattle.rice_code.specs.code.Forms.{RunIsSound, blocks_in, zero_blocks}
 use crate::decode::call_results::{CodeFault, Step};
 use crate::decode::coded_data_set::read_set;
 use crate::decode::options::SetSummary;
-use crate::decode::restoring::{restore_block, restore_zero_block};
+use crate::decode::restoring::{restore_if_sound, restore_zero_block};
 use arrayvec::ArrayVec;
 use rice_bits::{BitFault, BitReader, Intake, Meter};
 use rice_samples::Setting;
@@ -260,13 +260,10 @@ impl Decoder {
         let residuals = &mut room[..setting.block() as usize];
         match read_set(setting, block, reader, meter, residuals) {
             Ok(SetSummary::Residuals(head)) => {
-                let sound = head.sound;
-                if !sound {
-                    return self.stop(Err(CodeFault::ResidualTooLarge));
+                match restore_if_sound(setting, block, before, head, residuals, samples) {
+                    Some(last) => self.go_to_next_block(last, 0, reader, meter),
+                    None => self.stop(Err(CodeFault::ResidualTooLarge)),
                 }
-                let reference = head.reference;
-                let last = restore_block(setting, block, before, reference, residuals, samples);
-                self.go_to_next_block(last, 0, reader, meter)
             }
             Ok(SetSummary::Zeros { reference, zeros }) => match run_blocks(setting, block, zeros) {
                 Some(count) => {

@@ -20,8 +20,8 @@ pub fn pair_by_search(g: u64, meter: &mut Meter) -> (u32, u32)
     while rest > sum {
         sum += 1;
         rest -= sum;
-        meter.tick(1);
     }
+    meter.tick(0);
     ((sum - rest) as u32, rest as u32)
 }
 

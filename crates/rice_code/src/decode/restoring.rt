@@ -1,10 +1,12 @@
 //! Restores the samples of a block.
-ghost use Rattle.std.specs.Prelude.{◌≡◌, ◌<◌, ◌&&◌, true, length, All, IfSome, is_some};
+ghost use Rattle.std.specs.Prelude.{◌≡◌, ◌<◌, ◌&&◌, true, false, [], length, All, IfNone, IfSome, is_some};
 ghost use Rattle.rice_samples.specs.Parameters.{IsSample, value_count};
 ghost use Rattle.rice_samples.specs.predict.Residuals.{pattern, last_of};
-ghost use Rattle.rice_code.specs.{code.Blocks.block_data, code.Blocks.zero_block, code.SoundBlocks.block_with, decode.DecoderState.residual_at};
+ghost use Rattle.rice_code.specs.{code.Blocks.block_data, code.Blocks.zero_block, code.SoundBlocks.IsSoundBlock, code.SoundBlocks.block_with};
+ghost use Rattle.rice_code.specs.decode.DecoderState.{RestoresBlock, residual_at};
 ghost use Rattle.rice_code.specs.code.Forms.{IsReference, IsBlock, IsZeroAtReference, AllFit};
 
+use crate::decode::options::BlockSummary;
 use arrayvec::ArrayVec;
 use rice_samples::{Setting, from_pattern, restore};
 
@@ -33,7 +35,7 @@ fn sample_of_residual(setting: &Setting, reference: Option<u32>, first: bool, p:
 }
 
 /// Restores the samples of the block with this reference sample and these residuals, after the sample `p`. Returns the last of them.
-pub fn restore_block(
+fn restore_block(
     setting: &Setting,
     block: u64,
     p: i64,
@@ -59,6 +61,36 @@ pub fn restore_block(
         samples.push(last);
     }
     last
+}
+
+/// Restores the samples of a block as `restore_block` does, and returns the last of them. If the residuals are not sound, returns `None`,
+/// and gives no samples.
+pub fn restore_if_sound(
+    setting: &Setting,
+    block: u64,
+    p: i64,
+    head: BlockSummary,
+    residuals: &[u32],
+    samples: &mut ArrayVec<i64, 64>,
+) -> Option<i64>
+    requires before { IsSample setting.now p }
+    requires sound { head.sound ≡ true → IsSoundBlock setting.now block (block_with head.reference residuals.now) }
+    requires empty { samples.old.items ≡ [] }
+    ensures some { IfSome result (λ last. (head.sound ≡ true) ×
+        RestoresBlock setting.now block p (block_with head.reference residuals.now) samples.new.items last) }
+    ensures none { IfNone result ((head.sound ≡ false) × (samples.new.items ≡ [])) }
+{
+    if !head.sound {
+        return None;
+    }
+    Some(restore_block(
+        setting,
+        block,
+        p,
+        head.reference,
+        residuals,
+        samples,
+    ))
 }
 
 /// Restores the samples of a zero block after the sample `p`: each is the reference sample, or else `p`, or without prediction 0. Returns

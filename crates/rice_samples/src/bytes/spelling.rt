@@ -1,6 +1,6 @@
 //! The unique bytes of each sample.
-ghost use Rattle.std.specs.Prelude.{◌≡◌, ◌≢◌, length, ℤ, IfNone, IfSome};
-ghost use Rattle.rice_samples.specs.Parameters.{IsSample, width};
+ghost use Rattle.std.specs.Prelude.{◌≡◌, ◌≢◌, ◌≤◌, length, ℤ, IfNone, IfSome};
+ghost use Rattle.rice_samples.specs.Parameters.{IsSample, level as level_of, value_count, width};
 ghost use Rattle.rice_samples.specs.bytes.Spelling.{spelling};
 
 use crate::Setting;
@@ -18,7 +18,18 @@ pub fn sample_of(setting: &Setting, bytes: &[u8]) -> Option<i64>
         (bytes.now ≡ spelling setting.now x)) }
 {
     let word = number_of_bytes(bytes, setting.msb());
-    let level = (word as u64 + setting.offset()) % (1 << (8 * setting.width()));
+    sample_at(
+        setting,
+        (word as u64 + setting.offset()) % (1 << (8 * setting.width())),
+    )
+}
+
+/// Returns the sample of this level, or `None` if no sample has it.
+#[inline]
+fn sample_at(setting: &Setting, level: u64) -> Option<i64>
+    ensures none { IfNone result (value_count setting.now ≤ level) }
+    ensures value { IfSome result (λ x. IsSample setting.now x × (level_of setting.now x ≡ level)) }
+{
     if level < setting.number_of_values() {
         Some(setting.value_at(level))
     } else {

@@ -6,14 +6,12 @@ pub loop-sum-init : goal.loop-sum-init
 loop-sum-init c = let e = triangle_none in record {
   parts = omega arith;
   below = omega arith;
-  steps = omega arith;
 }
 
 pub loop-sum-preserved : goal.loop-sum-preserved
 loop-sum-preserved c = let e = triangle-more c.loop-sum.sum in record {
   parts = omega arith;
   below = omega arith;
-  steps = omega arith;
 }
 
 pub overflow_cast-result : goal.overflow_cast-result

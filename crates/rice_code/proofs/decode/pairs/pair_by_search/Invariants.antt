@@ -6,7 +6,6 @@ abbrev pub invariant-loop-sum : goal.invariant-loop-sum
 invariant-loop-sum l = record {
   parts : triangle l.sum + l.rest ≡ l.g;
   below : l.sum ≤ triangle l.sum;
-  steps : l.meter ≡ l.fn.meter + l.sum;
 }
 
 abbrev pub decreases-loop-sum : goal.decreases-loop-sum

@@ -1,22 +1,26 @@
-use Rattle.std.proofs.Common.{◌≡◌, ◌+◌, ◌*◌, ◌%◌, ◌^◌, ◌<◌, arith, w64, FitsSigned, rules}
-use Rattle.std.proofs.lemmas.Int.{to_z-of_z}
+use Rattle.std.proofs.Common.{◌*◌, ◌<◌, arith, Option, Some, None, IfSome, IfNone}
 use Rattle.std.proofs.lemmas.Nat.{one_shl}
 use Rattle.rice_samples.specs.Parameters.{level, value_count}
 use Rattle.rice_samples.proofs.lemmas.bytes.SpellingLemmas.{spelled_level, level_spelled}
 use Rattle.rice_samples.proofs.bytes.spelling.sample_of.Goals as goal
 
-pub returns-then-level-number_of_values-clause-value : goal.returns-then-level-number_of_values-clause-value
-returns-then-level-number_of_values-clause-value c =
+if_some : {A : Type 0} (P Q : A → Type 0) (found : Option A) → ((x : A) → P x → Q x) → IfSome found P → IfSome found Q
+if_some P Q (Some x) f p = f x p
+if_some P Q None f p = tt
+
+if_none : {A : Type 0} (P Q : Type 0) (found : Option A) → (P → Q) → IfNone found P → IfNone found Q
+if_none P Q (Some x) f p = tt
+if_none P Q None f p = f p
+
+pub returns-clause-value : goal.returns-clause-value
+returns-clause-value c =
     let s = c.args.setting.now in
     let word = c.number_of_bytes-word in
     let w = c.width.ensures in
-    let x = c.value_at in
-    let fits : FitsSigned w64 x.result = search rules in
     let shift = one_shl (8 * c.width.result) 64 (omega arith) in
-    let e : level s x.result ≡ (word.result + c.offset.result) % 2 ^ (8 * c.width.result) = rw shift at x.ensures.level in
-    rw (to_z-of_z w64 x.result fits) (
-      x.ensures.sample,
-      spelled_level word.result x.result w.legal (record {
+    if_some _ _ c.sample_at.result (λ x found. (
+      found.0,
+      spelled_level word.result x w.legal (record {
         order = c.msb.ensures;
         offset_is = c.offset.ensures.value;
         width_is = w.value;
@@ -25,15 +29,16 @@ returns-then-level-number_of_values-clause-value c =
         some = w.range.0;
         ordered = word.ensures.bytes;
         fits = word.ensures.fits;
-      }) x.ensures.sample e,
-    )
+      }) found.0 (rw shift at found.1),
+    )) c.sample_at.ensures.value
 
-pub returns-else-level-number_of_values-clause-none : goal.returns-else-level-number_of_values-clause-none
-returns-else-level-number_of_values-clause-none c = λ y sample spells.
+pub returns-clause-none : goal.returns-clause-none
+returns-clause-none c =
     let s = c.args.setting.now in
     let word = c.number_of_bytes-word in
     let w = c.width.ensures in
     let shift = one_shl (8 * c.width.result) 64 (omega arith) in
+    if_none _ _ c.sample_at.result (λ far y sample spells.
     let e = level_spelled word.result y w.legal (record {
       order = c.msb.ensures;
       offset_is = c.offset.ensures.value;
@@ -45,5 +50,5 @@ returns-else-level-number_of_values-clause-none c = λ y sample spells.
       fits = word.ensures.fits;
     }) w.range.1 sample spells in
     let below : level s y < value_count s = sample.1 in
-    let far = rw shift at c.if-level-number_of_values.false in
-    absurd (omega (arith, e, below, far, c.number_of_values.ensures.value))
+    let far = rw shift at far in
+    absurd (omega (arith, e, below, far))) c.sample_at.ensures.none
