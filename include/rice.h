@@ -83,7 +83,7 @@ enum rice_status {
 
 /* A report: what a call did. */
 struct rice_report {
-    uint64_t samples; /* the samples that encoding took, or that decoding wrote (with RICE_NO_ROOM, whole blocks) */
+    uint64_t samples; /* the samples that encoding took, or that decoding wrote (with RICE_NO_ROOM, those of whole blocks) */
     uint64_t bits;    /* the bits of code: encoded, without padding, or decoded, with padding (see below) */
     uint64_t steps;   /* the work, in steps: docs/C.md defines these under Bounds */
     uint64_t written; /* the bytes written, from the start of the output; those after them are unchanged */
@@ -113,8 +113,8 @@ uint32_t rice_check(const struct rice_setting *setting);
 uint32_t rice_sample_width(const struct rice_setting *setting);
 
 /* Returns a number of bytes that is enough for the code of any `samples` samples, as rice_encode writes it. The outputs of all
- * rice_push and rice_finish calls that return RICE_DONE fit in as many. Returns 0 if the setting is not legal, or `samples` is
- * above 2^48. */
+ * rice_push calls and one rice_finish that return RICE_DONE fit in as many. Returns 0 if the setting is not legal, or `samples`
+ * is above 2^48. */
 uint64_t rice_code_room(const struct rice_setting *setting, uint64_t samples);
 
 /* Returns a number of bytes that hold any coded data set of this library with its padding, at most 259. The count begins with
@@ -148,7 +148,7 @@ uint32_t rice_encode(const struct rice_setting *setting, const uint8_t *samples,
  * `samples_room` bytes. The bits after their code have no effect. Returns a status of enum rice_status:
  *   RICE_DONE                 All `count` samples are written.
  *   RICE_CODE_ENDS, RICE_RUN_PAST_SEGMENT, RICE_RESIDUAL_TOO_LARGE
- *                             All samples before that place are written.
+ *                             All samples before sample or block `place` are written.
  *   RICE_TOO_LONG             The first 2^49 bytes of code are not enough. The samples of their whole coded data sets are
  *                             written. `report->place` is 0.
  *   RICE_NO_ROOM              The samples do not fit. With count * rice_sample_width(setting) bytes they always fit.
@@ -158,7 +158,7 @@ uint32_t rice_decode(const struct rice_setting *setting, uint64_t count, const u
 
 /* Decodes all of a code whose number of samples is not known. The samples that fill the last block, or the last run of blocks,
  * come too: for a code of rice_encode, fewer than a segment. Returns RICE_DONE if all samples fit, and no 1 is left in the
- * code; else a status as rice_decode. Each bit of code gives at most 456 samples. */
+ * code; else a status as rice_decode. A code gives at most 456 samples for each of its bits. */
 uint32_t rice_decode_all(const struct rice_setting *setting, const uint8_t *code, size_t code_len, uint8_t *samples,
                          size_t samples_room, struct rice_report *report);
 
@@ -188,8 +188,8 @@ uint64_t rice_push_room(const struct rice_feed *feed, uint64_t samples);
  * the whole bytes of their code to `code`. The other samples, fewer than a segment, are not taken: give them again, with more
  * after them. The number of samples alone decides how many are taken. `report` counts from rice_begin on, but `written` counts
  * the bytes of this call. Returns a status of enum rice_status:
- *   RICE_DONE                 All of that is done. The outputs of all calls, joined, are the beginning of rice_encode's
- *                             output.
+ *   RICE_DONE                 All of that is done. The outputs of all rice_push calls with RICE_DONE, joined, are the
+ *                             beginning of rice_encode's output.
  *   RICE_SAMPLE_OUT_OF_RANGE  A sample in a whole segment is out of range. `place` counts from rice_begin on.
  *   RICE_NO_ROOM              The bytes do not fit. Those of up to 2^48 samples always fit in
  *                             rice_push_room(feed, samples_len / rice_sample_width(&feed->setting)) bytes.
@@ -199,10 +199,10 @@ uint64_t rice_push_room(const struct rice_feed *feed, uint64_t samples);
 uint32_t rice_push(struct rice_feed *feed, const uint8_t *samples, size_t samples_len, uint8_t *code, size_t code_room,
                    struct rice_report *report);
 
-/* Encodes the last samples, in whole segments or not, and writes the rest of the code to `code`. The outputs of all calls,
- * joined, are then the output of rice_encode for all samples. `report` counts from rice_begin on, but `written` counts the
- * bytes of this call. The feed does not change: encoding can go on from it. Returns a status as rice_push, or RICE_INPUT_CUT.
- * Unless it returns RICE_DONE, forget the output of this call. */
+/* Encodes the last samples, in whole segments or not, and writes the rest of the code to `code`. With RICE_DONE, the outputs of
+ * all rice_push calls with RICE_DONE and of this call, joined, are the output of rice_encode for all samples. `report` counts
+ * from rice_begin on, but `written` counts the bytes of this call. The feed does not change: encoding can go on from it. Returns
+ * a status as rice_push, or RICE_INPUT_CUT. Unless it returns RICE_DONE, forget the output of this call. */
 uint32_t rice_finish(const struct rice_feed *feed, const uint8_t *samples, size_t samples_len, uint8_t *code,
                      size_t code_room, struct rice_report *report);
 
@@ -224,7 +224,7 @@ uint32_t rice_open(const struct rice_setting *setting, struct rice_drain *drain)
 /* Opens a code at the beginning of an interval: after `samples` samples and `bits` bits. rice_pull then gives the samples of
  * the code after that place. The caller has kept these two numbers:
  *   - from a drain with `block` and `run` 0: its `samples` and `bits`;
- *   - from a feed with `start` 0: its `samples`, and 8 times the bytes written so far plus `waiting_bits`.
+ *   - from a feed with `start` 0: its `samples`, and `waiting_bits` plus 8 times the bytes that rice_push wrote with RICE_DONE.
  * Returns RICE_DONE; RICE_BAD_PLACE if `samples` is above 2^62 or `bits` above 2^52, or if intervals are padded and `bits` is
  * not a multiple of 8; or RICE_BAD_.... Unless it returns RICE_DONE, the drain does not change. */
 uint32_t rice_open_at(const struct rice_setting *setting, uint64_t samples, uint64_t bits, struct rice_drain *drain);
@@ -234,7 +234,7 @@ uint32_t rice_open_at(const struct rice_setting *setting, uint64_t samples, uint
  * blocks, as many as fit. The drain counts the samples, the bits and the work on the coded data sets that are taken, and
  * `report` repeats these numbers; `written` counts the bytes of this call. The next piece begins with byte `drain->bits / 8`.
  * Returns why it ended, a status of enum rice_status:
- *   RICE_NO_ROOM              No further block fits: call again with more room.
+ *   RICE_NO_ROOM              No further block fits: take the samples, and call again.
  *   RICE_ONLY_ZEROS           No 1 is left in the piece: the code ends here, or the next piece goes on.
  *   RICE_MORE_CODE            A 1 is left, but no whole coded data set: the code goes on, or it is cut.
  *   RICE_RUN_PAST_SEGMENT, RICE_RESIDUAL_TOO_LARGE
@@ -242,9 +242,9 @@ uint32_t rice_open_at(const struct rice_setting *setting, uint64_t samples, uint
  *                             the same piece returns the same.
  *   RICE_TOO_LONG             `drain->bits` and the bits of this piece together are above 2^52. Nothing is done.
  *   RICE_BAD_...              The drain has no legal setting. Nothing is done, and the report is all zeros.
- * With pieces of any lengths, and room for at least a block, the outputs of all calls, joined, are the output of
- * rice_decode_all. The first `count` samples of them are the output of rice_decode. A piece that gave nothing despite this room
- * has to be longer next time. */
+ * From rice_open to the code's end, with pieces of any lengths and room for at least a block, the outputs of all calls, joined,
+ * are the output of rice_decode_all. Their first `count` samples are the output of rice_decode. A piece that gave nothing
+ * despite this room has to be longer next time. */
 uint32_t rice_pull(struct rice_drain *drain, const uint8_t *code, size_t code_len, uint8_t *samples, size_t samples_room,
                    struct rice_report *report);
 

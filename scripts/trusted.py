@@ -24,7 +24,7 @@ The contracts of `encode` and `decode` ([encoding.rt](../crates/rice_stream/src/
 [decoding.rt](../crates/rice_stream/src/decoding.rt)) name definitions. The tables list, by file, these definitions and all others on which
 they depend. To trust the contracts, read these definitions, and [PROOFS.md](PROOFS.md#what-is-trusted) on the toolchain. Read also:
 
-- the types `Report` and `Fault` (`crates/rice_stream/src/outcome.rt`);
+- the types of `crates/rice_stream/src/outcome.rt`;
 - the `ghost` lines of the type `Setting` (`crates/rice_samples/src/setting.rt`), and the definitions behind them;
 - the contracts of the traits of devices (`crates/rice_bits/src/device.rt`), and the definitions behind them.
 
