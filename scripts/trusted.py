@@ -26,9 +26,9 @@ they depend. To trust the contracts, read these definitions, and [PROOFS.md](PRO
 
 - the types of `crates/rice_stream/src/outcome.rt`;
 - the `ghost` lines of the type `Setting` (`crates/rice_samples/src/setting.rt`), and the definitions behind them;
-- the contracts of the traits of devices (`crates/rice_bits/src/device.rt`), and the definitions behind them.
+- the contracts of `Intake` and `Outlet` (`crates/rice_bits/src/device.rt`), and the definitions behind them.
 
-No other line of `specs/` or `proofs/` changes what the contracts mean. The toolchain defines `length`, `take`, `All` and similar words.
+No other definition in `specs/` or `proofs/` changes what the contracts mean. The toolchain defines `length`, `take`, `All` and similar words.
 """
 
 
