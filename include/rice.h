@@ -2,26 +2,27 @@
  * rice.h - lossless compression of samples by the adaptive Rice coder of CCSDS 121.0-B-3.
  *
  * The library encodes and decodes from memory to memory. It allocates nothing, and calls nothing but memcpy, memmove and memset.
- * It keeps nothing between calls but the caller's feeds and drains. It writes only in the memory that it is given, whatever the
- * input. Calls may run in several threads at once, each with an output, a report and a feed or drain of its own.
+ * Between calls, it keeps data only in the caller's feeds and drains. It writes only in the memory that it is given, whatever
+ * the input. Calls may run in several threads at once, each with an output, a report and a feed or drain of its own.
+ * docs/CODE.md defines the code and its terms.
  * This header is for C99, C++98 and later, on machines with pointers of eight bytes and the least significant byte first.
  *
  * The library does not check what follows. The caller ensures it:
  *   - A pointer to a setting, feed, drain or report points to one. Each bool of a setting is true or false.
- *   - A feed is all zeros, or another feed, before rice_begin. rice_push and rice_finish get a feed as rice_begin or the last
- *     rice_push left it, or a copy of one.
- *   - A drain is all zeros, or another drain, before rice_open and rice_open_at. rice_pull gets a drain as these or the last
- *     rice_pull left it, or a copy of one.
- *   - A pointer and a length name memory that exists, at most PTRDIFF_MAX bytes. With the length 0 the pointer may be NULL, in C
- *     and C++ with this header. Callers by other means pass the address of any byte then.
- *   - Every byte of that memory is initialised, in outputs too: by calloc or memset, for example. In practice malloc does, since
- *     the library reads no byte of an output before it writes it. The proof, though, speaks of initialised memory alone.
- *   - The output, the report, and a feed or drain that a call changes overlap with nothing else that the call gets. No other
- *     thread touches them meanwhile.
+ *   - rice_begin gets a feed of zeros, or one that was begun before. rice_push and rice_finish get a feed as rice_begin or the
+ *     last rice_push left it, or a copy of one.
+ *   - rice_open and rice_open_at get a drain of zeros, or one that was opened before. rice_pull gets a drain as these or the
+ *     last rice_pull left it, or a copy of one.
+ *   - A pointer and a length name memory that exists, at most PTRDIFF_MAX bytes. With the length 0, C and C++ callers with this
+ *     header may pass NULL. Other callers then pass the address of any byte.
+ *   - Every byte of that memory is initialised, in outputs too: by calloc or memset, for example. In practice, memory of malloc
+ *     is enough, since the library reads no byte of an output before it writes it. But the proof assumes initialised memory.
+ *   - The output, the report, and a feed or drain that a call changes overlap with nothing else that the call gets. During the
+ *     call, no other thread touches these, or changes what the call reads.
  *   - The stack has the room stated below.
  *
- * A running call holds its data on the stack, as much for any input: RICE_ENCODE_STACK bytes are enough to encode, and
- * RICE_DECODE_STACK to decode. Both were measured, and tried on stacks of that size, on x86-64 and aarch64 Linux.
+ * A running call holds its data on the stack: RICE_ENCODE_STACK bytes are enough to encode, and RICE_DECODE_STACK to decode.
+ * Tests measure calls, and run them on stacks of these sizes, on x86-64 and aarch64 Linux.
  */
 #ifndef RICE_H
 #define RICE_H
@@ -62,42 +63,44 @@ static inline struct rice_setting rice_setting_for(uint32_t bits) {
     return setting;
 }
 
-/* How a call ended. Where `place` is mentioned, the report has it. It counts from 0. */
+/* How a call ended. `place` is in the report, and counts from 0. */
 enum rice_status {
     RICE_DONE = 0,               /* all was done */
     RICE_BAD_BITS = 1,           /* the bits of a sample are not 1 to 32 */
     RICE_BAD_BLOCK = 2,          /* the block size is not 8, 16, 32 or 64; with any_block, not even or not 2 to 64 */
     RICE_BAD_INTERVAL = 3,       /* the interval is not 1 to 4096 */
-    RICE_SAMPLE_OUT_OF_RANGE = 4, /* sample `place` is out of range: its unused high bits must be 0, or copies of its sign */
+    RICE_SAMPLE_OUT_OF_RANGE = 4, /* sample `place` is out of range: its unused bits must be 0, or if signed equal its sign */
     RICE_INPUT_CUT = 5,          /* the input ends inside sample `place` */
-    RICE_CODE_ENDS = 6,          /* the code ends after `place` samples, inside a block or before the asked number */
-    RICE_RUN_PAST_SEGMENT = 7,   /* the code is damaged: the run of zeros at block `place` is too long */
-    RICE_RESIDUAL_TOO_LARGE = 8, /* the code is damaged: a value of block `place` doesn't fit */
-    RICE_NO_ROOM = 9,            /* the output is full, and all of it is written; rice_pull: no further block fits */
-    RICE_TOO_LONG = 10,          /* the input has more than 2^48 bytes of samples, or 2^49 of code */
+    RICE_CODE_ENDS = 6,          /* the code ends after `place` samples, inside a coded data set or before the requested count */
+    RICE_RUN_PAST_SEGMENT = 7,   /* the code is damaged: the run of zero blocks at block `place` is too long */
+    RICE_RESIDUAL_TOO_LARGE = 8, /* the code is damaged: a residual of block `place` is too large */
+    RICE_NO_ROOM = 9,            /* the output is too small, and all of it is written; rice_pull: no further block fits */
+    RICE_TOO_LONG = 10,          /* the input has more than 2^48 bytes of samples, or 2^49 bytes of code */
     RICE_ONLY_ZEROS = 11,        /* rice_pull: no 1 is left in the piece */
-    RICE_MORE_CODE = 12,         /* rice_pull: the rest of the piece has a 1, and no whole coded data set */
+    RICE_MORE_CODE = 12,         /* rice_pull: the rest of the piece has a 1, but no whole coded data set */
     RICE_BAD_PLACE = 13          /* rice_open_at: no interval can begin there */
 };
 
 /* A report: what a call did. */
 struct rice_report {
-    uint64_t samples; /* the samples that were encoded, or decoded and written */
-    uint64_t bits;    /* the bits of code: written, without padding, or read, with padding (see below) */
-    uint64_t steps;   /* the work: bits, samples, and looks at residuals; in decoding, turns of the search for a pair */
+    uint64_t samples; /* the samples that encoding took, or that decoding wrote (with RICE_NO_ROOM, those of whole blocks) */
+    uint64_t bits;    /* the bits of code: encoded, without padding, or decoded, with padding (see below) */
+    uint64_t steps;   /* the work, in steps: docs/C.md defines these under Bounds */
     uint64_t written; /* the bytes written, from the start of the output; those after them are unchanged */
-    uint64_t place;   /* the number of the sample or block that the status mentions, or 0 */
+    uint64_t place;   /* the `place` that the status mentions, or 0 */
 };
 
 /* What `bits` counts.
  * Encoding: the bits of all coded data sets, without the padding of intervals and the zeros that fill the last byte. The length
- * of the code in bytes is `written`.
- * Decoding with RICE_DONE: the bits up to the end of the last coded data set that was needed, with its padding. For
- * rice_decode_all, those of the whole code.
- * With RICE_CODE_ENDS and RICE_TOO_LONG: all bits of the code. To learn where the last whole coded data set ended, decode the
- * first `samples` samples of the same code by rice_decode.
- * With RICE_RUN_PAST_SEGMENT and RICE_RESIDUAL_TOO_LARGE the damaged coded data set counts too. With RICE_NO_ROOM, the coded
- * data set of the block that does not fit counts too. */
+ * of rice_encode's code in bytes is `written`.
+ * rice_decode with RICE_DONE: the bits up to the end of the last coded data set that was needed, with its padding.
+ * rice_decode_all with RICE_DONE: all bits of the code.
+ * Both with RICE_CODE_ENDS: all bits of the code. To learn where the last whole coded data set ended, decode the first
+ * `samples` samples of the same code by rice_decode.
+ * Both with RICE_TOO_LONG: 2^52, the bits of 2^49 bytes.
+ * Both with RICE_RUN_PAST_SEGMENT, RICE_RESIDUAL_TOO_LARGE or RICE_NO_ROOM: the bits up to the end of the coded data set that
+ * is damaged, or whose block does not fit.
+ * rice_pull: `drain->bits`. */
 
 /* Returns the version of the library, in the form of RICE_VERSION. */
 uint32_t rice_version(void);
@@ -110,8 +113,8 @@ uint32_t rice_check(const struct rice_setting *setting);
 uint32_t rice_sample_width(const struct rice_setting *setting);
 
 /* Returns a number of bytes that is enough for the code of any `samples` samples, as rice_encode writes it. The outputs of all
- * rice_push and rice_finish calls that return RICE_DONE fit in as many. Returns 0 if the setting is not legal, or `samples` is
- * above 2^48. */
+ * rice_push calls and one rice_finish that return RICE_DONE fit in as many. Returns 0 if the setting is not legal, or `samples`
+ * is above 2^48. */
 uint64_t rice_code_room(const struct rice_setting *setting, uint64_t samples);
 
 /* Returns a number of bytes that hold any coded data set of this library with its padding, at most 259. The count begins with
@@ -119,8 +122,8 @@ uint64_t rice_code_room(const struct rice_setting *setting, uint64_t samples);
  * coders may be longer. */
 uint32_t rice_set_room(const struct rice_setting *setting);
 
-/* Returns a bound of `steps` in the reports of rice_encode and rice_finish for `samples` samples. Returns 0 as rice_code_room.
- * In decoding, `steps` is at most 2 * bits + samples. */
+/* Returns an upper bound of `steps` in the reports of rice_encode and rice_finish for `samples` samples. Returns 0 if the
+ * setting is not legal, or `samples` is above 2^48. In decoding, `steps` is at most 2 * bits + samples. */
 uint64_t rice_step_bound(const struct rice_setting *setting, uint64_t samples);
 
 /* Brings the `samples_len` bytes at `samples` into the form that rice_encode wants. The lowest `bits` bits of each sample stay.
@@ -132,11 +135,11 @@ uint32_t rice_spell(const struct rice_setting *setting, uint8_t *samples, size_t
  * bytes. Returns a status of enum rice_status:
  *   RICE_DONE                 The code of all samples is written: `report->written` bytes.
  *   RICE_SAMPLE_OUT_OF_RANGE, RICE_INPUT_CUT
- *                             The code of the whole segments before sample `place` is written, in whole bytes. A segment is 64
- *                             blocks, or the rest of an interval.
+ *                             The code of the whole segments before sample `place` is written, except an incomplete last
+ *                             byte. A segment is 64 blocks, or the rest of an interval.
  *   RICE_TOO_LONG             The same for the samples in the first 2^48 bytes. `report->place` is 0.
- *   RICE_NO_ROOM              The code does not fit. With rice_code_room(setting, samples_len / width) bytes it always fits,
- *                             where that is not 0: for up to 2^48 samples.
+ *   RICE_NO_ROOM              The code does not fit. The code of up to 2^48 samples always fits in
+ *                             rice_code_room(setting, samples_len / rice_sample_width(setting)) bytes.
  *   RICE_BAD_...              Nothing is written, and the report is all zeros. */
 uint32_t rice_encode(const struct rice_setting *setting, const uint8_t *samples, size_t samples_len, uint8_t *code,
                      size_t code_room, struct rice_report *report);
@@ -145,16 +148,17 @@ uint32_t rice_encode(const struct rice_setting *setting, const uint8_t *samples,
  * `samples_room` bytes. The bits after their code have no effect. Returns a status of enum rice_status:
  *   RICE_DONE                 All `count` samples are written.
  *   RICE_CODE_ENDS, RICE_RUN_PAST_SEGMENT, RICE_RESIDUAL_TOO_LARGE
- *                             All samples before that place are written.
- *   RICE_TOO_LONG             The first 2^49 bytes are not enough. Their samples are written. `report->place` is 0.
+ *                             All samples before sample or block `place` are written.
+ *   RICE_TOO_LONG             The first 2^49 bytes of code are not enough. The samples of their whole coded data sets are
+ *                             written. `report->place` is 0.
  *   RICE_NO_ROOM              The samples do not fit. With count * rice_sample_width(setting) bytes they always fit.
  *   RICE_BAD_...              Nothing is written, and the report is all zeros. */
 uint32_t rice_decode(const struct rice_setting *setting, uint64_t count, const uint8_t *code, size_t code_len,
                      uint8_t *samples, size_t samples_room, struct rice_report *report);
 
-/* Decodes all of a code of which the number of samples is not known. The samples that fill the last block, or the last run of
- * blocks, come too: for a code of rice_encode, fewer than a segment. Returns RICE_DONE where no 1 is left in the code; else a
- * status as rice_decode. Each bit of code gives at most 456 samples. */
+/* Decodes all of a code whose number of samples is not known. The samples that fill the last block, or the last run of blocks,
+ * come too: for a code of rice_encode, fewer than a segment. Returns RICE_DONE if all samples fit, and no 1 is left in the
+ * code; else a status as rice_decode. A code gives at most 456 samples for each of its bits. */
 uint32_t rice_decode_all(const struct rice_setting *setting, const uint8_t *code, size_t code_len, uint8_t *samples,
                          size_t samples_room, struct rice_report *report);
 
@@ -184,20 +188,21 @@ uint64_t rice_push_room(const struct rice_feed *feed, uint64_t samples);
  * the whole bytes of their code to `code`. The other samples, fewer than a segment, are not taken: give them again, with more
  * after them. The number of samples alone decides how many are taken. `report` counts from rice_begin on, but `written` counts
  * the bytes of this call. Returns a status of enum rice_status:
- *   RICE_DONE                 All of that is done. The outputs of all calls, joined, begin the output of rice_encode.
+ *   RICE_DONE                 All of that is done. The outputs of all rice_push calls with RICE_DONE, joined, are the
+ *                             beginning of rice_encode's output.
  *   RICE_SAMPLE_OUT_OF_RANGE  A sample in a whole segment is out of range. `place` counts from rice_begin on.
- *   RICE_NO_ROOM              The bytes do not fit. With rice_push_room(feed, samples_len / width) bytes they always fit, where
- *                             that is not 0.
+ *   RICE_NO_ROOM              The bytes do not fit. Those of up to 2^48 samples always fit in
+ *                             rice_push_room(feed, samples_len / rice_sample_width(&feed->setting)) bytes.
  *   RICE_TOO_LONG             There are more than 2^48 bytes of samples since rice_begin.
  *   RICE_BAD_...              The feed has no legal setting.
  * Unless it returns RICE_DONE, the feed does not change: forget the output of this call, and give the samples again. */
 uint32_t rice_push(struct rice_feed *feed, const uint8_t *samples, size_t samples_len, uint8_t *code, size_t code_room,
                    struct rice_report *report);
 
-/* Encodes the last samples, in whole segments or not, and writes the rest of the code to `code`. The outputs of all calls,
- * joined, are then the output of rice_encode for all samples. `report` counts from rice_begin on, but `written` counts the
- * bytes of this call. The feed does not change: encoding can go on from it. Returns a status as rice_push, or RICE_INPUT_CUT.
- * Unless it returns RICE_DONE, forget the output of this call. */
+/* Encodes the last samples, in whole segments or not, and writes the rest of the code to `code`. With RICE_DONE, the outputs of
+ * all rice_push calls with RICE_DONE and of this call, joined, are the output of rice_encode for all samples. `report` counts
+ * from rice_begin on, but `written` counts the bytes of this call. The feed does not change: encoding can go on from it. Returns
+ * a status as rice_push, or RICE_INPUT_CUT. Unless it returns RICE_DONE, forget the output of this call. */
 uint32_t rice_finish(const struct rice_feed *feed, const uint8_t *samples, size_t samples_len, uint8_t *code,
                      size_t code_room, struct rice_report *report);
 
@@ -210,7 +215,7 @@ struct rice_drain {
     uint64_t steps;    /* the work on the coded data sets taken since it was opened */
     int64_t previous;  /* the last sample, or 0 */
     uint32_t block;    /* the place of the next block in its interval */
-    uint32_t run;      /* the blocks of a run of zeros that are still to come */
+    uint32_t run;      /* the blocks that are still to come of a run of zero blocks */
 };
 
 /* Opens a code at its front. Returns RICE_DONE; or RICE_BAD_..., and the drain does not change. */
@@ -219,7 +224,7 @@ uint32_t rice_open(const struct rice_setting *setting, struct rice_drain *drain)
 /* Opens a code at the beginning of an interval: after `samples` samples and `bits` bits. rice_pull then gives the samples of
  * the code after that place. The caller has kept these two numbers:
  *   - from a drain with `block` and `run` 0: its `samples` and `bits`;
- *   - from a feed with `start` 0: its `samples`, and 8 times the bytes written so far plus `waiting_bits`.
+ *   - from a feed with `start` 0: its `samples`, and `waiting_bits` plus 8 times the bytes that rice_push wrote with RICE_DONE.
  * Returns RICE_DONE; RICE_BAD_PLACE if `samples` is above 2^62 or `bits` above 2^52, or if intervals are padded and `bits` is
  * not a multiple of 8; or RICE_BAD_.... Unless it returns RICE_DONE, the drain does not change. */
 uint32_t rice_open_at(const struct rice_setting *setting, uint64_t samples, uint64_t bits, struct rice_drain *drain);
@@ -229,17 +234,17 @@ uint32_t rice_open_at(const struct rice_setting *setting, uint64_t samples, uint
  * blocks, as many as fit. The drain counts the samples, the bits and the work on the coded data sets that are taken, and
  * `report` repeats these numbers; `written` counts the bytes of this call. The next piece begins with byte `drain->bits / 8`.
  * Returns why it ended, a status of enum rice_status:
- *   RICE_NO_ROOM              No further block fits: call again with more room.
+ *   RICE_NO_ROOM              No further block fits: take the samples, and call again.
  *   RICE_ONLY_ZEROS           No 1 is left in the piece: the code ends here, or the next piece goes on.
- *   RICE_MORE_CODE            A 1 is left, and no whole coded data set: the code goes on, or it is cut.
+ *   RICE_MORE_CODE            A 1 is left, but no whole coded data set: the code goes on, or it is cut.
  *   RICE_RUN_PAST_SEGMENT, RICE_RESIDUAL_TOO_LARGE
  *                             The code is damaged at block `place`, counted from the beginning of the code. A second call with
  *                             the same piece returns the same.
  *   RICE_TOO_LONG             `drain->bits` and the bits of this piece together are above 2^52. Nothing is done.
  *   RICE_BAD_...              The drain has no legal setting. Nothing is done, and the report is all zeros.
- * With pieces of any lengths, and room for at least a block, the outputs of all calls, joined, are the output of
- * rice_decode_all. The first `count` samples of them are the output of rice_decode. A piece that gave nothing has to be longer
- * next time. */
+ * From rice_open to the code's end, with pieces of any lengths and room for at least a block, the outputs of all calls, joined,
+ * are the output of rice_decode_all. Their first `count` samples are the output of rice_decode. A piece that gave nothing
+ * despite this room has to be longer next time. */
 uint32_t rice_pull(struct rice_drain *drain, const uint8_t *code, size_t code_len, uint8_t *samples, size_t samples_room,
                    struct rice_report *report);
 

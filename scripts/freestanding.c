@@ -39,8 +39,8 @@ static bool at_once(void) {
 /* The first half of the samples, and then the rest; and so of the code. */
 static bool in_pieces(void) {
     struct rice_report report;
-    struct rice_feed feed;
-    struct rice_drain drain;
+    struct rice_feed feed = {0};
+    struct rice_drain drain = {0};
     memset(back, 0, sizeof back);
     if (rice_begin(&setting, &feed) != RICE_DONE) return false;
     if (rice_push(&feed, samples, sizeof samples / 2, code, sizeof code, &report) != RICE_DONE) return false;

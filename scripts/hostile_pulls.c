@@ -123,7 +123,7 @@ static uint32_t pull_all(uint64_t number, struct rice_drain *drain, size_t size,
 
 static void try(uint64_t number) {
     struct rice_setting s = any_setting();
-    struct rice_drain drain;
+    struct rice_drain drain = {0};
     struct rice_report report, last;
     size_t size = any_code(&s), written = 0, width = rice_sample_width(&s);
     uint32_t end = rice_decode_all(&s, code, size, whole, sizeof whole, &report);

@@ -15,13 +15,13 @@ int main(int argc, char **argv) {
     status += rice_decode(&setting, 1 << 11, code, sizeof code, samples, sizeof samples, &report);
 #endif
 #ifdef FEED
-    struct rice_feed feed;
+    struct rice_feed feed = {0};
     status += rice_begin(&setting, &feed);
     status += rice_push(&feed, samples, sizeof samples, code, sizeof code, &report);
     status += rice_finish(&feed, samples, 0, code, sizeof code, &report);
 #endif
 #ifdef DRAIN
-    struct rice_drain drain;
+    struct rice_drain drain = {0};
     status += rice_open(&setting, &drain);
     status += rice_pull(&drain, code, sizeof code, samples, sizeof samples, &report);
 #endif

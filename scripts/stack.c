@@ -42,7 +42,7 @@ static void decode_all(void) {
 
 /* Two pieces: each has about half of the samples. */
 static void feed(void) {
-    struct rice_feed feed;
+    struct rice_feed feed = {0};
     size_t half = size / 2 / rice_sample_width(&setting) * rice_sample_width(&setting);
     if (rice_begin(&setting, &feed) != RICE_DONE) abort();
     if (rice_push(&feed, samples, half, code, room, &report) != RICE_DONE) abort();
@@ -52,7 +52,7 @@ static void feed(void) {
 
 /* Two pieces of a code: the second begins where the first ends. */
 static void drain(void) {
-    struct rice_drain drain;
+    struct rice_drain drain = {0};
     if (rice_open(&setting, &drain) != RICE_DONE) abort();
     rice_pull(&drain, code, room / 2, back, size, &report);
     size_t at = drain.bits / 8;

@@ -22,10 +22,13 @@ TOP = """# What a reader trusts
 
 The contracts of `encode` and `decode` ([encoding.rt](../crates/rice_stream/src/encoding.rt),
 [decoding.rt](../crates/rice_stream/src/decoding.rt)) name definitions. The tables list, by file, these definitions and all others on which
-they depend. To trust both contracts, read these definitions, and [PROOFS.md](PROOFS.md#what-is-trusted) on the toolchain.
-Read also the types `Report` and `Fault` (`rice_stream/src/outcome.rt`), and the `ghost` lines of the traits of devices
-(`rice_bits/src/device.rt`). No other line of `specs/` or `proofs/` changes what both contracts mean. The toolchain defines `length`,
-`take`, `All` and similar words.
+they depend. To trust the contracts, read these definitions, and [PROOFS.md](PROOFS.md#what-is-trusted) on the toolchain. Read also:
+
+- the types of `crates/rice_stream/src/outcome.rt`;
+- the `ghost` lines of the type `Setting` (`crates/rice_samples/src/setting.rt`), and the definitions behind them;
+- the contracts of `Intake` and `Outlet` (`crates/rice_bits/src/device.rt`), and the definitions behind them.
+
+No other definition in `specs/` or `proofs/` changes what the contracts mean. The toolchain defines `length`, `take`, `All` and similar words.
 """
 
 

@@ -47,7 +47,7 @@ static void encode(const struct rice_setting *setting) {
 /* Decodes one interval from its place on. Returns whether it is whole; its samples are then in `back`. */
 static bool decode(const struct rice_setting *setting, size_t interval) {
     size_t begin = begins[interval];
-    struct rice_drain drain;
+    struct rice_drain drain = {0};
     struct rice_report report;
     if (rice_open_at(setting, interval * INTERVAL, 8 * begin, &drain) != RICE_DONE) wrong("not opened");
     rice_pull(&drain, code + begin, begins[interval + 1] - begin, (uint8_t *)back, sizeof back, &report);

@@ -26,7 +26,7 @@ static void wrong(const char *what) {
  * followed by one twice as long. */
 static uint32_t decode(const struct rice_setting *setting, uint64_t count, size_t step, size_t blocks) {
     uint8_t room[64 * 4 * 16] = {0};
-    struct rice_drain drain;
+    struct rice_drain drain = {0};
     struct rice_report report;
     size_t width = rice_sample_width(setting), block = setting->block * width, written = 0, len = step;
     uint32_t status = rice_open(setting, &drain);
@@ -46,7 +46,7 @@ static uint32_t decode(const struct rice_setting *setting, uint64_t count, size_
 /* Finds where each interval begins, a block at a time. */
 static void find_intervals(const struct rice_setting *setting) {
     uint8_t room[64 * 4] = {0};
-    struct rice_drain drain;
+    struct rice_drain drain = {0};
     struct rice_report report;
     interval_count = 0;
     if (rice_open(setting, &drain) != RICE_DONE) wrong("not opened");
@@ -62,7 +62,7 @@ static void find_intervals(const struct rice_setting *setting) {
 
 /* Decodes `count` samples from the interval with number `i` on, and compares them. */
 static uint32_t range(const struct rice_setting *setting, size_t i, size_t count) {
-    struct rice_drain drain;
+    struct rice_drain drain = {0};
     struct rice_report report;
     size_t width = rice_sample_width(setting), block = setting->block, all = (count + block - 1) / block * block;
     if (rice_open_at(setting, intervals[i].samples, intervals[i].bits, &drain) != RICE_DONE) wrong("not opened at an interval");

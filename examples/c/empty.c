@@ -14,7 +14,7 @@ int main(void) {
     const struct rice_setting setting = {.bits = 8, .block = 8, .interval = 2, .preprocess = true};
     const uint8_t samples[1] = {5};
     uint8_t code[1] = {0};
-    struct rice_feed feed;
+    struct rice_feed feed = {0};
     if (rice_version() != RICE_VERSION) abort();
     if (!is_nothing(rice_encode(&setting, NULL, 0, NULL, 0, &report))) abort();
     if (!is_nothing(rice_decode(&setting, 0, NULL, 0, NULL, 0, &report))) abort();

@@ -19,7 +19,7 @@ static uint64_t begins[INTERVALS + 1];
 
 /* Encodes an interval at a time, and notes where each one begins: after the bytes written so far and the bits that wait. */
 static void encode(void) {
-    struct rice_feed feed;
+    struct rice_feed feed = {0};
     struct rice_report report;
     if (rice_begin(&setting, &feed) != RICE_DONE) exit(1);
     for (size_t i = 0; i < INTERVALS; i++) {
@@ -34,7 +34,7 @@ static void encode(void) {
 /* Decodes the intervals of a part. */
 static int decode(size_t part, uint8_t *back) {
     size_t first = INTERVALS * part / PARTS, end = INTERVALS * (part + 1) / PARTS, at = begins[first] / 8;
-    struct rice_drain drain;
+    struct rice_drain drain = {0};
     struct rice_report report;
     if (rice_open_at(&setting, INTERVAL * first, begins[first], &drain) != RICE_DONE) return 1;
     size_t room = 2 * INTERVAL * (end - first);

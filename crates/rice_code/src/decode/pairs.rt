@@ -21,7 +21,7 @@ pub fn pair_by_search(g: u64, meter: &mut Meter) -> (u32, u32)
         sum += 1;
         rest -= sum;
     }
-    meter.tick(0);
+    meter.tick(sum);
     ((sum - rest) as u32, rest as u32)
 }
 
