@@ -1,5 +1,5 @@
 -- Whether a 1 is left after the first bits of a code.
-use Rattle.std.specs.Prelude.{◌≡◌, ℕ, ◌+◌, ◌<◌, Bool, true, false, not, List, length, drop, Option, Some, Result, Ok, Err}
+use Rattle.std.specs.Prelude.{◌≡◌, ℕ, ◌+◌, ◌<◌, Bool, true, false, not, List, length, drop, Option, Some, None, Result, Ok, Err}
 use Rattle.rice_bits.specs.Limits.{most_bytes_read}
 use Rattle.rice_bits.specs.Bits.{bits_of}
 use Rattle.rice_bits.specs.read.Reader.{is_blank}

@@ -28,6 +28,6 @@ returns c =
       previous = refl;
       samples = omega arith;
       bits = omega arith;
-      steps = record { count = refl; most = omega arith; by_bits = omega arith };
+      steps = record { count = omega arith; most = omega arith; by_bits = omega arith };
       limit = omega (arith, c.requires.limit);
     }
