@@ -1,10 +1,8 @@
 -- What the parser makes of the command, where its definition is that of the command line.
-use Rattle.std.proofs.Common.{◌≡◌, ◌∙◌, true, false, List, [], ◌∷◌, codes, Result, Ok, Err, IfOk, IfErr, refl, ap, subst}
+use Rattle.std.proofs.Common.{◌≡◌, ◌∙◌, true, false, List, codes, Result, Ok, Err, IfOk, IfErr, refl, ap, subst}
 use Rattle.std.specs.Option.{option_map_or}
 use Rattle.std.specs.Str.{bytes_eq}
-use Rattle.clap.specs.Kinds.{Kinds}
-use Rattle.clap.specs.Words.{App, Row, Rule, Text, HasMatchesOf, AddsArg, FailsBy, IsAmong, app_of, found_of, rows_of, rule_of, with_rule, fault_of, kind_of, is_simple, is_simple_and_free}
-use Rattle.clap.specs.declared.error.kind.ErrorKind.{ErrorKind}
+use Rattle.clap.specs.Words.{App, Row, Rule, Text, HasMatchesOf, AddsArg, FailsBy, app_of, found_of, rows_of, rule_of, with_rule, fault_of, kind_of, is_simple, is_simple_and_free}
 use Rattle.clap.proofs.WalkLemmas.{one_text-rows}
 use Rattle.clap.specs.declared.builder.arg.Arg.{Arg}
 use Rattle.clap.specs.declared.builder.command.Command.{Command}
@@ -64,8 +62,3 @@ words_are_refused command a words (Err e) free is_it fails = fails_by command a 
 -- the flag of a test, by the rows
 pub asks_of : (m : ArgMatches) (rows : List Row) → rows_of (found_of m) ≡ rows → is_flagged (found_of m) (codes "test") ≡ asks_test rows
 asks_of m rows e = ap (λ t. option_map_or (λ t. bytes_eq t (codes "true")) t false) (one_text-rows (found_of m) (codes "test")) ∙ ap asks_test e
-
--- no kind is among none
-pub among_none : (k : ErrorKind) (kinds : Kinds) → kinds ≡ [] → IsAmong k kinds → ⊥
-among_none k [] e h = h
-among_none k (x ∷ xs) e h = let bad : ⊥ = cc in bad
