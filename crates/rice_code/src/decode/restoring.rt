@@ -83,14 +83,7 @@ pub fn restore_if_sound(
     if !head.sound {
         return None;
     }
-    Some(restore_block(
-        setting,
-        block,
-        p,
-        head.reference,
-        residuals,
-        samples,
-    ))
+    Some(restore_block(setting, block, p, head.reference, residuals, samples))
 }
 
 /// Restores the samples of a zero block after the sample `p`: each is the reference sample, or else `p`, or without prediction 0. Returns
