@@ -21,7 +21,7 @@ TOP = """# What a reader trusts
 `scripts/trusted.py --write` makes this page, and `scripts/trusted.py` compares it with the sources.
 
 The contracts of `encode` and `decode` ([encoding.rt](../crates/rice_stream/src/encoding.rt),
-[decoding.rt](../crates/rice_stream/src/decoding.rt)) name definitions. The tables list, by file, these and all `specs/` definitions on which
+[decoding.rt](../crates/rice_stream/src/decoding.rt)) use definitions. The tables list, by file, these and all `specs/` definitions on which
 they depend. To trust the contracts, read these definitions, and [PROOFS.md](PROOFS.md#what-is-trusted) on the toolchain. Read also:
 
 - the types of `crates/rice_stream/src/outcome.rt`;
