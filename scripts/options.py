@@ -12,7 +12,7 @@ import sys
 
 LIST, README, MANUAL = "scripts/options.txt", "README.md", "man/aec.1"
 BASH, ZSH = "completions/aec.bash", "completions/_aec"
-HEAD = "| option | meaning |\n|---|---|\n"
+HEAD = "| option | meaning (default) |\n|---|---|\n"
 
 
 class Option:
