@@ -1,9 +1,6 @@
 -- What a contract sees of the devices over memory.
 use Rattle.std.specs.Prelude.{ℕ, ◌-◌, min, length, List, take, drop, Option, None, Some}
-use Rattle.rice_bits.specs.device.OutletRoom.{Room}
-use Rattle.rice_bits.specs.declared.device.memory.MemoryIn.{MemoryIn}
-use Rattle.rice_bits.specs.declared.device.memory.ZeroIn.{ZeroIn}
-use Rattle.rice_bits.specs.declared.device.memory.MemoryOut.{MemoryOut}
+use Rattle.rice_bits.specs.{declared.device.memory.MemoryOut.MemoryOut, declared.device.memory.MemoryIn.MemoryIn, declared.device.memory.ZeroIn.ZeroIn, device.OutletRoom.Room}
 
 -- n, or the limit where there is a smaller one
 abbrev pub limited_to : Option ℕ → ℕ → ℕ

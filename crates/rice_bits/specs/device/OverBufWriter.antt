@@ -1,7 +1,5 @@
 -- What a contract sees of the outlet over a buffer.
-use Rattle.std.specs.Prelude.{ℕ}
-use Rattle.std.specs.declared.io.buffered.BufWriter.{BufWriter}
-use Rattle.std.specs.Global.{Global}
+use Rattle.std.specs.{declared.io.buffered.BufWriter.BufWriter, Global.Global, Prelude.ℕ}
 use Rattle.rice_bits.specs.declared.device.over_buf_writer.FromBufWriter.{FromBufWriter}
 
 -- the buffer that the outlet is over

@@ -1,7 +1,6 @@
 -- What a contract sees of the devices over readers and writers.
 use Rattle.std.specs.Prelude.{ℕ}
-use Rattle.rice_bits.specs.declared.device.over_std.FromReader.{FromReader}
-use Rattle.rice_bits.specs.declared.device.over_std.FromWriter.{FromWriter}
+use Rattle.rice_bits.specs.declared.device.over_std.{FromReader.FromReader, FromWriter.FromWriter}
 
 -- the reader that the intake is over
 abbrev pub reader_of : {R : Type 0} → FromReader R → R

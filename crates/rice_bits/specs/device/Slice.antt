@@ -1,8 +1,6 @@
 -- What a contract sees of the devices over slices that fail at no place of their own.
 use Rattle.std.specs.Prelude.{ℕ, List, take, drop}
-use Rattle.rice_bits.specs.device.OutletRoom.{Room}
-use Rattle.rice_bits.specs.declared.device.slice.SliceIn.{SliceIn}
-use Rattle.rice_bits.specs.declared.device.slice.SliceOut.{SliceOut}
+use Rattle.rice_bits.specs.{declared.device.slice.SliceOut.SliceOut, declared.device.slice.SliceIn.SliceIn, device.OutletRoom.Room}
 
 -- the bytes that are still to come
 abbrev pub slice_left : SliceIn → List ℕ

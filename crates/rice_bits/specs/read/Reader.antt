@@ -1,13 +1,8 @@
 -- What a contract sees of a reader of bits.
 use Rattle.std.specs.Prelude.{◌≡◌, ℕ, ◌+◌, ◌-◌, ◌*◌, ◌^◌, ◌<◌, ◌≤◌, Bool, true, not, ◌&&◌, List, [], ◌∷◌, ◌++◌, length, Option, Some, None, IsSome}
-use Rattle.std.specs.List.{list_all}
-use Rattle.std.specs.Io.KnownBytes.{Consumes, IsAtEnd}
-use Rattle.rice_bits.specs.Limits.{most_bits_read, most_at_once}
-use Rattle.rice_bits.specs.Bits.{bits_of}
-use Rattle.rice_bits.specs.read.Window.{IsWindow, window_bits}
-use Rattle.rice_bits.specs.declared.read.fault.BitFault.{BitFault}
-use Rattle.rice_bits.specs.declared.read.fault.BitFault.TheVariants.{End, Read, TooLong}
-use Rattle.rice_bits.specs.declared.read.window.Window.{Window}
+use Rattle.std.specs.{Io.KnownBytes.Consumes, Io.KnownBytes.IsAtEnd, List.list_all}
+use Rattle.rice_bits.specs.declared.read.{fault.BitFault.TheVariants.End, fault.BitFault.TheVariants.Read, fault.BitFault.TheVariants.TooLong, fault.BitFault.BitFault, window.Window.Window}
+use Rattle.rice_bits.specs.{Limits.most_bits_read, Limits.most_at_once, read.Window.IsWindow, read.Window.window_bits, Bits.bits_of}
 
 -- a reader of the bits that an intake gives
 pub record Reader (I : Type 0) : Type 0 where

@@ -1,8 +1,6 @@
 -- The bits that were given and not yet taken.
 use Rattle.std.specs.Prelude.{◌≡◌, ◌+◌, ◌-◌, ◌*◌, ◌/◌, ◌%◌, ◌≤◌, ℕ, Bool, List, ◌++◌, length, drop, min, replicate, take, slice_range}
-use Rattle.rice_bits.specs.Limits.{most_bytes_read, most_at_once}
-use Rattle.rice_bits.specs.Bits.{bits_of}
-use Rattle.rice_bits.specs.declared.read.window.Window.{Window}
+use Rattle.rice_bits.specs.{Limits.most_bytes_read, Limits.most_at_once, declared.read.window.Window.Window, Bits.bits_of}
 
 -- the bits of the most bytes that are asked for at a time
 abbrev pub most_buffered : ℕ

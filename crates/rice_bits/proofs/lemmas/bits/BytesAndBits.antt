@@ -1,13 +1,9 @@
 -- Bytes and their bits.
-use Rattle.std.proofs.Common.{◌≡◌, ℕ, zero, suc, ◌+◌, ◌*◌, ◌<◌, Bool, false, List, [], ◌∷◌, ◌++◌, length}
-use Rattle.std.proofs.Common.{drop, take, replicate, refl, sym, ◌∙◌, ap, inl, inr, arith, append_assoc, length-append, get_or}
-use Rattle.std.specs.Prelude.{All}
-use Rattle.std.proofs.Math.Seq.{take-length}
-use Rattle.std.proofs.lemmas.List.{length-replicate, get_or_past, replicate-append-replicate, drop_at}
-use Rattle.std.proofs.lemmas.Bool.{cases_lt}
-use Rattle.std.proofs.lemmas.List.Elements.{All-get_or}
-use Rattle.rice_bits.specs.Bits.{bits_in_bytes, bits_to_byte, padded_bits, word, bits_of, whole_bytes}
+use Rattle.std.proofs.Common.{◌≡◌, ℕ, zero, suc, ◌+◌, ◌*◌, ◌<◌, Bool, false, List, [], ◌∷◌, ◌++◌, length, drop, take, replicate, refl, sym, ap, arith, append_assoc, length-append, get_or}
+use Rattle.std.proofs.{lemmas.List.length-replicate, lemmas.List.get_or_past, lemmas.List.replicate-append-replicate, lemmas.List.drop_at, lemmas.Grind.common_steps, Math.Seq.take-length}
+use Rattle.std.{proofs.lemmas.Bool.cases_lt, specs.Prelude.All}
 use Rattle.rice_bits.proofs.lemmas.bits.WordsAndNumbers.{length-word, word-zero, number_of-word, word-number_of}
+use Rattle.rice_bits.specs.Bits.{bits_in_bytes, padded_bits, word, bits_of, whole_bytes}
 
 -- no bytes have no bits
 pub bits_of-nil : bits_of [] ≡ []
@@ -68,17 +64,11 @@ whole-bits (b ∷ bytes) rest f h =
 -- the bits that are no whole byte
 pub rest-bits : (bytes : List ℕ) (rest : List Bool) → length rest < 8
     → drop (bits_in_bytes (length (bits_of bytes ++ rest))) (bits_of bytes ++ rest) ≡ rest
-rest-bits bytes rest h =
-    let n : length (bits_of bytes ++ rest) ≡ 8 * length bytes + length rest = omega (arith, length-append (bits_of bytes) rest, length-bits_of bytes) in
-    let e : bits_in_bytes (length (bits_of bytes ++ rest)) ≡ length (bits_of bytes) = omega (arith, n, length-bits_of bytes) in
-    rw e (drop_at (bits_of bytes) rest (length (bits_of bytes)) refl)
+rest-bits bytes rest h = grind (arith, common_steps, length-append, length-bits_of, drop_at)
 
 -- each number in the list is a byte, and so is the 0 past its end
 pub each_byte : (bytes : List ℕ) → All (λ b. b < 256) bytes → (i : ℕ) → get_or bytes i 0 < 256
-each_byte bytes f i = elim (cases_lt i (length bytes)) [
-  | inl h ↦ All-get_or (λ b. b < 256) bytes i 0 h f
-  | inr h ↦ rw (get_or_past bytes i 0 h) (omega arith)
-]
+each_byte bytes f i = grind (arith, common_steps, cases_lt, get_or_past)
 
 -- eight bits more make one byte more
 next_byte : (n : ℕ) → bits_in_bytes (suc (suc (suc (suc (suc (suc (suc (suc n)))))))) ≡ suc (suc (suc (suc (suc (suc (suc (suc (bits_in_bytes n))))))))
@@ -92,15 +82,11 @@ byte_again {a} {b} {c} {d} {e} {f} {g} {h} bits rest = (let first = word-number_
 
 -- fewer than eight bits have no whole byte
 short_bytes : (bits : List Bool) → length bits < 8 → bits_of (whole_bytes bits) ≡ take (bits_in_bytes (length bits)) bits
-short_bytes bits h =
-    let none : bits_in_bytes (length bits) ≡ 0 = omega arith in
-    ap bits_of (whole_short bits h) ∙ (bits_of-nil ∙ ap (λ n. take n bits) (sym none))
+short_bytes bits h = grind (arith, common_steps, whole_short, bits_of-nil)
 
 -- the whole bytes have the bits that they were made of
 pub bits_of-whole_bytes : (bits : List Bool) → bits_of (whole_bytes bits) ≡ take (bits_in_bytes (length bits)) bits
-bits_of-whole_bytes (a ∷ b ∷ c ∷ d ∷ e ∷ f ∷ g ∷ h ∷ bits) =
-    byte_again bits (bits_of-whole_bytes bits)
-    ∙ ap (λ n. take n (a ∷ b ∷ c ∷ d ∷ e ∷ f ∷ g ∷ h ∷ bits)) (sym (next_byte (length bits)))
+bits_of-whole_bytes (a ∷ b ∷ c ∷ d ∷ e ∷ f ∷ g ∷ h ∷ bits) = grind (arith, common_steps, byte_again, next_byte, bits_of-whole_bytes bits)
 bits_of-whole_bytes [] = short_bytes [] (omega arith)
 bits_of-whole_bytes (a ∷ []) = short_bytes (a ∷ []) (omega arith)
 bits_of-whole_bytes (a ∷ b ∷ []) = short_bytes (a ∷ b ∷ []) (omega arith)
@@ -112,8 +98,4 @@ bits_of-whole_bytes (a ∷ b ∷ c ∷ d ∷ e ∷ f ∷ g ∷ []) = short_bytes
 
 -- padded bits are whole bytes
 pub bits_of-padded : (bits : List Bool) → bits_of (whole_bytes (padded_bits bits)) ≡ padded_bits bits
-bits_of-padded bits =
-    let n : length (padded_bits bits) ≡ length bits + bits_to_byte (length bits) = length-append bits (replicate (bits_to_byte (length bits)) false)
-    ∙ ap (λ n. length bits + n) (length-replicate (bits_to_byte (length bits)) false) in
-    let whole : bits_in_bytes (length (padded_bits bits)) ≡ length (padded_bits bits) = omega arith in
-    bits_of-whole_bytes (padded_bits bits) ∙ (ap (λ n. take n (padded_bits bits)) whole ∙ take-length (padded_bits bits))
+bits_of-padded bits = grind (arith, common_steps, length-append, length-replicate, bits_of-whole_bytes, take-length)

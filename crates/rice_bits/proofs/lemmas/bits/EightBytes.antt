@@ -1,14 +1,10 @@
 -- Eight bytes, and the digits of the number that they spell.
 use Rattle.std.proofs.Common.{◌≡◌, ℕ, zero, suc, ◌+◌, ◌*◌, ◌/◌, ◌%◌, ◌^◌, ◌<◌, ◌≤◌, List, ◌++◌, length, drop, take, reverse, refl, sym, ◌∙◌, ap, arith}
-use Rattle.std.specs.Prelude.{All}
-use Rattle.std.specs.Int.{to_be_bytes, to_le_bytes, swap_bytes, byte_at, bytes_high_first, bytes_low_first, w64}
-use Rattle.std.proofs.lemmas.Nat.{be_bytes_8, shr_split, pow-add}
-use Rattle.std.proofs.lemmas.List.{take-append-drop, length-take-le}
-use Rattle.std.proofs.lemmas.List.Elements.{All-cons, All-nil}
+use Rattle.std.specs.{Int.to_be_bytes, Int.to_le_bytes, Int.swap_bytes, Int.byte_at, Int.bytes_high_first, Int.bytes_low_first, Int.w64, Prelude.All}
+use Rattle.std.proofs.lemmas.{List.take-append-drop, List.length-take-le, Nat.be_bytes_8, Nat.shr_split, Nat.pow-add, List.Elements.All-cons, List.Elements.All-nil}
 use Rattle.std.proofs.Math.Nat.{mod-lt, pow-suc}
-use Rattle.rice_bits.specs.Bits.{word, bits_of}
+use Rattle.rice_bits.{proofs.lemmas.bits.BytesAndBits.bits_of-append, proofs.lemmas.bits.BytesAndBits.each_byte, proofs.lemmas.bits.BytesAndBits.length-bits_of, specs.Bits.word, specs.Bits.bits_of}
 use Rattle.rice_bits.proofs.lemmas.bits.WordsAndNumbers.{word-nil, word-low, word-split}
-use Rattle.rice_bits.proofs.lemmas.bits.BytesAndBits.{bits_of-append, each_byte, length-bits_of}
 
 -- the lowest digits are those of the low part
 pub word-mod : (k b n : ℕ) → k ≤ b → word k (n % 2 ^ b) ≡ word k n

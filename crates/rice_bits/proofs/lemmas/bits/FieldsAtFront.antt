@@ -1,11 +1,8 @@
 -- Bits begin with a piece of a kind, or with none.
 use Rattle.std.proofs.Common.{◌≡◌, ℕ, zero, suc, ◌^◌, ◌<◌, ◌⊎◌, inl, inr, Bool, true, false, List, [], ◌∷◌, ◌++◌, length, take, drop, refl, ap, arith, sym, ◌∙◌, subst, append_assoc, length-append}
-use Rattle.std.specs.Prelude.{flat_map}
-use Rattle.std.specs.List.{AllByRecursion}
-use Rattle.std.proofs.lemmas.Bool.{cases_lt}
-use Rattle.std.proofs.lemmas.List.{length-take-le, take-append-drop}
-use Rattle.rice_bits.specs.Bits.{word, number_of, fundamental_sequence}
+use Rattle.std.{proofs.lemmas.List.length-take-le, proofs.lemmas.List.take-append-drop, proofs.lemmas.Bool.cases_lt, specs.List.AllByRecursion, specs.Prelude.flat_map}
 use Rattle.rice_bits.proofs.lemmas.bits.WordsAndNumbers.{length-word, length-fundamental_sequence, number_of-lt, word-number_of}
+use Rattle.rice_bits.specs.Bits.{word, number_of, fundamental_sequence}
 
 -- a piece at the front, of which P holds
 pub record Piece {X : Type 0} (f : X → List Bool) (P : X → Type 0) (bits : List Bool) : Type 0 where

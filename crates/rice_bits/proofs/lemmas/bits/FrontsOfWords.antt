@@ -1,18 +1,14 @@
 -- The fronts of words, and the first 1 of one.
-use Rattle.std.proofs.Common.{◌≡◌, ℕ, zero, suc, ◌+◌, ◌-◌, ◌*◌, ◌/◌, ◌%◌, ◌^◌, ◌<◌, ◌≤◌, false, ◌++◌, take, replicate, sym, ◌∙◌, ap, subst, arith}
-use Rattle.std.proofs.Math.Nat.{pow-suc}
-use Rattle.std.proofs.Math.Seq.{take-append_seam}
-use lib.Count.{count_leading_zeros, leading_of_zero}
-use Rattle.std.proofs.lemmas.Nat.{div-mul-add, leading_top, mod-mul-add, mod_below, pow-add, pow_pos, shr_below, shr_split}
-use Rattle.rice_bits.specs.Bits.{word, fundamental_sequence}
-use Rattle.rice_bits.proofs.lemmas.bits.EightBytes.{word-mod}
+use Rattle.std.proofs.Common.{◌≡◌, ℕ, zero, suc, ◌+◌, ◌-◌, ◌*◌, ◌/◌, ◌%◌, ◌^◌, ◌<◌, ◌≤◌, false, ◌++◌, take, replicate, sym, ◌∙◌, ap, arith}
+use Rattle.std.proofs.lemmas.{Nat.div-mul-add, Nat.leading_top, Nat.mod-mul-add, Nat.mod_below, Nat.pow-add, Nat.pow_pos, Nat.shr_below, Nat.shr_split, Grind.common_steps}
+use Rattle.std.proofs.Math.{Seq.take-append_seam, Nat.pow-suc}
 use Rattle.rice_bits.proofs.lemmas.bits.WordsAndNumbers.{length-word, shift_fits, word-cat, word-fs, word-split, word-zero}
+use Rattle.rice_bits.{proofs.lemmas.bits.EightBytes.word-mod, specs.Bits.word, specs.Bits.fundamental_sequence}
+use lib.Count.{count_leading_zeros, leading_of_zero}
 
 -- the first digits of a number are a number of so many digits
 pub front_below : (w n v : ℕ) → n ≤ w → v < 2 ^ w → v / 2 ^ (w - n) < 2 ^ n
-front_below w n v h p =
-    let e : n + (w - n) ≡ w = omega arith in
-    shr_below v n (w - n) (subst (λ k. v < 2 ^ k) (sym e) p)
+front_below w n v h p = grind (arith, common_steps, shr_below)
 
 -- what stands before the digits after the first 1 is that 1
 pub one_high : (v : ℕ) → 0 < v → v < 2 ^ 64 → 1 ≡ v / 2 ^ (63 - count_leading_zeros 64 v)

@@ -1,18 +1,11 @@
 -- Bits that are joined to bits, one after the other.
-use Rattle.std.proofs.Common.{◌≡◌, ℕ, ◌+◌, ◌-◌, ◌*◌, ◌%◌, ◌^◌, ◌<◌, Bool, List, ◌++◌, length, take, drop, sym, ◌∙◌, ap, arith, append_assoc, length-append}
-use Rattle.std.proofs.lemmas.List.{length-drop, take_all}
-use Rattle.rice_bits.specs.Bits.{Joins, Puts, bits_of, word}
-use Rattle.rice_bits.proofs.lemmas.bits.EightBytes.{word-mod}
-use Rattle.rice_bits.proofs.lemmas.bits.WordsAndNumbers.{word-cat}
+use Rattle.std.proofs.Common.{◌≡◌, ℕ, ◌+◌, ◌-◌, ◌*◌, ◌%◌, ◌^◌, ◌<◌, Bool, List, ◌++◌, length, take, drop, ◌∙◌, ap, arith, append_assoc, length-append}
+use Rattle.std.proofs.lemmas.{List.length-drop, List.take_all, Grind.common_steps}
+use Rattle.rice_bits.{proofs.lemmas.bits.WordsAndNumbers.word-cat, proofs.lemmas.bits.EightBytes.word-mod, specs.Bits.Joins, specs.Bits.Puts, specs.Bits.bits_of, specs.Bits.word}
 
 -- bits, and more bits
 pub join-more : {a b both : List Bool} {k l m n p q : ℕ} {old mid new : List ℕ} → Joins a k n p old mid → Joins b l p q mid new → both ≡ a ++ b → m ≡ k + l → Joins both m n q old new
-join-more {a} {b} {n} {old} f g e s = record {
-  all_bits = omega (arith, f.all_bits, g.all_bits, s);
-  same_len = g.same_len ∙ f.same_len;
-  gathered = g.gathered;
-  joined = g.joined ∙ (ap (λ d. d ++ b) f.joined ∙ (append_assoc (take n (bits_of old)) a b ∙ ap (λ d. take n (bits_of old) ++ d) (sym e)));
-}
+join-more {a} {b} {n} {old} f g e s = grind (arith, common_steps, append_assoc)
 
 -- the lowest digits of a number
 pub low_word : (w d l : ℕ) → l ≡ d % 2 ^ w → word w l ≡ word w d
@@ -32,10 +25,4 @@ up_to_end first xs = take_all (length xs - first) (drop first xs) (omega (arith,
 pub joined-puts : {count n all before after : ℕ} {more bits : List Bool} {old new : List ℕ} → take n (bits_of old) ≡ bits → Joins more count n all old new
     → length more ≡ count → after ≡ before + count
     → Puts more count bits (take all (bits_of new)) before after
-joined-puts {all} {more} {bits} {new} view h size steps =
-    let put : take all (bits_of new) ≡ bits ++ more = h.joined ∙ ap (λ d. d ++ more) view in
-    record {
-      bits = put;
-      len = omega (arith, ap length put, length-append bits more, size);
-      steps = steps;
-    }
+joined-puts {all} {more} {bits} {new} view h size steps = grind (arith, common_steps, length-append)

@@ -1,18 +1,14 @@
 -- Bits that are gathered in bytes, with zeros after them.
-use Rattle.std.proofs.Common.{◌≡◌, ℕ, suc, ◌+◌, ◌-◌, ◌*◌, ◌/◌, ◌%◌, ◌^◌, ◌<◌, ◌≤◌, Bool, true, false, List, [], ◌∷◌, ◌++◌}
-use Rattle.std.proofs.Common.{length, drop, take, replicate, refl, sym, ◌∙◌, ap, inl, inr, arith, append_assoc, length-append, get_or, mod-eq_of_lt, bit_or, set}
-use Rattle.std.specs.Int.{to_be_bytes, w64}
-use Rattle.std.specs.List.{slice_index}
-use Rattle.std.proofs.Math.Seq.{take-append-add}
-use Rattle.std.proofs.lemmas.Bool.{cases_lt}
-use Rattle.std.proofs.lemmas.Nat.{or_shifted, pow-add, pow_pos, shr_below, shr_split, mod_below}
-use Rattle.std.proofs.lemmas.List.{append-nil, replicate-append-replicate, length-replicate, length-drop, length-set, length-take-le, take-append-drop, take-replicate, take_all, take_at}
-use Rattle.std.proofs.lemmas.List.{drop-drop, drop-replicate, drop-set-lt, drop_all, drop_at, drop_more, get_or_past, get_or-set_same, take-set}
-use Rattle.rice_bits.specs.Bits.{IsBitSink, bits_in_bytes, fundamental_sequence, word, bits_of, whole_bytes}
+use Rattle.std.proofs.Common.{◌≡◌, ℕ, suc, ◌+◌, ◌-◌, ◌*◌, ◌/◌, ◌%◌, ◌^◌, ◌<◌, ◌≤◌, Bool, true, false, List, [], ◌∷◌, ◌++◌, length, drop, take, replicate, refl, sym, ◌∙◌, ap, inl, inr, arith}
+use Rattle.std.proofs.Common.{append_assoc, length-append, get_or, mod-eq_of_lt, bit_or, set}
+use Rattle.std.proofs.lemmas.List.{append-nil, replicate-append-replicate, length-replicate, length-drop, length-set, length-take-le, take-append-drop, take-replicate, take_all, take_at, drop-drop}
+use Rattle.std.proofs.lemmas.{List.drop-replicate, List.drop-set-lt, List.drop_all, List.drop_at, List.drop_more, List.get_or_past, List.get_or-set_same, List.take-set, Grind.common_steps}
+use Rattle.std.proofs.{lemmas.Nat.or_shifted, lemmas.Nat.pow-add, lemmas.Nat.pow_pos, lemmas.Nat.shr_below, lemmas.Nat.shr_split, lemmas.Nat.mod_below, Math.Seq.take-append-add, lemmas.Bool.cases_lt}
+use Rattle.std.specs.{Int.to_be_bytes, Int.w64, List.slice_index}
 use Rattle.rice_bits.proofs.lemmas.bits.WordsAndNumbers.{length-word, word-nil, word-zero, word-cat, word-split, word-fs, length-fundamental_sequence, shift_fits, join_below}
 use Rattle.rice_bits.proofs.lemmas.bits.BytesAndBits.{bits_of-nil, bits_of-append, bits_of-first, bits_of-zeros, length-bits_of, whole-bits, rest-bits}
-use Rattle.rice_bits.proofs.lemmas.bits.EightBytes.{bits_of-eight, split-bytes, length-front}
-use Rattle.rice_bits.proofs.lemmas.bits.WordsReadInOneWay.{word_reads}
+use Rattle.rice_bits.specs.Bits.{IsBitSink, bits_in_bytes, fundamental_sequence, word, bits_of, whole_bytes}
+use Rattle.rice_bits.proofs.lemmas.bits.{EightBytes.bits_of-eight, EightBytes.split-bytes, EightBytes.length-front, WordsReadInOneWay.word_reads}
 
 -- the length of what a view shows
 pub length_viewed : (bytes : List ℕ) (capacity n : ℕ) (bits : List Bool) → IsBitSink capacity n bytes → length bytes ≡ capacity
@@ -75,10 +71,7 @@ low_zeros w b z rest e =
 
 -- zeros after bits
 zeros_after : (bits xs : List Bool) (n z : ℕ) → bits ≡ xs ++ replicate z false → length xs ≡ n → (take n bits ≡ xs) × (drop n bits ≡ replicate z false)
-zeros_after bits xs n z e size = (
-  ap (take n) e ∙ take_at xs (replicate z false) n size,
-  ap (drop n) e ∙ drop_at xs (replicate z false) n size,
-)
+zeros_after bits xs n z e size = grind (arith, common_steps, take_at, drop_at)
 
 -- more of the zeros after bits
 pub fewer_zeros_after : (bits : List Bool) (n m size : ℕ) → length bits ≡ size → n ≤ m → m ≤ size → drop n bits ≡ replicate (size - n) false
@@ -295,9 +288,7 @@ byte_first b bytes at =
     bits_of-first b (replicate at 0 ++ bytes) ∙ ap (λ d. word 8 b ++ d) (bits_of-append (replicate at 0) bytes ∙ ap (λ d. d ++ bits_of bytes) (bits_of-zeros at))
 
 three_zeros : (g h k : ℕ) (xs : List Bool) → (xs ++ replicate g false) ++ (replicate h false ++ replicate k false) ≡ xs ++ replicate (g + (h + k)) false
-three_zeros g h k xs =
-    append_assoc xs (replicate g false) (replicate h false ++ replicate k false)
-    ∙ ap (λ d. xs ++ d) (ap (λ d. replicate g false ++ d) (replicate-append-replicate h k false) ∙ replicate-append-replicate g (h + k) false)
+three_zeros g h k xs = grind (arith, common_steps, append_assoc, replicate-append-replicate)
 
 -- what stands after whole bytes that are dropped moves to the front, and zeros come after it
 zeros_dropped : (old new : List ℕ) (n count : ℕ) → n ≤ 8 * length old → n / 8 ≤ count → drop n (bits_of old) ≡ replicate (8 * length old - n) false
@@ -336,6 +327,4 @@ gathered-dropped old new capacity n count h size far e =
 -- the whole bytes that bits are gathered in are the whole bytes of these bits
 pub gathered-whole : (bytes : List ℕ) (n : ℕ) → n ≤ 8 * length bytes → ((i : ℕ) → get_or (take (n / 8) bytes) i 0 < 256)
     → whole_bytes (take n (bits_of bytes)) ≡ take (n / 8) bytes
-gathered-whole bytes n room f =
-    let v : ℕ = slice_index bytes (n / 8) / 2 ^ (8 - n % 8) in
-    ap whole_bytes (whole_bytes_and_digits bytes n room) ∙ whole-bits (take (n / 8) bytes) (word (n % 8) v) f (rw (length-word (n % 8) v) (omega arith))
+gathered-whole bytes n room f = grind (arith, common_steps, whole_bytes_and_digits, whole-bits, length-word)

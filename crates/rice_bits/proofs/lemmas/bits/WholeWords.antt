@@ -1,38 +1,19 @@
 -- Words of 8, 16 or 32 digits, and the 64 digits that some of them have.
-use Rattle.std.proofs.Common.{◌≡◌, ℕ, zero, suc, ◌+◌, ◌-◌, ◌*◌, ◌/◌, ◌%◌, ◌^◌, ◌<◌, ◌≤◌, inl, inr, Bool, false, List, []}
-use Rattle.std.proofs.Common.{◌∷◌, ◌++◌, length, take, drop, map, get_or, replicate, refl, sym, ◌∙◌, ap, arith, append_assoc, append-nil, length-append, bit_and, bit_or}
-use Rattle.std.specs.Prelude.{All, flat_map}
-use Rattle.std.specs.Int.{from_le_bytes, swap_bytes, to_be_bytes, to_le_bytes, w8, w64}
-use Rattle.std.specs.List.{slice_index}
-use Rattle.std.specs.Simd.Lanes.{Each1, number_l, zip2}
-use Rattle.std.proofs.lemmas.Grind.{flat_map-append}
-use Rattle.std.proofs.lemmas.List.{drop_more, length-drop, length-map, length-take-le, take_all}
-use Rattle.std.proofs.lemmas.List.Elements.{All-cons, All-nil}
-use Rattle.std.proofs.lemmas.Simd.{pick_l_whole}
-use Rattle.std.proofs.lemmas.Nat.{and_mask, be_bytes_8, div-mul-add, le_bytes_8, mod-pow-add, mod_below, one_shl, or_shifted, pow_pos, shr_below}
+use Rattle.std.proofs.Common.{◌≡◌, ℕ, zero, suc, ◌+◌, ◌-◌, ◌*◌, ◌/◌, ◌%◌, ◌^◌, ◌<◌, ◌≤◌, inl, inr, Bool, false, List, [], ◌∷◌, ◌++◌, length, take, drop, map, get_or, replicate, refl, sym, ◌∙◌, ap}
+use Rattle.std.proofs.lemmas.{Nat.and_mask, Nat.be_bytes_8, Nat.div-mul-add, Nat.le_bytes_8, Nat.mod-pow-add, Nat.mod_below, Nat.one_shl, Nat.or_shifted, Nat.pow_pos, Nat.shr_below, Simd.pick_l_whole}
+use Rattle.std.proofs.lemmas.{List.drop_more, List.length-drop, List.length-map, List.length-take-le, List.take_all, Grind.common_steps, Grind.flat_map-append}
+use Rattle.std.proofs.{Common.arith, Common.append_assoc, Common.append-nil, Common.length-append, Common.bit_and, Common.bit_or, lemmas.List.Elements.All-cons, lemmas.List.Elements.All-nil}
+use Rattle.std.specs.{Int.from_le_bytes, Int.swap_bytes, Int.to_be_bytes, Int.to_le_bytes, Int.w8, Int.w64, Simd.Lanes.Each1, Simd.Lanes.number_l, Simd.Lanes.zip2, Prelude.All, Prelude.flat_map}
+use Rattle.std.{proofs.Math.Nat.mul-mod_left, proofs.Math.Seq.take-add, specs.List.slice_index}
+use Rattle.rice_bits.proofs.lemmas.bits.{WordsAndNumbers.join_below, WordsAndNumbers.shift_fits, WordsAndNumbers.word-cat, WordsAndNumbers.word-split, JoinedBits.join-more, JoinedBits.pair_word}
+use Rattle.rice_bits.proofs.lemmas.bits.{SinkBytes.gathered-put, SinkBytes.joined_below, SinkBytes.last_zeros, EightBytes.bits_of-eight, EightBytes.eight-fit, EightBytes.word-mod}
+use Rattle.rice_bits.{specs.WholeWords.IsWholeWidth, specs.WholeWords.JoinsAllBut, proofs.lemmas.bits.BytesAndBits.each_byte, specs.Bits.Joins, specs.Bits.bits_of, specs.Bits.word}
 use mir.Val.{Fits}
-use Rattle.rice_bits.specs.WholeWords.{IsWholeWidth, JoinsAllBut}
-use Rattle.rice_bits.specs.Bits.{Joins, bits_of, word}
-use Rattle.std.proofs.Math.Nat.{mul-mod_left}
-use Rattle.std.proofs.Math.Seq.{take-add}
-use Rattle.rice_bits.proofs.lemmas.bits.BytesAndBits.{each_byte}
-use Rattle.rice_bits.proofs.lemmas.bits.EightBytes.{bits_of-eight, eight-fit, word-mod}
-use Rattle.rice_bits.proofs.lemmas.bits.JoinedBits.{join-more, pair_word}
-use Rattle.rice_bits.proofs.lemmas.bits.SinkBytes.{gathered-put, joined_below, last_zeros}
-use Rattle.rice_bits.proofs.lemmas.bits.WordsAndNumbers.{join_below, shift_fits, word-cat, word-split}
 
 -- the first four of the words from a place on
 first_four : (ws : List ℕ) (at : ℕ) → at + 4 ≤ length ws
     → drop at ws ≡ get_or ws at 0 ∷ get_or ws (at + 1) 0 ∷ get_or ws (at + 2) 0 ∷ get_or ws (at + 3) 0 ∷ drop (at + 3 + 1) ws
-first_four ws at room =
-    let n2 : at + 1 + 1 ≡ at + 2 = omega arith in
-    let n3 : at + 2 + 1 ≡ at + 3 = omega arith in
-    let x = get_or ws at 0 in
-    let y = get_or ws (at + 1) 0 in
-    let z = get_or ws (at + 2) 0 in
-    drop_more ws at 0 (omega (arith, room)) ∙ ap (λ d. x ∷ d)
-    ((drop_more ws (at + 1) 0 (omega (arith, room)) ∙ ap (λ n. y ∷ drop n ws) n2) ∙ ap (λ d. y ∷ d)
-    ((drop_more ws (at + 2) 0 (omega (arith, room)) ∙ ap (λ n. z ∷ drop n ws) n3) ∙ ap (λ d. z ∷ d) (drop_more ws (at + 3) 0 (omega (arith, room)))))
+first_four ws at room = grind (arith, common_steps, get_or, drop_more)
 
 -- two words of 32 digits
 pub two_words : (ws : List ℕ) (at v : ℕ) → at + 2 ≤ length ws → get_or ws (at + 1) 0 < 2 ^ 32 → v ≡ get_or ws at 0 * 2 ^ 32 + get_or ws (at + 1) 0
@@ -107,10 +88,7 @@ eight_spelled xs bytes n r h e f g =
 pub eight_words : (ws : List ℕ) (at : ℕ) (bytes : List ℕ) (n r : ℕ) → at + 8 ≤ length ws → bytes ≡ map (λ d. d % 2 ^ 8) (take 8 (drop at ws))
     → n ≡ number_l 256 bytes % 18446744073709551616 → r ≡ swap_bytes w64 n
     → word 64 r ≡ flat_map (word 8) (take (at + 8 - at) (drop at ws))
-eight_words ws at bytes n r room e f g =
-    let count : 8 ≡ at + 8 - at = omega arith in
-    let size : length (take 8 (drop at ws)) ≡ 8 = length-take-le 8 (drop at ws) (omega (arith, length-drop at ws, room)) in
-    eight_spelled (take 8 (drop at ws)) bytes n r size e f g ∙ ap (λ k. flat_map (word 8) (take k (drop at ws))) count
+eight_words ws at bytes n r room e f g = grind (arith, common_steps, length-take-le, length-drop, eight_spelled)
 
 -- the lowest bytes fit bytes
 pub lowest_fit : (ws : List ℕ) → Each1 (Fits w8) (map (λ d. d % 2 ^ 8) ws)
@@ -143,9 +121,7 @@ front_fits left next fit few = let back : 64 - left + left ≡ 64 = omega arith 
 
 -- the first digits of a number, and the last
 pub first_and_last : (left next : ℕ) → left ≤ 64 → word 64 next ≡ word (64 - left) (next / 2 ^ left) ++ word left next
-first_and_last left next most =
-    let size : 64 - left + left ≡ 64 = omega arith in
-    ap (λ w. word w next) (sym size) ∙ (word-split (64 - left) left next ∙ ap (λ d. word (64 - left) (next / 2 ^ left) ++ d) (word-mod left left next (omega arith)))
+first_and_last left next most = grind (arith, common_steps, word-split, word-mod)
 
 -- 64 digits that are stored after whole bytes
 pub whole-put : (old : List ℕ) {new : List ℕ} (n value : ℕ) → n % 8 ≡ 0 → n + 64 ≤ 8 * length old → value < 2 ^ 64 → slice_index old (n / 8) < 256
@@ -217,17 +193,7 @@ next-joins : {left last : ℕ} (next sew : ℕ) {count bits all now : ℕ} {more
     → JoinsAllBut left last more count bits all old mid → Joins (word 64 sew) 64 all now mid new
     → word 64 sew ≡ word left last ++ word (64 - left) (next / 2 ^ left) → now % 8 ≡ 0
     → JoinsAllBut left next (more ++ word 64 next) (count + 64) bits now old new
-next-joins {left} {last} next sew least most f g e whole =
-    let split = first_and_last left next most in
-    record {
-      front = f.front ++ word 64 sew;
-      joins = join-more f.joins g refl (omega (arith, least));
-      spelled = (λ i. f.spelled i ++ split i)
-          ∙ (append_assoc f.front (word left last) (word (64 - left) (next / 2 ^ left) ++ word left next)
-          ∙ (ap (λ d. f.front ++ d) (sym (append_assoc (word left last) (word (64 - left) (next / 2 ^ left)) (word left next)))
-          ∙ (ap (λ d. f.front ++ (d ++ word left next)) (sym e) ∙ sym (append_assoc f.front (word 64 sew) (word left next)))));
-      whole = whole;
-    }
+next-joins {left} {last} next sew least most f g e whole = grind (arith, common_steps, first_and_last, join-more, append_assoc)
 
 -- a few digits after bits of a byte that is not whole
 pub record AfterBits (g count : ℕ) : Type 0 where
@@ -239,20 +205,7 @@ pub value-joins : {g count : ℕ} (value : ℕ) {first : ℕ} (width per : ℕ) 
     → word 64 first ≡ flat_map (word width) (take (0 + per - 0) (drop 0 words))
     → Joins (word count value ++ word (64 - (g + count)) (first / 2 ^ (g + count))) (64 - g) bits all old new
     → JoinsAllBut (g + count) first (word count value ++ flat_map (word width) (take (per * 1) words)) (count + width * (per * 1)) bits all old new
-value-joins {g} {count} value {first} width per words stands sixty whole e f =
-    let left = g + count in
-    let one : per * 1 ≡ per = omega arith in
-    let plain : 0 + per - 0 ≡ per = omega arith in
-    let digits : width * (per * 1) ≡ 64 = ap (λ k. width * k) one ∙ sixty in
-    let size : 64 - g ≡ count + width * (per * 1) - left = omega (arith, digits) in
-    let all_words : word 64 first ≡ flat_map (word width) (take (per * 1) words) = e ∙ ap (λ k. flat_map (word width) (take k words)) (plain ∙ sym one) in
-    record {
-      front = word count value ++ word (64 - left) (first / 2 ^ left);
-      joins = rw (← size) f;
-      spelled = ap (λ d. word count value ++ d) (sym all_words ∙ first_and_last left first (omega arith)) ∙ sym
-          (append_assoc (word count value) (word (64 - left) (first / 2 ^ left)) (word left first));
-      whole = whole;
-    }
+value-joins {g} {count} value {first} width per words stands sixty whole e f = grind (arith, common_steps, first_and_last, append_assoc)
 
 product_of_three : (w p i : ℕ) → w * (p * i) ≡ w * p * i
 product_of_three w p i = omega arith
@@ -298,6 +251,4 @@ many_digits width n (inr (inr e)) h = rw e (omega (arith, h))
 pub last-joins : {left last : ℕ} (count width : ℕ) {n bits all now : ℕ} {more : List Bool} {old mid new : List ℕ} → IsWholeWidth width → 8 ≤ n → left ≤ 7 + count
     → left < 64 → JoinsAllBut left last more (count + width * n) bits all old mid → Joins (word left (last % (1 * 2 ^ left % 18446744073709551616))) left all now mid new
     → Joins more (count + width * n) bits now old new
-last-joins {left} {last} count width {n} whole some few short f g =
-    let low : last % (1 * 2 ^ left % 18446744073709551616) ≡ last % 2 ^ left = ap (λ p. last % p) (one_shl left 64 short) in
-    join-more f.joins g (f.spelled ∙ ap (λ d. f.front ++ d) (sym (ap (word left) low ∙ word-mod left left last (omega arith)))) (omega (arith, few, many_digits width n whole some))
+last-joins {left} {last} count width {n} whole some few short f g = grind (arith, common_steps, one_shl, join-more, word-mod, many_digits)

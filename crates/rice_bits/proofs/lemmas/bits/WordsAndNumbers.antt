@@ -1,11 +1,9 @@
 -- Words: their lengths, their parts, and the numbers that they spell.
-use Rattle.std.proofs.Common.{◌≡◌, ℕ, zero, suc, ◌+◌, ◌-◌, ◌*◌, ◌/◌, ◌%◌, ◌^◌, ◌<◌, ◌≤◌, Bool, true, false}
-use Rattle.std.proofs.Common.{List, [], ◌∷◌, ◌++◌, length, replicate, refl, sym, ◌∙◌, ap, arith, zero-add, length-append, mod-eq_of_lt}
+use Rattle.std.proofs.Common.{◌≡◌, ℕ, zero, suc, ◌+◌, ◌-◌, ◌*◌, ◌/◌, ◌%◌, ◌^◌, ◌<◌, ◌≤◌, Bool, true, false, List, [], ◌∷◌, ◌++◌, length, replicate, refl, sym, ◌∙◌, ap, arith, zero-add, length-append}
+use Rattle.std.proofs.Common.{mod-eq_of_lt}
 use Rattle.std.specs.Prelude.{◌==◌, if◌then◌else◌}
-use Rattle.std.proofs.lemmas.Nat.{pow-add, mul-add-lt, shl_below, pow_pos, div-mul-add, shr_split, mod-pow-add, mod_below}
-use Rattle.std.proofs.lemmas.Nat.Bits.{bit_at_cat_low, bit_at_cat_high, bit_at-zero}
-use Rattle.std.proofs.Math.Nat.{mul_comm, pow-le-pow_right, suc-add, pow-suc, mod-one, mod-lt}
-use Rattle.std.proofs.lemmas.List.{length-replicate}
+use Rattle.std.proofs.lemmas.Nat.{pow-add, mul-add-lt, shl_below, pow_pos, div-mul-add, shr_split, mod-pow-add, mod_below, Bits.bit_at_cat_low, Bits.bit_at_cat_high, Bits.bit_at-zero}
+use Rattle.std.proofs.{Math.Nat.mul_comm, Math.Nat.pow-le-pow_right, Math.Nat.suc-add, Math.Nat.pow-suc, Math.Nat.mod-one, Math.Nat.mod-lt, lemmas.List.length-replicate, lemmas.Grind.common_steps}
 use Rattle.rice_bits.specs.Bits.{word, number_of, fundamental_sequence}
 
 -- a word has as many digits as its width
@@ -132,6 +130,4 @@ shift_fits a b v p h = omega (arith, shl_below v a b p, pow-le-pow_right {n = 2}
 
 -- a number joined of two parts fits the digits of both
 pub join_below : (a b h l : ℕ) → h < 2 ^ a → l < 2 ^ b → h * 2 ^ b + l < 2 ^ (a + b)
-join_below a b h l p q =
-    let e : 2 ^ (a + b) ≡ 2 ^ b * 2 ^ a = pow-add 2 a b ∙ mul_comm (2 ^ a) (2 ^ b) in
-    rw e (mul-add-lt h (2 ^ b) l (2 ^ a) p q)
+join_below a b h l p q = grind (arith, common_steps, pow-add, mul_comm, mul-add-lt)

@@ -1,9 +1,7 @@
 -- Words, fundamental sequences and lists of pieces are read in one way.
 use Rattle.std.proofs.Common.{◌≡◌, ℕ, zero, suc, ◌+◌, ◌*◌, ◌/◌, ◌%◌, ◌^◌, Bool, List, [], ◌∷◌, ◌++◌, length, refl, sym, ◌∙◌, ap, arith, append_assoc}
 use Rattle.std.specs.Prelude.{◌==◌, flat_map}
-use Rattle.std.specs.List.{AllZip}
-use Rattle.std.proofs.lemmas.Nat.{mod-pow-add}
-use Rattle.std.proofs.lemmas.Bool.Decides.{nat_tests}
+use Rattle.std.{proofs.lemmas.Bool.Decides.nat_tests, proofs.lemmas.Grind.common_steps, proofs.lemmas.Nat.mod-pow-add, specs.List.AllZip}
 use Rattle.rice_bits.specs.Bits.{word, fundamental_sequence}
 
 -- a test for 1 tells a bit
@@ -30,18 +28,14 @@ next_digit w a b e f = digit_split w a ∙ (ap (λ d. d * 2 ^ w + a % 2 ^ w) e �
 pub word_reads : (w a b : ℕ) (x y : List Bool) → word w a ++ x ≡ word w b ++ y → (a % 2 ^ w ≡ b % 2 ^ w) × (x ≡ y)
 unfolding word
 word_reads zero a b x y e = (omega arith, e)
-word_reads (suc w) a b x y e =
-    let rest = word_reads w a b x y (same_tails e) in
-    (next_digit w a b (same_bit (a / 2 ^ w) (b / 2 ^ w) (same_heads e)) rest.0, rest.1)
+word_reads (suc w) a b x y e = grind (arith, common_steps, same_tails, next_digit, same_bit, same_heads, word_reads w a b x y (same_tails e))
 
 -- So is a fundamental sequence.
 pub sequence_reads : (m n : ℕ) (x y : List Bool) → fundamental_sequence m ++ x ≡ fundamental_sequence n ++ y → (m ≡ n) × (x ≡ y)
 sequence_reads zero zero x y e = (refl, same_tails e)
 sequence_reads zero (suc n) x y e = absurd cc
 sequence_reads (suc m) zero x y e = absurd cc
-sequence_reads (suc m) (suc n) x y e =
-    let rest = sequence_reads m n x y (same_tails e) in
-    (ap (λ k. suc k) rest.0, rest.1)
+sequence_reads (suc m) (suc n) x y e = grind (arith, common_steps, same_tails, sequence_reads m n x y (same_tails e))
 
 -- So are bits whose number is known.
 pub bits_read : (a b x y : List Bool) → length a ≡ length b → a ++ x ≡ b ++ y → (a ≡ b) × (x ≡ y)

@@ -1,11 +1,10 @@
 -- What outlets have taken: nothing, one thing after another, and nothing more.
-use Rattle.std.proofs.Common.{◌≡◌, ℕ, ◌+◌, List, [], ◌++◌, length, drop, take, Option, Some, None, refl, sym, ◌∙◌, ap, subst, arith, ◌≤◌}
-use Rattle.std.proofs.lemmas.List.{append-nil, append_assoc, length-append, drop-drop, length-take-le}
+use Rattle.std.proofs.Common.{◌≡◌, ℕ, ◌+◌, List, [], ◌++◌, length, drop, take, Option, Some, None, refl, sym, ap, subst, arith, ◌≤◌}
+use Rattle.std.proofs.lemmas.{List.append-nil, List.append_assoc, List.length-append, List.drop-drop, List.length-take-le, Slice.take-put_mid, Slice.drop-put_mid, Grind.common_steps}
 use Rattle.std.proofs.Math.Seq.{drop-nil}
-use Rattle.std.proofs.lemmas.Slice.{take-put_mid, drop-put_mid}
+use Rattle.rice_bits.specs.device.OutletRoom.{Room, known, Fills, Appends, Keeps}
 use borrow.Rule.Slice.PartMut.{put_mid}
 use Rattle.std.specs.Io.KnownBytes as bytes
-use Rattle.rice_bits.specs.device.OutletRoom.{Room, known, Fills, Appends, Keeps}
 
 -- an outlet that stays as it is has taken no bytes
 pub Appends-nil : (a : Option Room) → Appends a a []
@@ -17,11 +16,7 @@ pub Appends-trans : (a b c : Option Room) (bs cs : List ℕ) → Appends a b bs 
 Appends-trans None b c bs cs p q = tt
 Appends-trans (Some x) None c bs cs p q = absurd p
 Appends-trans (Some x) (Some y) None bs cs p q = absurd q
-Appends-trans (Some x) (Some y) (Some z) bs cs p q = record {
-  borrow = q.borrow ∙ p.borrow;
-  bytes = q.bytes ∙ ap (λ l. l ++ cs) p.bytes ∙ append_assoc x.bytes bs cs;
-  rest = q.rest ∙ ap (λ l. drop (length cs) l) p.rest ∙ drop-drop (length cs) (length bs) x.rest ∙ ap (λ n. drop n x.rest) (sym (length-append bs cs));
-}
+Appends-trans (Some x) (Some y) (Some z) bs cs p q = grind (arith, common_steps, append_assoc, drop-drop, length-append)
 
 -- what was taken is taken still where the outlet then takes nothing
 pub Appends-kept : (a b c : Option Room) (bs : List ℕ) → Appends a b bs → Keeps b c → Appends a c bs
@@ -46,10 +41,4 @@ known_keeps (Some x) (Some y) p = ap (λ l. record { borrow = 0; bytes = l; rest
 pub put_fills : (borrow at m : ℕ) {k : ℕ} (memory : List ℕ) {new : List ℕ} (bytes : List ℕ) → at ≤ length memory → new ≡ take m bytes → m ≤ length bytes → k ≡ m →
     Fills (record { borrow = borrow; bytes = take at memory; rest = drop at memory })
     (record { borrow = borrow; bytes = take (at + m) (put_mid at k memory new); rest = drop (at + m) (put_mid at k memory new) }) (take m bytes)
-put_fills borrow at m {k} memory {new} bytes fits is few same =
-    let len : length new ≡ m = ap length is ∙ length-take-le m bytes few in
-    record {
-      borrow = refl;
-      bytes = take-put_mid at k memory new (at + m) (omega (arith, len)) fits ∙ ap (λ l. take at memory ++ l) is;
-      rest = drop-put_mid at k memory new (at + m) (omega (arith, same)) fits (len ∙ sym same) ∙ sym (drop-drop m at memory) ∙ ap (λ n. drop n (drop at memory)) (sym (length-take-le m bytes few));
-    }
+put_fills borrow at m {k} memory {new} bytes fits is few same = grind (arith, common_steps, length-take-le, take-put_mid, drop-put_mid, drop-drop)

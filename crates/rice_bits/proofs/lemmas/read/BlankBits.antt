@@ -1,11 +1,8 @@
 -- Bits without a 1.
 use Rattle.std.proofs.Common.{◌≡◌, ℕ, zero, suc, ◌^◌, ◌<◌, Bool, true, false, List, [], ◌∷◌, ◌++◌, length, replicate, refl, sym, ◌∙◌, ap, arith}
 use Rattle.std.specs.Prelude.{◌&&◌, ◌==◌}
-use Rattle.std.proofs.lemmas.List.{append-nil}
-use Rattle.std.proofs.lemmas.Bool.Decides.{nat_tests}
-use Rattle.rice_bits.specs.Bits.{word, number_of}
-use Rattle.rice_bits.specs.read.Reader.{is_blank}
-use Rattle.rice_bits.proofs.lemmas.bits.WordsAndNumbers.{word-zero, number_of-word}
+use Rattle.std.proofs.lemmas.{Bool.Decides.nat_tests, List.append-nil}
+use Rattle.rice_bits.{proofs.lemmas.bits.WordsAndNumbers.word-zero, proofs.lemmas.bits.WordsAndNumbers.number_of-word, specs.Bits.word, specs.Bits.number_of, specs.read.Reader.is_blank}
 
 -- bits in two parts have no 1 just where neither part has one
 pub blank-append : (xs ys : List Bool) → is_blank (xs ++ ys) ≡ (is_blank xs && is_blank ys)

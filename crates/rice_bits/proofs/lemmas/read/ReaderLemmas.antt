@@ -1,15 +1,11 @@
 -- What a reader of bits takes, and where it stops.
 use Rattle.std.proofs.Common.{◌≡◌, ℕ, ◌+◌, ◌<◌, ◌≤◌, Bool, true, false, List, [], ◌∷◌, ◌++◌, length, replicate, refl, sym, ◌∙◌, ap, subst, arith, append_assoc, length-append, Option, Some, None}
 use Rattle.std.specs.Prelude.{◌&&◌, IfSome, IsSome}
-use Rattle.std.specs.Option.{is_some}
-use Rattle.std.proofs.lemmas.List.{replicate-append-replicate}
-use Rattle.rice_bits.specs.Bits.{bits_of, fundamental_sequence}
-use Rattle.rice_bits.specs.declared.read.fault.BitFault.{BitFault}
-use Rattle.rice_bits.specs.read.Reader.{Refills, Takes, Stops, Refuses, Reader, is_blank}
-use Rattle.rice_bits.specs.read.Window.{Passes, window_bits, window_passed, window_taken}
-use Rattle.rice_bits.specs.declared.read.window.Window.{Window}
+use Rattle.std.{proofs.lemmas.List.replicate-append-replicate, proofs.lemmas.Grind.common_steps, specs.Option.is_some}
 use Rattle.rice_bits.proofs.lemmas.read.BlankBits.{and-assoc, and-true, blank-append, blank_joined, one_after_zeros}
-use Rattle.rice_bits.proofs.lemmas.read.RefilledBytes.{refills-append, refills-buffered}
+use Rattle.rice_bits.specs.{read.Reader.Refills, read.Reader.Takes, read.Reader.Stops, read.Reader.Refuses, read.Reader.Reader, read.Reader.is_blank, declared.read.fault.BitFault.BitFault}
+use Rattle.rice_bits.specs.{read.Window.Passes, read.Window.window_bits, read.Window.window_passed, read.Window.window_taken, Bits.bits_of, Bits.fundamental_sequence}
+use Rattle.rice_bits.{proofs.lemmas.read.RefilledBytes.refills-append, proofs.lemmas.read.RefilledBytes.refills-buffered, specs.declared.read.window.Window.Window}
 
 -- bits are taken of those that a window has
 pub takes_passed : {I : Type 0} {old : Reader I} (intake : I) {left : Option (List ℕ)} {failed : ℕ} {mid new : Window} (before : Bool) {refusal : Option BitFault} {bits : List Bool}
@@ -17,36 +13,16 @@ pub takes_passed : {I : Type 0} {old : Reader I} (intake : I) {left : Option (Li
     → (before && is_blank (window_passed mid)) ≡ old.blank → refusal ≡ None → failed ≡ old.failed → Passes mid new bits
     → Takes old
     (record { buffered = window_bits new; taken = window_taken new; blank = before && is_blank (window_passed new); refusal = refusal; intake = intake; left = left; failed = failed }) bits
-takes_passed intake {mid} before {bits} refills taken blank going same passes = record {
-  refills = refills;
-  taken = passes.taken ∙ ap (λ n. n + length bits) taken;
-  blank =
-      ap (λ passed. before && is_blank passed) passes.passed ∙ (ap (λ b. before && b) (blank-append (window_passed mid) bits)
-      ∙ (sym (and-assoc before (is_blank (window_passed mid)) (is_blank bits)) ∙ ap (λ b. b && is_blank bits) blank));
-  going = going;
-  failures = same;
-}
+takes_passed intake {mid} before {bits} refills taken blank going same passes = grind (arith, common_steps, blank-append, and-assoc)
 
 -- a reader that stays as it is, and has refused nothing, has taken no bits
 pub takes-none : {I : Type 0} (r : Reader I) → r.refusal ≡ None → Takes r r []
-takes-none r h = record {
-  refills = refills-buffered r.left r.buffered r.buffered [] refl;
-  taken = omega arith;
-  blank = sym (and-true r.blank);
-  going = h;
-  failures = refl;
-}
+takes-none r h = grind (arith, common_steps, refills-buffered, and-true)
 
 -- bits that are taken in one step, and others in the next, are taken in both together
 pub takes-append : {I : Type 0} (old mid new : Reader I) (xs ys : List Bool)
     → Takes old mid xs → Takes mid new ys → Takes old new (xs ++ ys)
-takes-append old mid new xs ys p q = record {
-  refills = refills-append p.refills q.refills;
-  taken = omega (arith, p.taken, q.taken, length-append xs ys);
-  blank = blank_joined old.blank mid.blank new.blank xs ys p.blank q.blank;
-  going = q.going;
-  failures = q.failures ∙ p.failures;
-}
+takes-append old mid new xs ys p q = grind (arith, common_steps, refills-append, length-append, blank_joined)
 
 -- where the next step takes the last bits and refuses, so do both together
 pub stops-append : {I : Type 0} (old mid new : Reader I) (xs ys : List Bool) (f : BitFault)

@@ -1,12 +1,8 @@
 -- Bytes that are read from an intake, and the bits taken of them.
-use Rattle.std.proofs.Common.{◌+◌, ◌-◌, ◌*◌, inl, inr, ◌≡◌, ℕ, ◌<◌, length-append, Bool, List, [], ◌++◌, length, refl, sym, ◌∙◌, ap, arith, append_assoc, Option, Some, None}
-use Rattle.std.specs.Io.KnownBytes.{Consumes}
-use Rattle.std.proofs.lemmas.List.{append-nil}
-use Rattle.rice_bits.specs.Limits.{most_at_once}
-use Rattle.rice_bits.specs.Bits.{bits_of}
-use Rattle.std.proofs.lemmas.Bool.{cases_lt}
-use Rattle.rice_bits.specs.read.Reader.{Refills, Supplies}
+use Rattle.std.proofs.Common.{◌+◌, ◌-◌, ◌*◌, ◌≡◌, ℕ, ◌<◌, length-append, Bool, List, [], ◌++◌, length, refl, sym, ◌∙◌, ap, arith, append_assoc, Option, Some, None}
+use Rattle.std.{proofs.lemmas.Grind.common_steps, proofs.lemmas.List.append-nil, specs.Io.KnownBytes.Consumes, proofs.lemmas.Bool.cases_lt}
 use Rattle.rice_bits.proofs.lemmas.bits.BytesAndBits.{bits_of-nil, bits_of-append, length-bits_of}
+use Rattle.rice_bits.specs.{read.Reader.Refills, read.Reader.Supplies, Limits.most_at_once, Bits.bits_of}
 
 -- so nothing is read where what is known of the bytes is the same before and after
 pub consumes-nil : (a : Option (List ℕ)) → Consumes a a []
@@ -29,10 +25,7 @@ record RefilledInTurn (old mid a b ab xs ys xys : ℕ) : Type 0 where
 -- what is needed for the bits of the second part alone is needed for both
 needed-append : {old mid a b ab xs ys xys : ℕ} → RefilledInTurn old mid a b ab xs ys xys
     → (0 < a → old + 8 * (a - most_at_once) < xs) → (0 < b → mid + 8 * (b - most_at_once) < ys) → 0 < ab → old + 8 * (ab - most_at_once) < xys
-needed-append {b} turns p q some = elim (cases_lt 0 b) [
-  | inl more ↦ (let second = q more in omega (arith, second, turns.bytes, turns.bits, turns.between))
-  | inr none ↦ (let first = p (omega (arith, turns.bytes, some, none)) in omega (arith, first, turns.bytes, turns.bits, none))
-]
+needed-append {b} turns p q some = grind (arith, common_steps, cases_lt)
 
 -- bits that are taken by one refill, and others by the next, are taken by both together
 pub refills-append : {a b c : Option (List ℕ)} {old mid new xs ys : List Bool} → Refills a b old mid xs → Refills b c mid new ys → Refills a c old new (xs ++ ys)
@@ -55,22 +48,11 @@ refills-append {a} {b} {c} {old} {mid} {new} {xs} {ys} p q =
 
 -- nothing is supplied
 pub supplies-none : (a : Option (List ℕ)) (old : List Bool) → Supplies a a old old
-supplies-none a old = record {
-  given = [];
-  consumed = consumes-nil a;
-  split = rw bits_of-nil (append-nil old);
-  at_once = omega arith;
-  needed = λ some. absurd (omega arith);
-}
+supplies-none a old = grind (arith, common_steps, consumes-nil, bits_of-nil, append-nil)
 
 -- bits are taken of those that are buffered, and nothing is read
 pub refills-buffered : (a : Option (List ℕ)) (old new xs : List Bool) → old ≡ xs ++ new → Refills a a old new xs
-refills-buffered a old new xs e = record {
-  given = [];
-  consumed = consumes-nil a;
-  split = rw bits_of-nil (append-nil old ∙ e);
-  needed = λ some. absurd (omega arith);
-}
+refills-buffered a old new xs e = grind (arith, common_steps, consumes-nil, bits_of-nil, append-nil)
 
 -- at least one bit is taken of those that are buffered after a supply
 pub refills-supplied : (a b : Option (List ℕ)) (old mid new xs : List Bool) → 0 < length xs → Supplies a b old mid → mid ≡ xs ++ new → Refills a b old new xs

@@ -1,23 +1,15 @@
 -- The bits that were given and not yet taken.
-use Rattle.std.proofs.Common.{◌≡◌, ℕ, zero, suc, inl, inr, ◌+◌, ◌-◌, ◌*◌, ◌/◌, ◌%◌, ◌^◌, ◌<◌, ◌≤◌, ◌≢◌, Bool, true, false}
-use Rattle.std.proofs.Common.{List, [], ◌∷◌, ◌++◌, length, take, drop, replicate, length-append, refl, sym, ◌∙◌, ap, arith, take-take, append_assoc}
+use Rattle.std.proofs.Common.{◌≡◌, ℕ, zero, suc, inl, inr, ◌+◌, ◌-◌, ◌*◌, ◌/◌, ◌%◌, ◌^◌, ◌<◌, ◌≤◌, ◌≢◌, Bool, true, false, List, [], ◌∷◌, ◌++◌, length, take, drop, replicate, length-append, refl, sym}
+use Rattle.std.proofs.Common.{◌∙◌, ap, arith, take-take, append_assoc}
 use Rattle.std.specs.Prelude.{flat_map, slice_range, ◌==◌, ◌&&◌}
-use Rattle.rice_bits.specs.read.Reader.{is_blank}
-use Rattle.rice_bits.proofs.lemmas.read.BlankBits.{blank-append, blank-word}
+use Rattle.std.proofs.lemmas.List.{drop-drop, drop-take, length-drop, length-replicate, length-take-le, replicate-append-replicate, take-append-drop, take-append-le, take-replicate, take_all}
+use Rattle.std.proofs.{Math.Seq.drop-append_seam, Math.Seq.take-add, Math.Seq.take-append_seam, lemmas.Bool.Decides.nat_tests, lemmas.Grind.common_steps, lemmas.Bool.cases_lt}
 use Rattle.std.specs.Int.{to_be_bytes, w64}
-use Rattle.std.proofs.Math.Seq.{drop-append_seam, take-add, take-append_seam}
-use Rattle.std.proofs.lemmas.Bool.{cases_lt}
-use Rattle.std.proofs.lemmas.Bool.Decides.{nat_tests}
-use Rattle.std.proofs.lemmas.List.{drop-drop, drop-take, length-drop, length-replicate, length-take-le}
-use Rattle.std.proofs.lemmas.List.{replicate-append-replicate, take-append-drop, take-append-le, take-replicate, take_all}
-use Rattle.rice_bits.specs.Bits.{fundamental_sequence, word, bits_of}
-use Rattle.rice_bits.specs.read.Ahead.{AreBitsFrom}
-use Rattle.rice_bits.specs.read.Window.{IsWindow, Passes, bits_near, window_bits, window_passed}
-use Rattle.rice_bits.specs.declared.read.window.Window.{Window}
-use Rattle.rice_bits.proofs.lemmas.bits.BytesAndBits.{bits_of-append, bits_of-zeros, length-bits_of}
-use Rattle.rice_bits.proofs.lemmas.bits.EightBytes.{bits_of-eight}
-use Rattle.rice_bits.proofs.lemmas.bits.FrontsOfWords.{front_below, take-front, word-moved, word-parts}
-use Rattle.rice_bits.proofs.lemmas.bits.WordsAndNumbers.{length-word, word-split}
+use Rattle.rice_bits.proofs.lemmas.bits.{FrontsOfWords.front_below, FrontsOfWords.take-front, FrontsOfWords.word-moved, FrontsOfWords.word-parts, EightBytes.bits_of-eight}
+use Rattle.rice_bits.proofs.lemmas.bits.{BytesAndBits.bits_of-append, BytesAndBits.bits_of-zeros, BytesAndBits.length-bits_of, WordsAndNumbers.length-word, WordsAndNumbers.word-split}
+use Rattle.rice_bits.specs.{read.Window.IsWindow, read.Window.Passes, read.Window.bits_near, read.Window.window_bits, read.Window.window_passed, Bits.fundamental_sequence, Bits.word, Bits.bits_of}
+use Rattle.rice_bits.{proofs.lemmas.read.BlankBits.blank-append, proofs.lemmas.read.BlankBits.blank-word, specs.declared.read.window.Window.Window, specs.read.Ahead.AreBitsFrom}
+use Rattle.rice_bits.specs.read.Reader.{is_blank}
 
 -- a part of a list is its two parts
 between-join : {A : Type 0} (xs : List A) (a s e : ℕ) → a ≤ s → s ≤ e → slice_range xs a s ++ slice_range xs s e ≡ slice_range xs a e
@@ -58,9 +50,7 @@ window_empty w e =
 -- in a window from the start of its buffer to the end of the first bytes the bits of these bytes are buffered
 pub window_filled : (w : Window) (n : ℕ) → w.at ≡ 0 → w.end ≡ 8 * n → n ≤ length w.buffer → window_bits w ≡ bits_of (take n w.buffer)
 unfolding window_bits
-window_filled w n a e h =
-    let m : 8 * n - 0 ≡ 8 * n = omega arith in
-    rw (a, e, m) (take-bits_of n w.buffer h)
+window_filled w n a e h = grind (arith, common_steps, take-bits_of)
 
 -- bytes with zeros written after them
 pub zeros-after : (old new : List ℕ) (n k : ℕ) → n ≤ length old → take (n + k) new ≡ take n old ++ replicate k 0
@@ -156,9 +146,7 @@ bits-ahead bytes at v h eight =
 
 -- the first of the bits at the front of a word, with zeros after them
 pub front-ahead : (bits : List Bool) (n m k r : ℕ) → n ≤ m → m + k ≡ 64 → word 64 r ≡ take m bits ++ replicate k false → take n (word 64 r) ≡ take n bits
-front-ahead bits n m k r h all e =
-    let len : length (take m bits) ≡ m = omega (arith, all, ap length e, length-word 64 r, length-append (take m bits) (replicate k false), length-replicate k false) in
-    ap (take n) e ∙ (take-append-le n (take m bits) (replicate k false) (omega (arith, h, len)) ∙ take-take n m bits h)
+front-ahead bits n m k r h all e = grind (arith, common_steps, length-word, length-append, length-replicate, take-append-le, take-take)
 
 -- the same, of the number that the first spell
 pub first-ahead : (bits : List Bool) (n m k r : ℕ) → n ≤ m → m + k ≡ 64 → word 64 r ≡ take m bits ++ replicate k false → word n (r / 2 ^ (64 - n)) ≡ take n bits

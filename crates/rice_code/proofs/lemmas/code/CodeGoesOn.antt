@@ -3,19 +3,14 @@ use Rattle.std.proofs.Common.{◌≡◌, ℕ, zero, suc, ◌+◌, ◌-◌, ◌*�
 use Rattle.std.proofs.Common.{length, take, drop, replicate, refl, ap, arith, sym, ◌∙◌, append_assoc, length-append, subst, None, ℤ, pos}
 use Rattle.rice_code.proofs.Words.{All, sum_by, sum_by-append, next_multiple_of, length-replicate, recursion_from_All, All-from_recursion, mul-add-div, mul-add-mod_self_left, Parameters, IsLegal}
 use Rattle.rice_code.proofs.Words.{IsSample, begins_segment, block_count, cut, cut_is_start, zero_is_sample, length-take-le, take-append-drop, last_of, filled_samples, blocks_from, blocks_of}
-use Rattle.rice_code.proofs.Words.{zero_block, blocks_in_all, layout, bits_of_set, data_sets, sets_from, code_from, code, bits_from}
+use Rattle.rice_code.proofs.Words.{zero_block, blocks_in_all, layout, bits_of_set, data_sets, sets_from, code_from, code, bits_from, common_steps}
 use Rattle.rice_code.proofs.lemmas.{meaning.CoveredBlocks.GoOn, meaning.CoveredBlocks.covers_blocks, code.Layouts.laid_append, code.Layouts.laid_inside, cost.PaddingBounds.are_blocks}
 use Rattle.rice_code.proofs.lemmas.{code.SegmentsOneByOne.sets_of_segments, code.RepeatedSamples.last_append, code.RepeatedSamples.blocks_append, code.WholeBlocks.not_filled}
 use Rattle.rice_code.proofs.lemmas.code.SoundBlocks.{all_take, blocks_sound, count_blocks}
 
 -- samples after whole blocks are filled as if they stood alone
 fill_after : (j q m n : ℕ) → 1 ≤ j → n ≡ j * q + m → (next_multiple_of n j - n ≡ next_multiple_of m j - m) × (n / j + min 1 (n % j) ≡ q + (m / j + min 1 (m % j)))
-fill_after j q m n h e =
-    let r : n % j ≡ m % j = ap (λ v. v % j) e ∙ mul-add-mod_self_left j q m in
-    let d : n / j ≡ q + m / j = ap (λ v. v / j) e ∙ mul-add-div h q m in
-    let f = ap (λ v. (j - v) % j) r in
-    let g = ap (λ v. min 1 v) r in
-    (omega arith, omega arith)
+fill_after j q m n h e = grind (arith, common_steps, mul-add-mod_self_left, mul-add-div)
 
 -- of samples of whole blocks and others after them only the others are filled, as if they stood alone, and they make as many blocks more
 pub filled_after : (s : Parameters) (q : ℕ) (p : ℤ) (xs ys : List ℤ) → 1 ≤ s.block → length xs ≡ s.block * q →
@@ -72,9 +67,7 @@ sets_go_on s legal b q p xs ys len begins =
     let count : length first ≡ q = count_blocks s b p q xs in
     let begins' = ap (λ i. begins_segment s (b + i)) count ∙ begins in
     let later = data_sets s (b + q) false second in
-    ap (λ v. data_sets s b false v) blocks
-    ∙ (sets_of_segments s b false false first second legal.interval_from begins'
-    ∙ (ap (λ m. data_sets s b false first ++ data_sets s (b + m) false second) count ∙ ap (λ v. data_sets s b false v ++ later) (sym (own_blocks s b q p xs j len))))
+    grind (arith, common_steps, sets_of_segments, own_blocks)
 
 -- samples of whole blocks, after which a segment begins
 pub record WholeSegments (s : Parameters) (b blocks : ℕ) (p : ℤ) (xs : List ℤ) : Type 0 where

@@ -3,7 +3,7 @@ use Rattle.std.proofs.Common.{◌≡◌, ◌≢◌, ℕ, suc, ◌+◌, ◌-◌, 
 use Rattle.std.proofs.Common.{List, [], ◌∷◌, ◌++◌, length, refl, ap, arith, sym, ◌∙◌, subst, append_assoc, Option, Some, None}
 use Rattle.rice_code.proofs.Words.{All, flat_map, slice_index, OnSome, AllZip, nat_tests, mod-eq_of_lt, pow_mono, div-add-mod', word_reads, sequence_reads, pieces_read, Parameters, IsLegal, id_len}
 use Rattle.rice_code.proofs.Words.{k_max, pair_codes, same_pairs, length-pair_codes, word, fundamental_sequence, BlockData, CodedDataSet, NoCompression, SecondExtension, Split, ZeroBlocks}
-use Rattle.rice_code.proofs.Words.{RemainderOfSegment, bits_of_set, sent_residuals, sent_from, reference_bits, run_number, IsForm, IsBlock, IsReference, IsZeroAtReference}
+use Rattle.rice_code.proofs.Words.{RemainderOfSegment, bits_of_set, sent_residuals, sent_from, reference_bits, run_number, IsForm, IsBlock, IsReference, IsZeroAtReference, common_steps}
 
 -- numbers below a limit that are alike modulo it are the same
 pub same_below : (m a b : ℕ) → a < m → b < m → a % m ≡ b % m → a ≡ b
@@ -25,10 +25,7 @@ same_parts m a b e f = sym (div-add-mod' a m) ∙ (ap (λ d. d * m + a % m) e �
 -- and so are the numbers of a list
 pub same_all_parts : (m : ℕ) (xs ys : List ℕ) → AllZip (λ a b. a / m ≡ b / m) xs ys → AllZip (λ a b. a % m ≡ b % m) xs ys → xs ≡ ys
 same_all_parts m [] [] e f = refl
-same_all_parts m (x ∷ xs) (y ∷ ys) e f =
-    let first = same_parts m x y e.0 f.0 in
-    let rest = same_all_parts m xs ys e.1 f.1 in
-    cc
+same_all_parts m (x ∷ xs) (y ∷ ys) e f = grind (arith, common_steps, same_parts, same_all_parts m xs ys e.1 f.1)
 same_all_parts m _ _ e f = absurd e
 
 -- lists that are alike at each place are the same
@@ -123,11 +120,7 @@ same_residuals (Some v) _ _ n h k e = absurd cc
 
 -- contents with one reference and the same coded residuals are the same
 same_contents : (c e : BlockData) → c.reference ≡ e.reference → length c.residuals ≡ length e.residuals → IsZeroAtReference c → IsZeroAtReference e → sent_residuals c ≡ sent_residuals e → c ≡ e
-same_contents c e r n h k eq =
-    let Q : Option ℕ → Type 0 = λ o. OnSome o (slice_index e.residuals 0 ≡ 0) in
-    let k' : OnSome c.reference (slice_index e.residuals 0 ≡ 0) = subst Q (sym r) k in
-    let g = same_residuals c.reference c.residuals e.residuals n h k' (eq ∙ ap (λ o. sent_from o e.residuals) (sym r)) in
-    λ i. record { reference = r i; residuals = g i }
+same_contents c e r n h k eq = grind (arith, common_steps, same_residuals)
 
 same_len : (s : Parameters) (b : ℕ) (c e : BlockData) → IsBlock s b c → IsBlock s b e → length c.residuals ≡ length e.residuals
 same_len s b c e h k = h.len ∙ sym k.len
@@ -198,18 +191,8 @@ by_tails : {s : Parameters} (b : ℕ) (d e : CodedDataSet) {x y : List Bool} →
 unfolding tail identifier
 by_tails {s} b (NoCompression c) (NoCompression e) {x} {y} legal h k i t = let p = plain_reads s b c e x y h k t in (ap (λ c. NoCompression c) p.0, p.1)
 by_tails {s} b (SecondExtension c) (SecondExtension e) {x} {y} legal h k i t = let p = second_reads b c e x y legal h k t in (ap (λ c. SecondExtension c) p.0, p.1)
-by_tails {s} b (Split m c) (Split n e) {x} {y} legal h k i t =
-    let same : n ≡ m = omega arith in
-    let T : ℕ → Type 0 = λ j. (reference_bits s c.reference ++ (flat_map (λ d. fundamental_sequence (d / 2 ^ m)) (sent_residuals c) ++ flat_map (word m) (sent_residuals c))) ++ x
-    ≡ (reference_bits s e.reference ++ (flat_map (λ d. fundamental_sequence (d / 2 ^ j)) (sent_residuals e) ++ flat_map (word j) (sent_residuals e))) ++ y in
-    let at : m ≤ k_max s = h.2 in
-    let p = split_reads s b m x y h (k.0, k.1, at) (subst T same t) in
-    let f = p.0 in
-    let g : m ≡ n = sym same in ((λ j. Split (g j) (f j)), p.1)
-by_tails {s} b (ZeroBlocks r z) (ZeroBlocks q w) {x} {y} legal h k i t =
-    let p = run_reads (run_number z) (run_number w) x y h.0 k.0 t in
-    let e = p.0 in let f = same_run z w h.1 k.1 p.1 in
-    ((λ i. ZeroBlocks (e i) (f i)), p.2)
+by_tails {s} b (Split m c) (Split n e) {x} {y} legal h k i t = grind (arith, common_steps, split_reads)
+by_tails {s} b (ZeroBlocks r z) (ZeroBlocks q w) {x} {y} legal h k i t = grind (arith, common_steps, run_reads, same_run)
 by_tails {s} b (RemainderOfSegment r) (RemainderOfSegment q) {x} {y} legal h k i t =
     let p = run_reads 4 4 x y h k t in (ap (λ r. RemainderOfSegment r) p.0, p.2)
 by_tails {s} b (ZeroBlocks r z) (RemainderOfSegment q) {x} {y} legal h k i t =

@@ -1,7 +1,7 @@
 -- How coded data sets lie: without padding their texts are joined, what is laid is taken, and each interval has seven bits of padding at most.
 use Rattle.std.proofs.Common.{◌≡◌, ℕ, ◌+◌, ◌-◌, ◌*◌, ◌/◌, ◌%◌, ◌<◌, ◌≤◌, ◌==◌, min, Bool, true, false, cond, ◌&&◌}
 use Rattle.std.proofs.Common.{List, [], ◌∷◌, ◌++◌, length, replicate, refl, ap, arith, sym, ◌∙◌, inl, inr, append_assoc, append-nil, length-append}
-use Rattle.rice_code.proofs.Words.{flat_map, sum_by, cases_lt, length-replicate, sum_by-cons, le-div, div-add-mod, div-mul-le_self, mul-le-mul_left, bits_to_byte, Parameters, place}
+use Rattle.rice_code.proofs.Words.{flat_map, sum_by, cases_lt, length-replicate, sum_by-cons, le-div, div-add-mod, div-mul-le_self, mul-le-mul_left, bits_to_byte, Parameters, place, common_steps}
 use Rattle.rice_code.proofs.Words.{is_padded, CodedDataSet, NoCompression, SecondExtension, Split, ZeroBlocks, RemainderOfSegment, bits_of_set, blocks_in, blocks_in_all, block_after, padding}
 use Rattle.rice_code.proofs.Words.{bits_with_padding, layout, Lies, eqb-true}
 use Rattle.rice_code.proofs.lemmas.meaning.CoveredBlocks.{bool_cases, and-split}
@@ -17,11 +17,7 @@ sent_first s end b position d = bits_with_padding s (min end (block_after s b d)
 -- where intervals are not padded, coded data sets are laid as their texts, one after the other
 pub laid_plain : (s : Parameters) (end b position : ℕ) (ds : List CodedDataSet) → s.pad ≡ false → layout s end b position ds ≡ flat_map (bits_of_set s) ds
 laid_plain s end b position [] e = refl
-laid_plain s end b position (d ∷ ds) e =
-    let n = no_padding s (min end (block_after s b d)) (position + length (bits_of_set s d)) e in
-    let first : sent_first s end b position d ≡ bits_of_set s d = ap (λ m. bits_of_set s d ++ replicate m false) n ∙ append-nil (bits_of_set s d) in
-    let rest = laid_plain s end (block_after s b d) (position + length (sent_first s end b position d)) ds e in
-    λ i. first i ++ rest i
+laid_plain s end b position (d ∷ ds) e = grind (arith, common_steps, no_padding, append-nil, laid_plain s end (block_after s b d) (position + length (sent_first s end b position d)) ds e)
 
 -- the blocks of the first of several coded data sets end no later than those of all
 pub ends_inside : (s : Parameters) (b : ℕ) (d : CodedDataSet) (ds : List CodedDataSet) → block_after s b d + length (blocks_in_all s (block_after s b d) ds) ≡ b + length (blocks_in_all s b (d ∷ ds))
@@ -143,13 +139,7 @@ some_block s b (RemainderOfSegment r) = omega arith
 
 -- blocks of which the last ends an interval
 end_passed : (b n r : ℕ) → 1 ≤ r → 1 ≤ n → (b + n) % r ≡ 0 → b / r + 1 ≤ (b + n) / r
-end_passed b n r h k e =
-    let p = div-add-mod b r in
-    let q = div-add-mod (b + n) r in
-    elim (cases_lt (b / r) ((b + n) / r)) [
-      | inl lt ↦ omega arith
-      | inr le ↦ let m : r * ((b + n) / r) ≤ r * (b / r) = mul-le-mul_left r le in absurd (omega arith)
-    ]
+end_passed b n r h k e = grind (arith, common_steps, div-add-mod, cases_lt, mul-le-mul_left)
 
 no_end_passed : (b n r : ℕ) → 1 ≤ r → b / r ≤ (b + n) / r
 no_end_passed b n r h = le-div (b / r) (b + n) r h (let e = div-mul-le_self b r in omega arith)
@@ -202,10 +192,7 @@ laid_bound s end b position (d ∷ ds) h k =
     let zeros = length-replicate n false in
     let sum = sum_by-cons (λ d. length (bits_of_set s d)) d ds in
     let f = ap (λ n. n / s.interval) (ends_inside s b d ds) in
-    sums _ _ _ _ _ _ _ _ _ _ _ len (len' ∙ ap (λ n. length (bits_of_set s d) + n) zeros) sum one ih f
-  where
-    sums : (all first rest t p total more x y z w : ℕ) → all ≡ first + rest → first ≡ t + p → total ≡ t + more → p + 7 * x ≤ 7 * y → rest + 7 * y ≤ more + 7 * z → z ≡ w → all + 7 * x ≤ total + 7 * w
-    sums all first rest t p total more x y z w a b c d e f = omega arith
+    grind (arith, common_steps)
 
 -- of the position only its place in a byte matters
 same_to_byte : (m n : ℕ) → m % 8 ≡ n % 8 → bits_to_byte m ≡ bits_to_byte n

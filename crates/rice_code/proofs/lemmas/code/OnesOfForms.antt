@@ -2,7 +2,7 @@
 use Rattle.std.proofs.Common.{◌≡◌, ℕ, zero, suc, ◌+◌, ◌-◌, ◌*◌, ◌/◌, ◌%◌, ◌^◌, ◌<◌, ◌≤◌, ◌==◌, Bool, true, false, List, [], ◌∷◌, ◌++◌, replicate, refl, ap, arith, ◌∙◌, inl, inr}
 use Rattle.rice_code.proofs.Words.{Contains, flat_map, nat_tests, Contains-append_left, Contains-append_right, Contains-push, mod-eq_of_lt, digit_split, Parameters, IsLegal, id_len, pair_codes, word}
 use Rattle.rice_code.proofs.Words.{fundamental_sequence, CodedDataSet, NoCompression, SecondExtension, Split, ZeroBlocks, RemainderOfSegment, bits_of_set, sent_residuals, reference_bits, run_number}
-use Rattle.rice_code.proofs.Words.{IsForm}
+use Rattle.rice_code.proofs.Words.{IsForm, common_steps}
 use Rattle.rice_code.proofs.lemmas.{meaning.CoveredBlocks.bool_cases, code.FormsReadInOneWay.wide_id}
 
 -- the word of a number has a one, where its digits are not all zeros
@@ -26,9 +26,7 @@ small_word_has_one : (w v : ℕ) → 1 ≤ v → v < 2 ^ w → (rest : List Bool
 small_word_has_one w v h lt rest = let e : v % 2 ^ w ≡ v = mod-eq_of_lt lt in Contains-append_left (word w v) rest true (word_has_one w v (omega arith))
 
 sequence_has_one : (s : Parameters) (front : List Bool) (m : ℕ) → Contains (word (id_len s) 0 ++ false ∷ (front ++ fundamental_sequence m)) true
-sequence_has_one s front m =
-    Contains-append_right (word (id_len s) 0) (false ∷ (front ++ fundamental_sequence m)) true
-    (Contains-append_right (false ∷ []) (front ++ fundamental_sequence m) true (Contains-append_right front (fundamental_sequence m) true (Contains-push (replicate m false) true)))
+sequence_has_one s front m = grind (arith, common_steps, Contains-append_right, Contains-push)
 
 -- the text of each form has a one
 pub forms_have_a_one : (s : Parameters) (b : ℕ) (d : CodedDataSet) → IsLegal s → IsForm s b d → Contains (bits_of_set s d) true
@@ -36,10 +34,6 @@ forms_have_a_one s b (NoCompression c) legal h = let w = wide_id s in
     small_word_has_one (id_len s) (2 ^ id_len s - 1) (omega arith) (omega arith) (reference_bits s c.reference ++ flat_map (word s.bits) (sent_residuals c))
 forms_have_a_one s b (SecondExtension c) legal h =
     Contains-append_right (word (id_len s) 0) (true ∷ (reference_bits s c.reference ++ flat_map fundamental_sequence (pair_codes c.residuals))) true (0, omega arith, refl)
-forms_have_a_one s b (Split k c) legal h =
-    let w = wide_id s in
-    let le : k ≤ 2 ^ id_len s - 3 = h.2 in
-    small_word_has_one (id_len s) (k + 1) (omega arith) (omega arith)
-    (reference_bits s c.reference ++ (flat_map (λ d. fundamental_sequence (d / 2 ^ k)) (sent_residuals c) ++ flat_map (word k) (sent_residuals c)))
+forms_have_a_one s b (Split k c) legal h = grind (arith, common_steps, wide_id, small_word_has_one)
 forms_have_a_one s b (ZeroBlocks r z) legal h = sequence_has_one s (reference_bits s r) (run_number z)
 forms_have_a_one s b (RemainderOfSegment r) legal h = sequence_has_one s (reference_bits s r) 4

@@ -1,4 +1,5 @@
 -- Samples that repeat the last one make blocks of zeros.
+use Rattle.std.proofs.lemmas.Grind.{common_steps}
 use Rattle.std.proofs.Common.{◌≡◌, ℕ, zero, suc, ◌+◌, ◌-◌, ◌*◌, ◌≤◌, ◌==◌, Bool, true, false, cond, List, [], ◌∷◌, ◌++◌}
 use Rattle.std.proofs.Common.{length, take, drop, replicate, refl, ap, arith, sym, ◌∙◌, ◌⊎◌, inl, inr, length-drop, Some, None, ℤ}
 use Rattle.rice_code.proofs.Words.{slice_index_or, list_all, nat_tests, take-append-le, drop-append-le, take-append-drop, take-replicate, drop-replicate, take-length, Parameters, value_count, level}
@@ -33,10 +34,7 @@ blocks_append s b p (suc m) n xs ys e =
     let z : suc m + n ≡ suc (m + n) = omega arith in
     let k : b + 1 + m ≡ b + suc m = omega arith in
     let last = last_after p s.block xs in
-    ap (λ i. blocks_from s b p i (xs ++ ys)) z
-    ∙ ((λ i. block_data s b p (front i) ∷ blocks_from s (b + 1) (last_of p (front i)) (m + n) (back i))
-    ∙ (ap (λ v. block_data s b p (take s.block xs) ∷ v) ih
-    ∙ (λ i. blocks_from s b p (suc m) xs ++ blocks_from s (k i) (last i) n ys)))
+    grind (arith, common_steps)
 
 -- a sample that repeats the one before is predicted exactly, and without prediction it is zero where the one before is
 abbrev pub Repeats : Parameters → ℤ → Type 0
@@ -47,16 +45,7 @@ pub same_rank : (count p : ℕ) → rank_below count p p ≡ 0
 same_rank count p = grind (arith, nat_tests)
 
 residual_of_repeated : (s : Parameters) (i : ℕ) (p : ℤ) → Repeats s p → residual s i p p ≡ 0
-residual_of_repeated s i p h =
-    elim (bool_cases s.preprocess) [
-      | inl e ↦ ap (λ v. cond v (cond (is_reference_sample s i) 0 (rank s p p)) (pattern s p)) e ∙ predicted (is_reference_sample s i)
-      | inr e ↦ ap (λ v. cond v (cond (is_reference_sample s i) 0 (rank s p p)) (pattern s p)) e
-          ∙ elim h [ inl f ↦ absurd (let g : true ≡ false = sym f ∙ e in cc) | inr f ↦ f ]
-    ]
-  where
-    predicted : (v : Bool) → cond v 0 (rank s p p) ≡ 0
-    predicted true = refl
-    predicted false = same_rank (value_count s) (level s p)
+residual_of_repeated s i p h = grind (arith, common_steps, bool_cases, same_rank)
 
 -- where `Repeats` holds, the residuals of a sample again and again after itself are zeros
 pub repeated_all : (s : Parameters) (i n : ℕ) (p : ℤ) → Repeats s p → residuals s i p (replicate n p) ≡ replicate n 0
@@ -65,10 +54,7 @@ repeated_all s i (suc n) p h = let first = residual_of_repeated s i p h in let r
 
 -- so a block of it that has no reference is a block of zeros
 pub repeated_block : (s : Parameters) (b : ℕ) (p : ℤ) → is_reference s b ≡ false → Repeats s p → block_data s b p (replicate s.block p) ≡ zero_block s None
-repeated_block s b p e h =
-    let r = ap (λ v. cond v (Some (pattern s (slice_index_or (replicate s.block p) 0 p))) None) e in
-    let d = repeated_all s (s.block * b) s.block p h in
-    λ i. record { reference = r i; residuals = d i }
+repeated_block s b p e h = grind (arith, common_steps, repeated_all)
 
 -- blocks of the same sample again and again
 pub repeated_blocks : (s : Parameters) (b : ℕ) (p : ℤ) (n : ℕ) → GoOn s b n → Repeats s p → blocks_from s b p n (replicate (s.block * n) p) ≡ replicate n (zero_block s None)
@@ -82,8 +68,7 @@ repeated_blocks s b p (suc n) k h =
     let first = repeated_block s b p none h in
     let last = last_replicate p j in
     let rest = repeated_blocks s (b + 1) p n k.1 h in
-    (λ i. block_data s b p (front i) ∷ blocks_from s (b + 1) (last_of p (front i)) n (back i))
-    ∙ ((λ i. first i ∷ blocks_from s (b + 1) (last i) n (replicate (j * n) p)) ∙ ap (λ v. zero_block s None ∷ v) rest)
+    grind (arith, common_steps, zero_block)
 
 -- without prediction the last sample of a block of zeros is zero
 last_of_zeros : (s : Parameters) (i : ℕ) (p : ℤ) (xs : List ℤ) → s.preprocess ≡ false → 1 ≤ length xs → list_all (λ d. d == 0) (residuals s i p xs) ≡ true → pattern s (last_of p xs) ≡ 0

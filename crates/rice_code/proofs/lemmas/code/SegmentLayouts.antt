@@ -2,7 +2,7 @@
 use Rattle.std.proofs.Common.{◌≡◌, ℕ, suc, ◌+◌, ◌-◌, ◌*◌, ◌/◌, ◌%◌, ◌<◌, ◌≤◌, ◌==◌, min, Bool, true, false, cond, ◌&&◌, List}
 use Rattle.std.proofs.Common.{[], ◌∷◌, ◌++◌, length, replicate, refl, ap, arith, sym, ◌∙◌, inl, inr, subst, append_assoc, append-nil, length-append, None, Some}
 use Rattle.rice_code.proofs.Words.{nat_tests, cases_lt, mod-lt, mod-eq_of_lt, mul-le-mul_left, mod_self, bits_to_byte, Parameters, IsLegal, place, blocks_left, is_padded, BlockData, zero_block}
-use Rattle.rice_code.proofs.Words.{data_sets, CodedDataSet, bits_of_set, bits_of_sets, AreTaken, blocks_in_all, AreSoundBlocks, block_after, padding, bits_with_padding, layout}
+use Rattle.rice_code.proofs.Words.{data_sets, CodedDataSet, bits_of_set, bits_of_sets, AreTaken, blocks_in_all, AreSoundBlocks, block_after, padding, bits_with_padding, layout, common_steps}
 use Rattle.rice_code.proofs.lemmas.{meaning.CoveredBlocks.covers_blocks, cost.PaddingBounds.are_blocks, code.SegmentPlaces.none_padded, meaning.SentSetsAreTaken.are_taken}
 use Rattle.rice_code.proofs.lemmas.{meaning.SentSetsAreTaken.begin_before}
 use Rattle.rice_code.proofs.lemmas.code.Layouts.{BeginBefore, ends_inside, sent_first, some_block}
@@ -11,13 +11,7 @@ use Rattle.rice_code.proofs.lemmas.code.Layouts.{BeginBefore, ends_inside, sent_
 laid_to_end : (s : Parameters) (end b position : ℕ) (d : CodedDataSet) (ds : List CodedDataSet) → ((m : ℕ) → b < m → m < end → is_padded s m ≡ false)
     → BeginBefore s end b (d ∷ ds) → end ≤ b + length (blocks_in_all s b (d ∷ ds)) →
     layout s end b position (d ∷ ds) ≡ bits_of_sets s (d ∷ ds) ++ replicate (padding s end (position + length (bits_of_sets s (d ∷ ds)))) false
-laid_to_end s end b position d [] none h le =
-    let next = block_after s b d in
-    let t = bits_of_set s d in
-    let whole = ends_inside s b d [] in
-    let e : min end next ≡ end = omega arith in
-    append-nil (sent_first s end b position d)
-    ∙ (ap (λ m. t ++ replicate (padding s m (position + length t)) false) e ∙ ap (λ v. v ++ replicate (padding s end (position + length v)) false) (sym (append-nil t)))
+laid_to_end s end b position d [] none h le = grind (arith, common_steps, ends_inside, append-nil)
 laid_to_end s end b position d (c ∷ ds) none h le =
     let next = block_after s b d in
     let t = bits_of_set s d in
@@ -30,8 +24,7 @@ laid_to_end s end b position d (c ∷ ds) none h le =
     let first : sent_first s end b position d ≡ t = ap (λ m. bits_with_padding s m position d) e ∙ (ap (λ k. t ++ replicate k false) nothing ∙ append-nil t) in
     let ih = laid_to_end s end next (position + length t) c ds (λ m p q. none m (omega arith) q) h.1 (omega arith) in
     let n : position + length t + length more ≡ position + length (t ++ more) = omega (arith, length-append t more) in
-    (λ i. first i ++ layout s end next (position + length (first i)) (c ∷ ds))
-    ∙ (ap (λ v. t ++ v) ih ∙ (sym (append_assoc t more (replicate (padding s end (position + length t + length more)) false)) ∙ ap (λ m. (t ++ more) ++ replicate (padding s end m) false) n))
+    grind (arith, common_steps, append_assoc)
 
 -- the same, where there are blocks
 laid_some : (s : Parameters) (end b position : ℕ) (ds : List CodedDataSet) → b < end → ((m : ℕ) → b < m → m < end → is_padded s m ≡ false)
@@ -65,26 +58,11 @@ laid_segment s start position cs legal sound some few =
 -- padding goes by the place alone, which at a segment's end is tested by a sum
 pub padded_at_end : (s : Parameters) (start count bits : ℕ) → start < s.interval → 1 ≤ count → start + count ≤ s.interval →
     padding s (start + count) bits ≡ cond (s.pad && start + count == s.interval) (bits_to_byte bits) 0
-padded_at_end s start count bits lt some le =
-    ap (λ v. cond (s.pad && v) (bits_to_byte bits) 0) (elim (cases_lt (start + count) s.interval) [
-      | inl less ↦ let e : (start + count) % s.interval ≡ start + count = mod-eq_of_lt less in ap (λ m. m == 0) e ∙ inside (start + count) s.interval (omega arith) less
-      | inr whole ↦
-          let same : start + count ≡ s.interval = omega arith in
-          let e : (start + count) % s.interval ≡ 0 = ap (λ m. m % s.interval) same ∙ mod_self s.interval in
-          ap (λ m. m == 0) e ∙ sym (at (start + count) s.interval same)
-    ])
-  where
-    inside : (n r : ℕ) → 1 ≤ n → n < r → (n == 0) ≡ (n == r)
-    inside n r h k = grind (arith, nat_tests)
-
-    at : (n r : ℕ) → n ≡ r → (n == r) ≡ (0 == 0)
-    at n r e = grind (arith, nat_tests)
+padded_at_end s start count bits lt some le = grind (arith, common_steps, cases_lt, mod-eq_of_lt, mod_self, nat_tests)
 
 -- a segment stays in its interval
 inside_interval : (s : Parameters) (start count : ℕ) → start < s.interval → place s start ≡ start → count ≤ blocks_left s start → start + count ≤ s.interval
-inside_interval s start count lt at few =
-    let e : blocks_left s start ≡ 64 * (start / 64) + min 64 (s.interval - 64 * (start / 64)) - start = ap (λ p. 64 * (p / 64) + min 64 (s.interval - 64 * (p / 64)) - p) at in
-    omega (arith, e)
+inside_interval s start count lt at few = grind (arith, common_steps)
 
 -- the code of blocks of a segment: their texts, and zeros up to a byte where they end an interval and intervals are padded
 pub code_lies : {s : Parameters} {start : ℕ} (position : ℕ) {count : ℕ} (cs : List BlockData) → length cs ≡ count → IsLegal s → place s start ≡ start → AreSoundBlocks s start cs
@@ -92,22 +70,11 @@ pub code_lies : {s : Parameters} {start : ℕ} (position : ℕ) {count : ℕ} (c
     bits_of_sets s (data_sets s start false cs) ++ replicate
     (cond (s.pad && start + count == s.interval) (bits_to_byte (position + length (bits_of_sets s (data_sets s start false cs)))) 0) false ≡ layout s
     (start + count) start position (data_sets s start false cs)
-code_lies {s} {start} position {count} [] e legal at sound few =
-    let lt : start < s.interval = omega (arith, at, mod-lt start legal.interval_from) in
-    ap (λ v. replicate (cond (s.pad && v) (bits_to_byte (position + 0)) 0) false) (no (start + count) s.interval (omega (arith, e)))
-    ∙ ap (λ v. replicate (cond v (bits_to_byte (position + 0)) 0) false) (none s.pad)
-  where
-    no : (n r : ℕ) → n < r → (n == r) ≡ false
-    no n r h = grind (arith, nat_tests)
-
-    none : (v : Bool) → (v && false) ≡ false
-    none true = refl
-    none false = refl
+code_lies {s} {start} position {count} [] e legal at sound few = grind (arith, common_steps, mod-lt, nat_tests)
 code_lies {s} {start} position {count} (c ∷ cs) e legal at sound few =
     let ds = data_sets s start false (c ∷ cs) in
     let bits = position + length (bits_of_sets s ds) in
     let lt : start < s.interval = omega (arith, at, mod-lt start legal.interval_from) in
     let l = laid_segment s start position (c ∷ cs) legal sound (omega arith) (omega arith) in
     let same = padded_at_end s start count bits lt (omega arith) (inside_interval s start count lt at few) in
-    sym (sym (ap (λ n. layout s (start + n) start position ds) e)
-    ∙ (l ∙ (ap (λ n. bits_of_sets s ds ++ replicate (padding s (start + n) bits) false) e ∙ ap (λ n. bits_of_sets s ds ++ replicate n false) same)))
+    grind (arith, common_steps)

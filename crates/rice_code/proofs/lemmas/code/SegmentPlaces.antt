@@ -1,6 +1,6 @@
 -- The places of the blocks of a segment, and of the segment after it.
 use Rattle.std.proofs.Common.{◌≡◌, ℕ, zero, suc, ◌+◌, ◌-◌, ◌*◌, ◌/◌, ◌%◌, ◌<◌, ◌≤◌, ◌==◌, min, true, false, cond, ap, arith, sym, ◌∙◌, inl, inr}
-use Rattle.rice_code.proofs.Words.{nat_tests, div-mul-add, div-add-mod, mod-lt, mod-eq_of_lt, Parameters, place, segment_start, begins_segment, blocks_left, is_padded, cut, eqb-true}
+use Rattle.rice_code.proofs.Words.{nat_tests, div-mul-add, div-add-mod, mod-lt, mod-eq_of_lt, Parameters, place, segment_start, begins_segment, blocks_left, is_padded, cut, eqb-true, common_steps}
 use Rattle.rice_code.proofs.Words.{next_place, some_left, lt_of_mul-lt-mul_left}
 use Rattle.rice_code.proofs.lemmas.meaning.CoveredBlocks.{bool_cases, and-split}
 
@@ -11,10 +11,7 @@ place_inside s b (suc q) h k =
     let ih = place_inside s b q h (omega arith) in
     let e : b + suc q ≡ b + q + 1 = omega arith in
     let f = ap (place s) e in
-    elim (next_place s (b + q) h) [
-      | inl p ↦ omega (arith, f, ih, p.0)
-      | inr p ↦ absurd (omega (arith, ih, p.1, k))
-    ]
+    grind (arith, common_steps, next_place)
 
 -- a segment begins after a whole one
 pub begins_next : (s : Parameters) (b : ℕ) → 1 ≤ s.interval → begins_segment s b ≡ true → begins_segment s (b + blocks_left s b) ≡ true
@@ -88,13 +85,4 @@ next_start_is s b start r e =
     let lt : start < s.interval = omega (arith, e, mod-lt b r) in
     let at : place s start ≡ place s b = mod-eq_of_lt lt ∙ sym e in
     let l : blocks_left s start ≡ blocks_left s b = ap (λ p. 64 * (p / 64) + min 64 (s.interval - 64 * (p / 64)) - p) at in
-    elim (next_place s (b + q) r) [
-      | inl f ↦ sym m ∙ (stays (start + blocks_left s start) s.interval (place s (b + q + 1)) (omega (arith, f.0, f.1, p, l, e, left.0)) (omega (arith, f.0, f.1, p, l, e, left.0)))
-      | inr f ↦ sym m ∙ (f.0 ∙ zero_at (start + blocks_left s start) s.interval (omega (arith, f.1, p, l, e, left.0)))
-    ]
-  where
-    stays : (n r p : ℕ) → p ≡ n → n < r → p ≡ cond (n == r) 0 n
-    stays n r p e h = grind (arith, nat_tests)
-
-    zero_at : (n r : ℕ) → n ≡ r → 0 ≡ cond (n == r) 0 n
-    zero_at n r e = grind (arith, nat_tests)
+    grind (arith, common_steps, next_place, nat_tests)

@@ -2,7 +2,7 @@
 use Rattle.std.proofs.Common.{◌≡◌, ℕ, zero, suc, ◌+◌, ◌≤◌, ◌==◌, Bool, true, false, cond, not, ◌&&◌, ◌||◌, nat_le}
 use Rattle.std.proofs.Common.{List, [], ◌∷◌, ◌++◌, length, refl, ap, arith, sym, ◌∙◌, inl, inr, append_assoc, length-append, Option}
 use Rattle.rice_code.proofs.Words.{prefix_len, nat_tests, cases_lt, take-append-le, Parameters, begins_segment, blocks_left, one_less_left, last_of_segment, BlockData, is_zero_block, ZeroBlocks}
-use Rattle.rice_code.proofs.Words.{RemainderOfSegment, shortest, data_sets, data_set_at, zero_run, run_len}
+use Rattle.rice_code.proofs.Words.{RemainderOfSegment, shortest, data_sets, data_set_at, zero_run, run_len, common_steps}
 use Rattle.rice_code.proofs.lemmas.meaning.CoveredBlocks.{bool_cases, run_inside}
 
 -- a segment that begins n blocks on ends the one before
@@ -23,34 +23,20 @@ same_kind z left len len' h k l =
     elim (cases_lt z left) [ inl lt ↦ grind (arith, nat_tests) | inr le ↦ grind (arith, nat_tests) ]
 
 same_run : (s : Parameters) (b : ℕ) (r : Option ℕ) (cs ds : List BlockData) → blocks_left s b ≤ length cs → zero_run s b r (cs ++ ds) ≡ zero_run s b r cs
-same_run s b r cs ds h =
-    let z = run_len s b cs in
-    let run = λ (v : Bool) (z : ℕ). cond (nat_le 5 z && v) (RemainderOfSegment r) (ZeroBlocks r z) in
-    let len : run_len s b (cs ++ ds) ≡ z = ap (λ (l : List BlockData). prefix_len is_zero_block l) (take-append-le (blocks_left s b) cs ds h) in
-    ap (λ z. run (z == blocks_left s b || z == length (cs ++ ds)) z) len
-    ∙ ap (λ v. run v z) (same_kind z (blocks_left s b) (length (cs ++ ds)) (length cs) (run_inside s b cs) (omega (arith, length-append cs ds)) h)
+same_run s b r cs ds h = grind (arith, common_steps, nat_le, take-append-le, same_kind, run_inside, length-append)
 
 -- at the head of a segment it makes no difference what stood before it
 pub head_of_segment : (s : Parameters) (b : ℕ) (v w : Bool) (cs : List BlockData) → begins_segment s b ≡ true → data_sets s b v cs ≡ data_sets s b w cs
 head_of_segment s b v w [] e = refl
-head_of_segment s b v w (c ∷ cs) e =
-    let run = zero_run s b c.reference (c ∷ cs) ∷ [] in
-    ap (λ x. cond (is_zero_block c) (cond x [] run) (shortest s c ∷ []) ++ data_sets s (b + 1) (is_zero_block c) cs) (no v ∙ sym (no w))
-  where
-    no : (v : Bool) → (v && not (begins_segment s b)) ≡ false
-    no true = ap not e
-    no false = refl
+head_of_segment s b v w (c ∷ cs) e = grind (arith, common_steps)
 
 -- the coded data sets of whole segments, and of what follows
 pub sets_of_segments : (s : Parameters) (b : ℕ) (v w : Bool) (cs ds : List BlockData) → 1 ≤ s.interval → begins_segment s (b + length cs) ≡ true →
     data_sets s b v (cs ++ ds) ≡ data_sets s b v cs ++ data_sets s (b + length cs) w ds
-sets_of_segments s b v w [] ds h e =
-    let n : b + 0 ≡ b = omega arith in
-    ap (λ m. data_sets s m v ds) (sym n) ∙ head_of_segment s (b + 0) v w ds e
+sets_of_segments s b v w [] ds h e = grind (arith, common_steps, head_of_segment)
 sets_of_segments s b v w (c ∷ cs) ds h e =
     let n : b + suc (length cs) ≡ b + 1 + length cs = omega arith in
     let rest = sets_of_segments s (b + 1) (is_zero_block c) w cs ds h (ap (λ m. begins_segment s m) (sym n) ∙ e) in
     let first : data_set_at s b v c (cs ++ ds) ≡ data_set_at s b v c cs =
     ap (λ run. cond (is_zero_block c) (cond (v && not (begins_segment s b)) [] (run ∷ [])) (shortest s c ∷ [])) (same_run s b c.reference (c ∷ cs) ds (ends_before s b (length cs) h e)) in
-    (λ i. first i ++ rest i) ∙ (sym (append_assoc (data_set_at s b v c cs) (data_sets s (b + 1) (is_zero_block c) cs) (data_sets s (b + 1 + length cs) w ds))
-    ∙ ap (λ m. data_sets s b v (c ∷ cs) ++ data_sets s m w ds) (sym n))
+    grind (arith, common_steps, append_assoc)

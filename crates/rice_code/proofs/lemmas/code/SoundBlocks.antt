@@ -4,7 +4,7 @@ use Rattle.std.proofs.Common.{[], ◌∷◌, ◌++◌, length, take, drop, repli
 use Rattle.rice_code.proofs.Words.{All, OnSome, slice_index, AllByRecursion, next_multiple_of, cases_lt, length-take, length-drop, length-replicate, recursion_from_All, All-from_recursion}
 use Rattle.rice_code.proofs.Words.{div-add-mod, mod-lt, mod-eq_of_lt, mod_self, Parameters, IsLegal, IsSample, value_count, is_reference, block_count, pattern, residuals, last_of, filled_samples}
 use Rattle.rice_code.proofs.Words.{pattern_fits, length-residuals, residuals_fit, zero_at_reference, block_data, blocks_from, blocks_of, bits_from, bit_bound, IsReference, IsSoundBlock}
-use Rattle.rice_code.proofs.Words.{AreSoundBlocks}
+use Rattle.rice_code.proofs.Words.{AreSoundBlocks, common_steps}
 use Rattle.rice_code.proofs.lemmas.cost.BlockBounds.{blocks_are_bounded}
 
 abbrev Samples : Parameters → List ℤ → Type 0
@@ -95,11 +95,4 @@ blocks_sound_after s b p xs legal j h k =
 
 -- The bits of code from any block on, without padding, are at most the bound for so many samples.
 pub code_is_bounded : (s : Parameters) → IsLegal s → (b : ℕ) (p : ℤ) (xs : List ℤ) → IsSample s p → All (IsSample s) xs → bits_from s b p xs ≤ bit_bound s (length xs)
-code_is_bounded s legal b p xs h k =
-    let j : 1 ≤ s.block = grind (arith, legal.block) in
-    let bound = blocks_are_bounded s b false (blocks_of s b p xs) legal (blocks_sound_after s b p xs legal j h (recursion_from_All (IsSample s) xs k)) in
-    let n = count_blocks s b p (block_count s (length xs)) (filled_samples s p xs) in
-    at _ _ _ _ bound n
-  where
-    at : (x len count m : ℕ) → x + 0 * m ≤ len * m → len ≡ count → x ≤ count * m
-    at x len count m h e = let p = ap (λ v. v * m) e in omega arith
+code_is_bounded s legal b p xs h k = grind (arith, common_steps, blocks_are_bounded, blocks_sound_after, recursion_from_All, count_blocks)

@@ -2,7 +2,7 @@
 use Rattle.std.proofs.Common.{◌≡◌, ℕ, suc, ◌+◌, ◌≤◌, Bool, true, false, not, ◌&&◌, List, [], ◌∷◌, ◌++◌, length, length-append, ap, arith, sym, ◌∙◌, inl, inr, subst, Option, pos}
 use Rattle.rice_code.proofs.Words.{AllByRecursion, nat_tests, All-from_recursion, recursion_from_All, Parameters, IsLegal, IsSample, begins_segment, last_of, cut_is_start, zero_is_sample, set_bound}
 use Rattle.rice_code.proofs.Words.{AddedCodeIsBounded, SetsAreBounded, BlockData, is_zero_block, code, code_from, data_sets, sets_of, CodedDataSet, bits_of_set, cost, run_number, IsReference}
-use Rattle.rice_code.proofs.Words.{RunIsSound, zero_run, run_len, AreSoundBlocks}
+use Rattle.rice_code.proofs.Words.{RunIsSound, zero_run, run_len, AreSoundBlocks, common_steps}
 use Rattle.rice_code.proofs.lemmas.{code.CodeGoesOn.code_goes_on, cost.BlockBounds.shortest_bound, cost.BlockBounds.reference_bound, cost.CostIsLength.cost_is_length}
 use Rattle.rice_code.proofs.lemmas.{cost.PaddingBounds.padding_after_is_bounded, meaning.SentSetsAreTaken.zero_run_is_sound}
 use Rattle.rice_code.proofs.lemmas.code.SoundBlocks.{blocks_sound_after, code_is_bounded, last_legal}
@@ -37,12 +37,7 @@ run_fits s b w r cs legal h e =
     let sound = zero_run_is_sound s b w r cs legal.interval_from h e in
     let len = cost_is_length s b d (omega (arith, legal.block)) sound.0 in
     let ref = reference_bound s r in
-    elim (zero_run_is s b r cs) [
-      | inl f ↦
-          let few = subst (RunIsSound s b) f sound.1 in
-          omega (arith, len, ap (cost s) f, few.1, few_zeros (run_len s b cs), ref)
-      | inr f ↦ omega (arith, len, ap (cost s) f.0, ref)
-    ]
+    grind (arith, common_steps, zero_run_is, few_zeros)
 
 sets_fit : (s : Parameters) (b : ℕ) (after : Bool) (cs : List BlockData) → IsLegal s → AreSoundBlocks s b cs → AllByRecursion (λ d. length (bits_of_set s d) ≤ set_bound s) (data_sets s b after cs)
 sets_fit s b after [] legal k = tt
@@ -64,7 +59,4 @@ sets_fit s b after (c ∷ cs) legal k =
 
 -- Each coded data set of the coder's is at most as long as a block without compression, or as a run of 63 blocks with a reference.
 pub sets_are_bounded : SetsAreBounded
-sets_are_bounded s legal xs k =
-    let j : 1 ≤ s.block = omega (arith, legal.block) in
-    let sound = blocks_sound_after s 0 (pos 0) xs legal j (zero_is_sample s legal.bits_from) (recursion_from_All (IsSample s) xs k) in
-    All-from_recursion (λ d. length (bits_of_set s d) ≤ set_bound s) (sets_of s xs) (sets_fit s 0 false _ legal sound)
+sets_are_bounded s legal xs k = grind (arith, common_steps, blocks_sound_after, zero_is_sample, recursion_from_All, All-from_recursion, sets_fit)

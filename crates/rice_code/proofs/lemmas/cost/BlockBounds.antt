@@ -3,7 +3,7 @@ use Rattle.std.proofs.Common.{◌≡◌, ℕ, zero, suc, ◌+◌, ◌-◌, ◌*�
 use Rattle.std.proofs.Common.{map, List, [], ◌∷◌, length, refl, ap, arith, sym, ◌∙◌, inl, inr, subst, Option, Some, None}
 use Rattle.rice_code.proofs.Words.{sum_by, best_of, range_with_len, AllByRecursion, nat_tests, sum_by-cons, mul-le-mul_left, Parameters, IsLegal, id_len, k_max, begins_segment, BlockData}
 use Rattle.rice_code.proofs.Words.{is_zero_block, CodedDataSet, NoCompression, Split, ZeroBlocks, RemainderOfSegment, bits_of_set, cost, reference_len, run_number, IsForm, IsReference, shortest}
-use Rattle.rice_code.proofs.Words.{other_options, IsSoundBlock, AreSoundBlocks, data_sets, block_bound, RunIsNeverLonger, zero_run, run_len}
+use Rattle.rice_code.proofs.Words.{other_options, IsSoundBlock, AreSoundBlocks, data_sets, block_bound, RunIsNeverLonger, zero_run, run_len, common_steps}
 use Rattle.rice_code.proofs.lemmas.meaning.CoveredBlocks.{bool_cases, skipped, data_sets_plain, data_sets_start, data_sets_inside, skipped_nil}
 use Rattle.rice_code.proofs.lemmas.meaning.CoveredBlocks.{skipped_plain, skipped_go, skipped_stop, zero_run_is, best_keeps, run_cons}
 use Rattle.rice_code.proofs.lemmas.cost.CostIsLength.{cost_is_length}
@@ -11,14 +11,7 @@ use Rattle.rice_code.proofs.lemmas.cost.CostIsLength.{cost_is_length}
 -- one that costs no more than the first wins
 best_costs : (f : CodedDataSet → ℕ) (a : CodedDataSet) (xs : List CodedDataSet) → f (best_of (λ x y. nat_lt (f x) (f y)) a xs) ≤ f a
 best_costs f a [] = omega arith
-best_costs f a (x ∷ xs) =
-    elim (bool_cases (nat_lt (f x) (f a))) [
-      | inl e ↦ subst (λ (v : Bool). f (best_of (λ x y. nat_lt (f x) (f y)) (cond v x a) xs) ≤ f a) (sym e) (let h = best_costs f x xs in let lt : f x < f a = below (f x) (f a) e in omega arith)
-      | inr e ↦ subst (λ (v : Bool). f (best_of (λ x y. nat_lt (f x) (f y)) (cond v x a) xs) ≤ f a) (sym e) (best_costs f a xs)
-    ]
-  where
-    below : (m n : ℕ) → nat_lt m n ≡ true → m < n
-    below m n e = grind (arith, nat_tests)
+best_costs f a (x ∷ xs) = grind (arith, common_steps, bool_cases, nat_lt, nat_tests, best_costs f x xs, best_costs f a xs)
 
 -- the option that is chosen is a form
 pub shortest_is_form : (s : Parameters) (b : ℕ) (c : BlockData) → IsSoundBlock s b c → IsForm s b (shortest s c)

@@ -1,4 +1,5 @@
 -- The cost is the length of the text.
+use Rattle.std.proofs.lemmas.Grind.{common_steps}
 use Rattle.std.proofs.Common.{◌≡◌, ℕ, ◌+◌, ◌-◌, ◌*◌, ◌/◌, ◌^◌, ◌≤◌, Bool, true, false, List, [], ◌∷◌, ◌++◌, length, refl, arith, sym, ◌∙◌, Option, Some, None, length-append}
 use Rattle.rice_code.proofs.Words.{flat_map, sum_by, sum_by-cons, length-word, length-fundamental_sequence, Parameters, id_len, pair_codes, word, fundamental_sequence, CodedDataSet, NoCompression}
 use Rattle.rice_code.proofs.Words.{SecondExtension, Split, ZeroBlocks, RemainderOfSegment, bits_of_set, cost, sent_residuals, sent_from, reference_bits, reference_len, run_number, IsForm}
@@ -16,11 +17,7 @@ length_words w (x ∷ xs) = let e = length-append (word w x) (flat_map (word w) 
 -- the fundamental sequences of high parts have a one for each, and as many zeros as the sum of the high parts
 pub length_sequences : (k : ℕ) (xs : List ℕ) → length (flat_map (λ d. fundamental_sequence (d / 2 ^ k)) xs) ≡ length xs + sum_by (λ d. d / 2 ^ k) xs
 length_sequences k [] = omega arith
-length_sequences k (x ∷ xs) =
-    let e = length-append (fundamental_sequence (x / 2 ^ k)) (flat_map (λ d. fundamental_sequence (d / 2 ^ k)) xs) in
-    let f = length-fundamental_sequence (x / 2 ^ k) in
-    let g = length_sequences k xs in
-    let h = sum_by-cons (λ d. d / 2 ^ k) x xs in omega arith
+length_sequences k (x ∷ xs) = grind (arith, common_steps, length-append, length-fundamental_sequence, sum_by-cons, length_sequences k xs)
 
 -- a reference has as many bits as it costs
 pub length_reference : (s : Parameters) (r : Option ℕ) → length (reference_bits s r) ≡ reference_len s r
@@ -34,12 +31,7 @@ coded_and_reference s (Some v) [] h = absurd (omega arith)
 coded_and_reference s (Some v) (d ∷ ds) h = omega arith
 
 low_entropy : (s : Parameters) (flag : Bool) (r : Option ℕ) (body : List Bool) → length (word (id_len s) 0 ++ flag ∷ (reference_bits s r ++ body)) ≡ id_len s + 1 + reference_len s r + length body
-low_entropy s flag r body =
-    let e = length-append (word (id_len s) 0) (flag ∷ (reference_bits s r ++ body)) in
-    let f = length-append (reference_bits s r) body in
-    let w = length-word (id_len s) 0 in
-    let g = length_reference s r in
-    e ∙ (omega arith)
+low_entropy s flag r body = grind (arith, common_steps, length-append, length-word, length_reference)
 
 -- the texts of runs are as long as they cost
 pub numbered_run_len : (s : Parameters) (r : Option ℕ) (z : ℕ) → length (bits_of_set s (ZeroBlocks r z)) ≡ cost s (ZeroBlocks r z)
@@ -51,30 +43,8 @@ remainder_len s r = low_entropy s false r (fundamental_sequence 4)
 
 -- The text of each form is as long as it costs.
 pub cost_is_length : (s : Parameters) (b : ℕ) (d : CodedDataSet) → 1 ≤ s.block → IsForm s b d → length (bits_of_set s d) ≡ cost s d
-cost_is_length s b (NoCompression c) j h =
-    let n = id_len s in
-    let e = length-append (word n (2 ^ n - 1)) (reference_bits s c.reference ++ flat_map (word s.bits) (sent_residuals c)) in
-    let f = length-append (reference_bits s c.reference) (flat_map (word s.bits) (sent_residuals c)) in
-    let w = length-word n (2 ^ n - 1) in
-    let r = length_reference s c.reference in
-    let g = length_words s.bits (sent_residuals c) in
-    let k : 1 ≤ length c.residuals = omega (arith, h.0.len) in
-    let m = coded_and_reference s c.reference c.residuals k in
-    e ∙ (omega arith)
-cost_is_length s b (SecondExtension c) j h =
-    let body = flat_map fundamental_sequence (pair_codes c.residuals) in
-    low_entropy s true c.reference body ∙ (let p = length_pieces fundamental_sequence (λ g. g + 1) length-fundamental_sequence (pair_codes c.residuals) in omega arith)
-cost_is_length s b (Split k c) j h =
-    let n = id_len s in
-    let high = flat_map (λ d. fundamental_sequence (d / 2 ^ k)) (sent_residuals c) in
-    let low = flat_map (word k) (sent_residuals c) in
-    let e = length-append (word n (k + 1)) (reference_bits s c.reference ++ (high ++ low)) in
-    let f = length-append (reference_bits s c.reference) (high ++ low) in
-    let i = length-append high low in
-    let w = length-word n (k + 1) in
-    let r = length_reference s c.reference in
-    let p = length_sequences k (sent_residuals c) in
-    let q = length_words k (sent_residuals c) in
-    e ∙ (omega arith)
+cost_is_length s b (NoCompression c) j h = grind (arith, common_steps, length-append, length-word, length_reference, length_words, coded_and_reference)
+cost_is_length s b (SecondExtension c) j h = grind (arith, common_steps, low_entropy, length_pieces, length-fundamental_sequence)
+cost_is_length s b (Split k c) j h = grind (arith, common_steps, length-append, length-word, length_reference, length_sequences, length_words)
 cost_is_length s b (ZeroBlocks r z) j h = numbered_run_len s r z
 cost_is_length s b (RemainderOfSegment r) j h = remainder_len s r

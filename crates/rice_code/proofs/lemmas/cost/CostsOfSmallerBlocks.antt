@@ -2,7 +2,7 @@
 use Rattle.std.proofs.Common.{◌≡◌, ℕ, zero, suc, ◌+◌, ◌*◌, ◌/◌, ◌^◌, ◌<◌, ◌≤◌, List, [], ◌∷◌, ◌++◌, length, replicate, refl, ap, arith, sym, ◌∙◌, subst, Option, Some, None}
 use Rattle.rice_code.proofs.Words.{OnSome, slice_index, sum_by, AllZip, AllByRecursion, recursion_from_All, All-from_recursion, sum_by-cons, le-div, pow_pos, div-mul-le_self, mul-le-mul}
 use Rattle.rice_code.proofs.Words.{mul-le-mul_right, Parameters, id_len, value_count, pair_code, pair_codes, BlockData, zero_block, NoCompression, SecondExtension, Split, cost, sent_residuals}
-use Rattle.rice_code.proofs.Words.{sent_from, reference_len, IsReference, IsSoundBlock}
+use Rattle.rice_code.proofs.Words.{sent_from, reference_len, IsReference, IsSoundBlock, common_steps}
 use Rattle.rice_code.proofs.lemmas.cost.BlockBounds.{reference_bound}
 
 -- each number is at most the one at its place
@@ -70,19 +70,14 @@ no_compression_at_most s c x h = omega (arith, ap (λ n. n * s.bits) (same_len c
 
 -- by second extension,
 pub second_extension_at_most : (s : Parameters) (c x : BlockData) → IsAtMost c x → cost s (SecondExtension c) ≤ cost s (SecondExtension x)
-second_extension_at_most s c x h =
-    let pairs = sums_at_most (λ g. g + 1) (λ x y le. omega arith) (pair_codes c.residuals) (pair_codes x.residuals) (pairs_at_most c.residuals x.residuals h.residuals) in
-    omega (arith, ap (reference_len s) h.reference, pairs)
+second_extension_at_most s c x h = grind (arith, common_steps, sums_at_most, pairs_at_most)
 
 high_part_rises : (k x y : ℕ) → x ≤ y → x / 2 ^ k ≤ y / 2 ^ k
 high_part_rises k x y h = le-div (x / 2 ^ k) y (2 ^ k) (pow_pos k) (omega (arith, div-mul-le_self x (2 ^ k), h))
 
 -- and by a split
 pub split_at_most : (s : Parameters) (k : ℕ) (c x : BlockData) → IsAtMost c x → cost s (Split k c) ≤ cost s (Split k x)
-split_at_most s k c x h =
-    let sent = those_sent c x h in
-    let high = sums_at_most (λ d. d / 2 ^ k) (high_part_rises k) (sent_residuals c) (sent_residuals x) sent in
-    omega (arith, ap (reference_len s) h.reference, ap (λ n. n * (k + 1)) (same_len (sent_residuals c) (sent_residuals x) sent), high)
+split_at_most s k c x h = grind (arith, common_steps, those_sent, sums_at_most, high_part_rises, same_len)
 
 -- ---- what they are
 
@@ -118,25 +113,12 @@ sound_at_most s b c x h k = record {
 
 -- with four residuals or more a block by no compression is no shorter than a run of one block,
 pub no_compression_exceeds : (s : Parameters) (c : BlockData) → 4 ≤ length c.residuals → 1 ≤ s.bits → id_len s + 2 + reference_len s c.reference ≤ cost s (NoCompression c)
-no_compression_exceeds s c h k =
-    let words : 4 * s.bits ≤ length c.residuals * s.bits = mul-le-mul_right s.bits h in
-    omega (arith, words, reference_bound s c.reference, k)
+no_compression_exceeds s c h k = grind (arith, common_steps, mul-le-mul_right, reference_bound)
 
 -- nor is it by second extension,
 pub second_extension_exceeds : (s : Parameters) (c : BlockData) → 4 ≤ length c.residuals → id_len s + 2 + reference_len s c.reference ≤ cost s (SecondExtension c)
-second_extension_exceeds s c h = omega (arith, some c.residuals (omega (arith, h)))
-  where
-    some : (ds : List ℕ) → 2 ≤ length ds → 1 ≤ sum_by (λ g. g + 1) (pair_codes ds)
-    some (a ∷ b ∷ ds) h = omega (arith, sum_by-cons (λ g. g + 1) (pair_code a b) (pair_codes ds))
-    some _ h = absurd (omega arith)
+second_extension_exceeds s c h = grind (arith, common_steps, sum_by-cons)
 
 -- nor by a split
 pub split_exceeds : (s : Parameters) (k : ℕ) (c : BlockData) → 4 ≤ length c.residuals → id_len s + 2 + reference_len s c.reference ≤ cost s (Split k c)
-split_exceeds s k c h =
-    let sequences : 3 * (k + 1) ≤ length (sent_residuals c) * (k + 1) = mul-le-mul_right (k + 1) (most_sent c.reference c.residuals h) in
-    omega (arith, sequences)
-  where
-    most_sent : (r : Option ℕ) (ds : List ℕ) → 4 ≤ length ds → 3 ≤ length (sent_from r ds)
-    most_sent None ds h = omega arith
-    most_sent (Some v) [] h = absurd (omega arith)
-    most_sent (Some v) (d ∷ ds) h = omega arith
+split_exceeds s k c h = grind (arith, common_steps, mul-le-mul_right)

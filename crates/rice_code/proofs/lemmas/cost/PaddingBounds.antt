@@ -1,4 +1,5 @@
 -- The padding of the code of samples is bounded.
+use Rattle.std.proofs.lemmas.Grind.{common_steps}
 use Rattle.std.proofs.Common.{◌≡◌, ℕ, zero, suc, ◌+◌, ◌*◌, ◌/◌, ◌%◌, ◌<◌, ◌≤◌, Bool, true, false, cond, List, []}
 use Rattle.std.proofs.Common.{◌∷◌, length, replicate, ap, arith, subst, sym, ◌∙◌, inl, inr, length-append, None, ℤ, pos, Some}
 use Rattle.rice_code.proofs.Words.{All, div_ceil, nat_tests, cases_lt, div_ceil_times, length-replicate, length-flat_map, recursion_from_All, div-add-mod, mod-lt, mod-eq_of_lt, mul-add-mod_self_left}
@@ -76,39 +77,11 @@ padding_from s legal b position p xs h k =
     let sound = blocks_sound_after s b p xs legal j h (recursion_from_All (IsSample s) xs k) in
     let cover = covers_blocks s b false cs legal.interval_from (are_blocks s b cs sound) in
     let n : length cs ≡ count = count_blocks s b p count (filled_samples s p xs) in
-    elim (bool_cases s.pad) [
-      | inr e ↦
-          let l = ap length (laid_plain s (b + count) b position sets e) ∙ length-flat_map (bits_of_set s) sets in
-          let x = ap (λ v. cond v (7 * (b / s.interval)) 0) e in
-          let y = ap (λ v. cond v (7 * div_ceil (b + count) s.interval) 0) e in
-          omega (arith, l, x, y)
-      | inl e ↦
-          let l = laid_bound s (b + count) b position sets legal.interval_from (sets_begin s b p xs legal h k) in
-          let here : b + 0 ≡ b = omega arith in
-          let blocks = ap (λ m. blocks_in_all s m sets) (sym here) ∙ cover.blocks in
-          let all = ap length blocks ∙ (length-append cs (replicate cover.fill (zero_block s None)) ∙ ap (λ m. length cs + m) (length-replicate cover.fill (zero_block s None))) in
-          let i = inside_interval s (b + length cs) cover.fill legal.interval_from cover.inside in
-          let few = ceil _ b (length cs) cover.fill count s.interval all n i in
-          let x = ap (λ v. cond v (7 * (b / s.interval)) 0) e in
-          let y = ap (λ v. cond v (7 * div_ceil (b + count) s.interval) 0) e in
-          omega (arith, l, few, x, y)
-    ]
-  where
-    ceil : (x b len fill count r : ℕ) → x ≡ len + fill → len ≡ count → (b + len + fill) / r ≤ div_ceil (b + len) r → (b + x) / r ≤ div_ceil (b + count) r
-    ceil x b len fill count r e f h =
-        let p : b + x ≡ b + len + fill = omega arith in
-        let q : b + len ≡ b + count = omega arith in
-        let p' = ap (λ n. n / r) p in
-        let q' = ap (λ n. div_ceil n r) q in
-        omega arith
+    grind (arith, common_steps, bool_cases, laid_plain, length-flat_map, laid_bound, sets_begin, length-append, zero_block, length-replicate, inside_interval)
 
 -- The code of samples has at most so many bits more than its coded data sets: seven for each interval begun, where intervals are padded.
 pub padding_is_bounded : (s : Parameters) → IsLegal s → (xs : List ℤ) → All (IsSample s) xs → length (code s xs) ≤ code_bits s xs + padding_bound s (length xs)
-padding_is_bounded s legal xs k =
-    let l = padding_from s legal 0 0 (pos 0) xs (zero_is_sample s legal.bits_from) k in
-    let count : 0 + block_count s (length xs) ≡ block_count s (length xs) = omega arith in
-    let same = ap (λ n. cond s.pad (7 * div_ceil n s.interval) 0) count in
-    omega (arith, l, same)
+padding_is_bounded s legal xs k = grind (arith, common_steps, padding_from, zero_is_sample)
 
 -- after other blocks an interval may end that they have begun
 pub padding_after_is_bounded : (s : Parameters) → IsLegal s → (b position : ℕ) (p : ℤ) (xs : List ℤ) → IsSample s p → All (IsSample s) xs →

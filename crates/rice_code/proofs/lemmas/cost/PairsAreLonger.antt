@@ -1,4 +1,5 @@
 -- Second extension is longer than a split that saves bits.
+use Rattle.std.proofs.lemmas.Grind.{common_steps}
 use Rattle.std.proofs.Common.{◌≡◌, ℕ, zero, suc, ◌+◌, ◌*◌, ◌/◌, ◌^◌, ◌<◌, ◌≤◌, List, [], ◌∷◌, length, ap, arith, Option, Some, None}
 use Rattle.rice_code.proofs.Words.{sum_by, mul-le-mul_left, sum_by-cons, pair_code, pair_codes, Parameters, BlockData, IsBestSplit, SecondExtension, Split, cost, sent_residuals, sent_from}
 
@@ -13,13 +14,7 @@ pair_long a b = let h = half_square (a + b) in omega (arith, h)
 
 pairs_long : (n : ℕ) (ds : List ℕ) → length ds ≡ 2 * n → 2 * sum_by (λ d. d / 2 ^ 0) ds ≤ sum_by (λ g. g + 1) (pair_codes ds)
 pairs_long n [] e = omega arith
-pairs_long (suc n) (a ∷ b ∷ ds) e =
-    let h = pair_long a b in
-    let ih = pairs_long n ds (omega arith) in
-    let p = sum_by-cons (λ d. d / 2 ^ 0) a (b ∷ ds) in
-    let q = sum_by-cons (λ d. d / 2 ^ 0) b ds in
-    let r = sum_by-cons (λ g. g + 1) (pair_code a b) (pair_codes ds) in
-    omega (arith, h, ih, p, q, r)
+pairs_long (suc n) (a ∷ b ∷ ds) e = grind (arith, common_steps, pair_long, sum_by-cons, pairs_long n ds (omega arith))
 pairs_long _ _ e = absurd (omega arith)
 
 coded_few : (f : ℕ → ℕ) (r : Option ℕ) (ds : List ℕ) → sum_by f (sent_from r ds) ≤ sum_by f ds

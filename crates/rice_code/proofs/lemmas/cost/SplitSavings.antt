@@ -2,17 +2,12 @@
 use Rattle.std.proofs.Common.{◌≡◌, ℕ, zero, suc, ◌+◌, ◌-◌, ◌*◌, ◌/◌, ◌^◌, ◌<◌, ◌≤◌, Bool, true, false, cond, nat_lt, map, List, [], ◌∷◌, length, refl, ap, arith, sym, ◌∙◌, ◌⊎◌, inl, inr, subst}
 use Rattle.rice_code.proofs.Words.{All, OnSome, slice_index, Option, Some, None, best_of, range_with_len, AllByRecursion, All-from_recursion, cases_lt, nat_tests, sum_by-cons, zero-div, Parameters}
 use Rattle.rice_code.proofs.Words.{id_len, k_max, cut_sum, sum_halves, BlockData, NoCompression, SecondExtension, Split, cost, sent_residuals, sent_from, reference_len, shortest, other_options}
-use Rattle.rice_code.proofs.Words.{IsBestSplit, IsZeroAtReference}
+use Rattle.rice_code.proofs.Words.{IsBestSplit, IsZeroAtReference, common_steps}
 use Rattle.rice_code.proofs.lemmas.meaning.CoveredBlocks.{bool_cases}
 
 -- What a split saves against the one before never rises.
 pub saving_never_rises : (s : Parameters) (c : BlockData) (k : ℕ) → 2 * cost s (Split (k + 1) c) ≤ cost s (Split k c) + cost s (Split (k + 2) c)
-saving_never_rises s c k =
-    let h = sum_halves (sent_residuals c) k in
-    at (length (sent_residuals c)) (id_len s + reference_len s c.reference) k _ _ _ h
-  where
-    at : (l base k x y z : ℕ) → y + y ≤ x → 2 * (base + l * (k + 1 + 1) + y) ≤ base + l * (k + 1) + x + (base + l * (k + 2 + 1) + z)
-    at l base k x y z h = omega arith
+saving_never_rises s c k = grind (arith, common_steps, sum_halves)
 
 -- a sum never rises
 sum_falls : (ds : List ℕ) (k m : ℕ) → cut_sum ds (k + m) ≤ cut_sum ds k
@@ -25,21 +20,7 @@ sum_falls ds k (suc m) =
 -- where the next is no shorter, none after it is
 pub no_later_is_shorter : (ds : List ℕ) (l k m : ℕ) → l * (k + 1) + cut_sum ds k ≤ l * (k + 1 + 1) + cut_sum ds (k + 1) → l * (k + 1) + cut_sum ds k ≤ l * (k + m + 1) + cut_sum ds (k + m)
 no_later_is_shorter ds l k zero h = let e : k + 0 ≡ k = omega arith in let f = ap (λ n. l * (n + 1) + cut_sum ds n) e in omega arith
-no_later_is_shorter ds l k (suc m) h =
-    let ih = no_later_is_shorter ds l k m h in
-    let e : k + suc m ≡ k + m + 1 = omega arith in
-    let f = ap (λ n. l * (n + 1) + cut_sum ds n) e in
-    let low : cut_sum ds (k + m) ≤ cut_sum ds (k + m + 1) + l = below m in
-    omega (arith, f, ih, low)
-  where
-    below : (m : ℕ) → cut_sum ds (k + m) ≤ cut_sum ds (k + m + 1) + l
-    below zero = let e : k + 0 ≡ k = omega arith in let f = ap (cut_sum ds) e in let g = ap (λ n. cut_sum ds (n + 1)) e in omega (arith, f, g, h)
-    below (suc m) =
-        let e : k + suc m ≡ k + 1 + m = omega arith in
-        let f = ap (cut_sum ds) e in
-        let g = sum_falls ds (k + 1) m in
-        let i = sum_halves ds k in
-        omega (arith, f, g, i, h)
+no_later_is_shorter ds l k (suc m) h = grind (arith, common_steps, sum_falls, sum_halves, no_later_is_shorter ds l k m h)
 
 -- where a number is less than another, the test says so,
 pub nat_lt-true : (m n : ℕ) → m < n → nat_lt m n ≡ true
@@ -132,22 +113,12 @@ best_where_it_stops s c k h first stop = record {
 
 -- or where there is none after
 pub best_where_it_ends : (s : Parameters) (c : BlockData) (k : ℕ) → k ≡ k_max s → ((j : ℕ) → j < k → cost s (Split k c) < cost s (Split j c)) → IsBestSplit s c k
-best_where_it_ends s c k h first = record {
-  at_most = omega arith;
-  least = λ j p. elim (cases_lt j k) [
-    | inl lt ↦ let f = first j lt in omega arith
-    | inr le ↦ let e : k ≡ j = omega arith in let g = ap (λ n. cost s (Split n c)) e in omega (arith, g)
-  ];
-  first = first;
-}
+best_where_it_ends s c k h first = grind (arith, common_steps, cases_lt)
 
 -- one split more
 pub first_more : (s : Parameters) (c : BlockData) (k : ℕ) → ((j : ℕ) → j < k → cost s (Split k c) < cost s (Split j c))
     → cost s (Split (k + 1) c) < cost s (Split k c) → (j : ℕ) → j < k + 1 → cost s (Split (k + 1) c) < cost s (Split j c)
-first_more s c k first less j h = elim (cases_lt j k) [
-  | inl lt ↦ let f = first j lt in omega arith
-  | inr le ↦ let e : k ≡ j = omega arith in let g = ap (λ n. cost s (Split n c)) e in omega (arith, g)
-]
+first_more s c k first less j h = grind (arith, common_steps, cases_lt)
 
 -- the shortest is decided by the three costs
 pub shortest_is : (s : Parameters) (c : BlockData) (k : ℕ) → IsBestSplit s c k →
@@ -181,12 +152,7 @@ first_stop_is_best s c k le h (inr end) = best_where_it_ends s c k end (shorter_
 pub coded_sum : (r : Option ℕ) (ds : List ℕ) (k : ℕ) → OnSome r (slice_index ds 0 ≡ 0) → cut_sum (sent_from r ds) k ≡ cut_sum ds k
 coded_sum None ds k h = refl
 coded_sum (Some v) [] k h = refl
-coded_sum (Some v) (d ∷ ds) k h =
-    let e : d ≡ 0 = h in
-    let f = ap (λ n. n / 2 ^ k) e in
-    let g = zero-div (2 ^ k) in
-    let i = sum_by-cons (λ d. d / 2 ^ k) d ds in
-    omega (arith, f, g, i)
+coded_sum (Some v) (d ∷ ds) k h = grind (arith, common_steps, zero-div, sum_by-cons)
 
 -- where the sum of the residuals first falls by no more than the digits that a split adds, the split is best
 pub sum_stop_is_best : (s : Parameters) (c : BlockData) (k : ℕ) → IsZeroAtReference c → k ≤ k_max s →
@@ -210,26 +176,12 @@ sum_stop_is_best s c k at_reference le falls ends =
 
 -- the one that is taken of two is no longer than either
 taken_is_no_longer : {A : Type 0} (f : A → ℕ) (a x : A) → (f (cond (nat_lt (f x) (f a)) x a) ≤ f a) × (f (cond (nat_lt (f x) (f a)) x a) ≤ f x)
-taken_is_no_longer {A} f a x = by_test (nat_lt (f x) (f a)) refl
-  where
-    less : (m n : ℕ) → nat_lt m n ≡ true → m < n
-    less m n e = grind (arith, nat_tests)
-
-    no_less : (m n : ℕ) → nat_lt m n ≡ false → n ≤ m
-    no_less m n e = grind (arith, nat_tests)
-
-    by_test : (v : Bool) → nat_lt (f x) (f a) ≡ v → (f (cond v x a) ≤ f a) × (f (cond v x a) ≤ f x)
-    by_test true e = let lt = less (f x) (f a) e in (omega arith, omega arith)
-    by_test false e = let le = no_less (f x) (f a) e in (omega arith, omega arith)
+taken_is_no_longer {A} f a x = grind (arith, common_steps, nat_lt, nat_tests)
 
 -- the best of several is no longer than any of them
 best_is_least : {A : Type 0} (f : A → ℕ) (a : A) (xs : List A) → AllByRecursion (λ x. f (best_of (λ x y. nat_lt (f x) (f y)) a xs) ≤ f x) (a ∷ xs)
 best_is_least f a [] = (omega arith, tt)
-best_is_least f a (x ∷ xs) =
-    let ih = best_is_least f (cond (nat_lt (f x) (f a)) x a) xs in
-    let both = taken_is_no_longer f a x in
-    let first = ih.0 in
-    (omega arith, (omega arith, ih.1))
+best_is_least f a (x ∷ xs) = grind (arith, common_steps, nat_lt, taken_is_no_longer, best_is_least f (cond (nat_lt (f x) (f a)) x a) xs)
 
 -- No option is shorter than the one that is chosen.
 pub choice_is_least : (s : Parameters) (c : BlockData) → All (λ d. cost s (shortest s c) ≤ cost s d) (NoCompression c ∷ other_options s c)

@@ -1,6 +1,6 @@
 -- Where coded data sets end that begin after so many bits, with padding and without.
 use Rattle.std.proofs.Common.{◌≡◌, ℕ, ◌+◌, ◌<◌, ◌≤◌, min, Bool, true, false, cond, List, [], ◌∷◌, ◌++◌, length, replicate, refl, ap, arith, length-append}
-use Rattle.rice_code.proofs.Words.{length-replicate, sum_by-cons, bits_to_byte, Parameters, blocks_left, is_padded, CodedDataSet, bits_of_set, block_after, layout, padding, Lies}
+use Rattle.rice_code.proofs.Words.{length-replicate, sum_by-cons, bits_to_byte, Parameters, blocks_left, is_padded, CodedDataSet, bits_of_set, block_after, layout, padding, Lies, common_steps}
 use Rattle.rice_code.proofs.lemmas.{code.Layouts.sent_first, code.SegmentPlaces.none_padded, cost.BlockBounds.text_bits}
 
 -- What bits become before block `next`, with what fills them up: no fewer, and no fewer for more bits, and inside a segment nothing is filled.
@@ -23,15 +23,7 @@ padded s next bits = bits + padding s next bits
 
 -- which keeps them too, where an interval has at least one block
 pub padded_is : (s : Parameters) → 1 ≤ s.interval → IsFill s (padded s)
-padded_is s h = record {
-  more = λ next bits. omega arith;
-  rises = λ next m n le. to_byte (is_padded s next) m n le;
-  inside = λ b k bits some lt. let none = ap (λ v. cond v (bits_to_byte bits) 0) (none_padded s b k h some lt) in omega (arith, none);
-}
-  where
-    to_byte : (v : Bool) (m n : ℕ) → m ≤ n → m + cond v (bits_to_byte m) 0 ≤ n + cond v (bits_to_byte n) 0
-    to_byte true m n le = omega arith
-    to_byte false m n le = omega arith
+padded_is s h = grind (arith, common_steps, none_padded)
 
 -- where coded data sets end as they are sent, if their blocks end before block `end`,
 abbrev pub code_end : Parameters → (ℕ → ℕ → ℕ) → ℕ → ℕ → ℕ → List CodedDataSet → ℕ

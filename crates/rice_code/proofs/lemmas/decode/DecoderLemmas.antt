@@ -7,7 +7,7 @@ use Rattle.rice_code.proofs.Words.{one_less_left, last_of_segment, reference_beg
 use Rattle.rice_code.proofs.Words.{NoCompression, SecondExtension, Split, ZeroBlocks, RemainderOfSegment, bits_of_set, turns, run_number, run_tail, run_with_zeros, no_compression_tail, BlockSummary}
 use Rattle.rice_code.proofs.Words.{second_extension_tail, split_tail, reference_bits, IsForm, IsReference, RunIsSound, ResidualsAreSound, blocks_in, zero_blocks, SetRead, SetCut, Residuals, Zeros}
 use Rattle.rice_code.proofs.Words.{block_after, padding, block_with, Answers, RepeatsBlocks, Skips, TakesSet, GivesSet, GivesFromRun, SetEnds, StopsBy, answer_to, with_mark, DecoderState}
-use Rattle.rice_code.proofs.Words.{IsDecoderState, next_block_place, place_after, Step, Block, Done, CodeFault}
+use Rattle.rice_code.proofs.Words.{IsDecoderState, next_block_place, place_after, Step, Block, Done, CodeFault, common_steps}
 use Rattle.rice_code.proofs.lemmas.{code.RepeatedSamples.last_replicate, code.RepeatedSamples.repeated_block, code.FormsReadInOneWay.long_id}
 use Rattle.rice_bits.specs.declared.read.fault.BitFault.TheVariants as bit_faults
 
@@ -43,31 +43,11 @@ pub block_given : {I : Type 0} {old new : Reader I} {first last : ℕ} {s : Para
     → SetRead old new first last s b (Residuals head) items → head.sound ≡ true
     → length samples ≡ s.block → All (IsSample s) samples → block_data s b p samples ≡ block_with head.reference items
     → TakesSet old new first last s b p samples 0
-block_given p head samples {items} read sound len legal says =
-    let d = read.tells in
-    let reported = d.reported sound in
-    let same : block_with head.reference items ≡ d.contents = (λ i. record { reference = sym d.reference_is i; residuals = sym reported.3 i }) in
-    record {
-      set = read.set;
-      form = read.form;
-      run_sound = d.run;
-      residuals_sound = reported.0;
-      takes = read.takes;
-      gives = record {
-        len = len;
-        legal = legal;
-        blocks_are = ap (λ c. c ∷ []) (says ∙ same) ∙ sym d.blocks;
-      };
-      steps = read.steps;
-    }
+block_given p head samples {items} read sound len legal says = grind (arith, common_steps)
 
 -- no block of a run but its first has a reference
 pub no_reference : (s : Parameters) (b : ℕ) → begins_segment s b ≡ false → IsReference s b None
-no_reference s b e = record { there = by_reference (is_reference s b) refl; fits = tt }
-  where
-    by_reference : (t : Bool) → is_reference s b ≡ t → false ≡ is_reference s b
-    by_reference true h = absurd (let f : true ≡ false = sym (reference_begins s b h) ∙ e in cc)
-    by_reference false h = sym h
+no_reference s b e = grind (arith, common_steps, reference_begins)
 
 -- the place of the next block is inside the interval too
 pub next_within : (s : Parameters) (b : ℕ) → b < s.interval → next_block_place s b < s.interval
@@ -120,43 +100,22 @@ pub goes_on : (s : Parameters) (b : ℕ) {next run : ℕ} (p : ℤ) {last : ℤ}
     → last ≡ last_of p samples
     → ZeroBlock s b p samples
     → GivesFromRun (record { setting = s; block = b; before = p; run = run; stopped = stopped }) (record { setting = s; block = next; before = last; run = run - 1; stopped = stopped }) samples
-goes_on s b {run} p stopped pos e f zeros = record {
-  gives = record { len = zeros.len; legal = zeros.legal; blocks_are = ap (λ c. c ∷ replicate (run - 1) (zero_block s None)) zeros.block_is ∙ replicate-first run (zero_block s None) pos };
-  moves = λ i. record { setting = s; block = e i; before = f i; run = run - 1; stopped = stopped };
-}
+goes_on s b {run} p stopped pos e f zeros = grind (arith, common_steps, zero_block, replicate-first)
 
 -- a block of a run repeats the sample before it
 pub repeats_on : {s : Parameters} {b : ℕ} (next : ℕ) {run : ℕ} {p : ℤ} {stopped : Option (Result Step CodeFault)} → IsDecoderState s b p run stopped → 0 < run
     → s.preprocess ≡ true → next ≡ next_block_place s b
     → GivesFromRun (record { setting = s; block = b; before = p; run = run; stopped = stopped })
     (record { setting = s; block = next; before = p; run = run - 1; stopped = stopped }) (replicate s.block p)
-repeats_on {s} {b} next {run} {p} {stopped} state pos ways e =
-    goes_on s b p stopped pos e (sym (last_replicate p s.block)) (record {
-      len = length-replicate s.block p;
-      legal = All-replicate (IsSample s) s.block p state.sample;
-      block_is = repeated_block s b p (sym (no_reference s b (state.run_begun pos)).there) (inl ways);
-    })
+repeats_on {s} {b} next {run} {p} {stopped} state pos ways e = grind (arith, common_steps, goes_on, last_replicate, length-replicate, All-replicate, repeated_block, no_reference)
 
 -- a run goes no further than its interval
 pub inside_interval : (s : Parameters) (b count run : ℕ) (p : ℤ) (stopped : Option (Result Step CodeFault)) → IsDecoderState s b p run stopped → count ≤ run → b + count ≤ s.interval
 inside_interval s b zero run p stopped state few = omega (arith, state.within)
-inside_interval s b (suc n) run p stopped state few =
-    let at : place s b ≡ b = mod-eq_of_lt state.within in
-    omega (arith, at, few, state.within, state.run_fits (omega (arith, few)))
+inside_interval s b (suc n) run p stopped state few = grind (arith, common_steps, mod-eq_of_lt)
 
 place_on : (s : Parameters) (b n : ℕ) → b < s.interval → b + suc n ≤ s.interval → place_after s b (suc n) ≡ place_after s (next_block_place s b) n
-place_on s b n h k = elim (cases_lt (b + 1) s.interval) [
-  | inl lt ↦ (
-      let same : next_block_place s b ≡ b + 1 = grind (arith, nat_tests) in
-      let all : b + suc n ≡ b + 1 + n = omega arith in
-      ap (λ m. if m == s.interval then 0 else m) all ∙ ap (λ m. place_after s m n) (sym same))
-  | inr le ↦ (
-      let zero_is : next_block_place s b ≡ 0 = grind (arith, nat_tests) in
-      let none : n ≡ 0 = omega (arith, le, h, k) in
-      let first : place_after s b (suc n) ≡ 0 = grind (arith, nat_tests) in
-      let second : place_after s 0 n ≡ 0 = grind (arith, nat_tests) in
-      first ∙ (sym second ∙ ap (λ m. place_after s m n) (sym zero_is)))
-]
+place_on s b n h k = grind (arith, common_steps, cases_lt, nat_tests)
 
 -- a decoder after some blocks of a run
 pub record PassedBlocks (count : ℕ) (s : Parameters) (b next run : ℕ) (p : ℤ) (stopped : Option (Result Step CodeFault)) : Type 0 where
@@ -167,15 +126,7 @@ pub record PassedBlocks (count : ℕ) (s : Parameters) (b next run : ℕ) (p : �
 -- blocks of a run repeat the sample before them
 pub passes_blocks : (count : ℕ) {s : Parameters} {b next run : ℕ} {p : ℤ} {stopped : Option (Result Step CodeFault)} → IsDecoderState s b p run stopped
     → count ≤ run → s.preprocess ≡ true → next ≡ place_after s b count → PassedBlocks count s b next run p stopped
-passes_blocks zero {s} {b} {next} {run} {p} {stopped} state few ways e =
-    let h = state.within in
-    let here : place_after s b 0 ≡ b = grind (arith, nat_tests) in
-    let same : next ≡ b = e ∙ here in
-    let all : run - 0 ≡ run = omega arith in
-    record {
-      state = subst (λ n. IsDecoderState s n p (run - 0) stopped) (sym same) (subst (λ n. IsDecoderState s b p n stopped) (sym all) state);
-      passes = λ i. record { setting = s; block = same i; before = p; run = all i; stopped = stopped };
-    }
+passes_blocks zero {s} {b} {next} {run} {p} {stopped} state few ways e = grind (arith, common_steps, nat_tests)
 passes_blocks (suc n) {s} {b} {next} {run} {p} {stopped} state few ways e =
     let some : 0 < run = omega (arith, few) in
     let middle = next_block_place s b in
@@ -184,15 +135,7 @@ passes_blocks (suc n) {s} {b} {next} {run} {p} {stopped} state few ways e =
     let on : next ≡ place_after s middle n = e ∙ place_on s b n state.within (inside_interval s b (suc n) run p stopped state few) in
     let rest = passes_blocks n there (omega (arith, few)) ways on in
     let left : run - 1 - n ≡ run - suc n = omega (arith, few) in
-    record {
-      state = subst (λ m. IsDecoderState s next p m stopped) left rest.state;
-      passes = (
-        record { setting = s; block = middle; before = p; run = run - 1; stopped = stopped },
-        first,
-        subst (λ m. RepeatsBlocks n (record { setting = s; block = middle; before = p; run = run - 1; stopped = stopped })
-            (record { setting = s; block = next; before = p; run = m; stopped = stopped })) left rest.passes,
-      );
-    }
+    grind (arith, common_steps)
 
 block_limit : (s : Parameters) → IsLegal s → s.block ≤ 64
 block_limit s legal = grind (arith, legal.block)
@@ -211,10 +154,7 @@ few_blocks : (s : Parameters) (b : ℕ) (d : CodedDataSet) → IsLegal s → IsF
 few_blocks s b (NoCompression c) legal form run = omega (arith, long_id s, length-identified s (2 ^ id_len s - 1) (no_compression_tail s c))
 few_blocks s b (SecondExtension c) legal form run = omega (arith, long_id s, length-identified s 0 (true ∷ second_extension_tail s c))
 few_blocks s b (Split k c) legal form run = omega (arith, long_id s, length-identified s (k + 1) (split_tail s k c))
-few_blocks s b (ZeroBlocks r z) legal form run =
-    let n : length (replicate (z - 1) (zero_block s None)) ≡ z - 1 = length-replicate (z - 1) (zero_block s None) in
-    let m : z ≤ run_number z + 1 = grind (arith, nat_tests) in
-    omega (arith, run_bits s r (run_number z), n, m, form.1)
+few_blocks s b (ZeroBlocks r z) legal form run = grind (arith, common_steps, zero_block, length-replicate, nat_tests, run_bits)
 few_blocks s b (RemainderOfSegment r) legal form run =
     let n : length (replicate (blocks_left s b - 1) (zero_block s None)) ≡ blocks_left s b - 1 = length-replicate (blocks_left s b - 1) (zero_block s None) in
     let left = some_left s b legal.interval_from in

@@ -1,7 +1,7 @@
 -- Residuals from their high and low parts.
 use Rattle.std.proofs.Common.{◌≡◌, ℕ, zero, suc, ◌+◌, ◌-◌, ◌*◌, ◌/◌, ◌%◌, ◌^◌, ◌<◌, ◌≤◌, Bool, true, false, List, [], ◌∷◌, ◌++◌, length, get_or, take, drop, set, refl, sym, ◌∙◌, ap, subst, arith}
 use Rattle.rice_code.proofs.Words.{All, flat_map, ◌&&◌, take_more, take_more_set, drop-set-lt, drop-drop, get_or-drop, get_or_default_zero, leb, All-push, div-mul-add, pow_pos, pow-add, leb-true}
-use Rattle.rice_code.proofs.Words.{leb-false, le-div_iff_mul-le, div-lt_iff_lt-mul, mod-eq_of_lt, mul-le-mul_right, word-low, length-joined, joined_parts, word, fundamental_sequence}
+use Rattle.rice_code.proofs.Words.{leb-false, le-div_iff_mul-le, div-lt_iff_lt-mul, mod-eq_of_lt, mul-le-mul_right, word-low, length-joined, joined_parts, word, fundamental_sequence, common_steps}
 
 -- the joined part at a place: the high part there, moved up by k digits, and the low part
 pub joined-at : (k : ℕ) (ms ls : List ℕ) (i : ℕ) → i < length ms → length ls ≡ length ms → get_or (joined_parts k ms ls) i 0 ≡ get_or ms i 0 * 2 ^ k + get_or ls i 0
@@ -15,11 +15,7 @@ fit_more count xs i h f k = rw (take_more xs i 0 h) (All-push (λ d. d < count) 
 
 -- the high parts of joined parts
 pub joined_highs : (k most : ℕ) (ms ls : List ℕ) → length ls ≡ length ms → All (λ l. l < 2 ^ k) ls → All (λ m. m ≤ most) ms → All (λ d. d / 2 ^ k ≤ most) (joined_parts k ms ls)
-joined_highs k most ms ls same lows highs = λ i d lt.
-    let n : length (joined_parts k ms ls) ≡ length ms = length-joined k ms ls same in
-    let high : (get_or ms i 0 * 2 ^ k + get_or ls i 0) / 2 ^ k ≡ get_or ms i 0 = div-mul-add (get_or ms i 0) (2 ^ k) (get_or ls i 0) (lows i 0 (omega (arith, same, n, lt))) in
-    let small : get_or (joined_parts k ms ls) i 0 / 2 ^ k ≤ most = omega (arith, ap (λ x. x / 2 ^ k) (joined-at k ms ls i (omega (arith, n, lt)) same), high, highs i 0 (omega (arith, n, lt))) in
-    subst (λ x. x / 2 ^ k ≤ most) (sym (get_or_default_zero (joined_parts k ms ls) i d lt)) small
+joined_highs k most ms ls same lows highs = grind (arith, common_steps, length-joined, get_or, div-mul-add, joined-at, get_or_default_zero)
 
 -- a number of at most as many digits as its high part lets it have
 pub below_by_high : (bits k d : ℕ) → k ≤ bits → d / 2 ^ k ≤ (2 ^ bits - 1) / 2 ^ k → d < 2 ^ bits
@@ -49,25 +45,14 @@ low_pieces k _ _ e = absurd (omega arith)
 -- whether all of a list are below a number, one more of them
 pub below-more : (count : ℕ) (xs : List ℕ) (i : ℕ) (all : Bool) → i < length xs → 0 < count → (all ≡ true → All (λ d. d < count) (take i xs)) → (all ≡ false → All (λ d. d < count) xs → ⊥)
     → ((all && leb (get_or xs i 0) (count - 1)) ≡ true → All (λ d. d < count) (take (i + 1) xs)) × ((all && leb (get_or xs i 0) (count - 1)) ≡ false → All (λ d. d < count) xs → ⊥)
-below-more count xs i all lt some good bad = by_test all (leb (get_or xs i 0) (count - 1)) refl good bad
-  where
-    by_test : (a b : Bool) → leb (get_or xs i 0) (count - 1) ≡ b → (a ≡ true → All (λ d. d < count) (take i xs)) → (a ≡ false → All (λ d. d < count) xs → ⊥)
-        → ((a && b) ≡ true → All (λ d. d < count) (take (i + 1) xs)) × ((a && b) ≡ false → All (λ d. d < count) xs → ⊥)
-    by_test true true t good bad = ((λ e. fit_more count xs i lt (good refl) (omega (arith, some, leb-true (get_or xs i 0) (count - 1) t))), λ e. absurd cc)
-    by_test true false t good bad = ((λ e. absurd cc), λ e h. omega (arith, h i 0 lt, leb-false (get_or xs i 0) (count - 1) t))
-    by_test false b t good bad = ((λ e. absurd cc), λ e h. bad refl h)
+below-more count xs i all lt some good bad = grind (arith, common_steps, leb, get_or, fit_more, leb-true, leb-false)
 
 at_rest : (xs ys : List ℕ) (i : ℕ) → drop i xs ≡ drop i ys → get_or xs i 0 ≡ get_or ys i 0
-at_rest xs ys i e =
-    let z : i + 0 ≡ i = omega arith in
-    ap (λ n. get_or xs n 0) (sym z) ∙ (sym (get_or-drop i xs 0 0) ∙ (ap (λ zs. get_or zs 0 0) e ∙ (get_or-drop i ys 0 0 ∙ ap (λ n. get_or ys n 0) z)))
+at_rest xs ys i e = grind (arith, common_steps, get_or, get_or-drop)
 
 -- a high part, and a low part of fewer than p values, where 2^32 is a multiple of p
 join_fits : (high low p q : ℕ) → 0 < p → q * p ≡ 2 ^ 32 → high ≤ (2 ^ 32 - 1) / p → low < p → high * p + low < 2 ^ 32
-join_fits high low p q h e le lt =
-    let small : (2 ^ 32 - 1) / p < q = (div-lt_iff_lt-mul {k = p} {x = 2 ^ 32 - 1} {y = q} h).1 (omega (arith, e)) in
-    let more : (high + 1) * p ≤ q * p = mul-le-mul_right p (omega (arith, le, small)) in
-    omega (arith, more, e, lt)
+join_fits high low p q h e le lt = grind (arith, common_steps, div-lt_iff_lt-mul, mul-le-mul_right)
 
 -- a high part with room for k digits below it, and a low part of k digits, fit 32 bits together
 pub part_fits : (high low k : ℕ) → k ≤ 29 → high ≤ (2 ^ 32 - 1) / 2 ^ k → low < 2 ^ k → high * 2 ^ k + low < 2 ^ 32

@@ -1,4 +1,5 @@
 -- What is read of a block after its identifier.
+use Rattle.std.proofs.lemmas.Grind.{common_steps}
 use Rattle.std.proofs.Common.{◌≡◌, ℕ, zero, suc, ◌+◌, ◌-◌, ◌*◌, ◌/◌, ◌^◌, ◌<◌, ◌≤◌, Bool, true, false, List, [], ◌∷◌, ◌++◌}
 use Rattle.std.proofs.Common.{length, refl, sym, ◌∙◌, ap, subst, arith, append_assoc, length-append, replicate, take, drop, length-drop, Option, Some, None}
 use Rattle.rice_code.proofs.Words.{All, flat_map, is_some, slice_index, OnSome, append-nil, length-replicate, length-take-le, take-append-drop, All-replicate, Reader, Takes, Stops, BitFault}
@@ -24,23 +25,12 @@ zero-placed (Some v) vs = refl
 -- what holds of 0 and of the residuals that are sent holds of all residuals of the block
 pub all-placed : (P : ℕ → Type 0) (r : Option ℕ) (vs : List ℕ) → P 0 → All P vs → All P (reference_place r ++ vs)
 all-placed P None vs z h = h
-all-placed P (Some v) vs z h = λ i. by_index i
-  where
-    by_index : (i : ℕ) (d : ℕ) → i < length (0 ∷ vs) → P (Rattle.std.proofs.Common.get_or (0 ∷ vs) i d)
-    by_index zero d lt = z
-    by_index (suc i) d lt = h i d (omega arith)
+all-placed P (Some v) vs z h = grind (arith, common_steps)
 
 -- as many residuals are coded at a block, whatever they are
 pub length-coded_at : (s : Parameters) (b : ℕ) (c : BlockData) (r : Option ℕ) (count : ℕ) → IsBlock s b c → IsReference s b r
     → count + length (reference_place r) ≡ s.block → length (sent_residuals c) ≡ count
-length-coded_at s b c r count h k e = by_cases r c.reference c.residuals (k.there ∙ sym h.reference.there) (e ∙ sym h.len)
-  where
-    by_cases : (r q : Option ℕ) (ds : List ℕ) → Rattle.std.specs.Prelude.is_some r ≡ Rattle.std.specs.Prelude.is_some q
-        → count + length (reference_place r) ≡ length ds → length (sent_from q ds) ≡ count
-    by_cases None None ds e f = omega arith
-    by_cases (Some v) (Some w) [] e f = absurd (omega arith)
-    by_cases (Some v) (Some w) (d ∷ ds) e f = omega arith
-    by_cases _ _ ds e f = absurd cc
+length-coded_at s b c r count h k e = grind (arith, common_steps)
 
 -- where a block has a reference sample, it is sent in as many bits as a sample has
 pub length-reference : (s : Parameters) (b : ℕ) (r : Option ℕ) → IsReference s b r → is_reference s b ≡ true → length (reference_bits s r) ≡ s.bits
@@ -61,20 +51,12 @@ bits_after_reference {s} {b} {r} {q} bits rest more h k e =
     (a.0, sym (append-nil bits) ∙ a.1)
 
 short_words : (width count : ℕ) (vs : List ℕ) (bits more : List Bool) → length vs ≡ count → length bits < count * width → bits ≡ flat_map (word width) vs ++ more → ⊥
-short_words width count vs bits more n lt e =
-    let k : length vs * width ≡ count * width = ap (λ m. m * width) n in
-    omega (arith, ap length e, length-append (flat_map (word width) vs) more, length-words width vs)
+short_words width count vs bits more n lt e = grind (arith, common_steps, length-append, length-words)
 
 -- a row that was read alone follows other numbers
 pub row_after_others : {I : Type 0} {piece : ℕ → List Bool} (P : ℕ → Type 0) {old new : Reader I} {count : ℕ} (before : List ℕ) {alone after : List ℕ}
     → Row piece P old new count [] alone → after ≡ before ++ alone → Row piece P old new count before after
-row_after_others P before row e = record {
-  values = row.values;
-  len = row.len;
-  each = row.each;
-  appended = e ∙ ap (λ z. before ++ z) row.appended;
-  takes = row.takes;
-}
+row_after_others P before row e = grind (arith, common_steps)
 
 -- a block by no compression was read: its reference, and then a row of words
 pub no_compression_read : {I : Type 0} {old mid new : Reader I} {first last : ℕ} {s : Parameters} {b : ℕ} {r : Option ℕ} {count : ℕ} {items : List ℕ}
@@ -111,11 +93,7 @@ pub cut_at_reference : {I : Type 0} {old new : Reader I} (s : Parameters) (b : �
     → ((c : BlockData) → set_tail s (option c) ≡ reference_bits s c.reference ++ rest c)
     → ((c : BlockData) → IsForm s b (option c) → IsReference s b c.reference) → is_reference s b ≡ true → length bits < s.bits → Stops old new bits f
     → BlockCut old new s b option f
-cut_at_reference s b option rest {bits} tail refs k short stops = record {
-  bits = bits;
-  stops = stops;
-  none = λ c more form e. short_reference (rest c) more (refs c form) k short (e ∙ ap (λ z. z ++ more) (tail c));
-}
+cut_at_reference s b option rest {bits} tail refs k short stops = grind (arith, common_steps, short_reference)
 
 -- a run is cut off inside its reference: so few bits begin with no run
 pub run_cut_at_reference : {s : Parameters} (b : ℕ) (bits : List Bool) → is_reference s b ≡ true → length bits < s.bits
@@ -263,18 +241,7 @@ ones-high k (d ∷ ds) = omega (arith, ones-append (fundamental_sequence (d / 2 
 
 -- too few high parts
 pub parts_cut_high : {I : Type 0} (old new : Reader I) (k count : ℕ) (bits : List Bool) (f : BitFault) → ones bits < count → Stops old new bits f → PartsCut old new k count f
-parts_cut_high old new k count bits f short stops = record {
-  bits = bits;
-  stops = stops;
-  none = λ ds more n e.
-      omega (
-        arith,
-        ap ones e,
-        ones-append (flat_map (λ d. fundamental_sequence (d / 2 ^ k)) ds ++ flat_map (word k) ds) more,
-        ones-append (flat_map (λ d. fundamental_sequence (d / 2 ^ k)) ds) (flat_map (word k) ds),
-        ones-high k ds,
-      );
-}
+parts_cut_high old new k count bits f short stops = grind (arith, common_steps, ones-append, ones-high)
 
 after_sequences : (k : ℕ) (ms ds : List ℕ) (x y : List Bool) → length ms ≡ length ds → flat_map fundamental_sequence ms ++ x ≡ flat_map (λ d. fundamental_sequence (d / 2 ^ k)) ds ++ y → x ≡ y
 after_sequences k [] [] x y n e = e
@@ -323,19 +290,12 @@ size_limits n h = (omega (arith, h.0), h.1)
 -- the residuals that are sent of a block
 pub sent_part : (s : Parameters) (r : Option ℕ) (first : ℕ) (xs : List ℕ) → IsLegal s → first ≡ length (reference_place r) → length xs ≡ s.block
     → (first ≤ 1) × (length xs - first + length (reference_place r) ≡ s.block) × (0 < length xs) × (length xs ≤ 64)
-sent_part s r first xs legal e n =
-    let few : length (reference_place r) ≤ 1 = one_at_most r in
-    let size = size_limits s.block legal.block in
-    (omega (arith, few, e), omega (arith, few, size.0, e, n), omega (arith, size.0, n), omega (arith, size.1, n))
+sent_part s r first xs legal e n = grind (arith, common_steps, one_at_most, size_limits)
 
 -- the coded residuals of a block: where they begin, and how many there are
 pub coded_part : (s : Parameters) (r : Option ℕ) (first : ℕ) (xs : List ℕ) → IsLegal s → first ≡ length (reference_place r) → length xs ≡ s.block
     → (first ≤ length xs) × (length (take (length xs - first) (drop first xs)) + length (reference_place r) ≡ s.block)
-coded_part s r first xs legal e n =
-    let few : length (reference_place r) ≤ 1 = one_at_most r in
-    let size = size_limits s.block legal.block in
-    let len : length (take (length xs - first) (drop first xs)) ≡ length xs - first = length-take-le (length xs - first) (drop first xs) (omega (arith, length-drop first xs)) in
-    (omega (arith, few, size.0, e, n), omega (arith, len, few, size.0, e, n))
+coded_part s r first xs legal e n = grind (arith, common_steps, one_at_most, size_limits, length-take-le, length-drop)
 
 -- the residuals that are sent stand after the place of the reference sample
 pub sent_placed : (first : ℕ) (r : Option ℕ) (xs ys : List ℕ) → take first xs ≡ reference_place r → take first ys ≡ take first xs → ys ≡ reference_place r ++ drop first ys

@@ -1,4 +1,5 @@
 -- Samples of a block, restored.
+use Rattle.std.proofs.lemmas.Grind.{common_steps}
 use Rattle.std.proofs.Common.{◌≡◌, ℕ, suc, ◌+◌, ◌*◌, ◌/◌, ◌%◌, ◌<◌, ◌==◌, Bool, true, false, cond, List, [], ◌∷◌, length, map}
 use Rattle.std.proofs.Common.{drop, refl, sym, ◌∙◌, ap, arith, Option, Some, None, ℤ, zero, subst, ◌≤◌, inl, inr, replicate}
 use Rattle.rice_code.proofs.Words.{All, IfSome, IfNone, OnSome, is_some, slice_index, slice_index_or, ◌&&◌, div-mul-add, mul_comm, mod-mul-add, eqb-suc-zero, Parameters, IsSample, level, value_count}
@@ -8,11 +9,7 @@ use Rattle.rice_code.proofs.lemmas.code.RepeatedSamples.{Repeats, repeated_all, 
 
 -- of a block's samples only the first is a reference, if the block has one
 pub reference_within : (s : Parameters) (b j : ℕ) → j < s.block → is_reference_sample s (s.block * b + j) ≡ (is_reference s b && j == 0)
-reference_within s b j h =
-    let c : s.block * b + j ≡ b * s.block + j = ap (λ n. n + j) (mul_comm s.block b) in
-    let q : (s.block * b + j) / s.block ≡ b = ap (λ n. n / s.block) c ∙ div-mul-add b s.block j h in
-    let r : (s.block * b + j) % s.block ≡ j = ap (λ n. n % s.block) c ∙ mod-mul-add b s.block j h in
-    λ i. is_reference s (q i) && (r i == 0)
+reference_within s b j h = grind (arith, common_steps, mul_comm, div-mul-add, mod-mul-add)
 
 and-swap : (a b : Bool) → (a && b) ≡ (b && a)
 and-swap true true = refl
@@ -22,9 +19,7 @@ and-swap false false = refl
 
 -- so a residual inside a block follows from whether it is the first, and whether the block has a reference
 pub residual_within : (s : Parameters) (b j : ℕ) (r : Option ℕ) (p x : ℤ) → j < s.block → IsReference s b r → residual s (s.block * b + j) p x ≡ residual_at s r (j == 0) p x
-residual_within s b j r p x h k =
-    let e : is_reference_sample s (s.block * b + j) ≡ ((j == 0) && is_some r) = reference_within s b j h ∙ (ap (λ z. z && (j == 0)) (sym k.there) ∙ and-swap (is_some r) (j == 0)) in
-    ap (λ z. cond s.preprocess (cond z 0 (rank s p x)) (pattern s x)) e
+residual_within s b j r p x h k = grind (arith, common_steps, reference_within, and-swap)
 
 -- the residuals of samples that no reference is among
 ranks_within : {s : Parameters} {b : ℕ} (j : ℕ) {r : Option ℕ} (p : ℤ) (xs : List ℤ) → IsReference s b r → s.preprocess ≡ true → ((j == 0) && is_some r) ≡ false
@@ -44,13 +39,8 @@ patterns_alone s n p (x ∷ xs) e = let rest = patterns_alone s (n + 1) x xs e i
 pub contents_are : (s : Parameters) (b : ℕ) (p : ℤ) (r : Option ℕ) (ds : List ℕ) (samples : List ℤ) → IsReference s b r
     → residuals s (s.block * b) p samples ≡ ds → IfSome r (λ v. pattern s (slice_index_or samples 0 p) ≡ v)
     → block_data s b p samples ≡ record { reference = r; residuals = ds }
-contents_are s b p None ds samples h e first =
-    let f : cond (is_reference s b) (Some (pattern s (slice_index_or samples 0 p))) None ≡ None = ap (λ t. cond t (Some (pattern s (slice_index_or samples 0 p))) None) (sym h.there) in
-    λ i. record { reference = f i; residuals = e i }
-contents_are s b p (Some v) ds samples h e first =
-    let f : cond (is_reference s b) (Some (pattern s (slice_index_or samples 0 p))) None ≡ Some v = ap
-    (λ t. cond t (Some (pattern s (slice_index_or samples 0 p))) None) (sym h.there) ∙ ap (λ w. Some w) first in
-    λ i. record { reference = f i; residuals = e i }
+contents_are s b p None ds samples h e first = grind (arith, common_steps)
+contents_are s b p (Some v) ds samples h e first = grind (arith, common_steps)
 
 -- without preprocessing the residuals are the patterns of the samples
 pub contents_of_patterns : (s : Parameters) (b : ℕ) (p : ℤ) (ds : List ℕ) (xs : List ℤ) → IsReference s b None → s.preprocess ≡ false → map (pattern s) xs ≡ ds
@@ -66,11 +56,7 @@ contents_of_ranks s b p ds xs h e len r =
 
 -- a block has a reference only with preprocessing
 reference_preprocesses : (s : Parameters) (b v : ℕ) → IsReference s b (Some v) → s.preprocess ≡ true
-reference_preprocesses s b v h = at s.preprocess (place s b == 0) h.there
-  where
-    at : (preprocess first : Bool) → true ≡ (preprocess && first) → preprocess ≡ true
-    at true first e = refl
-    at false first e = absurd (let f : true ≡ false = e in cc)
+reference_preprocesses s b v h = grind (arith, common_steps)
 
 -- residuals of a block, of which the first is in the place of the reference
 pub record AfterReference (s : Parameters) (ds : List ℕ) (ys : List ℤ) : Type 0 where

@@ -3,7 +3,7 @@ use Rattle.std.proofs.Common.{◌≡◌, ℕ, zero, suc, ◌+◌, ◌-◌, ◌*�
 use Rattle.std.proofs.Common.{length, replicate, set, take, drop, refl, sym, ◌∙◌, ap, arith, append_assoc, length-append, None, sum, ◌^◌, subst}
 use Rattle.rice_code.proofs.Words.{All, flat_map, ◌&&◌, append-nil, drop_all, length-drop, get_or_append_left, get_or-append-add, length-set, take_all, take_more_set, get_or_head, flat_map-append}
 use Rattle.rice_code.proofs.Words.{All-append, sum_by-append, mul-le-mul_right, Reader, Takes, Stops, takes-none, takes-append, stops-append, length-words, length-fundamental_sequence, BitFault}
-use Rattle.rice_code.proofs.Words.{pair_code, pair_codes, flat_map-push, word, fundamental_sequence, Row, CountRow, PairRow, ones}
+use Rattle.rice_code.proofs.Words.{pair_code, pair_codes, flat_map-push, word, fundamental_sequence, Row, CountRow, PairRow, ones, common_steps}
 use borrow.Rule.Slice.PartMut.{put_mid}
 use Rattle.rice_code.proofs.lemmas.meaning.CoveredBlocks.{and-split}
 
@@ -61,19 +61,11 @@ row_of_counts-more {old} {mid} {new} {most} {done} {small} fits m v counts lt r 
 -- fundamental sequences for all places
 pub row_of_counts-whole : {I : Type 0} {old new : Reader I} {most : ℕ} {small : Bool} {done count : ℕ} {xs : List ℕ}
     → CountRow old new most small done (take done xs) → done ≡ count → length xs ≡ count → CountRow old new most small count xs
-row_of_counts-whole {done} {xs} r e n = record {
-  values = r.values;
-  len = r.len ∙ e;
-  reported_are = λ f. (sym (take_all done xs (omega (arith, e, n))) ∙ (r.reported_are f).0, (r.reported_are f).1);
-  refused = r.refused;
-  takes = r.takes;
-}
+row_of_counts-whole {done} {xs} r e n = grind (arith, common_steps, take_all)
 
 -- the rest of a list that was written over
 pub put_rest : (a : ℕ) (xs ys : List ℕ) → a ≤ length xs → put_mid a (length xs - a) xs ys ≡ take a xs ++ ys
-put_rest a xs ys h =
-    let rest : drop (length xs - a) (drop a xs) ≡ [] = drop_all (length xs - a) (drop a xs) (omega (arith, length-drop a xs)) in
-    ap (λ z. take a xs ++ (ys ++ z)) rest ∙ ap (λ z. take a xs ++ z) (append-nil ys)
+put_rest a xs ys h = grind (arith, common_steps, drop_all, length-drop, append-nil)
 
 -- some pieces, and then others
 pub row-append : {I : Type 0} {f : ℕ → List Bool} (P : ℕ → Type 0) {old mid new : Reader I} {m : ℕ} (n : ℕ) {before between after : List ℕ}
@@ -96,15 +88,7 @@ row-whole P {done} {xs} r e n =
 pub row-word : {I : Type 0} {old mid new : Reader I} (width : ℕ) {done : ℕ} (v : ℕ) (words : List ℕ) → done < length words
     → Row (word width) (λ v. v < 2 ^ width) old mid done [] (take done words) → v < 2 ^ width → Takes mid new (word width v)
     → Row (word width) (λ v. v < 2 ^ width) old new (done + 1) [] (take (done + 1) (set words done v))
-row-word {old} {mid} {new} width {done} v words lt r fits t =
-    row-append (λ v. v < 2 ^ width) 1 r
-    (record {
-      values = v ∷ [];
-      len = refl;
-      each = λ i d below. subst (λ x. x < 2 ^ width) (sym (get_or_head v [] i d (omega arith))) fits;
-      appended = take_more_set words done v lt;
-      takes = subst (λ bits. Takes mid new bits) (sym (append-nil (word width v))) t;
-    })
+row-word {old} {mid} {new} width {done} v words lt r fits t = grind (arith, common_steps, row-append, get_or_head, take_more_set, append-nil)
 
 too_few_bits : (done some count width short : ℕ) → done + some ≤ count → short < some * width → done * width + short < count * width
 too_few_bits done some count width short h k =
@@ -164,12 +148,7 @@ sum-push2 xs a b = omega (arith, sum_by-append (λ (x : ℕ). x) (xs ++ a ∷ []
 -- no pairs: the reader stays as it is, and no step is made
 pub pairs-none : {I : Type 0} (r : Reader I) (steps : ℕ)
     → r.refusal ≡ None → PairRow r r 0 [] steps steps
-pairs-none r steps h = record {
-  len = refl;
-  takes = takes-none r h;
-  steps = omega arith;
-  turns = omega arith;
-}
+pairs-none r steps h = grind (arith, common_steps, takes-none)
 
 -- a pair of numbers, by its code
 pub record IsPairOf (g a b : ℕ) : Type 0 where
@@ -194,9 +173,4 @@ pairs-more {old} {mid} {new} {count} {front} {g} a b {first} third {fourth} r t 
 
 -- two numbers more are written
 pub two_more : (done : ℕ) (xs : List ℕ) (a b : ℕ) → done < length xs / 2 → take (done + 1 + (done + 1)) (set (set xs (2 * done) a) (2 * done + 1) b) ≡ (take (done + done) xs ++ a ∷ []) ++ b ∷ []
-two_more done xs a b h =
-    let n : done + 1 + (done + 1) ≡ 2 * done + 1 + 1 = omega arith in
-    let m : 2 * done ≡ done + done = omega arith in
-    ap (λ i. take i (set (set xs (2 * done) a) (2 * done + 1) b)) n
-    ∙ (take_more_set (set xs (2 * done) a) (2 * done + 1) b (omega (arith, h, length-set xs (2 * done) a))
-    ∙ ap (λ z. z ++ b ∷ []) (take_more_set xs (2 * done) a (omega (arith, h)) ∙ ap (λ i. take i xs ++ a ∷ []) m))
+two_more done xs a b h = grind (arith, common_steps, take_more_set, length-set)

@@ -1,6 +1,6 @@
 -- The samples of a block, restored one after another.
 use Rattle.std.proofs.Common.{◌≡◌, ℕ, suc, ◌+◌, ◌*◌, ◌<◌, ◌==◌, true, List, [], ◌∷◌, ◌++◌, length, take, get_or, refl, sym, ◌∙◌, ap, arith, Option, Some, None, ℤ, length-append, eq-eqb}
-use Rattle.rice_code.proofs.Words.{IfSome, take_more, All-push, Parameters, IsSample, residual, residuals, pattern, last_of, IsReference, residual_at, IsRestored}
+use Rattle.rice_code.proofs.Words.{IfSome, take_more, All-push, Parameters, IsSample, residual, residuals, pattern, last_of, IsReference, residual_at, IsRestored, common_steps}
 use Rattle.rice_code.proofs.lemmas.decode.RestoredBlocks.{residual_within}
 
 -- the last of some samples and one more
@@ -27,14 +27,7 @@ some_first (Some v) P ys x p h k = first-push ys x p (P v) h k
 
 -- none is restored yet
 pub restored-none : (s : Parameters) (b : ℕ) (p : ℤ) (r : Option ℕ) (ds : List ℕ) → IsSample s p → IsRestored s b p r ds 0 [] p
-restored-none s b p r ds h = record {
-  same = refl;
-  len = refl;
-  legal = λ i d lt. absurd (omega arith);
-  last_is = refl;
-  sample = h;
-  first = λ lt. absurd (omega arith);
-}
+restored-none s b p r ds h = grind (arith, common_steps)
 
 -- and one more is
 pub restored-more : {s : Parameters} {b : ℕ} {p : ℤ} {r : Option ℕ} {ds : List ℕ} {i : ℕ} {samples : List ℤ} (last x : ℤ) → IsRestored s b p r ds i samples last

@@ -3,21 +3,12 @@ use Rattle.std.proofs.Common.{◌≡◌, ℕ, zero, suc, ◌+◌, ◌-◌, ◌*�
 use Rattle.rice_code.proofs.Words.{if◌then◌else◌, nat_lt, ◌==◌, ◌&&◌, nat_tests, mod-eq_of_lt, pow_mono, Reader, Takes, Stops, is_blank, BitFault, takes-append, stops-append, length-word}
 use Rattle.rice_code.proofs.Words.{blank-append, blank-word_positive, Parameters, id_len, word, BlockData, CodedDataSet, NoCompression, SecondExtension, Split, ZeroBlocks, RemainderOfSegment}
 use Rattle.rice_code.proofs.Words.{bits_of_set, run_number, no_compression_tail, second_extension_tail, split_tail, run_tail, IsForm, IsReference, BlockRead, BlockCut, SetRead, SetCut, LowEntropyRead}
-use Rattle.rice_code.proofs.Words.{LowEntropyCut, low_entropy_tail, IsLowEntropy, Residuals, Zeros, BlockSummary}
+use Rattle.rice_code.proofs.Words.{LowEntropyCut, low_entropy_tail, IsLowEntropy, Residuals, Zeros, BlockSummary, common_steps}
 use Rattle.rice_code.proofs.lemmas.code.FormsReadInOneWay.{head_reads, identifier, tail, wide_id}
 
 -- a word of less than the identifier begins nothing
 pub cut_identifier : (s : Parameters) (b : ℕ) (bits : List Bool) → length bits < id_len s → (d : CodedDataSet) (more : List Bool) → IsForm s b d → bits ≡ bits_of_set s d ++ more → ⊥
-cut_identifier s b bits lt d more form e =
-    omega (
-      arith,
-      ap length e,
-      length-append (bits_of_set s d) more,
-      ap length (Rattle.rice_code.proofs.lemmas.code.FormsReadInOneWay.text_is s d),
-      length-append
-          (word (id_len s) (identifier s d)) (tail s d),
-      length-word (id_len s) (identifier s d),
-    )
+cut_identifier s b bits lt d more form e = grind (arith, common_steps, length-append, length-word)
 
 cut_plain : (s : Parameters) (b : ℕ) {id : ℕ} {bits : List Bool} → id ≡ 2 ^ id_len s - 1
     → ((c : BlockData) (more : List Bool) → IsForm s b (NoCompression c) → bits ≡ no_compression_tail s c ++ more → ⊥)
@@ -175,14 +166,7 @@ one_bit _ h k = absurd (omega arith)
 -- no bit is left after an identifier of 0: the coded data set is cut off there
 pub low_bit_cut : {I : Type 0} {old new : Reader I} (first last : ℕ) (s : Parameters) (b : ℕ) {bits : List Bool} {f : BitFault}
     → length bits < 1 → Stops old new bits f → last + old.taken ≡ first + new.taken → LowEntropyCut old new first last s b f
-low_bit_cut first last s b {bits} lt stops steps = record { bits = bits; stops = stops; none = none bits lt; steps = λ blank. steps }
-  where
-    none : (bits : List Bool) → length bits < 1 → (d : CodedDataSet) (more : List Bool) → IsForm s b d → IsLowEntropy d → bits ≡ low_entropy_tail s d ++ more → ⊥
-    none bits lt (NoCompression c) more form low e = low
-    none bits lt (SecondExtension c) more form low e = omega (arith, ap length e)
-    none bits lt (Split k c) more form low e = low
-    none bits lt (ZeroBlocks r z) more form low e = omega (arith, ap length e)
-    none bits lt (RemainderOfSegment r) more form low e = omega (arith, ap length e)
+low_bit_cut first last s b {bits} lt stops steps = grind (arith, common_steps)
 
 -- the bit is a 1, and the block by second extension after it is cut off
 pub second_low_cut : {I : Type 0} {old mid new : Reader I} (first last : ℕ) {s : Parameters} {b v : ℕ} {f : BitFault}
@@ -277,7 +261,4 @@ short_id s = grind (arith, nat_tests)
 
 -- the identifier of ones
 pub ones_id : (s : Parameters) → (1 * 2 ^ id_len s) % 2 ^ 32 - 1 ≡ 2 ^ id_len s - 1
-ones_id s = shifted (id_len s) (short_id s)
-  where
-    shifted : (w : ℕ) → w ≤ 5 → (1 * 2 ^ w) % 2 ^ 32 - 1 ≡ 2 ^ w - 1
-    shifted w h = let le : 2 ^ w ≤ 2 ^ 5 = pow_mono h in let e : (1 * 2 ^ w) % 2 ^ 32 ≡ 1 * 2 ^ w = mod-eq_of_lt (omega arith) in omega arith
+ones_id s = grind (arith, common_steps, short_id, pow_mono, mod-eq_of_lt)

@@ -1,7 +1,7 @@
 -- The search for the best split, and the choice after it.
 use Rattle.std.proofs.Common.{◌≡◌, ℕ, zero, suc, ◌+◌, ◌*◌, ◌/◌, ◌^◌, ◌<◌, ◌≤◌, Bool, true, false, cond, nat_lt, map, List, [], ◌∷◌, length, ap, arith, sym, ◌∙◌}
 use Rattle.rice_code.proofs.Words.{All, Option, None, Some, best_of, range_with_len, nat_tests, All-nil, All-cons, All-head, All-tail, sum_by-cons, pow-le-pow_right, Parameters, k_max, value_count}
-use Rattle.rice_code.proofs.Words.{cut_sum, BlockData, shortest, IsBestSplit, best_split, NoCompression, SecondExtension, Split, cost, reference_len, sent_from, map-id}
+use Rattle.rice_code.proofs.Words.{cut_sum, BlockData, shortest, IsBestSplit, best_split, NoCompression, SecondExtension, Split, cost, reference_len, sent_from, map-id, common_steps}
 use Rattle.rice_code.proofs.lemmas.cost.SplitSavings.{first_is_kept, nat_lt-true, not_less, best_numbered, shortest_is}
 
 abbrev shorter : Parameters → BlockData → ℕ → ℕ → Bool
@@ -63,14 +63,9 @@ all_sent s (Some v) (d ∷ ds) h = omega arith
 -- residuals of few bits are small
 pub few_bits : (s : Parameters) (ds : List ℕ) → s.bits ≤ 26 → All (λ d. d < value_count s) ds → All (λ d. d < 2 ^ 26) ds
 few_bits s [] few h = All-nil (λ d. d < 2 ^ 26)
-few_bits s (d ∷ ds) few h =
-    let le : 2 ^ s.bits ≤ 2 ^ 26 = pow-le-pow_right {n = 2} (omega arith) {i = s.bits} {j = 26} few in
-    let first : d < value_count s = All-head (λ d. d < value_count s) d ds h in
-    All-cons (λ d. d < 2 ^ 26) d ds (omega (arith, first, le)) (few_bits s ds few (All-tail (λ d. d < value_count s) d ds h))
+few_bits s (d ∷ ds) few h = grind (arith, common_steps, pow-le-pow_right, All-head, All-cons, All-tail)
 
 -- residuals whose sum is small are small
 pub small_sum : (ds : List ℕ) → cut_sum ds 0 < 2 ^ 12 → All (λ d. d < 2 ^ 12) ds
 small_sum [] h = All-nil (λ d. d < 2 ^ 12)
-small_sum (d ∷ ds) h =
-    let e = sum_by-cons (λ d. d / 2 ^ 0) d ds in
-    All-cons (λ d. d < 2 ^ 12) d ds (omega (arith, e, h)) (small_sum ds (omega (arith, e, h)))
+small_sum (d ∷ ds) h = grind (arith, common_steps, sum_by-cons, All-cons)

@@ -1,6 +1,6 @@
 -- What is put for the option that is chosen.
 use Rattle.std.proofs.Common.{◌≡◌, ℕ, ◌-◌, ◌*◌, ◌≤◌, ◌++◌, ◌∙◌, Bool, not, nat_eq, if◌then◌else◌, List, length, Option, ap, arith}
-use Rattle.rice_code.proofs.Words.{Parameters, CodedDataSet, bits_of_set, cost, PutsSet}
+use Rattle.rice_code.proofs.Words.{Parameters, CodedDataSet, bits_of_set, cost, PutsSet, common_steps}
 
 -- what a flag chooses, where it is set, and where it is not
 pub where_set : (flag : ℕ) (a b : Option ℕ) → (flag ≡ 0 → ⊥) → a ≡ (if not (nat_eq flag 0) then a else b)
@@ -13,12 +13,4 @@ where_unset flag a b h = grind arith
 -- a set that is put is the one that is chosen, and its looks are within those of each option
 pub puts_chosen : {s : Parameters} {set chosen : CodedDataSet} {least most : ℕ} {old new last : List Bool} {m0 m1 m2 : ℕ} → set ≡ chosen → last ≡ new → m2 ≡ m1
     → s.block - 1 ≤ least → most ≤ 2 * s.block → PutsSet s set least most old new m0 m1 → PutsSet s chosen (s.block - 1) (2 * s.block) old last m0 m2
-puts_chosen {s} {old} e f g low high put =
-    let price = ap (cost s) e in
-    let len = ap length f in
-    record {
-      bits = f ∙ (put.bits ∙ ap (λ d. old ++ bits_of_set s d) e);
-      len = omega (arith, len, price, put.len);
-      steps_from = omega (arith, price, put.steps_from);
-      steps_to = omega (arith, price, put.steps_to);
-    }
+puts_chosen {s} {old} e f g low high put = grind (arith, common_steps)

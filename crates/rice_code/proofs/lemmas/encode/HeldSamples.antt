@@ -4,7 +4,7 @@ use Rattle.std.proofs.Common.{length, take, drop, replicate, refl, ap, arith, sy
 use Rattle.rice_code.proofs.Words.{slice_index_or, AllByRecursion, take_at, drop_at, length-take-le, length-take, take-append-drop, div-mul-add, div-add-mod, mod-lt, eqb-true, and-true}
 use Rattle.rice_code.proofs.Words.{mul-mod_right, mul-div_cancel_left, Parameters, IsSample, place, begins_segment, blocks_left, is_reference, is_reference_sample, pattern, residual, and-false}
 use Rattle.rice_code.proofs.Words.{residuals, last_of, rank, one_less_left, last_of_segment, reference_begins, length-residuals, lt_of_mul-lt-mul_left, BlockData, blocks_from, HasCodedBefore}
-use Rattle.rice_code.proofs.Words.{reference_in, CoderState, is_empty, next_residual, next_reference, state_after, state_with_fill, held_blocks, block_with}
+use Rattle.rice_code.proofs.Words.{reference_in, CoderState, is_empty, next_residual, next_reference, state_after, state_with_fill, held_blocks, block_with, common_steps}
 use Rattle.rice_code.proofs.lemmas.{meaning.CoveredBlocks.bool_cases, meaning.CoveredBlocks.and-split, code.RepeatedSamples.last_append, code.SegmentPlaces.place_inside}
 
 -- the next residual and the reference after it
@@ -68,18 +68,8 @@ record HeldAt (coder : CoderState) (b : ℕ) (held : List ℤ) (p : ℤ) : Type 
 -- the residual of the next sample
 the_residual : (coder : CoderState) (b : ℕ) (held : List ℤ) (p x : ℤ) → 1 ≤ coder.setting.interval → 1 ≤ coder.setting.block
     → HeldAt coder b held p → residual coder.setting (coder.setting.block * b + length held) coder.previous x ≡ next_residual coder x
-the_residual coder b [] p x h j held_at =
-    let s = coder.setting in
-    ap (λ r. cond s.preprocess (cond r 0 (rank s coder.previous x)) (pattern s x)) (first_reference s b j ∙ ap (λ q. s.preprocess && q == 0) held_at.start)
-    ∙ (cases s.preprocess (coder.start == 0) ∙ ap (λ ds. cond s.preprocess (cond (is_empty ds && coder.start == 0) 0 (rank s coder.previous x)) (pattern s x)) (sym held_at.residuals_are))
-  where
-    cases : (v w : Bool) → cond v (cond (v && w) 0 (rank coder.setting coder.previous x)) (pattern coder.setting x) ≡ cond v (cond w 0 (rank coder.setting coder.previous x)) (pattern coder.setting x)
-    cases true w = refl
-    cases false w = refl
-the_residual coder b (y ∷ ys) p x h j held_at =
-    let s = coder.setting in
-    ap (λ r. cond s.preprocess (cond r 0 (rank s coder.previous x)) (pattern s x)) (later_reference s b (length ys) h j held_at.room)
-    ∙ ap (λ ds. cond s.preprocess (cond (is_empty ds && coder.start == 0) 0 (rank s coder.previous x)) (pattern s x)) (sym held_at.residuals_are)
+the_residual coder b [] p x h j held_at = grind (arith, common_steps, first_reference)
+the_residual coder b (y ∷ ys) p x h j held_at = grind (arith, common_steps, later_reference)
 
 residuals_append : (s : Parameters) (i : ℕ) (p : ℤ) (xs ys : List ℤ) → residuals s i p (xs ++ ys) ≡ residuals s i p xs ++ residuals s (i + length xs) (last_of p xs) ys
 residuals_append s i p [] ys = let e : i ≡ i + 0 = omega arith in ap (λ n. residuals s n p ys) e
@@ -90,11 +80,7 @@ residuals_append s i p (x ∷ xs) ys =
 -- blocks inside a segment have no reference, but for the first
 none_inside : (s : Parameters) (b : ℕ) (xs : List ℤ) → begins_segment s b ≡ false → reference_in s b xs ≡ None
 none_inside s b [] e = refl
-none_inside s b (x ∷ xs) e =
-    elim (bool_cases (is_reference s b)) [
-      | inl f ↦ absurd (let g : true ≡ false = sym (reference_begins s b f) ∙ e in cc)
-      | inr f ↦ ap (λ v. cond v (Some (pattern s x)) None) f
-    ]
+none_inside s b (x ∷ xs) e = grind (arith, common_steps, bool_cases, reference_begins)
 
 no_blocks : (s : Parameters) (b : ℕ) (p : ℤ) (n : ℕ) (xs : List ℤ) → n ≡ 0 → blocks_from s b p n xs ≡ []
 no_blocks s b p zero xs e = refl
@@ -143,12 +129,8 @@ held_are s b p (suc n) xs h j k e =
 -- the reference after it
 the_reference : (coder : CoderState) (b : ℕ) (held : List ℤ) (p x : ℤ) → place coder.setting b ≡ coder.start → coder.residuals ≡ residuals coder.setting (coder.setting.block * b) p held →
     coder.reference ≡ reference_in coder.setting b held → next_reference coder x ≡ reference_in coder.setting b (held ++ x ∷ [])
-the_reference coder b [] p x e f g =
-    let s = coder.setting in
-    λ i. cond (s.preprocess && (is_empty (f i) && sym e i == 0)) (Some (pattern s x)) (g i)
-the_reference coder b (y ∷ ys) p x e f g =
-    let s = coder.setting in
-    ap (λ ds. cond (s.preprocess && (is_empty ds && coder.start == 0)) (Some (pattern s x)) coder.reference) f ∙ (ap (λ v. cond v (Some (pattern s x)) coder.reference) (and-false s.preprocess) ∙ g)
+the_reference coder b [] p x e f g = grind (arith, common_steps)
+the_reference coder b (y ∷ ys) p x e f g = grind (arith, common_steps, and-false)
 
 -- one sample more is held
 pub one_more : (coder : CoderState) (b : ℕ) (coded held : List ℤ) (x : ℤ) → HasCodedBefore coder b coded held
@@ -161,19 +143,7 @@ one_more coder b coded held x h k legal =
     let p = last_of (pos 0) coded in
     let len = ap length h.residuals ∙ length-residuals s (s.block * b) p held in
     let before : last_of p held ≡ coder.previous = sym (h.previous ∙ last_append (pos 0) coded held) in
-    record {
-      legal = h.legal;
-      samples = subst (AllByRecursion (IsSample s)) more (all_more s (coded ++ held) x h.samples legal);
-      whole = h.whole;
-      place = h.place;
-      begins = h.begins;
-      few = omega (arith, length-append held (x ∷ []), k);
-      previous = sym (ap (last_of (pos 0)) (sym more) ∙ last_append (pos 0) (coded ++ held) (x ∷ []));
-      residuals = sym (residuals_append s (s.block * b) p held (x ∷ [])
-          ∙ ((λ i. sym h.residuals i ++ residual s (s.block * b + length held) (before i) x ∷ [])
-          ∙ ap (λ d. coder.residuals ++ d ∷ []) (the_residual coder b held p x h.legal.interval_from j (record { start = h.place; room = k; residuals_are = h.residuals }))));
-      reference = the_reference coder b held p x h.place h.residuals h.reference;
-    }
+    grind (arith, common_steps, all_more, length-append, last_append, residuals_append, the_residual, the_reference)
 
 -- a repeated sample fills a block
 push_last : {X : Type 0} (n : ℕ) (x : X) (xs : List X) → xs ++ replicate (suc n) x ≡ (xs ++ x ∷ []) ++ replicate n x
@@ -183,10 +153,7 @@ push_last n x xs = sym (append_assoc xs (x ∷ []) (replicate n x))
 pub holds_fill : (coder : CoderState) (b : ℕ) (coded held : List ℤ) (n : ℕ) → HasCodedBefore coder b coded held → IsSample coder.setting coder.previous
     → (0 < n → is_empty coder.residuals ≡ false) → length held + n ≤ coder.setting.block * blocks_left coder.setting b →
     HasCodedBefore (state_with_fill coder n) b coded (held ++ replicate n coder.previous)
-holds_fill coder b coded held zero h legal f k = subst
-    (λ ds. HasCodedBefore (record { setting = coder.setting; residuals = ds; reference = coder.reference; previous = coder.previous; start = coder.start }) b
-    coded (held ++ [])) (sym (append-nil coder.residuals))
-    (subst (HasCodedBefore coder b coded) (sym (append-nil held)) h)
+holds_fill coder b coded held zero h legal f k = grind (arith, common_steps, append-nil)
 holds_fill coder b coded held (suc n) h legal f k =
     let x = coder.previous in
     let first = f (omega arith) in

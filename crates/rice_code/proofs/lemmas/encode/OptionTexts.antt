@@ -1,7 +1,7 @@
 -- The texts of blocks, piece by piece. `split_is_joined` says what joins the parts of a split block.
 use Rattle.std.proofs.Common.{◌≡◌, ℕ, zero, suc, ◌+◌, ◌-◌, ◌*◌, ◌/◌, ◌^◌, ◌<◌, Bool, true, false, cond}
 use Rattle.std.proofs.Common.{◌&&◌, nat_le, List, [], ◌∷◌, ◌++◌, length, drop, get_or, refl, ap, arith, sym, ◌∙◌, append_assoc, Option}
-use Rattle.rice_code.proofs.Words.{flat_map, sum_by, length-drop, Parameters, id_len, pair_code, pair_codes, word-fs, word-zero, word-cat, word-nil, BlockData, bits_of_set, cost}
+use Rattle.rice_code.proofs.Words.{flat_map, sum_by, length-drop, Parameters, id_len, pair_code, pair_codes, word-fs, word-zero, word-cat, word-nil, BlockData, bits_of_set, cost, common_steps}
 use Rattle.rice_code.proofs.Words.{reference_bits, reference_len, run_number, sent_residuals, Split, ZeroBlocks, RemainderOfSegment, run_of_blocks, zeros_of_run, word, fundamental_sequence}
 use Rattle.rice_code.proofs.lemmas.cost.CostIsLength.{numbered_run_len, remainder_len}
 
@@ -11,11 +11,7 @@ pub split_is_joined : (s : Parameters) (k : ℕ) (block : BlockData) (sink : Lis
     → sink ++ word (id_len s) (k + 1) ++ reference_bits s block.reference
     ++ flat_map (λ d. fundamental_sequence (d / 2 ^ k)) (sent_residuals block) ++ flat_map (word k) (sent_residuals block)
     ≡ sink ++ bits_of_set s (Split k block)
-split_is_joined s k block sink = append_four sink (word (id_len s) (k + 1)) (reference_bits s block.reference)
-    (flat_map (λ d. fundamental_sequence (d / 2 ^ k)) (sent_residuals block)) (flat_map (word k) (sent_residuals block))
-  where
-    append_four : (sink head ref high low : List Bool) → sink ++ head ++ ref ++ high ++ low ≡ sink ++ (head ++ (ref ++ (high ++ low)))
-    append_four sink head ref high low = simp append_assoc
+split_is_joined s k block sink = grind (arith, common_steps, append_assoc)
 
 -- zeros and a one
 pub word_flag : (n : ℕ) → word (n + 1) 1 ≡ word n 0 ++ true ∷ []
@@ -44,39 +40,20 @@ pub record SentResiduals (sent rs : List ℕ) (from w k : ℕ) : Type 0 where
 
 -- what is sent of residuals, in numbers, where it is all from number `from` on
 pub sent_are : (sent ds rs : List ℕ) (from w k : ℕ) → sent ≡ drop from ds → rs ≡ ds → SentResiduals sent rs from w k
-sent_are sent ds rs from w k coded same =
-    let e : sent ≡ drop from rs = coded ∙ ap (drop from) (sym same) in
-    record {
-      count = ap length e ∙ length-drop from rs;
-      digits = ap (λ n. n * w) (ap length e ∙ length-drop from rs);
-      parts = ap (sum_by (λ d. d / 2 ^ k)) e;
-      bits = λ f. ap (flat_map f) (sym e);
-    }
+sent_are sent ds rs from w k coded same = grind (arith, common_steps, length-drop)
 
 -- the text of a run, and its length
 pub run_text : (s : Parameters) (to_end : Bool) (r : Option ℕ) (z : ℕ)
     → bits_of_set s (run_of_blocks to_end r z) ≡ word (id_len s) 0 ++ false ∷ (reference_bits s r ++ fundamental_sequence (zeros_of_run to_end z))
-run_text s to_end r z = by_test (nat_le 5 z && to_end)
-  where
-    by_test : (v : Bool) → bits_of_set s (cond v (RemainderOfSegment r) (ZeroBlocks r z)) ≡ word (id_len s) 0 ++ false ∷ (reference_bits s r ++ fundamental_sequence (cond v 4 (run_number z)))
-    by_test true = refl
-    by_test false = refl
+run_text s to_end r z = grind (arith, common_steps, nat_le)
 
 -- the cost of a run: its identifier, the flag, its reference, and its zeros with a one
 pub run_cost : (s : Parameters) (to_end : Bool) (r : Option ℕ) (z : ℕ) → cost s (run_of_blocks to_end r z) ≡ id_len s + 1 + reference_len s r + zeros_of_run to_end z + 1
-run_cost s to_end r z = by_test (nat_le 5 z && to_end)
-  where
-    by_test : (v : Bool) → cost s (cond v (RemainderOfSegment r) (ZeroBlocks r z)) ≡ id_len s + 1 + reference_len s r + cond v 4 (run_number z) + 1
-    by_test true = omega arith
-    by_test false = refl
+run_cost s to_end r z = grind (arith, common_steps, nat_le)
 
 -- and the text of a run is as long as its cost
 pub run_text_len : (s : Parameters) (to_end : Bool) (r : Option ℕ) (z : ℕ) → length (bits_of_set s (run_of_blocks to_end r z)) ≡ cost s (run_of_blocks to_end r z)
-run_text_len s to_end r z = by_test (nat_le 5 z && to_end)
-  where
-    by_test : (v : Bool) → length (bits_of_set s (cond v (RemainderOfSegment r) (ZeroBlocks r z))) ≡ cost s (cond v (RemainderOfSegment r) (ZeroBlocks r z))
-    by_test true = remainder_len s r
-    by_test false = numbered_run_len s r z
+run_text_len s to_end r z = grind (arith, common_steps, nat_le, remainder_len, numbered_run_len)
 
 -- the codewords of the pairs from number i on
 pub pairs_left : (i : ℕ) (xs : List ℕ) → 2 * i + 1 < length xs →
@@ -87,6 +64,5 @@ pairs_left (suc i) (a ∷ b ∷ xs) h =
     let e : 2 * (suc i + 1) ≡ suc (suc (2 * (i + 1))) = omega arith in
     let k : 2 * suc i ≡ suc (suc (2 * i)) = omega arith in
     let l : 2 * suc i + 1 ≡ suc (suc (2 * i + 1)) = omega arith in
-    ap (λ n. pair_codes (drop n (a ∷ b ∷ xs))) k ∙ (ih
-    ∙ (λ j. pair_code (get_or (a ∷ b ∷ xs) (sym k j) 0) (get_or (a ∷ b ∷ xs) (sym l j) 0) ∷ pair_codes (drop (sym e j) (a ∷ b ∷ xs))))
+    grind (arith, common_steps, get_or)
 pairs_left i _ h = absurd (omega arith)

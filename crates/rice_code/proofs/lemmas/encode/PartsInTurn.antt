@@ -1,6 +1,6 @@
 -- The parts of residuals are written one range after the other.
 use Rattle.std.proofs.Common.{◌≡◌, ℕ, suc, ◌+◌, ◌-◌, ◌*◌, ◌<◌, ◌≤◌, Bool, List, [], ◌∷◌, ◌++◌, length, drop, take, get_or, ap, arith, sym, ◌∙◌, append_assoc, append-nil}
-use Rattle.rice_code.proofs.Words.{flat_map, slice_range, take-suc, flat_map-append, length-drop, get_or-drop}
+use Rattle.rice_code.proofs.Words.{flat_map, slice_range, take-suc, flat_map-append, length-drop, get_or-drop, common_steps}
 
 -- and one more
 slice_snoc : (ds : List ℕ) (from i : ℕ) → from ≤ i → i < length ds → slice_range ds from (i + 1) ≡ slice_range ds from i ++ get_or ds i 0 ∷ []
@@ -15,11 +15,7 @@ slice_snoc ds from i le lt =
 pub one_written : (f : ℕ → List Bool) (ds : List ℕ) {from i : ℕ} (all : List Bool) {a b x : List Bool} → from ≤ i → i < length ds
     → a ≡ all ++ flat_map f (slice_range ds from i) → b ≡ a ++ x → x ≡ f (get_or ds i 0) →
     b ≡ all ++ flat_map f (slice_range ds from (i + 1))
-one_written f ds {from} {i} all le lt before put same =
-    let xs = slice_range ds from i in
-    let d = get_or ds i 0 in
-    put ∙ ((λ j. before j ++ same j) ∙ (append_assoc all (flat_map f xs) (f d) ∙ ap (λ v. all ++ v)
-    (ap (λ v. flat_map f xs ++ v) (sym (append-nil (f d))) ∙ (sym (flat_map-append f xs (d ∷ [])) ∙ ap (flat_map f) (sym (slice_snoc ds from i le lt))))))
+one_written f ds {from} {i} all le lt before put same = grind (arith, common_steps, get_or, append_assoc, append-nil, flat_map-append, slice_snoc)
 
 -- what is left of n residuals has w digits fewer after one more
 pub one_less_times : (n i w : ℕ) → i < n → (n - i) * w ≡ (n - (i + 1)) * w + w

@@ -3,7 +3,7 @@ use Rattle.std.proofs.Common.{◌≡◌, ℕ, zero, suc, ◌+◌, ◌*◌, ◌<�
 use Rattle.std.proofs.Common.{◌∷◌, ◌++◌, length, take, drop, replicate, refl, ap, arith, sym, ◌∙◌, inl, inr, subst, append-nil, length-append, Option, None}
 use Rattle.rice_code.proofs.Words.{list_all, nat_tests, length-replicate, drop-drop, Parameters, begins_segment, blocks_left, one_less_left, last_of_segment, BlockData, is_zero_block, zero_block}
 use Rattle.rice_code.proofs.Words.{CodedDataSet, ZeroBlocks, RemainderOfSegment, data_sets, zero_run, run_len, shortest, run_of_blocks, pending_zeros, pending_run, held_blocks, reference_at}
-use Rattle.rice_code.proofs.Words.{block_with, AreSoundBlocks}
+use Rattle.rice_code.proofs.Words.{block_with, AreSoundBlocks, common_steps}
 use Rattle.rice_code.proofs.lemmas.meaning.CoveredBlocks.{bool_cases, skipped, run_cons, skipped_go, skipped_plain, skipped_nil, data_sets_inside, data_sets_start, data_sets_plain}
 
 -- zeros alone are zero
@@ -50,25 +50,15 @@ run_with r z v = cond (nat_le 5 z && v) (RemainderOfSegment r) (ZeroBlocks r z)
 
 -- a run that ends before the segment and the list do
 run_before : (s : Parameters) (b w : ℕ) (r : Option ℕ) (cs : List BlockData) → run_len s b cs ≡ suc w → suc w < blocks_left s b → suc w < length cs → zero_run s b r cs ≡ run_of_blocks false r (suc w)
-run_before s b w r cs e h k =
-    ap (λ z. run_with r z (z == blocks_left s b || z == length cs)) e ∙ ap (run_with r (suc w)) (no (suc w) (blocks_left s b) (length cs) h k)
-  where
-    no : (z m n : ℕ) → z < m → z < n → (z == m || z == n) ≡ false
-    no z m n h k = grind (arith, nat_tests)
+run_before s b w r cs e h k = grind (arith, common_steps, nat_tests)
 
 run_at_end : (s : Parameters) (b w : ℕ) (r : Option ℕ) (cs : List BlockData) → run_len s b cs ≡ suc w → suc w ≡ length cs → zero_run s b r cs ≡ run_of_blocks true r (suc w)
-run_at_end s b w r cs e k =
-    ap (λ z. run_with r z (z == blocks_left s b || z == length cs)) e ∙ ap (run_with r (suc w)) (yes (suc w) (blocks_left s b) (length cs) k)
-  where
-    yes : (z m n : ℕ) → z ≡ n → (z == m || z == n) ≡ true
-    yes z m n h = grind (arith, nat_tests)
+run_at_end s b w r cs e k = grind (arith, common_steps, nat_tests)
 
 -- zero blocks, and then a block that is not zero
 pub run_then_block : (s : Parameters) (b run : ℕ) (r : Option ℕ) (c : BlockData) (cs : List BlockData) → 1 ≤ s.interval → run < blocks_left s b → is_zero_block c ≡ false →
     data_sets s b false (pending_zeros s r run ++ c ∷ cs) ≡ pending_run false r run ++ shortest s c ∷ data_sets s (b + run + 1) false cs
-run_then_block s b zero r c cs h k z =
-    let n : b + 1 ≡ b + 0 + 1 = omega arith in
-    data_sets_plain s b false c cs z ∙ ap (λ m. shortest s c ∷ data_sets s m false cs) n
+run_then_block s b zero r c cs h k z = grind (arith, common_steps, data_sets_plain)
 run_then_block s b (suc w) r c cs h k z =
     let rest = replicate w (zero_block s None) ++ c ∷ cs in
     let len : length rest ≡ w + suc (length cs) = length-append (replicate w (zero_block s None)) (c ∷ cs) ∙ ap (λ n. n + suc (length cs)) (length-replicate w (zero_block s None)) in
@@ -109,21 +99,8 @@ zero_block_joins_run s (suc w) r q c cs e f g =
 pub held_at : (s : Parameters) (r : Option ℕ) (n i : ℕ) (ds : List ℕ) → i < n
     → drop i (held_blocks s r n ds) ≡ block_with (reference_at r i) (take s.block (drop (i * s.block) ds)) ∷ drop (i + 1) (held_blocks s r n ds)
 held_at s r zero i ds h = absurd (omega arith)
-held_at s r (suc n) zero ds h =
-    let e : 0 ≡ 0 * s.block = omega arith in
-    ap (λ m. block_with r (take s.block (drop m ds)) ∷ held_blocks s None n (drop s.block ds)) e
-held_at s r (suc n) (suc i) ds h =
-    let ih = held_at s None n i (drop s.block ds) (omega arith) in
-    let e : drop (i * s.block) (drop s.block ds) ≡ drop (suc i * s.block) ds = drop-drop (i * s.block) s.block ds
-    ∙ ap (λ n. drop n ds) (let f : s.block + i * s.block ≡ suc i * s.block = omega arith in f) in
-    let g : reference_at None i ≡ None = none i in
-    let m : suc (i + 1) ≡ suc i + 1 = omega arith in
-    ih ∙ ((λ j. block_with (g j) (take s.block (e j)) ∷ drop (i + 1) (held_blocks s None n (drop s.block ds)))
-    ∙ ap (λ m. block_with None (take s.block (drop (suc i * s.block) ds)) ∷ drop m (held_blocks s r (suc n) ds)) m)
-  where
-    none : (i : ℕ) → reference_at None i ≡ None
-    none zero = refl
-    none (suc i) = refl
+held_at s r (suc n) zero ds h = grind (arith, common_steps)
+held_at s r (suc n) (suc i) ds h = grind (arith, common_steps, drop-drop, held_at s None n i (drop s.block ds) (omega arith))
 
 -- as many blocks are held as are counted
 pub held_len : (s : Parameters) (r : Option ℕ) (n : ℕ) (ds : List ℕ) → length (held_blocks s r n ds) ≡ n

@@ -3,7 +3,7 @@ use Rattle.std.proofs.Common.{◌≡◌, ℕ, zero, suc, ◌+◌, ◌-◌, ◌*�
 use Rattle.std.proofs.Common.{◌++◌, length, take, drop, refl, ap, arith, sym, ◌∙◌, inl, inr, subst, append_assoc, append-nil, length-append, Option, None}
 use Rattle.rice_code.proofs.Words.{sum_by, slice_range, cases_lt, drop_all, sum_by-cons, flat_map-append, mul-le-mul_left, mul-le-mul_right, Parameters, k_max, begins_segment, blocks_left}
 use Rattle.rice_code.proofs.Words.{one_less_left, last_of_segment, BlockData, is_zero_block, bits_of_set, cost, bits_of_sets, data_sets, shortest, best_split, run_of_blocks, pending_zeros}
-use Rattle.rice_code.proofs.Words.{pending_run, held_blocks, reference_at, block_with, IsSoundData, AreSoundBlocks, IsSoundBlock, least_looks, most_looks}
+use Rattle.rice_code.proofs.Words.{pending_run, held_blocks, reference_at, block_with, IsSoundData, AreSoundBlocks, IsSoundBlock, least_looks, most_looks, common_steps}
 use Rattle.rice_code.proofs.lemmas.{meaning.CoveredBlocks.bool_cases, meaning.CoveredBlocks.zero_block_is, cost.CostIsLength.cost_is_length, cost.BlockBounds.shortest_is_form}
 use Rattle.rice_code.proofs.lemmas.{encode.OptionTexts.run_text_len}
 use Rattle.rice_code.proofs.lemmas.encode.PendingRuns.{run_then_block, run_ends, zero_block_joins_run, held_at, held_len, drop_sound}
@@ -78,9 +78,7 @@ next_zero s start r {n} ds {i} {run} h k sound z =
     let f = zero_block_joins_run s run (reference_at r (i - run)) (reference_at r i) c rest
     (zero_block_is s (start + i) c (held_sound s start r n ds i k sound).block z) (reference_first r i run) (reference_later r i run h) in
     let g : i - run ≡ i + 1 - (run + 1) = omega arith in
-    ap (λ cs. bits_of_sets s (data_sets s (start + (i - run)) false (pending_zeros s (reference_at r (i - run)) run ++ cs))) e
-    ∙ (ap (λ cs. bits_of_sets s (data_sets s (start + (i - run)) false cs)) f
-    ∙ ap (λ m. bits_of_sets s (data_sets s (start + m) false (pending_zeros s (reference_at r m) (run + 1) ++ rest))) g)
+    grind (arith, common_steps)
 
 run_is_inside : (s : Parameters) (start n i run : ℕ) → 1 ≤ s.interval → run ≤ i → i < n → n ≤ blocks_left s start → run < blocks_left s (start + (i - run))
 run_is_inside s start n i run h k l m = let e = left_inside s start (i - run) h (omega arith) in omega arith
@@ -97,9 +95,7 @@ next_other s start r {n} ds {i} {run} h m l k z =
     let w = pending_run false (reference_at r (i - run)) run in
     let f = run_then_block s b run (reference_at r (i - run)) c rest h (run_is_inside s start n i run h l k m) z in
     let g : b + run + 1 ≡ start + (i + 1 - 0) = omega arith in
-    ap (λ cs. bits_of_sets s (data_sets s b false (pending_zeros s (reference_at r (i - run)) run ++ cs))) e
-    ∙ (ap (bits_of_sets s) (f ∙ ap (λ m. w ++ shortest s c ∷ data_sets s m false rest) g)
-    ∙ flat_map-append (bits_of_set s) w (shortest s c ∷ data_sets s (start + (i + 1 - 0)) false rest))
+    grind (arith, common_steps, flat_map-append)
 
 -- and at the end only the code of the pending run is to come
 pub at_end : (s : Parameters) (start : ℕ) (r : Option ℕ) (n : ℕ) (ds : List ℕ) (run : ℕ) → 1 ≤ s.interval → n ≤ blocks_left s start → run ≤ n →
@@ -119,13 +115,7 @@ at_end s start r n ds run h m l =
 pub sum_next : (f : BlockData → ℕ) (i : ℕ) (cs : List BlockData) (c : BlockData) (rest : List BlockData) → drop i cs ≡ c ∷ rest → sum_by f (take (i + 1) cs) ≡ sum_by f (take i cs) + f c
 sum_next f i [] c rest e = absurd (let g : [] ≡ c ∷ rest = sym (drop_all i [] (omega arith)) ∙ e in cc)
 sum_next f zero (d ∷ cs) c rest e = let g : d ≡ c = cc in ap (λ x. sum_by f (x ∷ [])) g
-sum_next f (suc i) (d ∷ cs) c rest e =
-    let ih = sum_next f i cs c rest e in
-    let a = sum_by-cons f d (take (i + 1) cs) in
-    let b = sum_by-cons f d (take i cs) in
-    let n : suc i + 1 ≡ suc (i + 1) = omega arith in
-    let g = ap (λ n. sum_by f (take n (d ∷ cs))) n in
-    omega (arith, ih, a, b, g)
+sum_next f (suc i) (d ∷ cs) c rest e = grind (arith, common_steps, sum_by-cons, sum_next f i cs c rest e)
 
 -- one block takes at most so many looks, whatever its residuals are,
 pub most_of_one : (s : Parameters) (c : BlockData) → most_looks s c ≤ s.block * (k_max s + 5)
@@ -138,11 +128,7 @@ most_of_one s c =
 pub most_of_all : (s : Parameters) (i : ℕ) (cs : List BlockData) → sum_by (most_looks s) (take i cs) ≤ i * (s.block * (k_max s + 5))
 most_of_all s zero cs = omega arith
 most_of_all s (suc i) [] = omega arith
-most_of_all s (suc i) (c ∷ cs) =
-    let a = sum_by-cons (most_looks s) c (take i cs) in
-    let b = most_of_all s i cs in
-    let d = most_of_one s c in
-    omega (arith, a, b, d)
+most_of_all s (suc i) (c ∷ cs) = grind (arith, common_steps, sum_by-cons, most_of_one, most_of_all s i cs)
 
 -- a block of zeros takes one look at each of its residuals, no fewer and no more
 pub looks_zero : (s : Parameters) (c : BlockData) → is_zero_block c ≡ true → (least_looks s c ≡ s.block) × (most_looks s c ≡ s.block)
@@ -203,15 +189,11 @@ pub record MeterAfter (m m0 a a0 t put total i n x : ℕ) : Type 0 where
 
 -- the meter has room for one block more
 pub meter_fits : {m m0 a a0 t put total i n : ℕ} (x : ℕ) → MeterAfter m m0 a a0 t put total i n x → i < n → m + put + x < 2 ^ 62
-meter_fits {i} {n} x meter h =
-    let e : suc i * x ≤ n * x = mul-le-mul_right x h in
-    omega (arith, e)
+meter_fits {i} {n} x meter h = grind (arith, common_steps, mul-le-mul_right)
 
 -- and for what is put after any number of them
 pub meter_ends : {m m0 a a0 t put total i n : ℕ} (x : ℕ) → MeterAfter m m0 a a0 t put total i n x → i ≤ n → m + put < 2 ^ 62
-meter_ends {i} {n} x meter h =
-    let e : i * x ≤ n * x = mul-le-mul_right x h in
-    omega (arith, e)
+meter_ends {i} {n} x meter h = grind (arith, common_steps, mul-le-mul_right)
 
 -- a look at each of j residuals is among the most looks of a block
 pub looks_more : (j k : ℕ) → j ≤ j * (k + 5)
@@ -231,9 +213,7 @@ pub record GrowsAtLeast (j k m0 m m' a a' a0 put total : ℕ) : Type 0 where
 -- the steps of one block more
 pub least_more : {j k least m0 m m' a a' : ℕ} (a0 put total : ℕ) → 1 ≤ j → GrowsAtLeast j k m0 m m' a a' a0 put total
     → least ≡ j * (k + 3) - 1 → m0 + a' + (total + least) ≤ m' + a0
-least_more {j} {k} a0 put total h grows f =
-    let r : j * (k + 4) ≡ j * (k + 3) + j = omega arith in
-    omega (arith, r)
+least_more {j} {k} a0 put total h grows f = grind (arith, common_steps)
 
 -- a meter that had grown by no more, and grows by no more
 pub record GrowsAtMost (m0 m m' a a' a0 put total x : ℕ) : Type 0 where

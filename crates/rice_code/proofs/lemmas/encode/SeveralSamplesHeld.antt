@@ -1,7 +1,7 @@
 -- What a coder holds when it takes several samples.
 use Rattle.std.proofs.Common.{◌≡◌, ℕ, suc, ◌+◌, ◌==◌, Bool, true, false, cond, ◌&&◌, List, [], ◌∷◌}
 use Rattle.std.proofs.Common.{◌++◌, length, map, refl, ap, arith, sym, ◌∙◌, append_assoc, append-nil, length-append, Some, ℤ}
-use Rattle.rice_code.proofs.Words.{and-false, Parameters, level, value_count, pattern, rank, ranks, last_of}
+use Rattle.rice_code.proofs.Words.{and-false, Parameters, level, value_count, pattern, rank, ranks, last_of, common_steps}
 use Rattle.rice_code.specs.encode.OpenSegment.{CoderState, is_empty, is_first, next_residual, next_residuals, next_references, later_residuals, state_after, state_after_all, state_with_later}
 use Rattle.rice_code.proofs.lemmas.code.RepeatedSamples.{same_rank}
 
@@ -31,13 +31,7 @@ length-state_after_all coder xs = length-append coder.residuals (next_residuals 
 -- where the next sample is no reference sample
 next_later : (coder : CoderState) (xs : List ℤ) → (coder.setting.preprocess && is_first coder) ≡ false → next_residuals coder xs ≡ later_residuals coder.setting coder.previous xs
 next_later coder [] e = refl
-next_later coder (x ∷ xs) e = ap (λ d. d ∷ later_residuals coder.setting x xs) (by_way coder.setting.preprocess (is_first coder) e)
-  where
-    by_way : (a b : Bool) → (a && b) ≡ false → cond a (cond b 0 (rank coder.setting coder.previous x)) (pattern coder.setting x) ≡ cond a
-        (rank coder.setting coder.previous x) (pattern coder.setting x)
-    by_way false b e = refl
-    by_way true false e = refl
-    by_way true true e = absurd (let f : true ≡ false = e in cc)
+next_later coder (x ∷ xs) e = grind (arith, common_steps)
 
 next_none : (coder : CoderState) (xs : List ℤ) → (coder.setting.preprocess && is_first coder) ≡ false → next_references coder xs ≡ coder.reference
 next_none coder [] e = refl
@@ -50,19 +44,11 @@ state_after_all-none coder (x ∷ xs) e = absurd (omega arith)
 
 -- after any sample the next is no reference sample
 pub not_first : (coder : CoderState) (x : ℤ) → (coder.setting.preprocess && is_first (state_after coder x)) ≡ false
-not_first coder x = ap (λ v. coder.setting.preprocess && (v && coder.start == 0)) (some coder.residuals (next_residual coder x)) ∙ and-false coder.setting.preprocess
-  where
-    some : (ds : List ℕ) (d : ℕ) → is_empty (ds ++ d ∷ []) ≡ false
-    some [] d = refl
-    some (e ∷ ds) d = refl
+not_first coder x = grind (arith, common_steps, and-false)
 
 -- one first,
 pub state_after_all-cons : (coder : CoderState) (x : ℤ) (xs : List ℤ) → state_after_all (state_after coder x) xs ≡ state_after_all coder (x ∷ xs)
-state_after_all-cons coder x xs =
-    let d = next_residual coder x in
-    let ds = append_assoc coder.residuals (d ∷ []) (next_residuals (state_after coder x) xs) ∙ ap (λ v. coder.residuals ++ d ∷ v) (next_later (state_after coder x) xs (not_first coder x)) in
-    let r = next_none (state_after coder x) xs (not_first coder x) in
-    λ i. record { setting = coder.setting; residuals = ds i; reference = r i; previous = last_of x xs; start = coder.start }
+state_after_all-cons coder x xs = grind (arith, common_steps, append_assoc, next_later, not_first, next_none)
 
 -- and one last
 pub state_after_all-snoc : (coder : CoderState) (xs : List ℤ) (x : ℤ) → state_after_all coder (xs ++ x ∷ []) ≡ state_after (state_after_all coder xs) x
@@ -79,17 +65,4 @@ pub state_after_all-first : (coder : CoderState) (x : ℤ) (xs : List ℤ) → (
       previous = coder.previous;
       start = coder.start;
     }) x (x ∷ xs) ≡ state_after_all coder (x ∷ xs)
-state_after_all-first coder x xs e =
-    let d = by_way coder.setting.preprocess (is_first coder) e in
-    λ i. record {
-      setting = coder.setting;
-      residuals = coder.residuals ++ d i ∷ later_residuals coder.setting x xs;
-      reference = cond (sym e i) (Some (pattern coder.setting x)) coder.reference;
-      previous = last_of x xs;
-      start = coder.start;
-    }
-  where
-    by_way : (a b : Bool) → (a && b) ≡ true → cond a (rank coder.setting x x) (pattern coder.setting x) ≡ cond a (cond b 0 (rank coder.setting coder.previous x)) (pattern coder.setting x)
-    by_way false b e = absurd (let f : false ≡ true = e in cc)
-    by_way true false e = absurd (let f : false ≡ true = e in cc)
-    by_way true true e = same_rank (value_count coder.setting) (level coder.setting x)
+state_after_all-first coder x xs e = grind (arith, common_steps, same_rank)

@@ -3,7 +3,7 @@ use Rattle.std.proofs.Common.{◌≡◌, ℕ, zero, suc, ◌+◌, ◌-◌, ◌*�
 use Rattle.std.proofs.Common.{◌∷◌, ◌++◌, length, take, drop, replicate, refl, ap, arith, sym, ◌∙◌, subst, length-append, Option, Some, None, ℤ}
 use Rattle.rice_code.proofs.Words.{Contains, IsSomeAnd, OnSome, slice_index, AllByRecursion, cases_lt, length-replicate, length-take-le, length-drop, take-append-drop, All-from_recursion}
 use Rattle.rice_code.proofs.Words.{recursion_from_All, All-replicate, Contains-append_right, pow_pos, take-append_seam, drop-append_seam, length-bits_of, Parameters, IsLegal, IsSample, value_count}
-use Rattle.rice_code.proofs.Words.{is_reference, is_reference_sample, is_padded, blocks_left, pattern, rank, residual, residuals, last_of, some_left, reference_begins, zero_is_sample}
+use Rattle.rice_code.proofs.Words.{is_reference, is_reference_sample, is_padded, blocks_left, pattern, rank, residual, residuals, last_of, some_left, reference_begins, zero_is_sample, common_steps}
 use Rattle.rice_code.proofs.Words.{zero_at_reference, inside_block, no_reference_at, has_pattern, has_rank, bits_to_byte, bits_of, BlockData, block_data, blocks_from, zero_block, CodedDataSet}
 use Rattle.rice_code.proofs.Words.{NoCompression, SecondExtension, Split, ZeroBlocks, RemainderOfSegment, bits_of_set, IsReference, AllFit, RunIsSound, ResidualsAreSound, blocks_in, block_after}
 use Rattle.rice_code.proofs.Words.{padding, Decoded, DecodedFrom, Ending, Reached, Ended, CutOff, Past, Large, IsWanted, EndsWith, cut_to, IsSoundBlock, AreSoundBlocks}
@@ -16,20 +16,12 @@ run_or_not : (s : Parameters) (b : ℕ) (d : CodedDataSet) → RunIsSound s b d 
 run_or_not s b (NoCompression c) = inl tt
 run_or_not s b (SecondExtension c) = inl tt
 run_or_not s b (Split k c) = inl tt
-run_or_not s b (ZeroBlocks r z) =
-    elim (cases_lt (blocks_left s b) z) [
-      | inl past ↦ inr (λ h. omega (arith, h.0))
-      | inr inside ↦ elim (cases_lt 63 z) [ inl past ↦ inr (λ h. omega (arith, h.1)) | inr few ↦ inl (inside, few) ]
-    ]
+run_or_not s b (ZeroBlocks r z) = grind (arith, common_steps, cases_lt)
 run_or_not s b (RemainderOfSegment r) = inl tt
 
 fit_or_not : (m : ℕ) (ds : List ℕ) → AllByRecursion (λ d. d < m) ds ⊎ (AllByRecursion (λ d. d < m) ds → ⊥)
 fit_or_not m [] = inl tt
-fit_or_not m (d ∷ ds) =
-    elim (cases_lt d m) [
-      | inr large ↦ inr (λ h. omega (arith, h.0))
-      | inl fits ↦ elim (fit_or_not m ds) [ inl h ↦ inl (fits, h) | inr wrong ↦ inr (λ h. wrong h.1) ]
-    ]
+fit_or_not m (d ∷ ds) = grind (arith, common_steps, cases_lt, fit_or_not m ds)
 
 all_fit_or_not : (s : Parameters) (c : BlockData) → AllFit s c ⊎ (AllFit s c → ⊥)
 all_fit_or_not s c =
@@ -69,15 +61,7 @@ first_zero zero = refl
 first_zero (suc n) = refl
 
 zeros_sound : (s : Parameters) (b : ℕ) (r : Option ℕ) → IsReference s b r → IsSoundBlock s b (zero_block s r)
-zeros_sound s b r h = record {
-  block = record { reference = h; len = length-replicate s.block 0 };
-  at_reference = here r;
-  fit = All-replicate (λ d. d < value_count s) s.block 0 (pow_pos s.bits);
-}
-  where
-    here : (r : Option ℕ) → OnSome r (slice_index (replicate s.block 0) 0 ≡ 0)
-    here None = tt
-    here (Some v) = first_zero s.block
+zeros_sound s b r h = grind (arith, common_steps, length-replicate, All-replicate, pow_pos, first_zero)
 
 more_zeros : (s : Parameters) (b n : ℕ) → GoOn s b n → AreSoundBlocks s b (replicate n (zero_block s None))
 more_zeros s b zero h = tt
@@ -90,13 +74,8 @@ pub blocks_are_sound : (s : Parameters) (b : ℕ) (d : CodedDataSet) → IsLegal
 blocks_are_sound s b (NoCompression c) legal h = (record { block = h.0.0; at_reference = h.0.1; fit = h.0.2 }, tt)
 blocks_are_sound s b (SecondExtension c) legal h = (record { block = h.0; at_reference = h.2.0; fit = h.2.1 }, tt)
 blocks_are_sound s b (Split k c) legal h = (record { block = h.0.0; at_reference = h.0.1; fit = h.2 }, tt)
-blocks_are_sound s b (ZeroBlocks r z) legal h =
-    let z1 : 1 ≤ z = h.0.1 in
-    let zl : z ≤ blocks_left s b = h.1.0 in
-    (zeros_sound s b r h.0.0, more_zeros s (b + 1) (z - 1) (segment_goes_on s b (z - 1) legal.interval_from (omega arith)))
-blocks_are_sound s b (RemainderOfSegment r) legal h =
-    let one = some_left s b legal.interval_from in
-    (zeros_sound s b r h.0, more_zeros s (b + 1) (blocks_left s b - 1) (segment_goes_on s b (blocks_left s b - 1) legal.interval_from (omega arith)))
+blocks_are_sound s b (ZeroBlocks r z) legal h = grind (arith, common_steps, zeros_sound, more_zeros, segment_goes_on)
+blocks_are_sound s b (RemainderOfSegment r) legal h = grind (arith, common_steps, some_left, zeros_sound, more_zeros, segment_goes_on)
 
 -- sound blocks are those of samples
 residual_has_sample : (s : Parameters) (i : ℕ) (p : ℤ) (d : ℕ) → IsLegal s → IsSample s p → is_reference_sample s i ≡ false → d < value_count s → (x : ℤ) × IsSample s x × (residual s i p x ≡ d)
@@ -165,12 +144,7 @@ blocks_have_samples s b p (c ∷ cs) legal j h k =
     let first = one.3 in
     let others = rest.3 in
     let l1 = one.1 in
-    let l2 = rest.1 in (
-      xs ++ ys,
-      length-append xs ys ∙ (omega arith),
-      all_append (IsSample s) xs ys one.2 rest.2,
-      (λ i. block_data s b p (front i) ∷ blocks_from s (b + 1) (last_of p (front i)) (length cs) (back i)) ∙ (λ i. first i ∷ others i),
-    )
+    grind (arith, common_steps, length-append, all_append)
 
 -- what decoding can come to
 abbrev Comes : Parameters → ℕ → ℕ → ℤ → List Bool → Option ℕ → Type 0

@@ -4,7 +4,7 @@ use Rattle.std.proofs.Common.{◌∷◌, ◌++◌, length, take, drop, replicate
 use Rattle.rice_code.proofs.Words.{is_some, list_all, prefix_len, best_of, range_with_len, AllByRecursion, nat_tests, take-append-drop, length-replicate, replicate-append-replicate, length-take}
 use Rattle.rice_code.proofs.Words.{prefix_len-le-length, take-length, Parameters, k_max, is_reference, begins_segment, blocks_left, some_left, one_less_left, last_of_segment, reference_begins}
 use Rattle.rice_code.proofs.Words.{BlockData, is_zero_block, zero_block, CodedDataSet, NoCompression, Split, ZeroBlocks, RemainderOfSegment, cost, shortest, other_options, data_sets, zero_run}
-use Rattle.rice_code.proofs.Words.{run_len, IsBlock, blocks_in, blocks_in_all, zero_blocks, eqb-true}
+use Rattle.rice_code.proofs.Words.{run_len, IsBlock, blocks_in, blocks_in_all, zero_blocks, eqb-true, common_steps}
 
 -- each block is one, from block b on
 abbrev pub AreBlocks : Parameters → ℕ → List BlockData → Type 0
@@ -31,9 +31,7 @@ all_zero (d ∷ ds) e =
 
 -- a zero block is one of zeros
 pub zero_block_is : (s : Parameters) (b : ℕ) (c : BlockData) → IsBlock s b c → is_zero_block c ≡ true → c ≡ zero_block s c.reference
-zero_block_is s b c h e =
-    let g = all_zero c.residuals e ∙ ap (λ n. replicate n 0) h.len in
-    λ i. record { reference = c.reference; residuals = g i }
+zero_block_is s b c h e = grind (arith, common_steps, all_zero)
 
 is_some-false : (r : Option ℕ) → is_some r ≡ false → r ≡ None
 is_some-false None e = refl
@@ -52,11 +50,7 @@ no_run_of (suc n) c cs z = ap (λ v. cond v (1 + prefix_len is_zero_block (take 
 
 -- a zero block begins a run of one more than would be skipped after it
 pub run_cons : (s : Parameters) (b : ℕ) (c : BlockData) (cs : List BlockData) → 1 ≤ s.interval → is_zero_block c ≡ true → run_len s b (c ∷ cs) ≡ suc (skipped s (b + 1) true cs)
-run_cons s b c cs h z =
-    elim (bool_cases (begins_segment s (b + 1))) [
-      | inl e ↦ ap (λ n. prefix_len is_zero_block (take n (c ∷ cs))) (last_of_segment s b h e) ∙ (run_of 0 c cs z ∙ sym (ap (λ v. suc (cond (not v) (run_len s (b + 1) cs) 0)) e))
-      | inr e ↦ ap (λ n. prefix_len is_zero_block (take n (c ∷ cs))) (one_less_left s b h e) ∙ (run_of (blocks_left s (b + 1)) c cs z ∙ sym (ap (λ v. suc (cond (not v) (run_len s (b + 1) cs) 0)) e))
-    ]
+run_cons s b c cs h z = grind (arith, common_steps, bool_cases, last_of_segment, run_of, one_less_left)
 
 run_stops : (s : Parameters) (b : ℕ) (c : BlockData) (cs : List BlockData) → 1 ≤ s.interval → is_zero_block c ≡ false → run_len s b (c ∷ cs) ≡ 0
 run_stops s b c cs h z = no_run_of (blocks_left s b) c cs z
@@ -69,18 +63,12 @@ data_sets_plain s b after c cs e = rw e refl
 -- a zero block that is in no run yet begins one, which is sent
 pub data_sets_start : (s : Parameters) (b : ℕ) (after : Bool) (c : BlockData) (cs : List BlockData) → is_zero_block c ≡ true → (after && not (begins_segment s b)) ≡ false →
     data_sets s b after (c ∷ cs) ≡ zero_run s b c.reference (c ∷ cs) ∷ data_sets s (b + 1) true cs
-data_sets_start s b after c cs e f =
-    let run = zero_run s b c.reference (c ∷ cs) in
-    ap (λ v. cond v (cond (after && not (begins_segment s b)) [] (run ∷ [])) (shortest s c ∷ []) ++ data_sets s (b + 1) v cs) e
-    ∙ ap (λ v. cond v [] (run ∷ []) ++ data_sets s (b + 1) true cs) f
+data_sets_start s b after c cs e f = grind (arith, common_steps)
 
 -- and for one that is in a run nothing more is sent
 pub data_sets_inside : (s : Parameters) (b : ℕ) (after : Bool) (c : BlockData) (cs : List BlockData) → is_zero_block c ≡ true → (after && not (begins_segment s b)) ≡ true →
     data_sets s b after (c ∷ cs) ≡ data_sets s (b + 1) true cs
-data_sets_inside s b after c cs e f =
-    let run = zero_run s b c.reference (c ∷ cs) in
-    ap (λ v. cond v (cond (after && not (begins_segment s b)) [] (run ∷ [])) (shortest s c ∷ []) ++ data_sets s (b + 1) v cs) e
-    ∙ ap (λ v. cond v [] (run ∷ []) ++ data_sets s (b + 1) true cs) f
+data_sets_inside s b after c cs e f = grind (arith, common_steps)
 
 prefix_none : (n : ℕ) → prefix_len is_zero_block (take n []) ≡ 0
 prefix_none zero = refl
@@ -88,19 +76,11 @@ prefix_none (suc n) = refl
 
 -- where there are no blocks, none is skipped,
 pub skipped_nil : (s : Parameters) (b : ℕ) (after : Bool) → skipped s b after [] ≡ 0
-skipped_nil s b after =
-    elim (bool_cases (after && not (begins_segment s b))) [
-      | inl e ↦ ap (λ v. cond v (run_len s b []) 0) e ∙ prefix_none (blocks_left s b)
-      | inr e ↦ ap (λ v. cond v (run_len s b []) 0) e
-    ]
+skipped_nil s b after = grind (arith, common_steps, bool_cases, prefix_none)
 
 -- nor is one before a block that is not zero
 pub skipped_plain : (s : Parameters) (b : ℕ) (after : Bool) (c : BlockData) (cs : List BlockData) → 1 ≤ s.interval → is_zero_block c ≡ false → skipped s b after (c ∷ cs) ≡ 0
-skipped_plain s b after c cs h z =
-    elim (bool_cases (after && not (begins_segment s b))) [
-      | inl e ↦ ap (λ v. cond v (run_len s b (c ∷ cs)) 0) e ∙ run_stops s b c cs h z
-      | inr e ↦ ap (λ v. cond v (run_len s b (c ∷ cs)) 0) e
-    ]
+skipped_plain s b after c cs h z = grind (arith, common_steps, bool_cases, run_stops)
 
 -- a zero block inside a run is skipped, and so is what would be skipped after it
 pub skipped_go : (s : Parameters) (b : ℕ) (after : Bool) (c : BlockData) (cs : List BlockData) → 1 ≤ s.interval → is_zero_block c ≡ true → (after && not (begins_segment s b)) ≡ true →
@@ -113,11 +93,7 @@ skipped_stop s b after cs e = ap (λ v. cond v (run_len s b cs) 0) e
 
 -- inside a segment no block has a reference
 no_reference : (s : Parameters) (b : ℕ) → not (begins_segment s b) ≡ true → is_reference s b ≡ false
-no_reference s b e =
-    elim (bool_cases (is_reference s b)) [
-      | inl r ↦ absurd (let f : not true ≡ true = sym (ap not (reference_begins s b r)) ∙ e in cc)
-      | inr r ↦ r
-    ]
+no_reference s b e = grind (arith, common_steps, bool_cases, reference_begins)
 
 zeros_inside : (s : Parameters) (b : ℕ) (c : BlockData) → IsBlock s b c → is_zero_block c ≡ true → not (begins_segment s b) ≡ true → c ≡ zero_block s None
 zeros_inside s b c h z e = zero_block_is s b c h z ∙ ap (λ r. zero_block s r) (is_some-false c.reference (h.reference.there ∙ no_reference s b e))
@@ -152,26 +128,7 @@ nothing_more s b (c ∷ cs) h e =
 -- what a run is
 pub zero_run_is : (s : Parameters) (b : ℕ) (r : Option ℕ) (cs : List BlockData) →
     (zero_run s b r cs ≡ ZeroBlocks r (run_len s b cs)) ⊎ ((zero_run s b r cs ≡ RemainderOfSegment r) × ((run_len s b cs ≡ blocks_left s b) ⊎ (run_len s b cs ≡ length cs)) × (5 ≤ run_len s b cs))
-zero_run_is s b r cs = cases (run_len s b cs) (blocks_left s b) (length cs)
-  where
-    either : (a b : Bool) → (a || b) ≡ true → (a ≡ true) ⊎ (b ≡ true)
-    either true b e = inl refl
-    either false b e = inr e
-
-    five : (z : ℕ) → nat_le 5 z ≡ true → 5 ≤ z
-    five z e = grind (arith, nat_tests)
-
-    cases : (z left len : ℕ) → let run = cond (nat_le 5 z && (z == left || z == len)) (RemainderOfSegment r) (ZeroBlocks r z) in
-        (run ≡ ZeroBlocks r z) ⊎ ((run ≡ RemainderOfSegment r) × ((z ≡ left) ⊎ (z ≡ len)) × (5 ≤ z))
-    cases z left len =
-        elim (bool_cases (nat_le 5 z && (z == left || z == len))) [
-          | inr e ↦ inl (ap (λ v. cond v (RemainderOfSegment r) (ZeroBlocks r z)) e)
-          | inl e ↦ inr (
-            ap (λ v. cond v (RemainderOfSegment r) (ZeroBlocks r z)) e,
-            elim (either (z == left) (z == len) (and-split (nat_le 5 z) (z == left || z == len) e).1) [ inl f ↦ inl (eqb-true z left f) | inr f ↦ inr (eqb-true z len f) ],
-            five z (and-split (nat_le 5 z) (z == left || z == len) e).0,
-          )
-        ]
+zero_run_is s b r cs = grind (arith, common_steps, nat_le, nat_tests, bool_cases, and-split, eqb-true)
 
 -- what holds of all holds of the best
 pub best_keeps : {A : Type 0} (P : A → Type 0) (beats : A → A → Bool) (a : A) (xs : List A) → P a → AllByRecursion P xs → P (best_of beats a xs)
@@ -204,12 +161,7 @@ run_blocks s r z j e = let n : z - 1 ≡ j = omega arith in ap (λ m. zero_block
 -- the run that all remaining blocks make, filled up to its segment's end
 run_fills : (s : Parameters) (r : Option ℕ) {j left : ℕ} {c : BlockData} (cs : List BlockData) → suc j ≤ left → j ≡ length cs →
     c ≡ zero_block s r → take j cs ≡ replicate j (zero_block s None) → zero_blocks s r left ++ [] ≡ (c ∷ cs) ++ replicate (left - suc j) (zero_block s None)
-run_fills s r {j} {left} cs h n f g =
-    let z = zero_block s None in
-    let m : left ≡ suc (j + (left - suc j)) = omega arith in
-    let whole : cs ≡ replicate j z = sym (ap (λ i. take i cs) n ∙ take-length cs) ∙ g in
-    append-nil (zero_blocks s r left) ∙ (run_blocks s r left (j + (left - suc j)) m ∙ (ap (λ v. zero_block s r ∷ v) (sym (replicate-append-replicate j (left - suc j) z))
-    ∙ (λ i. sym f i ∷ (sym whole i ++ replicate (left - suc j) z))))
+run_fills s r {j} {left} cs h n f g = grind (arith, common_steps, zero_block, take-length, append-nil, run_blocks, replicate-append-replicate)
 
 -- a data set of a block of zeros and of k more, which are the next ones
 record RunOfSet (s : Parameters) (b k : ℕ) (d : CodedDataSet) (c : BlockData) (cs : List BlockData) : Type 0 where
@@ -243,10 +195,7 @@ segment_goes_on s b (suc n) h le =
     ]
 
 go_on_after : (s : Parameters) (b m n : ℕ) → GoOn s b (m + n) → GoOn s (b + m) n
-go_on_after s b zero n h = let e : 0 + n ≡ n = omega arith in let f : b ≡ b + 0 = omega arith in along s b (0 + n) (b + 0) n f e h
-  where
-    along : (s : Parameters) (b m c n : ℕ) → b ≡ c → m ≡ n → GoOn s b m → GoOn s c n
-    along s b m c n e f h = let P : ℕ → Type 0 = λ x. GoOn s x n in let Q : ℕ → Type 0 = λ x. GoOn s b x in subst P e (subst Q f h)
+go_on_after s b zero n h = grind (arith, common_steps)
 go_on_after s b (suc m) n h =
     let P : ℕ → Type 0 = λ x. GoOn s x n in
     let Q : ℕ → Type 0 = λ x. GoOn s b x in
@@ -289,20 +238,11 @@ pub record Covering (s : Parameters) (b : ℕ) (after : Bool) (cs : List BlockDa
 covers_one_more : (s : Parameters) (b : ℕ) (after ahead : Bool) (c : BlockData) (cs : List BlockData) → (ih : Covering s (b + 1) ahead cs) →
     blocks_in_all s (b + skipped s b after (c ∷ cs)) (data_sets s b after (c ∷ cs)) ≡ drop (skipped s b after (c ∷ cs)) (c ∷ cs) ++ replicate ih.fill
     (zero_block s None) → Covering s b after (c ∷ cs)
-covers_one_more s b after ahead c cs ih e =
-    let n : b + 1 + length cs ≡ b + suc (length cs) = omega arith in
-    let P : ℕ → Type 0 = λ x. GoOn s x ih.fill in
-    record { fill = ih.fill; few = ih.few; inside = subst P n ih.inside; last = λ h. ends_cons c cs (ih.last h); blocks = e }
+covers_one_more s b after ahead c cs ih e = grind (arith, common_steps, ends_cons)
 
 -- The coded data sets of any blocks cover these in this way.
 pub covers_blocks : (s : Parameters) (b : ℕ) (after : Bool) (cs : List BlockData) → 1 ≤ s.interval → AreBlocks s b cs → Covering s b after cs
-covers_blocks s b after [] h k = record {
-  fill = 0;
-  few = lit< tt;
-  inside = tt;
-  last = λ e. absurd (omega arith);
-  blocks = sym (ap (λ v. v ++ (let e : List BlockData = [] in e)) (drop_none (skipped s b after [])));
-}
+covers_blocks s b after [] h k = grind (arith, common_steps, drop_none)
 covers_blocks s b after (c ∷ cs) h k =
     let at = λ (n : ℕ) (ds : List CodedDataSet) (fill : ℕ) (e : skipped s b after (c ∷ cs) ≡ n) (f : data_sets s b after (c ∷ cs) ≡ ds)
     (g : blocks_in_all s (b + n) ds ≡ drop n (c ∷ cs) ++ replicate fill (zero_block s None)).

@@ -5,7 +5,7 @@ use Rattle.rice_code.proofs.Words.{All, Contains, IfSome, IsSomeAnd, cond, AllBy
 use Rattle.rice_code.proofs.Words.{Parameters, IsLegal, IsSample, is_reference, is_reference_sample, pattern, residuals, residual, last_of, same_pattern, same_residual, same_residuals, inside_block}
 use Rattle.rice_code.proofs.Words.{no_reference_at, BlockData, block_data, blocks_from, CodedDataSet, NoCompression, SecondExtension, Split, ZeroBlocks, RemainderOfSegment, bits_of_set, IsForm}
 use Rattle.rice_code.proofs.Words.{RunIsSound, ResidualsAreSound, blocks_in, blocks_in_all, block_after, padding, Lies, DecodedFrom, Ending, Reached, Ended, CutOff, Past, Large, IsWanted, AreTaken}
-use Rattle.rice_code.proofs.Words.{BeginsUnsound, EndsWith, cut_to}
+use Rattle.rice_code.proofs.Words.{BeginsUnsound, EndsWith, cut_to, common_steps}
 use Rattle.rice_code.proofs.lemmas.{meaning.CoveredBlocks.bool_cases, code.FormsReadInOneWay.forms_read_in_one_way, code.OnesOfForms.forms_have_a_one, meaning.SentSetsAreTaken.IsSound}
 use Rattle.rice_code.proofs.lemmas.code.SoundBlocks.{all_take, all_drop, last_legal}
 
@@ -18,15 +18,11 @@ zeros_or_one : (rest : List Bool) → All (λ bit. bit ≡ false) rest → Conta
 zeros_or_one rest h k = let e : true ≡ false = All-contains (λ bit. bit ≡ false) rest true h k in absurd cc
 
 begins_with_one : (s : Parameters) (b : ℕ) (d : CodedDataSet) (rest more : List Bool) → IsLegal s → IsForm s b d → rest ≡ bits_of_set s d ++ more → Contains rest true
-begins_with_one s b d rest more legal h e =
-    let P : List Bool → Type 0 = λ v. Contains v true in
-    subst P (sym e) (Contains-append_left (bits_of_set s d) more true (forms_have_a_one s b d legal h))
+begins_with_one s b d rest more legal h e = grind (arith, common_steps, Contains-append_left, forms_have_a_one)
 
 refused_here : {s : Parameters} {b : ℕ} {rest : List Bool} {used : ℕ} (P : CodedDataSet → Type 0) (d : CodedDataSet) (more : List Bool) → IsLegal s
     → BeginsUnsound s b rest used P → IsForm s b d → rest ≡ bits_of_set s d ++ more → P d → ⊥
-refused_here {s} {b} P d more legal r h e k =
-    let same = forms_read_in_one_way b d r.refused more r.more legal h r.form (sym e ∙ r.begins) in
-    r.unsound (subst P same.0 k)
+refused_here {s} {b} P d more legal r h e k = grind (arith, common_steps, forms_read_in_one_way)
 
 past_or_large : (s : Parameters) (b : ℕ) (d : CodedDataSet) → (RunIsSound s b d → ⊥) → (ResidualsAreSound s d → ⊥) → ⊥
 past_or_large s b (NoCompression c) h k = h tt
@@ -36,14 +32,10 @@ past_or_large s b (ZeroBlocks r z) h k = k tt
 past_or_large s b (RemainderOfSegment r) h k = h tt
 
 past_and_large : (s : Parameters) (b : ℕ) (rest : List Bool) (m n : ℕ) → IsLegal s → BeginsUnsound s b rest m (RunIsSound s b) → BeginsUnsound s b rest n (ResidualsAreSound s) → ⊥
-past_and_large s b rest m n legal h k =
-    let same = forms_read_in_one_way b h.refused k.refused h.more k.more legal h.form k.form (sym h.begins ∙ k.begins) in
-    past_or_large s b k.refused (λ g. h.unsound (let P : CodedDataSet → Type 0 = λ d. RunIsSound s b d in subst P (sym same.0) g)) k.unsound
+past_and_large s b rest m n legal h k = grind (arith, common_steps, forms_read_in_one_way, past_or_large)
 
 same_refusal : (s : Parameters) (b : ℕ) (rest : List Bool) (m n : ℕ) (P : CodedDataSet → Type 0) → IsLegal s → BeginsUnsound s b rest m P → BeginsUnsound s b rest n P → m ≡ n
-same_refusal s b rest m n P legal h k =
-    let same = forms_read_in_one_way b h.refused k.refused h.more k.more legal h.form k.form (sym h.begins ∙ k.begins) in
-    h.bits ∙ (ap (λ d. length (bits_of_set s d)) same.0 ∙ sym k.bits)
+same_refusal s b rest m n P legal h k = grind (arith, common_steps, forms_read_in_one_way)
 
 -- legal parameters, and where decoding ends
 record EndsThere (s : Parameters) (asked : Option ℕ) (b : ℕ) (rest : List Bool) (ending : Ending) (used : ℕ) : Type 0 where

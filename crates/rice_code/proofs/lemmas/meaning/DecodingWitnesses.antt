@@ -1,16 +1,12 @@
 -- What shows that bits are decoded so: the coded data sets in them, the samples of these, and what the rest is.
 use Rattle.std.proofs.Common.{◌≡◌, ℕ, ◌+◌, ◌*◌, ◌<◌, Bool, true, false, nat_lt, map, List, [], ◌∷◌, ◌++◌, length, replicate, refl, ap, subst, sym, arith, ◌∙◌, append-nil, Option, ℤ, pos}
-use Rattle.rice_code.proofs.Words.{All, list_all, AllByRecursion, ints, All-from_recursion, All-replicate, Parameters, IsSample, value_count, blocks_from, CodedDataSet, bits_of_set}
+use Rattle.rice_code.proofs.Words.{All, list_all, AllByRecursion, ints, All-from_recursion, All-replicate, Parameters, IsSample, value_count, blocks_from, CodedDataSet, bits_of_set, common_steps}
 use Rattle.rice_code.proofs.Words.{BeginsUnsound, Decoded, DecodedFrom, Ending, Ended, IsWanted, EndsWith, cut_to, IsForm, RunIsSound, ResidualsAreSound, blocks_in, block_after, padding, ltb-true}
 use Rattle.rice_code.proofs.lemmas.meaning.CoveredBlocks.{and-split}
 
 -- numbers that a test finds small enough
 pub all_below : (limit : ℕ) (ds : List ℕ) → list_all (λ d. nat_lt d limit) ds ≡ true → All (λ d. d < limit) ds
-all_below limit ds e = All-from_recursion (λ d. d < limit) ds (each ds e)
-  where
-    each : (ds : List ℕ) → list_all (λ d. nat_lt d limit) ds ≡ true → AllByRecursion (λ d. d < limit) ds
-    each [] e = tt
-    each (d ∷ ds) e = let p = and-split (nat_lt d limit) (list_all (λ d. nat_lt d limit) ds) e in (ltb-true d limit p.0, each ds p.1)
+all_below limit ds e = grind (arith, common_steps, All-from_recursion, nat_lt, and-split, ltb-true)
 
 -- unsigned samples
 pub unsigned_samples : (s : Parameters) → s.signed ≡ false → (vs : List ℕ) → list_all (λ v. nat_lt v (value_count s)) vs ≡ true → All (IsSample s) (map pos vs)

@@ -5,7 +5,7 @@ use Rattle.rice_code.proofs.Words.{flat_map, AllByRecursion, nat_tests, cases_lt
 use Rattle.rice_code.proofs.Words.{bits_read, Piece, NoPiece, Search, word_piece, bits_piece, sequence_piece, search_pieces, two_pieces, length-word, followed_by, high-followed_by, word-followed_by}
 use Rattle.rice_code.proofs.Words.{Parameters, IsLegal, id_len, k_max, value_count, is_reference, pair_codes, unpaired, codes_of_unpaired, length-unpaired, count_pairs, word, fundamental_sequence}
 use Rattle.rice_code.proofs.Words.{BlockData, CodedDataSet, NoCompression, SecondExtension, Split, ZeroBlocks, RemainderOfSegment, bits_of_set, sent_residuals, sent_from, reference_bits, run_number}
-use Rattle.rice_code.proofs.Words.{IsForm, IsBlock, IsReference, IsZeroAtReference}
+use Rattle.rice_code.proofs.Words.{IsForm, IsBlock, IsReference, IsZeroAtReference, common_steps}
 use Rattle.rice_code.proofs.lemmas.meaning.CoveredBlocks.{bool_cases}
 use Rattle.rice_code.proofs.lemmas.code.FormsReadInOneWay.{reference_reads, identifier, tail, text_is, identifier_fits, wide_id, same_below, same_all, even_block, All-coded}
 
@@ -148,18 +148,12 @@ high_joined : (k : ℕ) (hs : List ℕ) (ls : List (List Bool)) → length hs �
 unfolding joined
 high_joined k [] ls e h = refl
 high_joined k (h ∷ hs) [] e g = absurd cc
-high_joined k (h ∷ hs) (l ∷ ls) e g =
-    let first : followed_by h l / 2 ^ k ≡ h = ap (λ n. followed_by h l / 2 ^ n) (sym g.0) ∙ high-followed_by h l in
-    let rest = high_joined k hs ls (omega arith) g.1 in
-    λ i. fundamental_sequence (first i) ++ rest i
+high_joined k (h ∷ hs) (l ∷ ls) e g = grind (arith, common_steps, high-followed_by, high_joined k hs ls (omega arith) g.1)
 
 low_joined : (k : ℕ) (hs : List ℕ) (ls : List (List Bool)) → length hs ≡ length ls → AllByRecursion (λ v. length v ≡ k) ls → flat_map (word k) (joined hs ls) ≡ flat_map (λ (v : List Bool). v) ls
 unfolding joined
 low_joined k [] [] e h = refl
-low_joined k (h ∷ hs) (l ∷ ls) e g =
-    let first : word k (followed_by h l) ≡ l = ap (λ n. word n (followed_by h l)) (sym g.0) ∙ word-followed_by h l in
-    let rest = low_joined k hs ls (omega arith) g.1 in
-    λ i. first i ++ rest i
+low_joined k (h ∷ hs) (l ∷ ls) e g = grind (arith, common_steps, word-followed_by, low_joined k hs ls (omega arith) g.1)
 low_joined k _ _ e h = absurd cc
 
 all_words : (k : ℕ) (ds : List ℕ) → AllByRecursion (λ (v : List Bool). length v ≡ k) (map (word k) ds)

@@ -1,7 +1,7 @@
 -- Which bytes are an output, and of which samples.
 use Rattle.std.proofs.Common.{◌≡◌, ℕ, ◌-◌, ◌*◌, ◌≤◌, Bool, List, length, refl, take, ap, sym, ◌∙◌, subst, arith, Some, ℤ}
 use Rattle.rice_code.proofs.Words.{All, length-take-le, All-take, Parameters, IsLegal, IsSample, zero_is_sample, bits_of, CodesDiffer, RefusedBytesAreNoOutput, IsOutputOf, OwnBytesAreRecognised}
-use Rattle.rice_code.proofs.Words.{output, Decoded, Ending, Reached}
+use Rattle.rice_code.proofs.Words.{output, Decoded, Ending, Reached, common_steps}
 use Rattle.rice_code.proofs.lemmas.{meaning.DecodedInOneWay.decoded_is_one, meaning.SamplesAreReturned.returns_samples}
 
 -- what the output of samples decodes to, by their number
@@ -25,11 +25,7 @@ refused_bytes s legal bytes xs ys ending used k d other is = other (decodes_to l
 
 -- as many samples as are asked for, where these are reached
 reached_samples : (s : Parameters) (bits : List Bool) (count : ℕ) (xs : List ℤ) (used : ℕ) → Decoded s bits (Some count) xs Reached used → All (IsSample s) xs × (length xs ≡ count)
-reached_samples s bits count xs used d =
-    let all : count - s.block * 0 ≡ count = omega arith in
-    let is : xs ≡ take count d.all = d.asked_for ∙ ap (λ n. take n d.all) all in
-    let enough : count ≤ length d.all = omega (arith, d.ends.0, d.len) in
-    (subst (All (IsSample s)) (sym is) (All-take (IsSample s) count d.all d.legal), ap length is ∙ length-take-le count d.all enough)
+reached_samples s bits count xs used d = grind (arith, common_steps, All-take, length-take-le)
 
 -- bytes are the output of a number of samples just where decoding reaches this number, and what it gives has these bytes as its output
 pub own_bytes : OwnBytesAreRecognised

@@ -4,7 +4,7 @@ use Rattle.std.proofs.Common.{take, replicate, refl, ap, arith, sym, ◌∙◌, 
 use Rattle.rice_code.proofs.Words.{All, div_ceil, next_multiple_of, cases_lt, length-replicate, replicate-append-replicate, recursion_from_All, All-from_recursion, All-replicate, eqb-true}
 use Rattle.rice_code.proofs.Words.{div-add-mod, mod-lt, mul-le-mul_left, take-append_seam, bits_of-padded, Parameters, IsLegal, IsSample, place, is_padded, block_count, last_of, filled_samples}
 use Rattle.rice_code.proofs.Words.{zero_is_sample, bits_to_byte, padded_bits, whole_bytes, bits_of, blocks_from, blocks_of, zero_block, CodedDataSet, Lies, blocks_in_all, sets_of, code, output}
-use Rattle.rice_code.proofs.Words.{Decoded, Ending, Reached, Ended, IsWanted, EndsWith, cut_to}
+use Rattle.rice_code.proofs.Words.{Decoded, Ending, Reached, Ended, IsWanted, EndsWith, cut_to, common_steps}
 use Rattle.rice_code.proofs.lemmas.meaning.CoveredBlocks.{bool_cases, and-split, GoOn, covers_blocks}
 use Rattle.rice_code.proofs.lemmas.{code.Layouts.lies_laid, code.Layouts.lies_inside, meaning.SentSetsAreTaken.are_taken}
 use Rattle.rice_code.proofs.lemmas.cost.PaddingBounds.{are_blocks, interval_begins_segment, sets_begin}
@@ -26,9 +26,7 @@ pub record Returned (s : Parameters) (xs : List ℤ) : Type 0 where
 
 -- zeros after bits, in two parts
 two_fills : (bits : List Bool) (m n : ℕ) → m ≤ n → bits ++ replicate n false ≡ (bits ++ replicate m false) ++ replicate (n - m) false
-two_fills bits m n h =
-    let sum : n ≡ m + (n - m) = omega arith in
-    ap (λ k. bits ++ replicate k false) sum ∙ (ap (λ v. bits ++ v) (sym (replicate-append-replicate m (n - m) false)) ∙ sym (append_assoc bits (replicate m false) (replicate (n - m) false)))
+two_fills bits m n h = grind (arith, common_steps, replicate-append-replicate, append_assoc)
 
 byte_parts : (bits : List Bool) (m : ℕ) → m ≤ bits_to_byte (length bits) → bits_of (whole_bytes (padded_bits bits)) ≡ (bits ++ replicate m false) ++ replicate (bits_to_byte (length bits) - m) false
 byte_parts bits m h = bits_of-padded bits ∙ two_fills bits m (bits_to_byte (length bits)) h
@@ -134,12 +132,7 @@ samples_are_returned s legal xs k =
 
 -- each block begins before the last sample
 begins_before : (j len i : ℕ) → 1 ≤ j → i < div_ceil len j → j * i < len
-begins_before j len i h lt =
-    let e = div-add-mod len j in
-    elim (cases_lt 0 (len % j)) [
-      | inl some ↦ let m : j * i ≤ j * (len / j) = mul-le-mul_left j (omega arith) in omega arith
-      | inr none ↦ let m : j * suc i ≤ j * (len / j) = mul-le-mul_left j (omega arith) in omega arith
-    ]
+begins_before j len i h lt = grind (arith, common_steps, div-add-mod, cases_lt, mul-le-mul_left)
 
 -- where as many are asked for as there are samples, their output decodes to just these
 pub returns_samples : (s : Parameters) → IsLegal s → (xs : List ℤ) → All (IsSample s) xs → (used : ℕ) × Decoded s (bits_of (output s xs)) (Some (length xs)) xs Reached used

@@ -3,7 +3,7 @@ use Rattle.std.proofs.Common.{◌≡◌, ℕ, suc, ◌+◌, ◌-◌, ◌*◌, �
 use Rattle.std.proofs.Common.{nat_lt, map, List, [], ◌∷◌, length, ap, arith, sym, ◌∙◌, inl, inr, subst, Option, Some, None}
 use Rattle.rice_code.proofs.Words.{range_with_len, AllByRecursion, nat_tests, cases_lt, length-replicate, mul-le-mul_left, Parameters, k_max, begins_segment, blocks_left, some_left, BlockData}
 use Rattle.rice_code.proofs.Words.{is_zero_block, zero_block, CodedDataSet, NoCompression, Split, ZeroBlocks, RemainderOfSegment, cost, IsForm, IsReference, RunIsSound, ResidualsAreSound, blocks_in}
-use Rattle.rice_code.proofs.Words.{zero_blocks, block_after, shortest, other_options, data_sets, zero_run, run_len, IsWanted, AreTaken, IsSoundBlock, AreSoundBlocks}
+use Rattle.rice_code.proofs.Words.{zero_blocks, block_after, shortest, other_options, data_sets, zero_run, run_len, IsWanted, AreTaken, IsSoundBlock, AreSoundBlocks, common_steps}
 use Rattle.rice_code.proofs.lemmas.{code.Layouts.BeginBefore, cost.BlockBounds.shortest_is_form}
 use Rattle.rice_code.proofs.lemmas.meaning.CoveredBlocks.{bool_cases, skipped, data_sets_plain, data_sets_start, data_sets_inside, skipped_plain, skipped_go}
 use Rattle.rice_code.proofs.lemmas.meaning.CoveredBlocks.{skipped_stop, zero_run_is, best_keeps, run_cons, run_inside, shortest_covers, nothing_more}
@@ -29,16 +29,7 @@ numbered_is_short z left len h k e =
 
 -- what is sent for a run of at least one zero block is a sound form
 pub zero_run_is_sound : (s : Parameters) (b w : ℕ) (r : Option ℕ) (cs : List BlockData) → 1 ≤ s.interval → IsReference s b r → run_len s b cs ≡ suc w → IsSound s b (zero_run s b r cs)
-zero_run_is_sound s b w r cs h k e =
-    let z = run_len s b cs in
-    let left = blocks_left s b in
-    elim (bool_cases (nat_le 5 z && (z == left || z == length cs))) [
-      | inl f ↦ subst (λ (v : Bool). IsSound s b (cond v (RemainderOfSegment r) (ZeroBlocks r z))) (sym f) (k, tt, tt)
-      | inr f ↦
-          let inside = run_inside s b cs in
-          let few : z ≤ 63 = numbered_is_short z left (length cs) inside (some_left s b h).1 f in
-          subst (λ (v : Bool). IsSound s b (cond v (RemainderOfSegment r) (ZeroBlocks r z))) (sym f) ((k, omega arith), (inside, few), tt)
-    ]
+zero_run_is_sound s b w r cs h k e = grind (arith, common_steps, bool_cases, nat_le, run_inside, numbered_is_short, some_left)
 
 count_zeros : (s : Parameters) (r : Option ℕ) (z w : ℕ) → z ≡ suc w → length (zero_blocks s r z) ≡ suc w
 count_zeros s r z w e = omega (arith, length-replicate (z - 1) (zero_block s None))
@@ -46,10 +37,7 @@ count_zeros s r z w e = omega (arith, length-replicate (z - 1) (zero_block s Non
 -- one more coded data set, and those after it
 take_one : (s : Parameters) (asked : Option ℕ) (b : ℕ) {n : ℕ} (d : CodedDataSet) (ds : List CodedDataSet) → IsWanted s asked b → IsSound s b d
     → length (blocks_in s b d) ≡ suc n → AreTaken s asked (b + 1 + n) ds → AreTaken s asked b (d ∷ ds)
-take_one s asked b {n} d ds go sound e h =
-    let P : ℕ → Type 0 = λ m. AreTaken s asked m ds in
-    let f : b + 1 + n ≡ block_after s b d = omega arith in
-    (go, sound.0, sound.1, sound.2, subst P f h)
+take_one s asked b {n} d ds go sound e h = grind (arith, common_steps)
 
 -- the coded data sets that are sent for sound blocks, all of them wanted, are taken from the first block on that no earlier run covers
 pub are_taken : (s : Parameters) (asked : Option ℕ) (b : ℕ) (after : Bool) (cs : List BlockData) → 1 ≤ s.interval → AreSoundBlocks s b cs → ((i : ℕ) → i < b + length cs → IsWanted s asked i) →

@@ -1,12 +1,7 @@
 use Rattle.std.proofs.Common.{get_or, refl, ◌≡◌, ℕ, zero, suc, ◌+◌, ◌-◌, ◌*◌, ◌/◌, ◌%◌, ◌^◌, ◌<◌, ◌≤◌, arith, ap, sym, ◌∙◌}
-use Rattle.std.specs.Prelude.{bit_and, bit_or, map}
-use Rattle.std.specs.List.{range_with_len}
-use Rattle.std.proofs.lemmas.List.FromFn.{get_or-map-range_with_len}
-use Rattle.rice_bits.specs.declared.bits.digits.TheConstants.{GREATEST}
-use Rattle.std.specs.Int.Bits.{or_zero_l}
-use Rattle.std.proofs.Math.Nat.{mod-one}
-use Rattle.std.proofs.lemmas.Nat.{and_mask, mod-mul-add, or_mod, pow-add, pow_pos}
-use Rattle.rice_bits.proofs.lemmas.bits.FrontsOfWords.{moved_up}
+use Rattle.std.proofs.{lemmas.Nat.and_mask, lemmas.Nat.mod-mul-add, lemmas.Nat.or_mod, lemmas.Nat.pow-add, lemmas.Nat.pow_pos, lemmas.List.FromFn.get_or-map-range_with_len, Math.Nat.mod-one}
+use Rattle.std.specs.{Prelude.bit_and, Prelude.bit_or, Prelude.map, List.range_with_len, Int.Bits.or_zero_l}
+use Rattle.rice_bits.{specs.declared.bits.digits.TheConstants.GREATEST, proofs.lemmas.bits.FrontsOfWords.moved_up}
 use Rattle.rice_bits.proofs.bits.digits.digits_after.Goals as goal
 
 -- the last digits of a number that is shifted past them are zeros

@@ -1,7 +1,5 @@
 use Rattle.std.proofs.Common.{◌≡◌, ℕ, zero, suc, ◌+◌, ◌-◌, ◌*◌, ◌/◌, ◌%◌, ◌^◌, ◌<◌, refl, arith, ◌∙◌, mod-eq_of_lt}
-use Rattle.std.specs.Prelude.{bit_or}
-use Rattle.std.proofs.Math.Nat.{div-eq_of_lt}
-use Rattle.std.proofs.lemmas.Nat.{or_shifted}
+use Rattle.std.{proofs.Math.Nat.div-eq_of_lt, proofs.lemmas.Nat.or_shifted, specs.Prelude.bit_or}
 use Rattle.rice_bits.proofs.lemmas.bits.WordsAndNumbers.{shift_fits}
 use Rattle.rice_bits.proofs.bits.digits.digits_moved_to_front.Goals as goal
 

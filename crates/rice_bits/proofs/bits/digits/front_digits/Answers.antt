@@ -1,6 +1,5 @@
 use Rattle.std.proofs.Common.{◌≡◌, ◌+◌, ◌-◌, ◌*◌, ◌/◌, ◌^◌, arith, ap, sym, ◌∙◌}
-use Rattle.std.proofs.lemmas.Nat.{pow-add}
-use Rattle.std.proofs.Math.Nat.{div-div-eq-div-mul}
+use Rattle.std.proofs.{Math.Nat.div-div-eq-div-mul, lemmas.Nat.pow-add}
 use Rattle.rice_bits.proofs.bits.digits.front_digits.Goals as goal
 
 pub returns : goal.returns

@@ -1,5 +1,4 @@
-use Rattle.std.proofs.Common.{mod-eq_of_lt}
-use Rattle.std.proofs.lemmas.Nat.{or_shifted}
+use Rattle.std.proofs.{lemmas.Nat.or_shifted, Common.mod-eq_of_lt}
 use Rattle.rice_bits.proofs.bits.digits.join.Goals as goal
 
 pub returns : goal.returns

@@ -1,6 +1,5 @@
 use Rattle.std.proofs.Common.{◌≡◌, ℕ, zero, suc, ◌-◌, ◌/◌, ◌%◌, ◌^◌, ◌<◌, ◌∙◌, arith, refl, ap, set, bit_or}
-use Rattle.std.specs.Int.{rotate_right, w8}
-use Rattle.std.specs.List.{slice_index}
+use Rattle.std.specs.{Int.rotate_right, Int.w8, List.slice_index}
 use Rattle.rice_bits.proofs.bits.eight_bytes.join_one_at_bit.Goals as goal
 
 -- a 1 that is moved from the front

@@ -1,10 +1,9 @@
 use Rattle.std.proofs.Common.{◌≡◌, ℕ, zero, suc, ◌+◌, ◌-◌, ◌<◌, ◌≤◌, ◌∙◌, List, [], ◌∷◌, ◌++◌, inl, inr, refl, ap, sym, arith, length, drop, take, replicate, length-append, min, set, false}
 use Rattle.std.specs.Prelude.{◌==◌}
+use Rattle.std.proofs.lemmas.{List.append-nil, List.drop_all, List.get_or_past, List.length-drop, List.length-replicate, List.take-append-le, List.take-replicate, List.take_all, Bool.cases_lt}
 use Rattle.std.specs.List.{slice_index}
-use Rattle.std.proofs.lemmas.Bool.{cases_lt}
-use Rattle.std.proofs.lemmas.List.{append-nil, drop_all, get_or_past, length-drop, length-replicate, take-append-le, take-replicate, take_all}
-use Rattle.rice_bits.proofs.bits.eight_bytes.move_byte_to_front.Goals as goal
 use Rattle.rice_bits.proofs.bits.eight_bytes.move_byte_to_front.Goals.{then-at-bytes, else-at-bytes}
+use Rattle.rice_bits.proofs.bits.eight_bytes.move_byte_to_front.Goals as goal
 
 -- zeros, of which the first becomes a byte
 zeros_after : (bytes zeros : List ℕ) (some count k : ℕ) → some ≡ suc count → some ≤ length bytes → zeros ≡ replicate some 0 ++ drop some bytes

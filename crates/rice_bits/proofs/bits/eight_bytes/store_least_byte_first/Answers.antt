@@ -1,6 +1,5 @@
 use Rattle.std.proofs.Common.{◌≡◌, ℕ, ◌+◌, ◌≤◌, List, ◌++◌, length, drop, take, refl, ap, arith, ◌∙◌}
-use Rattle.std.proofs.lemmas.List.{drop-drop}
-use Rattle.std.proofs.lemmas.Simd.{put_chunk_is}
+use Rattle.std.proofs.lemmas.{Simd.put_chunk_is, List.drop-drop}
 use lib.Lanes.{put_chunk}
 use Rattle.rice_bits.proofs.bits.eight_bytes.store_least_byte_first.Goals as goal
 

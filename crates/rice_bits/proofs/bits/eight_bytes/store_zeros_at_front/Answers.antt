@@ -1,5 +1,4 @@
-use Rattle.std.proofs.Common.{arith}
-use Rattle.std.proofs.lemmas.Simd.{put_chunk_is}
+use Rattle.std.proofs.{lemmas.Simd.put_chunk_is, Common.arith}
 use Rattle.rice_bits.proofs.bits.eight_bytes.store_zeros_at_front.Goals as goal
 
 pub returns-then-bytes-ge64 : goal.returns-then-bytes-ge64

@@ -1,6 +1,5 @@
 use Rattle.std.proofs.Common.{◌≡◌, ◌+◌, ◌-◌, ◌*◌, ◌/◌, ◌<◌, ◌%◌, ◌∙◌, ap, sym, arith, length, replicate, false, rules}
-use Rattle.std.specs.List.{slice_index}
-use Rattle.std.proofs.Math.Nat.{pow-le-pow_right}
+use Rattle.std.{proofs.Math.Nat.pow-le-pow_right, specs.List.slice_index}
 use Rattle.rice_bits.proofs.lemmas.bits.SinkBytes.{gathered-put, joined_below, last_zeros}
 use Rattle.rice_bits.proofs.bits.sink.join_digits_in_memory.Goals as goal
 

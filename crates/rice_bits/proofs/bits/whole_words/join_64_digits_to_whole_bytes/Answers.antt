@@ -1,7 +1,6 @@
 use Rattle.std.proofs.Common.{◌++◌, drop, take, ◌≡◌, ◌+◌, ◌-◌, ◌*◌, ◌/◌, ◌<◌, ◌∙◌, ap, arith, length, replicate, false, rules, sym}
 use Rattle.std.specs.List.{slice_index}
-use Rattle.rice_bits.proofs.lemmas.bits.EightBytes.{eight-swapped}
-use Rattle.rice_bits.proofs.lemmas.bits.WholeWords.{whole-put}
+use Rattle.rice_bits.proofs.lemmas.bits.{EightBytes.eight-swapped, WholeWords.whole-put}
 use Rattle.rice_bits.proofs.bits.whole_words.join_64_digits_to_whole_bytes.Goals as goal
 
 pub returns-clause-joins : goal.returns-clause-joins

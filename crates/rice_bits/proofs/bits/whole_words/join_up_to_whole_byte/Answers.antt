@@ -1,7 +1,6 @@
 use Rattle.std.proofs.Common.{◌≡◌, ◌+◌, ◌-◌, ◌*◌, ◌/◌, ◌<◌, ◌%◌, ◌∙◌, ap, arith, length, replicate, false, refl, rules, sym}
 use Rattle.std.specs.List.{slice_index}
-use Rattle.rice_bits.proofs.lemmas.bits.SinkBytes.{last_zeros}
-use Rattle.rice_bits.proofs.lemmas.bits.WholeWords.{first-put, first_below, front_fits, value_fits}
+use Rattle.rice_bits.proofs.lemmas.bits.{WholeWords.first-put, WholeWords.first_below, WholeWords.front_fits, WholeWords.value_fits, SinkBytes.last_zeros}
 use Rattle.rice_bits.proofs.bits.whole_words.join_up_to_whole_byte.Goals as goal
 
 pub join-requires-clause-high : goal.join-requires-clause-high

@@ -1,11 +1,7 @@
 use Rattle.std.proofs.Common.{ℕ, ◌≤◌, ◌≡◌, ◌*◌, ◌++◌, arith, ap, length, sym, take, ◌∙◌}
 use Rattle.std.proofs.lemmas.List.{length-take-le}
-use Rattle.rice_bits.specs.Bits.{bits_of}
-use Rattle.rice_bits.specs.read.Window.{IsWindow, window_bits, window_taken}
-use Rattle.rice_bits.specs.declared.read.window.Window.{Window}
-use Rattle.rice_bits.proofs.lemmas.bits.BytesAndBits.{bits_of-nil, length-bits_of}
-use Rattle.rice_bits.proofs.lemmas.read.WindowLemmas.{length-window, window_empty}
-use Rattle.rice_bits.proofs.lemmas.read.RefilledBytes.{supplies-none}
+use Rattle.rice_bits.proofs.lemmas.{bits.BytesAndBits.bits_of-nil, bits.BytesAndBits.length-bits_of, read.WindowLemmas.length-window, read.WindowLemmas.window_empty, read.RefilledBytes.supplies-none}
+use Rattle.rice_bits.specs.{read.Window.IsWindow, read.Window.window_bits, read.Window.window_taken, declared.read.window.Window.Window, Bits.bits_of}
 use Rattle.rice_bits.proofs.read.reader.refill_if_empty.Goals as goal
 
 -- where no bit is buffered, the window is at its end

@@ -1,8 +1,7 @@
 use Rattle.std.proofs.Common.{◌≡◌, ◌+◌, ◌-◌, ◌*◌, ◌%◌, ◌∙◌, ◌++◌, false, ap, arith, length, length-append, replicate, take}
 use Rattle.std.proofs.lemmas.List.{length-replicate}
+use Rattle.rice_bits.proofs.lemmas.bits.{SinkBytes.length_viewed, SinkBytes.fewer_zeros_after, BytesAndBits.length-bits_of}
 use Rattle.rice_bits.specs.Bits.{bits_of, bits_to_byte}
-use Rattle.rice_bits.proofs.lemmas.bits.BytesAndBits.{length-bits_of}
-use Rattle.rice_bits.proofs.lemmas.bits.SinkBytes.{length_viewed, fewer_zeros_after}
 use Rattle.rice_bits.proofs.bits.sink.BitSink.pad.Goals as goal
 
 pub invariant_of-self : goal.invariant_of-self

@@ -1,7 +1,6 @@
 use Rattle.std.proofs.Common.{◌≡◌, ◌+◌, ◌-◌, ◌*◌, ◌++◌, ◌∙◌, false, ap, sym, arith, length, length-append, drop, take, replicate}
+use Rattle.rice_bits.proofs.lemmas.bits.{WordsAndNumbers.length-fundamental_sequence, SinkBytes.gathered-one, SinkBytes.length_viewed}
 use Rattle.rice_bits.specs.Bits.{bits_of, fundamental_sequence}
-use Rattle.rice_bits.proofs.lemmas.bits.WordsAndNumbers.{length-fundamental_sequence}
-use Rattle.rice_bits.proofs.lemmas.bits.SinkBytes.{gathered-one, length_viewed}
 use Rattle.rice_bits.proofs.bits.sink.BitSink.put_fs.Goals as goal
 
 pub join_one_at_bit-requires : goal.join_one_at_bit-requires

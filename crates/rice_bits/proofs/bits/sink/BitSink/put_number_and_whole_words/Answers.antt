@@ -1,10 +1,7 @@
 use Rattle.std.proofs.Common.{◌≡◌, ◌+◌, ◌*◌, ◌++◌, arith, length, length-append}
 use Rattle.std.specs.Prelude.{flat_map}
+use Rattle.rice_bits.proofs.lemmas.{bits.WordsAndNumbers.length-word, read.WindowLemmas.length-words, bits.SinkBytes.length_viewed, bits.JoinedBits.joined-puts}
 use Rattle.rice_bits.specs.Bits.{word}
-use Rattle.rice_bits.proofs.lemmas.bits.JoinedBits.{joined-puts}
-use Rattle.rice_bits.proofs.lemmas.bits.SinkBytes.{length_viewed}
-use Rattle.rice_bits.proofs.lemmas.bits.WordsAndNumbers.{length-word}
-use Rattle.rice_bits.proofs.lemmas.read.WindowLemmas.{length-words}
 use Rattle.rice_bits.proofs.bits.sink.BitSink.put_number_and_whole_words.Goals as goal
 
 pub join_number_and_whole_words-self-inside-requires-clause-room : goal.join_number_and_whole_words-self-inside-requires-clause-room

@@ -1,7 +1,5 @@
 use Rattle.std.proofs.Common.{arith}
-use Rattle.rice_bits.proofs.lemmas.bits.JoinedBits.{joined-puts}
-use Rattle.rice_bits.proofs.lemmas.bits.SinkBytes.{length_viewed}
-use Rattle.rice_bits.proofs.lemmas.bits.WordsAndNumbers.{length-word}
+use Rattle.rice_bits.proofs.lemmas.bits.{WordsAndNumbers.length-word, SinkBytes.length_viewed, JoinedBits.joined-puts}
 use Rattle.rice_bits.proofs.bits.sink.BitSink.put_up_to_56_digits.Goals as goal
 
 pub join_digits_in_memory-self-inside-requires-clause-room : goal.join_digits_in_memory-self-inside-requires-clause-room

@@ -1,7 +1,5 @@
 use Rattle.std.proofs.Common.{◌∙◌, sym, ap, arith}
-use Rattle.rice_bits.specs.Bits.{whole_bytes}
-use Rattle.rice_bits.proofs.lemmas.bits.BytesAndBits.{each_byte}
-use Rattle.rice_bits.proofs.lemmas.bits.SinkBytes.{gathered-whole}
+use Rattle.rice_bits.{proofs.lemmas.bits.SinkBytes.gathered-whole, proofs.lemmas.bits.BytesAndBits.each_byte, specs.Bits.whole_bytes}
 use Rattle.rice_bits.proofs.bits.sink.BitSink.whole.Goals as goal
 
 pub returns : goal.returns

@@ -1,11 +1,8 @@
 use Rattle.std.proofs.Common.{arith, ◌≡◌, ◌+◌, ◌%◌, ◌++◌, ap, sym, ◌∙◌, take}
-use Rattle.std.proofs.lemmas.List.{length-take-le}
 use Rattle.std.specs.Prelude.{◌&&◌}
-use Rattle.rice_bits.specs.Bits.{bits_to_byte}
-use Rattle.rice_bits.specs.read.Window.{window_bits, window_passed, window_taken}
-use Rattle.rice_bits.specs.read.Reader.{is_blank}
-use Rattle.rice_bits.proofs.lemmas.read.BlankBits.{and-true}
-use Rattle.rice_bits.proofs.lemmas.read.WindowLemmas.{length-window}
+use Rattle.std.proofs.lemmas.List.{length-take-le}
+use Rattle.rice_bits.{specs.read.Window.window_bits, specs.read.Window.window_passed, specs.read.Window.window_taken, proofs.lemmas.read.WindowLemmas.length-window, specs.read.Reader.is_blank}
+use Rattle.rice_bits.{proofs.lemmas.read.BlankBits.and-true, specs.Bits.bits_to_byte}
 use Rattle.rice_bits.proofs.read.reader.BitReader.align.Goals as goal
 
 pub tick-requires : goal.tick-requires

@@ -1,6 +1,5 @@
 use Rattle.std.proofs.Common.{◌≡◌, ap, ◌∙◌, refl, None}
-use Rattle.rice_bits.proofs.lemmas.read.RefilledBytes.{refills-buffered}
-use Rattle.rice_bits.proofs.lemmas.read.ReaderLemmas.{takes_passed}
+use Rattle.rice_bits.proofs.lemmas.read.{RefilledBytes.refills-buffered, ReaderLemmas.takes_passed}
 use Rattle.rice_bits.proofs.read.reader.BitReader.pass.Goals as goal
 
 pub returns-clause-takes : goal.returns-clause-takes

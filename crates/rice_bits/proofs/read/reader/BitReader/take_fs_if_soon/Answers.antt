@@ -1,8 +1,6 @@
 use Rattle.std.proofs.Common.{◌≡◌, ◌<◌, ap, refl, None, length, arith}
+use Rattle.rice_bits.proofs.lemmas.read.{ReaderLemmas.not_refused, ReaderLemmas.takes_passed, RefilledBytes.refills-buffered, WindowLemmas.length-window}
 use Rattle.rice_bits.specs.read.Window.{window_bits}
-use Rattle.rice_bits.proofs.lemmas.read.RefilledBytes.{refills-buffered}
-use Rattle.rice_bits.proofs.lemmas.read.ReaderLemmas.{not_refused, takes_passed}
-use Rattle.rice_bits.proofs.lemmas.read.WindowLemmas.{length-window}
 use Rattle.rice_bits.proofs.read.reader.BitReader.take_fs_if_soon.Goals as goal
 
 pub tick-requires : goal.tick-requires

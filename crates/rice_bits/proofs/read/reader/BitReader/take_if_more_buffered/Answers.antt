@@ -1,7 +1,5 @@
 use Rattle.std.proofs.Common.{ap, refl, arith}
-use Rattle.rice_bits.proofs.lemmas.bits.WordsAndNumbers.{length-word}
-use Rattle.rice_bits.proofs.lemmas.read.RefilledBytes.{refills-buffered}
-use Rattle.rice_bits.proofs.lemmas.read.ReaderLemmas.{not_refused, takes_passed}
+use Rattle.rice_bits.proofs.lemmas.{read.ReaderLemmas.not_refused, read.ReaderLemmas.takes_passed, read.RefilledBytes.refills-buffered, bits.WordsAndNumbers.length-word}
 use Rattle.rice_bits.proofs.read.reader.BitReader.take_if_more_buffered.Goals as goal
 
 pub returns-clause-some : goal.returns-clause-some

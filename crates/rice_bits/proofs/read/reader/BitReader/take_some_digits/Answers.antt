@@ -1,9 +1,6 @@
 use Rattle.std.proofs.Common.{◌<◌, length, arith, ◌≡◌, ap, sym, ◌∙◌, refl, None}
+use Rattle.rice_bits.proofs.lemmas.{read.RefilledBytes.refills_nothing, read.RefilledBytes.refills-supplied, bits.WordsAndNumbers.length-word, read.ReaderLemmas.takes_passed, read.BlankBits.and-true}
 use Rattle.rice_bits.specs.Bits.{word}
-use Rattle.rice_bits.proofs.lemmas.bits.WordsAndNumbers.{length-word}
-use Rattle.rice_bits.proofs.lemmas.read.RefilledBytes.{refills_nothing, refills-supplied}
-use Rattle.rice_bits.proofs.lemmas.read.BlankBits.{and-true}
-use Rattle.rice_bits.proofs.lemmas.read.ReaderLemmas.{takes_passed}
 use Rattle.rice_bits.proofs.read.reader.BitReader.take_some_digits.Goals as goal
 
 pub returns-in-Err-clause-err : goal.returns-in-Err-clause-err

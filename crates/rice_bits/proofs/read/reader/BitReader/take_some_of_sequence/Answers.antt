@@ -1,10 +1,7 @@
 use Rattle.std.proofs.Common.{arith, ap, sym, ◌∙◌, refl, ◌≡◌, ◌<◌, None, false, length, take, replicate, subst, min}
-use Rattle.rice_bits.proofs.lemmas.read.RefilledBytes.{refills_nothing, refills-supplied}
-use Rattle.rice_bits.proofs.lemmas.read.BlankBits.{and-true}
-use Rattle.rice_bits.proofs.lemmas.read.WindowLemmas.{length-window}
 use Rattle.std.proofs.lemmas.List.{length-replicate}
+use Rattle.rice_bits.proofs.lemmas.read.{RefilledBytes.refills_nothing, RefilledBytes.refills-supplied, WindowLemmas.length-window, ReaderLemmas.takes_passed, BlankBits.and-true}
 use Rattle.rice_bits.specs.read.Window.{Passes, window_bits}
-use Rattle.rice_bits.proofs.lemmas.read.ReaderLemmas.{takes_passed}
 use Rattle.rice_bits.proofs.read.reader.BitReader.take_some_of_sequence.Goals as goal
 
 pub returns-in-Err-clause-err : goal.returns-in-Err-clause-err

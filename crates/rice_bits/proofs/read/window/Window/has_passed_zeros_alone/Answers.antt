@@ -1,9 +1,6 @@
 use Rattle.std.proofs.Common.{◌≡◌, arith, ap, sym, ◌∙◌}
 use Rattle.std.specs.Prelude.{slice_range}
-use Rattle.rice_bits.specs.Bits.{bits_of}
-use Rattle.rice_bits.specs.read.Reader.{is_blank}
-use Rattle.rice_bits.specs.read.Window.{window_passed}
-use Rattle.rice_bits.proofs.lemmas.read.WindowLemmas.{blank-more, blank-not}
+use Rattle.rice_bits.{proofs.lemmas.read.WindowLemmas.blank-more, proofs.lemmas.read.WindowLemmas.blank-not, specs.read.Window.window_passed, specs.read.Reader.is_blank, specs.Bits.bits_of}
 use Rattle.rice_bits.proofs.read.window.Window.has_passed_zeros_alone.Goals as goal
 
 pub loop-seen-preserved : goal.loop-seen-preserved

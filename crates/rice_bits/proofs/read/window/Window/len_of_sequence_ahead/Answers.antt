@@ -1,14 +1,10 @@
 use Rattle.std.proofs.Common.{◌≡◌, ℕ, ◌+◌, ◌-◌, ◌/◌, ◌^◌, ◌<◌, ◌++◌, arith, sym, ◌∙◌, ap, false, length, min, replicate, take, take-take}
-use Rattle.std.proofs.Math.Nat.{pow-suc}
-use Rattle.std.proofs.lemmas.List.{length-take-le, take-append-le, take-replicate, take_at}
-use Rattle.std.proofs.lemmas.Nat.{leading_top}
-use Rattle.std.specs.Int.Count.{leading_unique}
-use lib.Count.{count_leading_zeros}
-use Rattle.rice_bits.specs.Bits.{fundamental_sequence, word}
-use Rattle.rice_bits.specs.read.Window.{bits_near, window_bits}
-use Rattle.rice_bits.proofs.lemmas.bits.FrontsOfWords.{first_run, take-front, word-parts}
-use Rattle.rice_bits.proofs.lemmas.bits.WordsAndNumbers.{length-fundamental_sequence, word-zero}
+use Rattle.std.{proofs.lemmas.List.length-take-le, proofs.lemmas.List.take-append-le, proofs.lemmas.List.take-replicate, proofs.lemmas.List.take_at, specs.Int.Count.leading_unique}
+use Rattle.std.proofs.{lemmas.Nat.leading_top, Math.Nat.pow-suc}
 use Rattle.rice_bits.proofs.lemmas.read.WindowLemmas.{length-window, run-within, near-there, window-front}
+use Rattle.rice_bits.proofs.lemmas.bits.{WordsAndNumbers.length-fundamental_sequence, WordsAndNumbers.word-zero, FrontsOfWords.first_run, FrontsOfWords.take-front, FrontsOfWords.word-parts}
+use Rattle.rice_bits.specs.{read.Window.bits_near, read.Window.window_bits, Bits.fundamental_sequence, Bits.word}
+use lib.Count.{count_leading_zeros}
 use Rattle.rice_bits.proofs.read.window.Window.len_of_sequence_ahead.Goals as goal
 
 pub returns-then-after_zero-eq0-clause-none : goal.returns-then-after_zero-eq0-clause-none
