@@ -4,7 +4,7 @@ use Rattle.std.proofs.Common.{List, [], ◌∷◌, ◌++◌, length, take, drop,
 use Rattle.rice_code.proofs.Words.{slice_index_or, prefix_len, suc-mod, mul-add-div, mul-add-mod_self_left, bits_to_byte, Parameters, IsLegal, place, is_reference, is_reference_sample, begins_segment}
 use Rattle.rice_code.proofs.Words.{blocks_left, block_count, rank, pattern, residuals, last_of, filled_samples, cases_lt, BlockData, block_data, blocks_from, blocks_of, is_zero_block, CodedDataSet}
 use Rattle.rice_code.proofs.Words.{NoCompression, SecondExtension, Split, ZeroBlocks, RemainderOfSegment, bits_of_set, blocks_in, zero_blocks, block_after, layout, shortest, data_sets, code_from}
-use Rattle.rice_code.proofs.Words.{zero_run}
+use Rattle.rice_code.proofs.Words.{zero_run, common_steps}
 use Rattle.rice_code.proofs.lemmas.code.Layouts.{sent_first}
 
 -- two blocks at the same place of their intervals: the next ones are at the same place, too,
@@ -36,10 +36,7 @@ pub same_left : (s : Parameters) (b c : ℕ) → place s b ≡ place s c → blo
 same_left s b c e = ap (λ v. 64 * (v / 64) + min 64 (s.interval - 64 * (v / 64)) - v) e
 
 same_reference_at : (s : Parameters) (b c t : ℕ) → 1 ≤ s.block → place s b ≡ place s c → is_reference_sample s (s.block * b + t) ≡ is_reference_sample s (s.block * c + t)
-same_reference_at s b c t h e =
-    let j = s.block in
-    let at = λ (b : ℕ). (let q = mul-add-div h b t in let r = mul-add-mod_self_left j b t in ap (λ n. is_reference s n && (j * b + t) % j == 0) q ∙ ap (λ n. is_reference s (b + t / j) && n == 0) r) in
-    at b ∙ (ap (λ v. v && t % j == 0) (same_reference s (b + t / j) (c + t / j) (place_on s b c (t / j) e)) ∙ sym (at c))
+same_reference_at s b c t h e = grind (arith, common_steps, mul-add-div, mul-add-mod_self_left, same_reference, place_on)
 
 same_residuals : (s : Parameters) (b c t : ℕ) (p : ℤ) (xs : List ℤ) → 1 ≤ s.block → place s b ≡ place s c → residuals s (s.block * b + t) p xs ≡ residuals s (s.block * c + t) p xs
 same_residuals s b c t p [] h e = refl
@@ -62,25 +59,15 @@ same_contents s b c p xs h e =
 -- and the same blocks from both on
 pub same_blocks : (s : Parameters) (b c : ℕ) (p : ℤ) (n : ℕ) (xs : List ℤ) → 1 ≤ s.block → place s b ≡ place s c → blocks_from s b p n xs ≡ blocks_from s c p n xs
 same_blocks s b c p zero xs h e = refl
-same_blocks s b c p (suc n) xs h e =
-    let first = same_contents s b c p (take s.block xs) h e in
-    let rest = same_blocks s (b + 1) (c + 1) (last_of p (take s.block xs)) n (drop s.block xs) h (place_step s b c e) in
-    λ i. first i ∷ rest i
+same_blocks s b c p (suc n) xs h e = grind (arith, common_steps, same_contents, place_step, same_blocks s (b + 1) (c + 1) (last_of p (take s.block xs)) n (drop s.block xs) h (place_step s b c e))
 
 same_run : (s : Parameters) (b c : ℕ) (r : Option ℕ) (cs : List BlockData) → place s b ≡ place s c → zero_run s b r cs ≡ zero_run s c r cs
-same_run s b c r cs e =
-    ap (λ (left : ℕ). cond (nat_le 5 (prefix_len is_zero_block (take left cs))
-    && (prefix_len is_zero_block (take left cs) == left || prefix_len is_zero_block (take left cs) == length cs)) (RemainderOfSegment r)
-    (ZeroBlocks r (prefix_len is_zero_block (take left cs)))) (same_left s b c e)
+same_run s b c r cs e = grind (arith, common_steps, nat_le, same_left)
 
 -- and the same blocks are sent by the same coded data sets from both on
 pub same_data_sets : (s : Parameters) (b c : ℕ) (after : Bool) (cs : List BlockData) → place s b ≡ place s c → data_sets s b after cs ≡ data_sets s c after cs
 same_data_sets s b c after [] e = refl
-same_data_sets s b c after (d ∷ ds) e =
-    let run = same_run s b c d.reference (d ∷ ds) e in
-    let start = same_start s b c e in
-    let rest = same_data_sets s (b + 1) (c + 1) (is_zero_block d) ds (place_step s b c e) in
-    λ i. cond (is_zero_block d) (cond (after && not (start i)) [] (run i ∷ [])) (shortest s d ∷ []) ++ rest i
+same_data_sets s b c after (d ∷ ds) e = grind (arith, common_steps, same_run, same_start, place_step, same_data_sets s (b + 1) (c + 1) (is_zero_block d) ds (place_step s b c e))
 
 -- a coded data set stands for the same blocks at both
 pub same_blocks_in : (s : Parameters) (b c : ℕ) (d : CodedDataSet) → place s b ≡ place s c → blocks_in s b d ≡ blocks_in s c d
@@ -114,9 +101,4 @@ same_laid s end stop b c m (d ∷ ds) same =
 
 -- So code depends on the block where it begins by the place in its interval alone.
 pub code_stands_in_intervals : (s : Parameters) → IsLegal s → (b c position : ℕ) (p : ℤ) (xs : List ℤ) → place s b ≡ place s c → code_from s b position p xs ≡ code_from s c position p xs
-code_stands_in_intervals s legal b c position p xs e =
-    let j : 1 ≤ s.block = grind (arith, legal.block) in
-    let n = block_count s (length xs) in
-    ap (λ v. layout s (b + n) b position (data_sets s b false v)) (same_blocks s b c p n (filled_samples s p xs) j e)
-    ∙ (ap (λ v. layout s (b + n) b position v) (same_data_sets s b c false (blocks_of s c p xs) e)
-    ∙ same_laid s (b + n) (c + n) b c position (data_sets s c false (blocks_of s c p xs)) (record { begins = e; ends = place_on s b c n e; apart = omega arith }))
+code_stands_in_intervals s legal b c position p xs e = grind (arith, common_steps, same_blocks, same_data_sets, same_laid, place_on)

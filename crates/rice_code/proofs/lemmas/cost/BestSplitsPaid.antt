@@ -5,7 +5,7 @@ use Rattle.rice_code.proofs.Words.{sum_by, All, AllByRecursion, range_with_len, 
 use Rattle.rice_code.proofs.Words.{id_len, k_max, begins_segment, block_count, last_of, filled_samples, zero_is_sample, pair_code, pair_codes, cut_sum, sum_halves, BlockData, blocks_of, is_zero_block}
 use Rattle.rice_code.proofs.Words.{block_bound, step_bound, amortised_step_bound, CodedDataSet, NoCompression, SecondExtension, Split, bits_of_set, cost, sent_residuals, sent_from, reference_len}
 use Rattle.rice_code.proofs.Words.{data_sets, data_set_at, bits_from, code_bits, IsSoundData, AreSoundBlocks, SplitIsPaid, most_looks, most_looks_at, most_steps, IsBestSplit, best_split, shortest}
-use Rattle.rice_code.proofs.Words.{other_options}
+use Rattle.rice_code.proofs.Words.{other_options, common_steps}
 use Rattle.rice_code.proofs.lemmas.meaning.CoveredBlocks.{best_keeps, bool_cases, data_sets_plain}
 use Rattle.rice_code.proofs.lemmas.cost.SplitSavings.{coded_sum, best_where_it_stops, best_where_it_ends, first_more}
 use Rattle.rice_code.proofs.lemmas.{encode.ChoiceLemmas.best_split_is, encode.PushedCode.blocks_go_on, code.CodeGoesOn.bits_go_on}
@@ -63,31 +63,14 @@ cut_sum_grows ds (suc k) =
     let e : suc k ≡ k + 1 = omega arith in
     let g = ap (cut_sum ds) e in
     let h = sum_halves ds k in
-    step (cut_sum ds 0) (cut_sum ds k) (cut_sum ds (suc k)) k ih (omega (arith, g, h))
-  where
-    step : (a x y k : ℕ) → suc k * x ≤ a → y + y ≤ x → suc (suc k) * y ≤ a
-    step a x y k h e =
-        let p : suc k * (y + y) ≤ suc k * x = mul-le-mul_left (suc k) e in
-        omega (arith, p, h)
+    grind (arith, common_steps, mul-le-mul_left)
 
 pair_covers : (a b : ℕ) → a + b ≤ pair_code a b
-pair_covers a b = at (a + b) b
-  where
-    at : (s b : ℕ) → s ≤ s * (s + 1) / 2 + b
-    at zero b = omega arith
-    at (suc s) b =
-        let p : suc s * 2 ≤ suc s * (suc s + 1) = mul-le-mul_left (suc s) (omega arith) in
-        omega (arith, p)
+pair_covers a b = grind (arith, common_steps, mul-le-mul_left)
 
 pairs_cover : (half : ℕ) (ds : List ℕ) → length ds ≡ half + half → cut_sum ds 0 ≤ sum_by (λ g. g + 1) (pair_codes ds)
 pairs_cover zero [] h = omega arith
-pairs_cover (suc half) (a ∷ b ∷ ds) h =
-    let ih = pairs_cover half ds (omega arith) in
-    let x = sum_by-cons (λ d. d / 2 ^ 0) a (b ∷ ds) in
-    let y = sum_by-cons (λ d. d / 2 ^ 0) b ds in
-    let z = sum_by-cons (λ g. g + 1) (pair_code a b) (pair_codes ds) in
-    let c = pair_covers a b in
-    omega (arith, ih, x, y, z, c)
+pairs_cover (suc half) (a ∷ b ∷ ds) h = grind (arith, common_steps, sum_by-cons, pair_covers, pairs_cover half ds (omega arith))
 pairs_cover _ _ h = absurd (omega arith)
 
 coded_most : (r : Option ℕ) (ds : List ℕ) → length ds ≤ length (sent_from r ds) + 1
@@ -158,26 +141,7 @@ looks_are_paid s c legal h =
 looks_of_all_are_paid : (s : Parameters) (b : ℕ) (after : Bool) (cs : List BlockData) → IsLegal s → AreSoundBlocks s b cs →
     sum_by (most_looks s) cs ≤ sum_by (λ d. length (bits_of_set s d)) (data_sets s b after cs) + length cs * (6 * s.block)
 looks_of_all_are_paid s b after [] legal h = omega arith
-looks_of_all_are_paid s b after (c ∷ cs) legal h =
-    let bits = λ (ds : List CodedDataSet). sum_by (λ d. length (bits_of_set s d)) ds in
-    let rest = data_sets s (b + 1) (is_zero_block c) cs in
-    let ih = looks_of_all_are_paid s (b + 1) (is_zero_block c) cs legal h.1 in
-    let j : 1 ≤ s.block = grind (arith, legal.block) in
-    let one = sum_by-cons (most_looks s) c cs in
-    let more : suc (length cs) * (6 * s.block) ≡ length cs * (6 * s.block) + 6 * s.block = omega arith in
-    elim (bool_cases (is_zero_block c)) [
-      | inl z ↦
-          let looks = looks_zero s c z in
-          let at = sum_by-append (λ d. length (bits_of_set s d)) (data_set_at s b after c cs) rest in
-          omega (arith, ih, one, more, looks.1, at)
-      | inr z ↦
-          let paid = looks_are_paid s c legal (sound_of s b c h.0) in
-          let len = shortest_len s b c j h.0 in
-          let at = ap bits (data_sets_plain s b after c cs z) in
-          let sum = sum_by-cons (λ d. length (bits_of_set s d)) (shortest s c) (data_sets s (b + 1) false cs) in
-          let same = ap (λ v. bits (data_sets s (b + 1) v cs)) z in
-          omega (arith, ih, one, more, paid, len, at, sum, same)
-    ]
+looks_of_all_are_paid s b after (c ∷ cs) legal h = grind (arith, common_steps, sum_by-cons, bool_cases, looks_zero, sum_by-append, looks_are_paid, sound_of, shortest_len, data_sets_plain, looks_of_all_are_paid s (b + 1) (is_zero_block c) cs legal h.1)
 
 -- and they are bounded by the number of splits
 looks_are_few : (s : Parameters) (cs : List BlockData) → sum_by (most_looks s) cs ≤ length cs * (s.block * (k_max s + 5))
@@ -229,13 +193,7 @@ steps_are_paid s legal q xs ys h k len begins =
     let count = count_blocks s q p n (filled_samples s p ys) in
     let sound = blocks_sound_after s q p ys legal j sample (recursion_from_All (IsSample s) ys k) in
     let looks = looks_of_all_are_paid s q false (blocks_of s q p ys) legal sound in
-    sums n s.block _ _ _ _ _ _ _ parts.0 parts.1 looks count
-  where
-    sums : (n j b b' more l l' looks len : ℕ) → b' ≡ b + more → l' ≡ l + looks → looks ≤ more + len * (6 * j) → len ≡ n → b' + l' + 2 * b ≤ b + l + 2 * b' + 6 * j * n
-    sums n j b b' more l l' looks len e f g c =
-        let m = ap (λ v. v * (6 * j)) c in
-        let p : n * (6 * j) ≡ 6 * j * n = omega arith in
-        omega (arith, m, p)
+    grind (arith, common_steps)
 
 -- With those for the samples, the filled ones too, all steps are within the bound by the number of samples, and within that by the bits.
 pub all_steps_are_bounded : (s : Parameters) → IsLegal s → (xs : List ℤ) → All (IsSample s) xs →

@@ -2,7 +2,7 @@
 use Rattle.std.proofs.Common.{◌≡◌, ℕ, zero, suc, ◌+◌, ◌-◌, ◌<◌, ◌≤◌, ◌==◌, min, Bool, true, false, cond, not, ◌||◌, List, []}
 use Rattle.std.proofs.Common.{◌∷◌, ◌++◌, length, take, replicate, refl, ap, arith, sym, ◌∙◌, ◌⊎◌, inl, inr, append-nil, length-append, Option, None}
 use Rattle.rice_code.proofs.Words.{nat_tests, length-replicate, length-take, prefix_len-le-length, Parameters, id_len, begins_segment, blocks_left, BlockData, is_zero_block, zero_block, data_sets}
-use Rattle.rice_code.proofs.Words.{bits_of_set, reference_len, run_number, zero_blocks, block_after, run_len, zero_run, zeros_of_run}
+use Rattle.rice_code.proofs.Words.{bits_of_set, reference_len, run_number, zero_blocks, block_after, run_len, zero_run, zeros_of_run, common_steps}
 use Rattle.rice_code.proofs.lemmas.{code.SegmentsOneByOne.head_of_segment, cost.CostsOfSmallerBlocks.BeginAtMost, cost.CostsOfSmallerBlocks.zero_at_most, encode.OptionTexts.run_cost}
 use Rattle.rice_code.proofs.lemmas.{encode.OptionTexts.run_text_len, encode.SegmentBlocksInTurn.left_inside}
 use Rattle.rice_code.proofs.lemmas.cost.WhereSetsEnd.{IsFill, code_end, ends_later}
@@ -62,29 +62,7 @@ record ZeroBlockFirst (s : Parameters) (b end : ℕ) (c : BlockData) (cs : List 
 run_laid : (s : Parameters) (fill : ℕ → ℕ → ℕ) (b : ℕ) {end : ℕ} (p : ℕ) (r : Option ℕ) (c : BlockData) (cs : List BlockData) → ZeroBlockFirst s b end c cs →
     code_end s fill end b p (zero_run s b r (c ∷ cs) ∷ data_sets s (b + 1) true cs)
     ≡ (let next = b + run_len s b (c ∷ cs) in code_end s fill end next (fill next (p + length (bits_of_set s (zero_run s b r (c ∷ cs))))) (data_sets s (b + 1) true cs))
-run_laid s fill b {end} p r c cs first =
-    let z = run_len s b (c ∷ cs) in
-    let run = zero_run s b r (c ∷ cs) in
-    let bits = p + length (bits_of_set s run) in
-    let later = data_sets s (b + 1) true cs in
-    let count = run_cons s b c cs first.interval first.zero in
-    let few : z ≤ suc (length cs) = omega (arith, prefix_len-le-length is_zero_block (take (blocks_left s b) (c ∷ cs)), length-take (blocks_left s b) (c ∷ cs)) in
-    let after = λ (n : ℕ) (f : block_after s b run ≡ b + length (zero_blocks s r n)) (g : z ≡ n).
-    (let next : block_after s b run ≡ b + z = omega (arith, f, g, count, length-replicate (n - 1) (zero_block s None)) in
-    let last : min end (block_after s b run) ≡ b + z = omega (arith, next, few, first.end_is) in
-    ap (λ n. code_end s fill end n (fill (min end (block_after s b run)) bits) later) next ∙ ap (λ n. code_end s fill end (b + z) (fill n bits) later) last) in
-    elim (zero_run_is s b r (c ∷ cs)) [
-      | inl f ↦ after z (ap (block_after s b) f) refl
-      | inr f ↦ elim f.1 [
-        | inl full ↦ after (blocks_left s b) (ap (block_after s b) f.0) full
-        | inr all ↦
-            let none = nothing_more s (b + 1) cs first.interval (omega (arith, count, all)) in
-            let last : min end (block_after s b run) ≡ b + z = omega
-            (arith, ap (block_after s b) f.0, length-replicate (blocks_left s b - 1) (zero_block s None), run_inside s b (c ∷ cs), all, first.end_is, count) in
-            ap (λ l. code_end s fill end (block_after s b run) (fill (min end (block_after s b run)) bits) l) none
-            ∙ (ap (λ n. fill n bits) last ∙ sym (ap (λ l. code_end s fill end (b + z) (fill (b + z) bits) l) none))
-      ]
-    ]
+run_laid s fill b {end} p r c cs first = grind (arith, common_steps, run_cons, prefix_len-le-length, length-take, length-replicate, zero_block, zero_run_is, nothing_more, run_inside)
 
 -- A run that goes on at block b: the coder would begin there with the rest of the run.
 record GoesOn (s : Parameters) (fill : ℕ → ℕ → ℕ) (b : ℕ) (cs : List BlockData) : Type 0 where
@@ -194,20 +172,7 @@ run_and_more {s} {fill} b {end} {p} {q} {w} number r rest is run e begins more =
 -- the last zero blocks, by a run of more
 last_run : {s : Parameters} {fill : ℕ → ℕ → ℕ} (b : ℕ) {end p q j n : ℕ} (number : ℕ) (r : Option ℕ) → IsFill s fill → LeastRun s b n number → suc j < n → end ≡ b + suc j → p ≤ q →
     code_end s fill end b p (data_sets s b false (zeros_and s r j [])) ≤ q + run_bits s r number
-last_run {s} {fill} b {end} {p} {j} {n} number r is run some e begins =
-    let all = zeros_and s r j [] in
-    let z = run_len s b all in
-    let v = to_end s b all in
-    let inside : suc j ≤ blocks_left s b = omega (arith, some, run.inside) in
-    let exact : z ≡ suc j = omega (arith, front_count s b j r [] run.interval inside, skipped_nil s (b + 1 + j) true) in
-    let ends = fills_list z (blocks_left s b) (length all) (omega (arith, exact, front_len s j r [])) in
-    let few : zeros_of_run v z ≤ number = elim run.least [
-      | inl numbered ↦ omega (arith, last_of_fewer v z n ends (omega (arith, exact)) (omega (arith, exact, some)), numbered)
-      | inr full ↦ omega (arith, to_the_end v z (omega (arith, exact)) ends, full.0)
-    ] in
-    let bits = p + length (bits_of_set s (zero_run s b r all)) in
-    let bare = is.inside b z bits (omega (arith, exact)) (omega (arith, exact, some, run.inside)) in
-    omega (arith, front_laid s fill b {end = end} p r [] run.interval inside (omega (arith, e)), bare, run_size s b r all, few, begins)
+last_run {s} {fill} b {end} {p} {j} {n} number r is run some e begins = grind (arith, common_steps, front_count, skipped_nil, fills_list, front_len, last_of_fewer, to_the_end, front_laid, run_size)
 
 -- the first zero blocks are all there, or the list ends among them
 run_splits : (s : Parameters) (w : ℕ) (cs ys : List BlockData) → BeginAtMost cs (replicate w (zero_block s None) ++ ys) →

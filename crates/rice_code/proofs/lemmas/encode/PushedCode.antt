@@ -1,7 +1,7 @@
 -- The samples that a coder has taken, and the code that a push or the end completes.
 use Rattle.std.proofs.Common.{◌≡◌, ℕ, ◌+◌, ◌-◌, ◌*◌, ◌/◌, ◌%◌, ◌<◌, ◌≤◌, ◌==◌, min, Bool, true, false, List, [], ◌∷◌}
 use Rattle.std.proofs.Common.{◌++◌, length, take, replicate, refl, ap, arith, sym, ◌∙◌, inl, inr, subst, append_assoc, append-nil, length-append, None, ℤ, pos}
-use Rattle.rice_code.proofs.Words.{sum_by, AllByRecursion, next_multiple_of, cases_lt, nat_tests, take_at, All-from_recursion, sum_by-append, mod-lt, mod-eq_of_lt, mul-div_cancel_left}
+use Rattle.rice_code.proofs.Words.{sum_by, AllByRecursion, next_multiple_of, cases_lt, nat_tests, take_at, All-from_recursion, sum_by-append, mod-lt, mod-eq_of_lt, mul-div_cancel_left, common_steps}
 use Rattle.rice_code.proofs.Words.{mul-add-mod_self_left, mod_self, mul-le-mul_left, Parameters, IsLegal, IsSample, id_len, k_max, place, begins_segment, blocks_left, cut, block_count, last_of}
 use Rattle.rice_code.proofs.Words.{filled_samples, some_left, length-residuals, zero_is_sample, BlockData, blocks_from, blocks_of, fill_count_of, fill_count, code, code_bits, data_sets}
 use Rattle.rice_code.proofs.Words.{complete_samples, reference_in, HasCodedBefore, HasTaken, IsCoder, AddsCode, CoderState, IsOpen, IsWhole, state_between, empty_state, state_after, state_with_fill}
@@ -31,24 +31,7 @@ none_taken s legal =
     let zero_place : place s 0 ≡ 0 = let lt : 0 < s.interval = omega (arith, legal.interval_from) in mod-eq_of_lt lt in
     let j : 1 ≤ s.block = grind (arith, legal.block) in
     let left = some_left s 0 legal.interval_from in
-    record {
-      block = 0;
-      coded = [];
-      held = [];
-      parts = refl;
-      holds = record {
-        legal = legal;
-        samples = tt;
-        whole = omega arith;
-        place = zero_place;
-        begins = ap (λ p. p == 64 * (p / 64)) zero_place;
-        few = omega arith;
-        previous = refl;
-        residuals = refl;
-        reference = refl;
-      };
-      short = let m : s.block * 1 ≤ s.block * blocks_left s 0 = mul-le-mul_left s.block left.0 in omega arith;
-    }
+    grind (arith, common_steps, mul-le-mul_left)
 
 -- how many samples are pending
 pub pending_are : (coder : CoderState) (xs : List ℤ) → HasTaken coder xs → length coder.residuals + cut coder.setting (length xs) ≡ length xs
@@ -77,11 +60,7 @@ previous_legal coder k =
     subst (IsSample coder.setting) (sym h.previous) (last_legal coder.setting (pos 0) _ (zero_is_sample coder.setting h.legal.bits_from) h.samples)
 
 left_same : (coder : CoderState) (b : ℕ) (coded held : List ℤ) → HasCodedBefore coder b coded held → blocks_left coder.setting coder.start ≡ blocks_left coder.setting b
-left_same coder b coded held h =
-    let s = coder.setting in
-    let lt : coder.start < s.interval = omega (arith, h.place, mod-lt b h.legal.interval_from) in
-    let at : place s coder.start ≡ coder.start = mod-eq_of_lt lt in
-    ap (λ p. 64 * (p / 64) + min 64 (s.interval - 64 * (p / 64)) - p) (at ∙ sym h.place)
+left_same coder b coded held h = grind (arith, common_steps, mod-lt, mod-eq_of_lt)
 
 held_count : (coder : CoderState) (b : ℕ) (coded held : List ℤ) → HasCodedBefore coder b coded held → length coder.residuals ≡ length held
 held_count coder b coded held h = ap length h.residuals ∙ length-residuals coder.setting (coder.setting.block * b) (last_of (pos 0) coded) held
@@ -94,14 +73,7 @@ stays_open coder x xs h legal less =
     let more = one_more coder h.block h.coded h.held x h.holds h.short legal in
     let count = held_count (state_after coder x) h.block h.coded (h.held ++ x ∷ []) more in
     let m = ap (λ n. coder.setting.block * n) (left_same coder h.block h.coded h.held h.holds) in
-    record {
-      block = h.block;
-      coded = h.coded;
-      held = h.held ++ x ∷ [];
-      parts = ap (λ v. v ++ x ∷ []) h.parts ∙ append_assoc h.coded h.held (x ∷ []);
-      holds = more;
-      short = omega (arith, count, m, less);
-    }
+    grind (arith, common_steps, append_assoc)
 
 -- and it completes no segment
 pub stays_open_completes_none : (coder : CoderState) (x : ℤ) (xs : List ℤ) → (h : HasTaken coder xs) → IsSample coder.setting x
@@ -113,10 +85,7 @@ stays_open_completes_none coder x xs h legal less =
 
 -- a coder holds fewer samples than its segment has room for
 pub short_of : (coder : CoderState) (xs : List ℤ) → HasTaken coder xs → length coder.residuals < coder.setting.block * blocks_left coder.setting coder.start
-short_of coder xs h =
-    let l = ap (λ n. coder.setting.block * n) (left_same coder h.block h.coded h.held h.holds) in
-    let c = held_count coder h.block h.coded h.held h.holds in
-    omega (arith, l, c, h.short)
+short_of coder xs h = grind (arith, common_steps, left_same, held_count)
 
 -- sound blocks stay sound at another block of the same place
 sound_same : (s : Parameters) (a b : ℕ) (cs : List BlockData) → place s a ≡ place s b → AreSoundBlocks s a cs → AreSoundBlocks s b cs
@@ -148,12 +117,7 @@ open_between s start p xs k =
 
 -- a coder whose samples all make whole segments holds nothing: it stands between two segments
 pub holds_nothing : (coder : CoderState) (xs : List ℤ) → HasTaken coder xs → cut coder.setting (length xs) ≡ length xs → coder ≡ state_between coder.setting coder.start coder.previous
-holds_nothing coder xs k all =
-    let none : length coder.residuals ≡ 0 = omega (arith, pending_are coder xs k, all) in
-    let residuals : coder.residuals ≡ [] = nil_from_length coder.residuals none in
-    let held : k.held ≡ [] = nil_from_length k.held (omega (arith, held_count coder k.block k.coded k.held k.holds, none)) in
-    let reference : coder.reference ≡ None = k.holds.reference ∙ ap (reference_in coder.setting k.block) held in
-    λ i. record { setting = coder.setting; residuals = residuals i; reference = reference i; previous = coder.previous; start = coder.start }
+holds_nothing coder xs k all = grind (arith, common_steps, pending_are, nil_from_length, held_count)
 
 -- and its samples are those of whole segments
 pub between_all : (s : Parameters) (start : ℕ) (p : ℤ) (xs : List ℤ) → HasTaken (state_between s start p) xs → cut s (length xs) ≡ length xs
@@ -162,10 +126,7 @@ between_all s start p xs k = omega (arith, pending_are (state_between s start p)
 -- the blocks of samples after whole blocks
 pub blocks_go_on : (s : Parameters) (b q : ℕ) (p : ℤ) (xs ys : List ℤ) → 1 ≤ s.block → length xs ≡ s.block * q
     → blocks_of s b p (xs ++ ys) ≡ blocks_of s b p xs ++ blocks_of s (b + q) (last_of p xs) ys
-blocks_go_on s b q p xs ys j len =
-    let parts = filled_after s q p xs ys j len in
-    (λ i. blocks_from s b p (parts.1 i) (parts.0 i))
-    ∙ (blocks_append s b p q (block_count s (length ys)) xs (filled_samples s (last_of p xs) ys) len ∙ ap (λ v. v ++ blocks_of s (b + q) (last_of p xs) ys) (sym (own_blocks s b q p xs j len)))
+blocks_go_on s b q p xs ys j len = grind (arith, common_steps, filled_after, blocks_append, own_blocks)
 
 -- what a coder holds is the code of the samples that it holds, filled to whole blocks, after those that are coded
 pub record IsPart (coder : CoderState) (coded held : List ℤ) : Type 0 where
@@ -235,41 +196,16 @@ pub record AddsHeldCode (coder : CoderState) (xs ys : List ℤ) : Type 0 where
   pub most : most_looks_at coder.setting ys ≡ most_looks_at coder.setting xs + sum_by (most_looks coder.setting) (contents_held coder)
 
 adds_held_code : (coder : CoderState) (xs ys coded held : List ℤ) → xs ≡ coded → ys ≡ coded ++ held → IsPart coder coded held → AddsHeldCode coder xs ys
-adds_held_code coder xs ys coded held e f part =
-    let s = coder.setting in
-    let looks = λ (g : BlockData → ℕ). ap (λ v. sum_by g (blocks_of s 0 (pos 0) v)) f
-    ∙ (ap (λ v. sum_by g v) part.blocks_are
-    ∙ (sum_by-append g (blocks_of s 0 (pos 0) coded) (contents_held coder) ∙ ap (λ v. sum_by g (blocks_of s 0 (pos 0) v) + sum_by g (contents_held coder)) (sym e))) in
-    record {
-      code_is = λ position place. ap (λ v. code s v) f ∙ (part.code_is position (λ p. place p ∙ ap (λ v. length (code s v) % 8) e) ∙ ap (λ v. code s v ++ code_held coder position) (sym e));
-      bits_are = ap (λ v. code_bits s v) f ∙ (part.bits_are ∙ ap (λ v. code_bits s v + bits_held coder) (sym e));
-      least = looks (least_looks s);
-      most = looks (most_looks s);
-    }
+adds_held_code coder xs ys coded held e f part = grind (arith, common_steps, sum_by-append)
 
 -- What a call that codes what is held adds, after it has taken `more` samples.
 pub adds_code : {coder : CoderState} {xs ys : List ℤ} {old new : List Bool} {count more m0 m1 m2 : ℕ} → AddsHeldCode coder xs ys → CodesHeld coder old new count m1 m2 → m1 ≡ m0 + more →
     AddsCode coder.setting xs ys old new count more m0 m2
-adds_code {coder} {old} adds codes steps = record {
-  code_is = λ place. record { bits = code_held coder (length old); appended = codes.code_is; completes = adds.code_is (length old) place };
-  bits = omega (arith, adds.bits_are, codes.bits);
-  steps = record {
-    least = omega (arith, adds.bits_are, adds.least, codes.least, steps);
-    most = omega (arith, adds.bits_are, adds.most, codes.most, steps);
-  };
-}
+adds_code {coder} {old} adds codes steps = grind (arith, common_steps)
 
 -- and one that codes nothing
 pub adds_nothing : (s : Parameters) (xs ys : List ℤ) (sink : List Bool) (more m0 m1 : ℕ) → ys ≡ xs → m1 ≡ m0 + more → AddsCode s xs ys sink sink 0 more m0 m1
-adds_nothing s xs ys sink more m0 m1 e steps =
-    let bits = ap (code_bits s) e in
-    let least = ap (least_steps s) e in
-    let most = ap (most_steps s) e in
-    record {
-      code_is = λ place. record { bits = []; appended = sym (append-nil sink); completes = ap (code s) e ∙ sym (append-nil (code s xs)) };
-      bits = omega (arith, bits);
-      steps = record { least = omega (arith, least, steps); most = omega (arith, most, steps) };
-    }
+adds_nothing s xs ys sink more m0 m1 e steps = grind (arith, common_steps, append-nil)
 
 -- after a whole segment the next begins
 pub next_begins : (coder : CoderState) (b : ℕ) (coded held : List ℤ) (start : ℕ) → HasCodedBefore coder b coded held
@@ -343,10 +279,7 @@ whole_segment_adds_code coder x xs h legal e =
         complete_are_coded _ (xs ++ x ∷ []) next ∙ (sym (append-nil next.coded) ∙ (ap (λ v. next.coded ++ v) (sym (nil_from_length next.held none)) ∙ (sym next.parts ∙ parts)))
 
 zero_fill : (j m : ℕ) → 1 ≤ j → m ≡ 0 → (j - m % j) % j ≡ 0
-zero_fill j m h e =
-    let z : m % j ≡ 0 = ap (λ v. v % j) e ∙ (let f : 0 % j ≡ 0 = mod-eq_of_lt h in f) in
-    let same : j - 0 ≡ j = omega arith in
-    ap (λ v. (j - v) % j) z ∙ (ap (λ v. v % j) same ∙ mod_self j)
+zero_fill j m h e = grind (arith, common_steps, mod-eq_of_lt, mod_self)
 
 not_first_of : (ds : List ℕ) → 0 < length ds → is_empty ds ≡ false
 not_first_of [] h = absurd (omega arith)
@@ -389,11 +322,7 @@ filled_segment_adds_code coder xs h = adds_held_code (state_with_fill coder (fil
 
 -- as many as fill the last block of all samples
 pub fill_count_is : (coder : CoderState) (xs : List ℤ) → HasTaken coder xs → fill_count coder.setting (length coder.residuals) ≡ fill_count_of coder.setting xs
-fill_count_is coder xs h =
-    let s = coder.setting in
-    let count = held_count coder h.block h.coded h.held h.holds in
-    let all : length xs ≡ s.block * h.block + length coder.residuals = omega (arith, ap length h.parts, length-append h.coded h.held, h.holds.whole, count) in
-    ap (λ v. (s.block - v) % s.block) (sym (same_rest s.block h.block (length coder.residuals) (length xs) all))
+fill_count_is coder xs h = grind (arith, common_steps, held_count, length-append, same_rest)
 
 -- What the end does, where `held` is what the coder holds with its last block filled.
 pub finish_sound : (coder held : CoderState) → held ≡ state_with_fill coder (fill_count coder.setting (length coder.residuals)) → IsCoder coder → HoldsSoundBlocks held
@@ -413,18 +342,8 @@ finish_adds {coder} {xs} {old} {new} {n} {m0} {m1} {m2} e g codes steps h =
 
 -- The steps of a segment are few,
 pub segment_steps_few : (s : Parameters) → IsLegal s → segment_steps s ≤ 274752
-segment_steps_few s legal =
-    let j : s.block ≤ 64 = grind (arith, legal.block) in
-    let i : id_len s ≤ 5 = grind (arith, nat_tests) in
-    let k : k_max s ≤ 29 = grind (arith, nat_tests) in
-    let a : s.block * s.bits ≤ s.block * 32 = mul-le-mul_left s.block legal.bits_to in
-    let b : s.block * (k_max s + 6) ≤ s.block * 35 = mul-le-mul_left s.block (omega (arith, k)) in
-    let bound : block_bound s ≤ 2053 = omega (arith, a, i, j, legal.bits_to) in
-    omega (arith, bound, b, j)
+segment_steps_few s legal = grind (arith, common_steps, nat_tests, mul-le-mul_left)
 
 -- and they count its samples
 pub steps_of_segment : (s : Parameters) → segment_steps s ≡ coding_steps s + s.block * 64
-steps_of_segment s = at (block_bound s) s.block (k_max s)
-  where
-    at : (bound j k : ℕ) → 64 * (bound + j * (k + 6)) ≡ 64 * (bound + j * (k + 5)) + j * 64
-    at bound j k = omega arith
+steps_of_segment s = grind (arith, common_steps)

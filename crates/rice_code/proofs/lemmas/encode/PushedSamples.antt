@@ -1,7 +1,7 @@
 -- What pushing samples does: what pushing the last of them does after the others.
 use Rattle.std.proofs.Common.{◌≡◌, ℕ, ◌+◌, ◌-◌, ◌*◌, ◌%◌, ◌^◌, ◌<◌, ◌≤◌, Bool, List, [], ◌∷◌, ◌++◌, length}
 use Rattle.std.proofs.Common.{take, refl, ap, arith, inl, inr, sym, ◌∙◌, subst, append_assoc, append-nil, length-append, ℤ}
-use Rattle.rice_code.proofs.Words.{AllByRecursion, mod-lt, mul-le-mul_left, take-length, cases_lt, IsSample, blocks_left, cut, some_left}
+use Rattle.rice_code.proofs.Words.{AllByRecursion, mod-lt, mul-le-mul_left, take-length, cases_lt, IsSample, blocks_left, cut, some_left, common_steps}
 use Rattle.rice_code.proofs.Words.{complete_samples, HasTaken, IsCoder, PushesSamples, fill_count, CoderState, IsWhole, state_after, state_after_all, state_after_segment}
 use Rattle.rice_code.proofs.Words.{state_with_fill, next_residual, HoldsSoundBlocks, CodesHeld, coding_steps, segment_steps}
 use Rattle.rice_code.proofs.lemmas.encode.PushedCode.{stays_open, stays_open_completes_none, short_of, pending_are, whole_sound, takes_last_of_segment}
@@ -12,10 +12,7 @@ use Rattle.rice_code.proofs.lemmas.encode.SeveralSamplesHeld.{state_after_all-no
 pub several_stay_open : (coder : CoderState) (ys xs : List ℤ) → HasTaken coder xs → AllByRecursion (IsSample coder.setting) ys
     → length coder.residuals + length ys < coder.setting.block * blocks_left coder.setting coder.start →
     HasTaken (state_after_all coder ys) (xs ++ ys) × (complete_samples coder.setting (xs ++ ys) ≡ complete_samples coder.setting xs)
-several_stay_open coder [] xs h legal less = (
-  subst (λ v. HasTaken v (xs ++ [])) (sym (state_after_all-none coder [] refl)) (subst (HasTaken coder) (sym (append-nil xs)) h),
-  ap (complete_samples coder.setting) (append-nil xs),
-)
+several_stay_open coder [] xs h legal less = grind (arith, common_steps, state_after_all-none, append-nil)
 several_stay_open coder (y ∷ ys) xs h legal less =
     let len = length-append coder.residuals (next_residual coder y ∷ []) in
     let short : length (state_after coder y).residuals < coder.setting.block * blocks_left coder.setting coder.start = omega (arith, len, less) in
@@ -57,15 +54,7 @@ whole_last coder ys xs legal full h =
     let len = ap length parts.2 in
     let one = length-append parts.0 (parts.1 ∷ []) in
     let stay = several_stay_open coder parts.0 xs h all.0 (omega (arith, full, count, len, one)) in
-    record {
-      others = parts.0;
-      x = parts.1;
-      legal = all.1;
-      taken = stay.0;
-      completes_none = stay.1;
-      grows = ap (state_after_all coder) parts.2 ∙ state_after_all-snoc coder parts.0 parts.1;
-      all = ap (λ v. xs ++ v) parts.2 ∙ sym (append_assoc xs parts.0 (parts.1 ∷ []));
-    }
+    grind (arith, common_steps, state_after_all-snoc, append_assoc)
 
 several_sound : (coder : CoderState) (ys xs : List ℤ) → AllByRecursion (IsSample coder.setting) ys → IsWhole (state_after_all coder ys) → HasTaken coder xs
     → HoldsSoundBlocks (state_after_all coder ys)
@@ -94,9 +83,7 @@ several_add_code coder ys xs legal whole h =
 
 -- after a whole segment all samples are complete
 all_complete : (coder : CoderState) (xs : List ℤ) → HasTaken coder xs → length coder.residuals ≡ 0 → complete_samples coder.setting xs ≡ xs
-all_complete coder xs h none =
-    let e : cut coder.setting (length xs) ≡ length xs = omega (arith, pending_are coder xs h, none) in
-    ap (λ n. take n xs) e ∙ take-length xs
+all_complete coder xs h none = grind (arith, common_steps, pending_are, take-length)
 
 -- A call takes the samples ys: the coder, whose value is `value`, holds them then, as `held`.
 pub record HoldsMore (value coder held : CoderState) (ys : List ℤ) : Type 0 where
@@ -135,13 +122,7 @@ whole_has_steps value coder held ys m0 m1 h room steps =
 pub filled_has_steps : {value coder held : CoderState} (m0 : ℕ) {m1 : ℕ} → coder ≡ value → IsCoder coder
     → held ≡ state_with_fill coder (fill_count coder.setting (length coder.residuals)) → m0 + segment_steps value.setting < 2 ^ 62 →
     m1 ≡ m0 + fill_count coder.setting (length coder.residuals) → m1 + coding_steps held.setting < 2 ^ 62
-filled_has_steps {coder} m0 {m1} e k f room steps =
-    let s = coder.setting in
-    let some : 0 < s.block = grind (arith, k.taken.holds.legal.block) in
-    let few : fill_count s (length coder.residuals) < s.block = mod-lt (s.block - length coder.residuals % s.block) some in
-    let room : m0 + segment_steps s < 2 ^ 62 = subst (λ (v : CoderState). m0 + segment_steps v.setting < 2 ^ 62) (sym e) room in
-    let fits : m1 + coding_steps s < 2 ^ 62 = let all = steps_of_segment s in omega (arith, room, few, all, steps) in
-    subst (λ s. m1 + coding_steps s < 2 ^ 62) (sym (ap (λ (v : CoderState). v.setting) f)) fits
+filled_has_steps {coder} m0 {m1} e k f room steps = grind (arith, common_steps, mod-lt, steps_of_segment)
 
 -- and this is what the call does
 pub whole_pushes : {value coder held after : CoderState} {ys : List ℤ} {old new : List Bool} {n m0 m1 m2 : ℕ} → HoldsMore value coder held ys → IsWhole held
@@ -161,12 +142,7 @@ whole_pushes {coder} {after} {ys} {old} {new} {n} {m0} {m1} {m2} h whole e codes
 -- Where they leave it open, nothing is appended.
 pub still_short : (value coder held : CoderState) (ys : List ℤ) → HoldsMore value coder held ys → (IsWhole held → ⊥)
     → length coder.residuals + length ys < coder.setting.block * blocks_left coder.setting coder.start
-still_short value coder held ys h not_whole =
-    let count = length-state_after_all coder ys in
-    elim (cases_lt (length coder.residuals + length ys) (coder.setting.block * blocks_left coder.setting coder.start)) [
-      | inl lt ↦ lt
-      | inr le ↦ absurd (let whole : IsWhole (state_after_all coder ys) = omega (arith, count, h.room, le) in not_whole (subst IsWhole (sym h.holds) whole))
-    ]
+still_short value coder held ys h not_whole = grind (arith, common_steps, length-state_after_all, cases_lt)
 
 -- the call makes a step for each sample, and nothing is put
 pub open_pushes : {value coder held : CoderState} {ys : List ℤ} {sink : List Bool} {m0 m1 : ℕ} → HoldsMore value coder held ys → (IsWhole held → ⊥)

@@ -1,7 +1,7 @@
 -- Where an interval begins decoding begins afresh.
 use Rattle.std.proofs.Common.{◌≡◌, ℕ, zero, suc, ◌+◌, ◌-◌, ◌*◌, ◌%◌, ◌<◌, ◌≤◌, ◌==◌, Bool, true, false, cond, ◌&&◌, List, [], ◌∷◌}
 use Rattle.std.proofs.Common.{◌++◌, length, take, drop, refl, ap, arith, sym, ◌∙◌, inl, inr, subst, append_assoc, length-append, Option, Some, None, ℤ, pos}
-use Rattle.rice_code.proofs.Words.{IsSomeAnd, drop_at, length-replicate, take_all, All-append, mod-eq_of_lt, mul-mod_right, take-length, bits_to_byte, Parameters, IsLegal}
+use Rattle.rice_code.proofs.Words.{IsSomeAnd, drop_at, length-replicate, take_all, All-append, mod-eq_of_lt, mul-mod_right, take-length, bits_to_byte, Parameters, IsLegal, common_steps}
 use Rattle.rice_code.proofs.Words.{IsSample, place, begins_segment, blocks_left, is_padded, last_of, some_left, le_of_mul-le-mul_left, lt_of_mul-lt-mul_left, BeginsInterval, DecodingBeginsAfresh}
 use Rattle.rice_code.proofs.Words.{count_after, blocks_from, zero_block, CodedDataSet, NoCompression, SecondExtension, Split, ZeroBlocks, RemainderOfSegment, bits_of_set, AreTaken, Decoded}
 use Rattle.rice_code.proofs.Words.{DecodedFrom, Ending, Reached, EndsWith, IsWanted, cut_to, RunIsSound, blocks_in, blocks_in_all, block_after, padding, Lies}
@@ -108,10 +108,7 @@ taken-append s asked b (d ∷ ds) es h k =
 
 lies-append : (s : Parameters) (b m : ℕ) (ds es : List CodedDataSet) (bits more : List Bool) → Lies s b m ds bits
     → Lies s (b + length (blocks_in_all s b ds)) (m + length bits) es more → Lies s b m (ds ++ es) (bits ++ more)
-lies-append s b m [] es bits more h k =
-    let here : b + 0 ≡ b = omega arith in
-    let there : m + length bits ≡ m = omega (arith, ap length h) in
-    subst (λ (l : List Bool). Lies s b m es (l ++ more)) (sym h) (subst (λ (n : ℕ). Lies s b n es more) there (subst (λ (n : ℕ). Lies s n (m + length bits) es more) here k))
+lies-append s b m [] es bits more h k = grind (arith, common_steps)
 lies-append s b m (d ∷ ds) es bits more h k =
     let t = bits_of_set s d in
     let next = block_after s b d in
@@ -251,5 +248,4 @@ decoding_begins_afresh s legal bits before xs asked ending begin used b d =
     let rest : drop begin bits ≡ h.rest = ap (drop begin) h.parts ∙ drop_at h.front h.rest begin (sym is.front) in
     let there = stands_after legal c (0 + length h.front) (last_of (pos 0) h.all) is.begins is.byte
     (subst (λ (l : List Bool). Decoded s l asked xs ending used) rest d) in
-    decodes_after asked h is.all is.front
-    (subst (λ (n : ℕ). DecodedFrom s c (0 + length h.front) (last_of (pos 0) h.all) h.rest (count_after n asked) xs ending used) (sym is.count) there)
+    grind (arith, common_steps, decodes_after)

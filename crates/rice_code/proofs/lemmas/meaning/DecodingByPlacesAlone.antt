@@ -2,7 +2,7 @@
 use Rattle.std.proofs.Common.{◌≡◌, ℕ, ◌+◌, ◌*◌, ◌%◌, ◌≤◌, ◌==◌, Bool, cond, ◌&&◌, List, [], ◌∷◌, ◌++◌, length, refl, ap, arith, sym, ◌∙◌, subst, Option, None, ℤ}
 use Rattle.rice_code.proofs.Words.{IsSomeAnd, bits_to_byte, Parameters, IsLegal, place, blocks_left, blocks_from, CodedDataSet, NoCompression, SecondExtension, Split, ZeroBlocks, RemainderOfSegment}
 use Rattle.rice_code.proofs.Words.{bits_of_set, IsForm, IsReference, RunIsSound, blocks_in, blocks_in_all, block_after, Lies, DecodedFrom, Ending, Reached, Ended, CutOff, Past, Large, AreTaken}
-use Rattle.rice_code.proofs.Words.{EndsWith, IsWanted}
+use Rattle.rice_code.proofs.Words.{EndsWith, IsWanted, common_steps}
 use Rattle.rice_code.proofs.lemmas.code.Layouts.{lies_at}
 use Rattle.rice_code.proofs.lemmas.code.BlocksByPlaceAlone.{place_on, same_reference, same_left, same_blocks_in, same_blocks}
 
@@ -13,10 +13,7 @@ next_place s b c d e = place_on s b c (length (blocks_in s b d)) e ∙ ap (λ v.
 -- from such blocks on coded data sets stand for the same blocks,
 pub same_all_blocks : (s : Parameters) (b c : ℕ) (ds : List CodedDataSet) → place s b ≡ place s c → blocks_in_all s b ds ≡ blocks_in_all s c ds
 same_all_blocks s b c [] e = refl
-same_all_blocks s b c (d ∷ ds) e =
-    let first = same_blocks_in s b c d e in
-    let rest = same_all_blocks s (block_after s b d) (block_after s c d) ds (next_place s b c d e) in
-    λ i. first i ++ rest i
+same_all_blocks s b c (d ∷ ds) e = grind (arith, common_steps, same_blocks_in, next_place, same_all_blocks s (block_after s b d) (block_after s c d) ds (next_place s b c d e))
 
 -- and lie in the same bits
 pub same_lie : (s : Parameters) (b c m : ℕ) (ds : List CodedDataSet) (bits : List Bool) → place s b ≡ place s c → Lies s b m ds bits → Lies s c m ds bits
@@ -75,21 +72,8 @@ pub ends_there : {s : Parameters} (asked there : Option ℕ) (b c : ℕ) (rest :
 ends_there asked there b c rest Reached used alike h = (alike.reached h.0, h.1)
 ends_there asked there b c rest Ended used alike h = (alike.wanted h.0, h.1, h.2)
 ends_there {s} asked there b c rest CutOff used alike h = (alike.wanted h.0, h.1, (λ d more f g. h.2 d more (form_there s c b d (sym alike.place_is) f) g), h.3)
-ends_there {s} asked there b c rest Past used alike h =
-    let u = h.1 in (
-      alike.wanted h.0,
-      record {
-        refused = u.refused;
-        more = u.more;
-        form = form_there s b c u.refused alike.place_is u.form;
-        unsound = λ g. u.unsound (run_there s c b u.refused (sym alike.place_is) g);
-        begins = u.begins;
-        bits = u.bits;
-      },
-    )
-ends_there {s} asked there b c rest Large used alike h =
-    let u = h.1 in
-    (alike.wanted h.0, record { refused = u.refused; more = u.more; form = form_there s b c u.refused alike.place_is u.form; unsound = u.unsound; begins = u.begins; bits = u.bits })
+ends_there {s} asked there b c rest Past used alike h = grind (arith, common_steps, form_there, run_there)
+ends_there {s} asked there b c rest Large used alike h = grind (arith, common_steps, form_there)
 
 -- where no number is asked for, bits that end decoding at one of them in some way do so at the other
 pub end_there : (s : Parameters) (b c : ℕ) (rest : List Bool) (ending : Ending) (used : ℕ) → place s b ≡ place s c → EndsWith s None b rest ending used → EndsWith s None c rest ending used

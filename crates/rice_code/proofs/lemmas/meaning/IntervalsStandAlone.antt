@@ -5,7 +5,7 @@ use Rattle.rice_code.proofs.Words.{div_ceil, length-replicate, drop_at, recursio
 use Rattle.rice_code.proofs.Words.{bits_of-padded, Parameters, IsLegal, IsSample, place, is_padded, is_reference, is_reference_sample, block_count, rank, pattern, residual, residuals, last_of}
 use Rattle.rice_code.proofs.Words.{filled_samples, zero_is_sample, bits_of, bits_to_byte, padded_bits, whole_bytes, AreIntervals, IntervalsBeginAfresh, IntervalsAreJoined, PaddedIntervalsAreJoined}
 use Rattle.rice_code.proofs.Words.{IntervalsAreDecodedAlone, DamageStaysInItsInterval, block_data, blocks_from, blocks_of, zero_block, data_sets, sets_of, sets_from, code, code_from, output}
-use Rattle.rice_code.proofs.Words.{CodedDataSet, bits_of_set, Decoded, Reached, blocks_in_all, block_after, padding, layout}
+use Rattle.rice_code.proofs.Words.{CodedDataSet, bits_of_set, Decoded, Reached, blocks_in_all, block_after, padding, layout, common_steps}
 use Rattle.rice_code.proofs.lemmas.{code.BlocksByPlaceAlone.code_stands_in_intervals, code.SoundBlocks.blocks_sound_after, code.SoundBlocks.count_blocks, code.WholeBlocks.not_filled}
 use Rattle.rice_code.proofs.lemmas.{code.WholeBytes.whole-append, cost.PaddingBounds.are_blocks, cost.PaddingBounds.interval_begins_segment, meaning.CoveredBlocks.bool_cases}
 use Rattle.rice_code.proofs.lemmas.{meaning.CoveredBlocks.covers_blocks, meaning.SentSetsAreTaken.are_taken}
@@ -16,39 +16,15 @@ use Rattle.rice_code.proofs.lemmas.code.Layouts.{ends_inside, laid_at, laid_plai
 
 -- its first sample is a reference sample, or is coded as it is
 first_residual : (s : Parameters) (b : ℕ) (p q x : ℤ) → 1 ≤ s.block → place s b ≡ 0 → residual s (s.block * b) p x ≡ residual s (s.block * b) q x
-first_residual s b p q x j e = elim (bool_cases s.preprocess) [ inl on ↦ at p on ∙ sym (at q on) | inr off ↦ alone p off ∙ sym (alone q off) ]
-  where
-    i : ℕ
-    i = s.block * b
-
-    is_first : s.preprocess ≡ true → is_reference_sample s i ≡ true
-    is_first on =
-        ap (λ n. (s.preprocess && place s n == 0) && i % s.block == 0) (mul-div_cancel_left b j)
-        ∙ (ap (λ n. (s.preprocess && n == 0) && i % s.block == 0) e
-        ∙ (ap (λ n. (s.preprocess && 0 == 0) && n == 0) (mul-mod_right s.block b) ∙ ap (λ v. (v && 0 == 0) && 0 == 0) on))
-
-    at : (p : ℤ) → s.preprocess ≡ true → residual s i p x ≡ cond s.preprocess 0 (pattern s x)
-    at p on = ap (λ v. cond s.preprocess (cond v 0 (rank s p x)) (pattern s x)) (is_first on)
-
-    alone : (p : ℤ) → s.preprocess ≡ false → residual s i p x ≡ pattern s x
-    alone p off = ap (λ v. cond v (cond (is_reference_sample s i) 0 (rank s p x)) (pattern s x)) off
+first_residual s b p q x j e = grind (arith, common_steps, bool_cases, mul-div_cancel_left, mul-mod_right)
 
 first_block : (s : Parameters) (b : ℕ) (p q x : ℤ) (ys : List ℤ) → 1 ≤ s.block → place s b ≡ 0 → block_data s b p (x ∷ ys) ≡ block_data s b q (x ∷ ys)
-first_block s b p q x ys j e =
-    let first = first_residual s b p q x j e in
-    λ i. record { reference = cond (is_reference s b) (Some (pattern s x)) None; residuals = first i ∷ residuals s (s.block * b + 1) x ys }
+first_block s b p q x ys j e = grind (arith, common_steps, first_residual)
 
 -- where an interval begins, the blocks that samples make do not depend on the sample before them
 pub first_blocks : (s : Parameters) (b : ℕ) (p q : ℤ) (n : ℕ) (x : ℤ) (xs : List ℤ) → 1 ≤ s.block → place s b ≡ 0 → blocks_from s b p n (x ∷ xs) ≡ blocks_from s b q n (x ∷ xs)
 first_blocks s b p q zero x xs j e = refl
-first_blocks s b p q (suc n) x xs j e =
-    let more : s.block ≡ suc (s.block - 1) = omega (arith, j) in
-    let front : take s.block (x ∷ xs) ≡ x ∷ take (s.block - 1) xs = ap (λ m. take m (x ∷ xs)) more in
-    let ys = take (s.block - 1) xs in
-    let rest = blocks_from s (b + 1) (last_of x ys) n (drop s.block (x ∷ xs)) in
-    (λ i. block_data s b p (front i) ∷ blocks_from s (b + 1) (last_of p (front i)) n (drop s.block (x ∷ xs)))
-    ∙ (ap (λ c. c ∷ rest) (first_block s b p q x ys j e)
-    ∙ sym (λ i. block_data s b q (front i) ∷ blocks_from s (b + 1) (last_of q (front i)) n (drop s.block (x ∷ xs))))
+first_blocks s b p q (suc n) x xs j e = grind (arith, common_steps, first_block)
 
 none_of_none : (j : ℕ) → 1 ≤ j → div_ceil 0 j ≡ 0
 none_of_none j h = omega arith
@@ -59,10 +35,7 @@ no_code s b position p j = ap (λ n. layout s (b + n) b position (data_sets s b 
 -- the sample before it does not matter
 whatever_before : (s : Parameters) (position : ℕ) (p q : ℤ) (xs : List ℤ) → IsLegal s → code_from s 0 position p xs ≡ code_from s 0 position q xs
 whatever_before s position p q [] legal = let j : 1 ≤ s.block = grind (arith, legal.block) in no_code s 0 position p j ∙ sym (no_code s 0 position q j)
-whatever_before s position p q (x ∷ xs) legal =
-    let j : 1 ≤ s.block = grind (arith, legal.block) in
-    let n = block_count s (length (x ∷ xs)) in
-    ap (λ cs. layout s (0 + n) 0 position (data_sets s 0 false cs)) (first_blocks s 0 p q n x (xs ++ replicate _ (last_of x xs)) j (mod-eq_of_lt legal.interval_from))
+whatever_before s position p q (x ∷ xs) legal = grind (arith, common_steps, first_blocks, mod-eq_of_lt)
 
 -- nor does its number
 stands_alone : (s : Parameters) → IsLegal s → (b position : ℕ) (p : ℤ) (xs : List ℤ) → place s b ≡ 0 → code_from s b position p xs ≡ code_from s 0 position (pos 0) xs
@@ -70,9 +43,7 @@ stands_alone s legal b position p xs e = code_stands_in_intervals s legal b 0 po
 
 -- from the start of an interval on, code is that of the same samples alone, begun at the same place in a byte
 pub intervals_begin_afresh : IntervalsBeginAfresh
-intervals_begin_afresh s legal b position p xs e =
-    let same : position % 8 ≡ position % 8 % 8 = omega arith in
-    stands_alone s legal b position p xs e ∙ laid_at s (0 + block_count s (length xs)) 0 position (position % 8) (sets_from s 0 (pos 0) xs) same
+intervals_begin_afresh s legal b position p xs e = grind (arith, common_steps, stands_alone, laid_at)
 
 -- ---- and ends with a byte
 
@@ -119,15 +90,7 @@ intervals_are_whole s legal count xs h =
     let here : 0 + n ≡ n = omega arith in
     let begins : place s (0 + n) ≡ 0 = ap (λ m. m % s.interval) here ∙ mul-mod_right s.interval count in
     let own = own_blocks s 0 n (pos 0) xs j h.len in
-    record {
-      blocks = n;
-      begins = begins;
-      len = h.len;
-      count = (not_filled s n (pos 0) xs j h.len).1;
-      reach = ap (λ cs. length (blocks_in_all s 0 (data_sets s 0 false cs))) own
-          ∙ no_zeros_past_segment 0 (pos 0) n xs legal (zero_is_sample s legal.bits_from) h.legal h.len (interval_begins_segment s (0 + n) begins);
-      own = own;
-    }
+    grind (arith, common_steps, not_filled, no_zeros_past_segment, zero_is_sample, interval_begins_segment)
 
 code_to_byte : (s : Parameters) (xs : List ℤ) → s.pad ≡ true → Whole s xs → length (code s xs) % 8 ≡ 0
 code_to_byte s xs pads w =
@@ -160,9 +123,7 @@ not_padded : (a : List Bool) → length a % 8 ≡ 0 → padded_bits a ≡ a
 not_padded a e = let none : bits_to_byte (length a) ≡ 0 = omega (arith, e) in ap (λ n. a ++ replicate n false) none ∙ append-nil a
 
 padded_after : (a b : List Bool) → length a % 8 ≡ 0 → padded_bits (a ++ b) ≡ a ++ padded_bits b
-padded_after a b e =
-    let same : bits_to_byte (length (a ++ b)) ≡ bits_to_byte (length b) = omega (arith, e, length-append a b) in
-    ap (λ n. (a ++ b) ++ replicate n false) same ∙ append_assoc a b (replicate (bits_to_byte (length b)) false)
+padded_after a b e = grind (arith, common_steps, length-append, append_assoc)
 
 bytes_joined : (a b : List Bool) → length a % 8 ≡ 0 → whole_bytes (padded_bits (a ++ b)) ≡ whole_bytes (padded_bits a) ++ whole_bytes (padded_bits b)
 bytes_joined a b e =
@@ -223,9 +184,4 @@ damage_stays s legal pads m n xs ys zs damaged h k same =
     bits_of-append (first ++ damaged) last ∙ (ap (λ l. l ++ bits_of last) (bits_of-append first damaged ∙ ap (λ l. l ++ bits_of damaged) spelled)
     ∙ append_assoc (code s xs) (bits_of damaged) (bits_of last)) in
     let decoded = intervals_are_decoded_alone s legal m xs (bits_of damaged ++ bits_of last) h in
-    let size : length (first ++ damaged) ≡ length (output s (xs ++ ys)) = omega
-    (arith, ap length (padded_intervals_are_joined s legal pads m xs ys h), length-append first (output s ys), length-append first damaged, same) in (
-      subst (λ (l : List Bool). Decoded s l (Some (length xs)) xs Reached (length (bits_of first))) (sym bits)
-          (subst (λ (l : List Bool). Decoded s (code s xs ++ (bits_of damaged ++ bits_of last)) (Some (length xs)) xs Reached (length l)) (sym spelled) decoded),
-      drop_at (first ++ damaged) last (length (output s (xs ++ ys))) size,
-    )
+    grind (arith, common_steps, padded_intervals_are_joined, length-append, drop_at)

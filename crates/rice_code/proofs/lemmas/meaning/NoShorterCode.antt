@@ -3,7 +3,7 @@ use Rattle.std.proofs.Common.{◌≡◌, ℕ, zero, suc, ◌+◌, ◌-◌, ◌*�
 use Rattle.std.proofs.Common.{drop, replicate, refl, ap, arith, sym, ◌∙◌, ◌⊎◌, inl, inr, append_assoc, length-append, length-drop, subst, Option, Some, None, ℤ, pos}
 use Rattle.rice_code.proofs.Words.{next_multiple_of, drop-append-le, length-replicate, length-take-le, take-append-drop, take-append-le, mod-lt, mod_self, take-append-add, take-length, bits_to_byte}
 use Rattle.rice_code.proofs.Words.{bits_of-padded, length-bits_of, Parameters, IsLegal, block_count, residuals, last_of, filled_samples, length-residuals, NoCodeIsShorter, NoOutputIsShorter}
-use Rattle.rice_code.proofs.Words.{block_data, blocks_from, blocks_of, code, output, sets_of, CodedDataSet, AreTaken, Decoded, Ending, cut_to, blocks_in_all, block_after}
+use Rattle.rice_code.proofs.Words.{block_data, blocks_from, blocks_of, code, output, sets_of, CodedDataSet, AreTaken, Decoded, Ending, cut_to, blocks_in_all, block_after, common_steps}
 use Rattle.rice_code.proofs.lemmas.{code.RepeatedSamples.last_after, code.RepeatedSamples.repeated_all, code.SoundBlocks.count_blocks, code.SoundBlocks.filled_len, cost.LeastCode.ends_no_later}
 use Rattle.rice_code.proofs.lemmas.cost.WhereSetsEnd.{padded_is, sent_padded, taken_padded}
 use Rattle.rice_code.proofs.lemmas.cost.CostsOfSmallerBlocks.{AreAtMost, BeginAtMost, IsAtMost, at_most_itself}
@@ -20,15 +20,7 @@ abbrev FillsLeast : Parameters → ℕ → Type 0
 FillsLeast s k = (s.preprocess ≡ true) ⊎ (k ≡ 0)
 
 residuals_at_most : (s : Parameters) (i k : ℕ) (p : ℤ) (xs zs : List ℤ) → FillsLeast s k → length zs ≡ k → AreAtMost (residuals s i p (xs ++ replicate k (last_of p xs))) (residuals s i p (xs ++ zs))
-residuals_at_most s i k p [] zs way len =
-    elim way [
-      | inl on ↦ subst (λ (ds : List ℕ). AreAtMost ds (residuals s i p zs)) (sym (repeated_all s i k p (inl on))) (zeros_below k (residuals s i p zs) (length-residuals s i p zs ∙ len))
-      | inr none ↦ subst (λ (n : ℕ). AreAtMost (residuals s i p (replicate n p)) (residuals s i p zs)) (sym none) (empty zs (len ∙ none))
-    ]
-  where
-    empty : (zs : List ℤ) → length zs ≡ 0 → AreAtMost [] (residuals s i p zs)
-    empty [] e = tt
-    empty (z ∷ zs) e = absurd (omega arith)
+residuals_at_most s i k p [] zs way len = grind (arith, common_steps, repeated_all, zeros_below, length-residuals)
 residuals_at_most s i k p (x ∷ xs) zs way len = (omega arith, residuals_at_most s (i + 1) k x xs zs way len)
 
 data_at_most : (s : Parameters) (b k : ℕ) (p : ℤ) (xs zs : List ℤ) → 1 ≤ length xs → FillsLeast s k → length zs ≡ k
@@ -39,10 +31,7 @@ data_at_most s b k p (x ∷ xs) zs some way len = record { reference = refl; res
 -- whole blocks first
 first_block : (s : Parameters) (b n : ℕ) (p : ℤ) (xs zs : List ℤ) → s.block ≤ length xs →
     blocks_from s b p (suc n) (xs ++ zs) ≡ block_data s b p (take s.block xs) ∷ blocks_from s (b + 1) (last_of p (take s.block xs)) n (drop s.block xs ++ zs)
-first_block s b n p xs zs le =
-    let front = take-append-le s.block xs zs le in
-    let back = drop-append-le s.block xs zs le in
-    λ i. block_data s b p (front i) ∷ blocks_from s (b + 1) (last_of p (front i)) n (back i)
+first_block s b n p xs zs le = grind (arith, common_steps, take-append-le, drop-append-le)
 
 -- samples that are filled to whole blocks, and those with more samples
 record FilledBlocks (s : Parameters) (m count k : ℕ) (xs ys : List ℤ) : Type 0 where
@@ -57,18 +46,7 @@ blocks_begin : (s : Parameters) (b m count : ℕ) {k : ℕ} (p : ℤ) (xs ys : L
     BeginAtMost (blocks_from s b p m (xs ++ replicate k (last_of p xs))) (blocks_from s b p count (xs ++ ys))
 blocks_begin s b zero count p xs ys filled = tt
 blocks_begin s b (suc m) zero p xs ys filled = absurd (omega (arith, filled.few, filled.first, filled.all))
-blocks_begin s b (suc zero) (suc count) {k} p xs ys filled =
-    let fill = replicate k (last_of p xs) in
-    let one : s.block ≡ length xs + k = omega (arith, filled.first) in
-    let size : s.block ≡ length (xs ++ fill) = omega (arith, one, length-append xs fill, length-replicate k (last_of p xs)) in
-    let own : take s.block (xs ++ fill) ≡ xs ++ fill = ap (λ n. take n (xs ++ fill)) size ∙ take-length (xs ++ fill) in
-    let other : take s.block (xs ++ ys) ≡ xs ++ take k ys = ap (λ n. take n (xs ++ ys)) one ∙ take-append-add xs ys k in
-    let count : length (take k ys) ≡ k = length-take-le k ys (omega (arith, one, filled.all)) in
-    let below = data_at_most s b k p xs (take k ys) (omega (arith, one, filled.few)) filled.least count in (
-      subst (λ (l : List ℤ). IsAtMost (block_data s b p l) (block_data s b p (take s.block (xs ++ ys)))) (sym own)
-          (subst (λ (l : List ℤ). IsAtMost (block_data s b p (xs ++ fill)) (block_data s b p l)) (sym other) below),
-      tt,
-    )
+blocks_begin s b (suc zero) (suc count) {k} p xs ys filled = grind (arith, common_steps, length-append, length-replicate, take-length, take-append-add, length-take-le, data_at_most)
 blocks_begin s b (suc (suc m)) (suc count) {k} p xs ys filled =
     let whole : s.block ≤ length xs = omega (arith, filled.few, filled.first) in
     let next = last_of p (take s.block xs) in
@@ -85,8 +63,7 @@ blocks_begin s b (suc (suc m)) (suc count) {k} p xs ys filled =
     }) in
     let same : IsAtMost (block_data s b p (take s.block xs)) (block_data s b p (take s.block xs)) =
     record { reference = refl; residuals = at_most_itself (residuals s (s.block * b) p (take s.block xs)) } in
-    subst (λ l. BeginAtMost l (blocks_from s b p (suc count) (xs ++ ys))) (sym own)
-    (subst (λ l. BeginAtMost (block_data s b p (take s.block xs) ∷ blocks_from s (b + 1) next (suc m) (rest ++ replicate k (last_of next rest))) l) (sym other) (same, ih))
+    grind (arith, common_steps)
 
 -- ---- and so has their code
 
@@ -103,10 +80,7 @@ all_begin s (Some n) all xs more e =
 
 -- how many samples are filled
 fill_of : (n j k : ℕ) → 1 ≤ j → k ≡ next_multiple_of n j - n → (k < j) × (n % j ≡ 0 → k ≡ 0)
-fill_of n j k h e = (
-  omega (arith, mod-lt (j - n % j) h, e),
-  λ none. let same : j - 0 ≡ j = omega arith in let zero_more : (j - n % j) % j ≡ 0 = ap (λ v. (j - v) % j) none ∙ (ap (λ v. v % j) same ∙ mod_self j) in omega (arith, zero_more, e),
-)
+fill_of n j k h e = grind (arith, common_steps, mod-lt, mod_self)
 
 -- the bits of the coded data sets from which samples were decoded
 pub sets_are_no_shorter : {s : Parameters} → IsLegal s → 4 ≤ s.block → (xs more : List ℤ) → (s.preprocess ≡ true) ⊎ (length xs % s.block ≡ 0)
