@@ -1,10 +1,7 @@
 -- Which settings there are, and which of their parameters is refused first.
 use Rattle.std.specs.Prelude.{ℕ, Bool, ◌≡◌, ◌+◌, ◌≤◌, ◌%◌, if◌then◌else◌, nat_le, ◌&&◌, ◌||◌, ◌==◌, Result, Ok, Err}
-use Rattle.rice_samples.specs.Limits.{longest_interval}
-use Rattle.rice_samples.specs.Parameters.{Parameters, IsBlockSize, IsStandardSize, value_count}
-use Rattle.rice_samples.specs.bytes.ValueRange.{offset as offset_of}
-use Rattle.rice_samples.specs.declared.setting.SettingFault.{SettingFault}
-use Rattle.rice_samples.specs.declared.setting.SettingFault.TheVariants.{BadBits, BadBlock, BadAnyBlock, BadInterval}
+use Rattle.rice_samples.specs.declared.setting.SettingFault.{TheVariants.BadBits, TheVariants.BadBlock, TheVariants.BadAnyBlock, TheVariants.BadInterval, SettingFault}
+use Rattle.rice_samples.specs.{Parameters.Parameters, Parameters.IsBlockSize, Parameters.IsStandardSize, Parameters.value_count, bytes.ValueRange.offset as offset_of, Limits.longest_interval}
 
 abbrev pub parameters : ℕ → ℕ → ℕ → Bool → Bool → Bool → Bool → Bool → Parameters
 parameters bits block interval signed msb three preprocess pad = record {

@@ -1,8 +1,7 @@
 -- How samples stand in bytes (own rules): unsigned numbers as they are, signed ones in two's complement over the whole width.
 use Rattle.std.specs.Prelude.{◌≡◌, ◌≢◌, ℕ, Bool, ◌*◌, ◌<◌, ◌≤◌, ◌++◌, List, [], length, take, All, flat_map, if◌then◌else◌, ℤ}
 use Rattle.std.specs.Int.{bytes_high_first, bytes_low_first}
-use Rattle.rice_samples.specs.Parameters.{Parameters, width, IsSample}
-use Rattle.rice_samples.specs.predict.Residuals.{twos_complement}
+use Rattle.rice_samples.specs.{Parameters.Parameters, Parameters.width, Parameters.IsSample, predict.Residuals.twos_complement}
 
 -- the lowest k bytes of a word, the most significant first or last
 abbrev pub ordered_bytes : Bool → ℕ → ℕ → List ℕ

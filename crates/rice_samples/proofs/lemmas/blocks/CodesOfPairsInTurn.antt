@@ -1,4 +1,5 @@
 -- The codes of pairs, one pair after another.
+use Rattle.std.proofs.lemmas.Grind.{common_steps}
 use Rattle.std.proofs.Common.{◌≡◌, ℕ, zero, suc, ◌+◌, ◌*◌, ◌<◌, List, [], ◌∷◌, length, get_or, take, sum_by, refl, sym, ◌∙◌, ap, arith}
 use Rattle.std.proofs.lemmas.List.Sums.{sum_by-cons}
 use Rattle.rice_samples.specs.blocks.Pairs.{pair_code, pair_codes}
@@ -21,5 +22,4 @@ pairs_more (suc i) (a ∷ b ∷ xs) h =
     + (pair_code (get_or (a ∷ b ∷ xs) (suc (suc (2 * i))) 0) (get_or (a ∷ b ∷ xs) (suc (suc (2 * i + 1))) 0) + 1) =
     omega (arith, ih, left, right)
     in
-    ap (λ n. sum_by f (pair_codes (take n (a ∷ b ∷ xs)))) e ∙ (next
-    ∙ (λ j. sum_by f (pair_codes (take (sym k j) (a ∷ b ∷ xs))) + (pair_code (get_or (a ∷ b ∷ xs) (sym k j) 0) (get_or (a ∷ b ∷ xs) (sym l j) 0) + 1)))
+    grind (arith, common_steps, sum_by, get_or)

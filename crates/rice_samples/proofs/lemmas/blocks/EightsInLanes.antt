@@ -1,15 +1,9 @@
 -- Chunks of eight numbers in the lanes of a vector.
-use Rattle.std.proofs.Common.{◌≡◌, ◌≢◌, ℕ, zero, suc, ◌+◌, ◌*◌, ◌/◌, ◌%◌, ◌^◌, ◌<◌, ◌≤◌, ◌==◌, Bool, true, false, ◌&&◌, List}
-use Rattle.std.proofs.Common.{[], ◌∷◌, ◌++◌, map, length, take, drop, get_or, sum_by, refl, sym, ◌∙◌, ap, subst, arith}
-use Rattle.std.specs.Prelude.{bit_or, replicate}
-use Rattle.std.specs.List.{list_all}
-use Rattle.std.specs.Simd.Lanes.{zip2, Each1, chunk, sum_l, fold_l}
-use Rattle.std.proofs.lemmas.Bool.Decides.{nat_tests}
-use Rattle.std.proofs.lemmas.Nat.{le_or_l, le_or_r, pow_pos}
-use Rattle.std.proofs.lemmas.List.Sums.{sum_by-append, sum_by-cons, sum_by-take-le}
-use Rattle.std.proofs.lemmas.Simd.{zip2_splat, sum-zip2, fold-sum, length-zip2, length-chunk}
-use Rattle.std.proofs.Math.Seq.{take-add}
-use Rattle.std.proofs.Math.Nat.{div-mul-le_self}
+use Rattle.std.proofs.lemmas.Grind.{common_steps}
+use Rattle.std.proofs.Common.{◌≡◌, ◌≢◌, ℕ, zero, suc, ◌+◌, ◌*◌, ◌/◌, ◌%◌, ◌^◌, ◌<◌, ◌≤◌, ◌==◌, Bool, true, false, ◌&&◌, List, [], ◌∷◌, ◌++◌, map, length, take, drop, get_or, sum_by, refl, sym, ◌∙◌}
+use Rattle.std.proofs.lemmas.{Simd.zip2_splat, Simd.sum-zip2, Simd.fold-sum, Simd.length-zip2, Simd.length-chunk, List.Sums.sum_by-append, List.Sums.sum_by-cons, List.Sums.sum_by-take-le}
+use Rattle.std.specs.{Simd.Lanes.zip2, Simd.Lanes.Each1, Simd.Lanes.chunk, Simd.Lanes.sum_l, Simd.Lanes.fold_l, Prelude.bit_or, Prelude.replicate, List.list_all}
+use Rattle.std.proofs.{lemmas.Nat.le_or_l, lemmas.Nat.le_or_r, lemmas.Nat.pow_pos, lemmas.Bool.Decides.nat_tests, Math.Nat.div-mul-le_self, Common.ap, Common.subst, Common.arith, Math.Seq.take-add}
 
 -- the numbers up to the next chunk
 pub take_chunk : (i : ℕ) (xs : List ℕ) → take (8 * (i + 1)) xs ≡ take (8 * i) xs ++ chunk (8 * i) 8 xs
@@ -17,13 +11,7 @@ take_chunk i xs = let e : 8 * (i + 1) ≡ 8 * i + 8 = omega arith in rw e (take-
 
 -- numbers that fill their chunks are all there once as many chunks are taken, or more
 pub take_all : (n : ℕ) (xs : List ℕ) → length xs % 8 ≡ 0 → length xs / 8 ≤ n → take (8 * n) xs ≡ xs
-take_all n xs e le = whole (8 * n) xs (omega arith)
-  where
-    whole : (n : ℕ) (xs : List ℕ) → length xs ≤ n → take n xs ≡ xs
-    whole zero [] h = refl
-    whole zero (x ∷ xs) h = absurd (omega arith)
-    whole (suc n) [] h = refl
-    whole (suc n) (x ∷ xs) h = ap (λ ys. x ∷ ys) (whole n xs (omega arith))
+take_all n xs e le = grind (arith, common_steps)
 
 -- sums
 
@@ -49,24 +37,13 @@ lanes_without_digits k xs e = zip2_splat (λ d s. d / 2 ^ s) xs 8 k e
 -- the sum in the lanes and that of the next chunk, without k digits each, are the sum up to the end of this chunk
 pub next_sum : (k i : ℕ) (xs total : List ℕ) → length total ≡ 8 → 8 * i + 8 ≤ length xs → sum_l total ≡ sum_by (λ d. d / 2 ^ k) (take (8 * i) xs) →
     sum_l total + sum_l (zip2 (λ d s. d / 2 ^ s) (chunk (8 * i) 8 xs) (replicate 8 k)) ≡ sum_by (λ d. d / 2 ^ k) (take (8 * (i + 1)) xs)
-next_sum k i xs total lanes room value =
-    rw (
-      lanes_without_digits k (chunk (8 * i) 8 xs) (length-chunk (8 * i) 8 xs room),
-      sum_map (λ d. d / 2 ^ k) (chunk (8 * i) 8 xs),
-      take_chunk i xs,
-      sum_by-append (λ d. d / 2 ^ k) (take (8 * i) xs) (chunk (8 * i) 8 xs),
-      value,
-    ) refl
+next_sum k i xs total lanes room value = grind (arith, common_steps, lanes_without_digits, length-chunk, sum_map, take_chunk, sum_by-append)
 
 -- digits
 
 fold_or_above : (a : ℕ) (xs : List ℕ) → (a ≤ fold_l bit_or a xs) × Each1 (λ x. x ≤ fold_l bit_or a xs) xs
 fold_or_above a [] = (omega arith, tt)
-fold_or_above a (x ∷ xs) =
-    let rest = fold_or_above (bit_or a x) xs in
-    let l = le_or_l a x in
-    let r = le_or_r a x in
-    (omega (arith, rest.0), (omega (arith, rest.0), rest.1))
+fold_or_above a (x ∷ xs) = grind (arith, common_steps, le_or_l, le_or_r, fold_or_above (bit_or a x) xs)
 
 -- no number is above the digits of all together, joined by or
 pub lanes_below_digits : (xs : List ℕ) → Each1 (λ x. x ≤ fold_l bit_or 0 xs) xs
@@ -92,9 +69,7 @@ no_digits (suc x ∷ xs) e = absurd (grind (arith, nat_tests))
 -- two lists together pass a test just where both of them pass it
 pub list_all-append : (p : ℕ → Bool) (xs ys : List ℕ) → list_all p (xs ++ ys) ≡ (list_all p xs && list_all p ys)
 list_all-append p [] ys = refl
-list_all-append p (x ∷ xs) ys =
-    let rest = list_all-append p xs ys in
-    elim (p x) as (λ b. (b && list_all p (xs ++ ys)) ≡ (b && list_all p xs && list_all p ys)) [ true ↦ rest | false ↦ refl ]
+list_all-append p (x ∷ xs) ys = grind (arith, common_steps, list_all-append p xs ys)
 
 -- where all numbers before a chunk are 0, and so are the digits of the chunk together, all numbers up to its end are 0
 pub more_zeros : (i : ℕ) (xs : List ℕ) → list_all (λ d. d == 0) (take (8 * i) xs) ≡ true → fold_l bit_or 0 (chunk (8 * i) 8 xs) ≡ 0 → list_all (λ d. d == 0) (take (8 * (i + 1)) xs) ≡ true

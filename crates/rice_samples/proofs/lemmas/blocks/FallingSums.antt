@@ -1,8 +1,6 @@
 -- How the sum of numbers without their lowest digits falls.
 use Rattle.std.proofs.Common.{◌≡◌, ℕ, ◌+◌, ◌*◌, ◌/◌, ◌^◌, ◌≤◌, ◌∙◌, List, [], ◌∷◌, sum_by, ap, arith, sym}
-use Rattle.std.proofs.lemmas.List.Sums.{sum_by-cons}
-use Rattle.std.proofs.lemmas.Nat.{pow-add}
-use Rattle.std.proofs.Math.Nat.{div-div-eq-div-mul}
+use Rattle.std.proofs.{lemmas.List.Sums.sum_by-cons, Math.Nat.div-div-eq-div-mul, lemmas.Nat.pow-add}
 
 -- the numbers without their k lowest digits
 abbrev pub cut_sum : List ℕ → ℕ → ℕ

@@ -1,4 +1,5 @@
 -- The numbers that stand for pairs stand for one pair each.
+use Rattle.std.proofs.lemmas.Grind.{common_steps}
 use Rattle.std.proofs.Common.{◌≡◌, ℕ, zero, suc, ◌+◌, ◌-◌, ◌*◌, ◌/◌, ◌^◌, ◌<◌, ◌≤◌, ◌∙◌, add-one, List, [], ◌∷◌, length, refl, ap, arith, inl, inr}
 use Rattle.std.proofs.lemmas.Bool.{cases_lt}
 use Rattle.rice_samples.specs.blocks.Pairs.{pair_code, pair_codes}
@@ -29,14 +30,7 @@ triangle_below s (suc u) h =
 
 -- from the same code the same sum
 same_sum : (s u b d : ℕ) → b ≤ s → d ≤ u → triangle s + b ≡ triangle u + d → s ≡ u
-same_sum s u b d hb hd e =
-    elim (cases_lt s u) [
-      | inl lt ↦ let g = triangle_below s u lt in absurd (omega arith)
-      | inr le ↦ elim (cases_lt u s) [
-        | inl lt ↦ let g = triangle_below u s lt in absurd (omega arith)
-        | inr ge ↦ omega arith
-      ]
-    ]
+same_sum s u b d hb hd e = grind (arith, common_steps, cases_lt, triangle_below)
 
 -- two pairs with the same number are the same pair
 pub same_pair : (a b c d : ℕ) → pair_code a b ≡ pair_code c d → (a ≡ c) × (b ≡ d)
@@ -79,15 +73,7 @@ next_left : (a b g : ℕ) → pair_code (suc a) b ≡ g → pair_code a (suc b) 
 next_left a b g e = let n : a + suc b ≡ suc a + b = omega arith in let f = ap (λ s. s * (s + 1) / 2) n in omega arith
 
 next_row : (b g : ℕ) → pair_code 0 b ≡ g → pair_code (suc b) 0 ≡ suc g
-next_row b g e =
-    let p = triangle_is b in
-    let q = triangle_is (suc b) in
-    let r = next_triangle b in
-    let n : 0 + b ≡ b = omega arith in
-    let m : suc b + 0 ≡ suc b = omega arith in
-    let f = ap (λ s. s * (s + 1) / 2) n in
-    let h = ap (λ s. s * (s + 1) / 2) m in
-    omega arith
+next_row b g e = grind (arith, common_steps, triangle_is, next_triangle)
 
 -- the pair that a number stands for, found by going on from the pair of the number before it
 pub pair_of : (g : ℕ) → (a : ℕ) × (b : ℕ) × (pair_code a b ≡ g)
@@ -149,6 +135,4 @@ triangle_small s h =
 
 -- the number that is r after the first of those with the sum s, r being no more than s, stands for the pair of s - r and r
 pub pair_is : (s r g : ℕ) → r ≤ s → triangle s + r ≡ g → pair_code (s - r) r ≡ g
-pair_is s r g h e =
-    let f : s - r + r ≡ s = omega arith in
-    rw f (ap (λ n. n + r) (triangle_is s) ∙ e)
+pair_is s r g h e = grind (arith, common_steps, triangle_is)

@@ -1,11 +1,9 @@
 -- The bytes of words in either order.
+use Rattle.std.proofs.lemmas.Grind.{common_steps}
 use Rattle.std.proofs.Common.{◌≡◌, ℕ, zero, suc, ◌+◌, ◌/◌, ◌%◌, ◌^◌, Bool, true, false, List, [], ◌∷◌, ◌++◌, reverse, refl, sym, ◌∙◌, ap, arith}
-use Rattle.std.specs.Int.{byte_at, bytes_high_first, bytes_low_first}
-use Rattle.std.specs.Simd.Lanes.{digits_l}
+use Rattle.std.{specs.Int.byte_at, specs.Int.bytes_high_first, specs.Int.bytes_low_first, proofs.lemmas.List.reverse-append, proofs.lemmas.List.reverse-reverse, specs.Simd.Lanes.digits_l}
 use Rattle.std.proofs.Math.Nat.{div-div-eq-div-mul, pow-suc}
-use Rattle.std.proofs.lemmas.List.{reverse-append, reverse-reverse}
-use Rattle.rice_samples.specs.bytes.PatternLanes.{in_order}
-use Rattle.rice_samples.specs.bytes.Spelling.{ordered_bytes}
+use Rattle.rice_samples.specs.bytes.{Spelling.ordered_bytes, PatternLanes.in_order}
 
 byte_is : (i v : ℕ) → byte_at i v ≡ v / 256 ^ i % 256
 byte_is zero v = omega arith
@@ -16,10 +14,7 @@ one_byte_down i v = div-div-eq-div-mul v (256 ^ i) 256 ∙ ap (λ p. v / p) (sym
 
 low_bytes : (i k v w : ℕ) → w ≡ v / 256 ^ i → bytes_low_first i k v ≡ digits_l 256 k w
 low_bytes i zero v w e = refl
-low_bytes i (suc k) v w e =
-    let one : byte_at i v ≡ w % 256 = byte_is i v ∙ ap (λ n. n % 256) (sym e) in
-    let rest = low_bytes (suc i) k v (w / 256) (ap (λ n. n / 256) e ∙ one_byte_down i v) in
-    λ j. one j ∷ rest j
+low_bytes i (suc k) v w e = grind (arith, common_steps, byte_at, byte_is, one_byte_down, low_bytes (suc i) k v (w / 256) (ap (λ n. n / 256) e ∙ one_byte_down i v))
 
 digits-last : (i k v w : ℕ) → w ≡ v / 256 ^ i → digits_l 256 (suc k) w ≡ digits_l 256 k w ++ (byte_at (i + k) v ∷ [])
 digits-last i zero v w e = (let n : i + 0 ≡ i = omega arith in ap (λ b. b ∷ []) (ap (λ n. n % 256) e ∙ sym (byte_is i v)) ∙ ap (λ k. byte_at k v ∷ []) (sym n))

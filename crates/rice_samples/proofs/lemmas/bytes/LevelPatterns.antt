@@ -1,18 +1,12 @@
 -- Levels, and the patterns and words of the values at these.
-use Rattle.std.proofs.Common.{◌≡◌, ℕ, ◌+◌, ◌-◌, ◌*◌, ◌%◌, ◌^◌, ◌<◌, ◌≤◌}
-use Rattle.std.proofs.Common.{ap, arith, sym, ◌∙◌}
-use Rattle.std.specs.Prelude.{bit_and}
-use Rattle.std.proofs.lemmas.Nat.{and_mask, mod-mul-add, mod_below, pow-add, pow_pos}
-use Rattle.std.proofs.Math.Nat.{mod-add-mod, mul-le-mul_right}
-use Rattle.std.proofs.Math.Pow.{mod-mod-pow, pow_mono}
-use Rattle.rice_samples.specs.Parameters.{Parameters, least, level, value_at, value_count}
-use Rattle.rice_samples.specs.predict.Residuals.{pattern, twos_complement}
-use Rattle.rice_samples.specs.bytes.ValueRange.{offset, IsValue}
+use Rattle.std.proofs.lemmas.Grind.{common_steps}
+use Rattle.std.proofs.Common.{◌≡◌, ℕ, ◌+◌, ◌-◌, ◌*◌, ◌%◌, ◌^◌, ◌<◌, ◌≤◌, ap, arith, sym, ◌∙◌}
+use Rattle.std.proofs.{lemmas.Nat.and_mask, lemmas.Nat.mod-mul-add, lemmas.Nat.mod_below, lemmas.Nat.pow-add, lemmas.Nat.pow_pos, Math.Nat.mod-add-mod, Math.Nat.mul-le-mul_right}
+use Rattle.std.{proofs.Math.Pow.mod-mod-pow, proofs.Math.Pow.pow_mono, specs.Prelude.bit_and}
 use Rattle.rice_samples.proofs.lemmas.bytes.SpellingLemmas.{level_from_pattern, offset_limit, same_offset, wider_value}
-use Rattle.rice_samples.proofs.lemmas.predict.InverseRanksAndPatterns.{has_pattern}
-use Rattle.rice_samples.proofs.lemmas.setting.ValuesAboveLeast.{gap_above, sample_at}
-use Rattle.rice_samples.proofs.lemmas.setting.LevelsOfSamples.{pattern_fits}
-use Rattle.rice_samples.proofs.lemmas.setting.ValuesAtLevels.{value_of_level}
+use Rattle.rice_samples.specs.{Parameters.Parameters, Parameters.least, Parameters.level, Parameters.value_at, Parameters.value_count, predict.Residuals.pattern, predict.Residuals.twos_complement}
+use Rattle.rice_samples.proofs.lemmas.{setting.ValuesAboveLeast.gap_above, setting.ValuesAboveLeast.sample_at, predict.InverseRanksAndPatterns.has_pattern, setting.ValuesAtLevels.value_of_level}
+use Rattle.rice_samples.{proofs.lemmas.setting.LevelsOfSamples.pattern_fits, specs.bytes.ValueRange.offset, specs.bytes.ValueRange.IsValue}
 
 -- a level that the offset has turned is that of the value with this pattern
 pattern_of_level : (s : Parameters) (v : ℕ) → 1 ≤ s.bits → v < value_count s → pattern s (value_at s ((v + offset s) % 2 ^ s.bits)) ≡ v
@@ -30,9 +24,7 @@ low_sum n a h =
 -- the level of the sample with a pattern
 pub level_of_pattern : (s : Parameters) (v o greatest : ℕ) → 1 ≤ s.bits → s.bits ≤ 32 → v < value_count s → o ≡ offset s → greatest ≡ value_count s - 1
     → pattern s (value_at s (bit_and ((v + o) % 2 ^ 32) greatest)) ≡ v
-level_of_pattern s v o greatest h k lt e g =
-    let l : bit_and ((v + o) % 2 ^ 32) greatest ≡ (v + offset s) % 2 ^ s.bits = ap (λ m. bit_and ((v + o) % 2 ^ 32) m) g ∙ (low_sum s.bits (v + o) k ∙ ap (λ m. (v + m) % 2 ^ s.bits) e) in
-    ap (λ m. pattern s (value_at s m)) l ∙ pattern_of_level s v h lt
+level_of_pattern s v o greatest h k lt e g = grind (arith, common_steps, low_sum, pattern_of_level)
 
 -- back to a level
 level_again : (wide l o more : ℕ) → more ≤ wide → l < 2 ^ more → o ≤ 2 ^ more → ((l + (2 ^ wide - o)) % 2 ^ wide % 2 ^ more + o) % 2 ^ more ≡ l

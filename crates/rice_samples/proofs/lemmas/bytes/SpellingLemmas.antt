@@ -1,21 +1,13 @@
 -- Values, their patterns, and the bytes that spell these.
-use Rattle.std.proofs.Common.{◌≡◌, ℕ, zero, suc, ◌+◌, ◌-◌, ◌*◌, ◌/◌, ◌%◌, ◌^◌, ◌<◌, ◌≤◌, ◌⊎◌, inl, inr, cond, mod-eq_of_lt, Bool}
-use Rattle.std.proofs.Common.{true, false, ap, arith, sym, ◌∙◌, subst, refl, List, length, ℤ, pos, negsuc, neg_ℤ, ◌≤ℤ◌, ◌<ℤ◌, ◌-ℤ◌}
-use Rattle.std.specs.Int.{int_gap}
-use Rattle.std.specs.Simd.Lanes.{digits_l, number_l}
-use Rattle.std.proofs.lemmas.Int.{ints}
-use Rattle.std.proofs.lemmas.Bool.{cases_lt}
-use Rattle.std.proofs.lemmas.Nat.{pow_pos}
-use Rattle.std.proofs.Math.Nat.{mul-add-mod_self_left, pow-suc}
-use Rattle.std.proofs.Math.Pow.{pow_mono}
+use Rattle.std.proofs.lemmas.Grind.{common_steps}
+use Rattle.std.proofs.Common.{◌≡◌, ℕ, zero, suc, ◌+◌, ◌-◌, ◌*◌, ◌/◌, ◌%◌, ◌^◌, ◌<◌, ◌≤◌, ◌⊎◌, inl, inr, cond, mod-eq_of_lt, Bool, true, false, ap, arith, sym, ◌∙◌, subst, refl, List, length, ℤ, pos}
+use Rattle.std.proofs.Common.{negsuc, neg_ℤ, ◌≤ℤ◌, ◌<ℤ◌, ◌-ℤ◌}
+use Rattle.std.{proofs.Math.Nat.mul-add-mod_self_left, proofs.Math.Nat.pow-suc, specs.Simd.Lanes.digits_l, specs.Simd.Lanes.number_l, proofs.lemmas.Bool.cases_lt, proofs.lemmas.Nat.pow_pos}
+use Rattle.std.{proofs.Math.Pow.pow_mono, proofs.lemmas.Int.ints, specs.Int.int_gap}
 use Rattle.rice_bits.proofs.lemmas.bits.EightBytes.{pow_bytes}
-use Rattle.rice_samples.specs.Parameters.{level, Parameters, IsLegal, IsSample, width}
-use Rattle.rice_samples.specs.predict.Residuals.{twos_complement}
-use Rattle.rice_samples.specs.bytes.PatternLanes.{in_order}
-use Rattle.rice_samples.specs.bytes.Spelling.{spelling, ordered_bytes}
-use Rattle.rice_samples.specs.bytes.ValueRange.{offset, IsValue}
-use Rattle.rice_samples.proofs.lemmas.bytes.BytesOfWords.{bytes_are_digits, in_order-twice}
-use Rattle.rice_samples.proofs.lemmas.setting.LevelsOfSamples.{half_pow, pattern_fits}
+use Rattle.rice_samples.proofs.lemmas.{bytes.BytesOfWords.bytes_are_digits, bytes.BytesOfWords.in_order-twice, setting.LevelsOfSamples.half_pow, setting.LevelsOfSamples.pattern_fits}
+use Rattle.rice_samples.specs.{Parameters.level, Parameters.Parameters, Parameters.IsLegal, Parameters.IsSample, Parameters.width, bytes.Spelling.spelling, bytes.Spelling.ordered_bytes}
+use Rattle.rice_samples.specs.{predict.Residuals.twos_complement, bytes.ValueRange.offset, bytes.ValueRange.IsValue, bytes.PatternLanes.in_order}
 
 not_below : (a b c : ℕ) → a ≡ c + b → pos a -ℤ pos b ≡ pos c
 not_below a b c e = omega (arith, ints)
@@ -59,9 +51,7 @@ wider_value bits more false x h le k = let e = pow_mono le in (k.0, omega arith)
 
 number_of_digits : (k v : ℕ) → v < 256 ^ k → number_l 256 (digits_l 256 k v) ≡ v
 number_of_digits zero v lt = omega arith
-number_of_digits (suc k) v lt =
-    let rest = number_of_digits k (v / 256) (omega (arith, lt, pow-suc 256 k)) in
-    omega (arith, rest)
+number_of_digits (suc k) v lt = grind (arith, common_steps, number_of_digits k (v / 256) (omega (arith, lt, pow-suc 256 k)))
 
 -- the bytes of a word in either order tell the word
 same_word : (msb : Bool) (k v w : ℕ) → v < 2 ^ (8 * k) → w < 2 ^ (8 * k) → ordered_bytes msb k v ≡ ordered_bytes msb k w → v ≡ w
@@ -122,11 +112,7 @@ level_from_pattern s more y h le k = by_sign s.signed s.bits h le k.0 k.1
 
 -- and the pattern from the level
 pub same_offset : (v w h c : ℕ) → v < c → w < c → h ≤ c → (v + h) % c ≡ (w + h) % c → v ≡ w
-same_offset v w h c hv hw le e =
-    elim (mod_once (v + h) c (omega arith)) [
-      | inl p ↦ elim (mod_once (w + h) c (omega arith)) [ inl q ↦ omega (arith, p.0, q.0) | inr q ↦ absurd (omega (arith, p.0, p.1, q.0, q.1)) ]
-      | inr p ↦ elim (mod_once (w + h) c (omega arith)) [ inl q ↦ absurd (omega (arith, p.0, p.1, q.0, q.1)) | inr q ↦ omega (arith, p.0, q.0) ]
-    ]
+same_offset v w h c hv hw le e = grind (arith, common_steps, mod_once)
 
 -- there are no more values below 0 than patterns of as many bits as a sample has, or of more bits
 pub offset_limit : (s : Parameters) (more : ℕ) → 1 ≤ s.bits → s.bits ≤ more → offset s ≤ 2 ^ more
@@ -160,8 +146,7 @@ spelled_level {s} {bytes} {k} word x legal spells hx e =
     same_offset word (twos_complement (8 * k) x) (offset s) (2 ^ (8 * k)) fits below (offset_limit s (8 * k) legal.bits_from spells.enough)
     (ap (λ v. (word + v) % 2 ^ (8 * k)) (sym spells.offset_is) ∙ (sym e ∙ sym (level_from_pattern s (8 * k) x legal.bits_from spells.enough hx)))
     in
-    spells.ordered ∙ (ap (λ v. ordered_bytes v (length bytes) word) spells.order
-    ∙ (ap (λ v. ordered_bytes s.msb v word) spells.len ∙ (ap (λ v. ordered_bytes s.msb (width s) v) same ∙ ap (λ v. ordered_bytes s.msb (width s) (twos_complement (8 * v) x)) spells.width_is)))
+    grind (arith, common_steps)
 
 -- bytes that spell a sample tell its level
 pub level_spelled : {s : Parameters} {bytes : List ℕ} {msb : Bool} {k : ℕ} (word : ℕ) {o : ℕ} (y : ℤ) → IsLegal s → OrderedWord s bytes msb k word o → k ≤ 4 → IsSample s y → bytes ≡ spelling s y

@@ -1,11 +1,8 @@
 -- How many bytes samples take.
+use Rattle.std.proofs.lemmas.Grind.{common_steps}
 use Rattle.std.proofs.Common.{◌≡◌, ℕ, zero, suc, ◌+◌, ◌*◌, ◌≤◌, Bool, true, false, cond, List, [], ◌∷◌, ◌++◌, length, refl, ap, arith, ◌∙◌, length-append, ℤ}
-use Rattle.std.specs.Int.{bytes_low_first, bytes_high_first}
-use Rattle.std.proofs.lemmas.Bool.Decides.{nat_tests}
-use Rattle.std.proofs.lemmas.Grind.{flat_map-append}
-use Rattle.rice_samples.specs.Parameters.{Parameters, width}
-use Rattle.rice_samples.specs.predict.Residuals.{twos_complement}
-use Rattle.rice_samples.specs.bytes.Spelling.{spelling, spellings}
+use Rattle.std.{specs.Int.bytes_low_first, specs.Int.bytes_high_first, proofs.lemmas.Bool.Decides.nat_tests, proofs.lemmas.Grind.flat_map-append}
+use Rattle.rice_samples.specs.{bytes.Spelling.spelling, bytes.Spelling.spellings, predict.Residuals.twos_complement, Parameters.Parameters, Parameters.width}
 
 low_count : (i k v : ℕ) → length (bytes_low_first i k v) ≡ k
 low_count i zero v = refl
@@ -17,11 +14,7 @@ high_count (suc k) v = ap suc (high_count k v)
 
 -- one sample is spelled in as many bytes as the width says
 pub length-spelling : (s : Parameters) (x : ℤ) → length (spelling s x) ≡ width s
-length-spelling s x = by_order s.msb
-  where
-    by_order : (msb : Bool) → length (cond msb (bytes_high_first (width s) (twos_complement (8 * width s) x)) (bytes_low_first 0 (width s) (twos_complement (8 * width s) x))) ≡ width s
-    by_order true = high_count (width s) (twos_complement (8 * width s) x)
-    by_order false = low_count 0 (width s) (twos_complement (8 * width s) x)
+length-spelling s x = grind (arith, common_steps, high_count, low_count)
 
 -- and several samples in so many times as many
 pub length-spellings : (s : Parameters) (xs : List ℤ) → length (spellings s xs) ≡ width s * length xs

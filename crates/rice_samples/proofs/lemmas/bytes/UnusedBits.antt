@@ -1,15 +1,9 @@
 -- Words that become the spellings of samples, one after another.
-use Rattle.std.proofs.Common.{◌≡◌, ℕ, ◌+◌, ◌*◌, ◌%◌, ◌^◌, ◌<◌, ◌≤◌, List, [], ◌∷◌, ◌++◌, length, take}
-use Rattle.std.proofs.Common.{drop, map, refl, ap, arith, sym, ◌∙◌, append_assoc, append-nil, length-append, length-drop, ℤ}
-use Rattle.std.specs.Prelude.{All}
-use Rattle.std.proofs.Math.Seq.{take-add}
-use Rattle.std.proofs.lemmas.Grind.{flat_map-append}
-use Rattle.std.proofs.lemmas.List.{drop-drop, drop_at, map-append, take_at}
-use Rattle.std.proofs.lemmas.List.Elements.{All-nil, All-push}
-use Rattle.rice_samples.specs.Parameters.{Parameters, IsSample, value_count, width}
-use Rattle.rice_samples.specs.predict.Residuals.{pattern}
-use Rattle.rice_samples.specs.bytes.UnusedBits.{SpellsOne, bytes_of_words}
-use Rattle.rice_samples.specs.bytes.Spelling.{spelling, spellings, ordered_bytes}
+use Rattle.std.proofs.Common.{◌≡◌, ℕ, ◌+◌, ◌*◌, ◌%◌, ◌^◌, ◌<◌, ◌≤◌, List, [], ◌∷◌, ◌++◌, length, take, drop, map, refl, ap, arith, sym, ◌∙◌, append_assoc, append-nil, length-append, length-drop, ℤ}
+use Rattle.std.proofs.lemmas.{List.drop-drop, List.drop_at, List.map-append, List.take_at, List.Elements.All-nil, List.Elements.All-push, Grind.flat_map-append}
+use Rattle.std.{proofs.Math.Seq.take-add, specs.Prelude.All}
+use Rattle.rice_samples.specs.{Parameters.Parameters, Parameters.IsSample, Parameters.value_count, Parameters.width, bytes.Spelling.spelling, bytes.Spelling.spellings, bytes.Spelling.ordered_bytes}
+use Rattle.rice_samples.specs.{bytes.UnusedBits.SpellsOne, bytes.UnusedBits.bytes_of_words, predict.Residuals.pattern}
 
 -- the words in the first `at` bytes have become spellings
 pub record SpelledSoFar (s : Parameters) (old now : List ℕ) (at : ℕ) : Type 0 where

@@ -1,17 +1,12 @@
 -- A sample has its own pattern, and after each other sample its own residual.
-use Rattle.std.proofs.Common.{◌≡◌, ℕ, zero, suc, ◌+◌, ◌-◌, ◌*◌, ◌/◌, ◌%◌, ◌^◌, ◌<◌, ◌≤◌, ◌==◌, Bool, true, false, cond}
-use Rattle.std.proofs.Common.{◌&&◌, List, [], ◌∷◌, length, refl, ap, arith, sym, ◌∙◌, ℤ, pos, negsuc, neg_ℤ, ◌≤ℤ◌, ◌<ℤ◌, w64}
-use Rattle.std.specs.List.{AllByRecursion}
-use Rattle.std.specs.Int.{cast_unsigned, int_gap}
-use Rattle.std.proofs.lemmas.Bool.Decides.{nat_tests}
-use Rattle.std.proofs.lemmas.Int.{ints}
-use Rattle.std.proofs.lemmas.Nat.{mod-mul-add, pow-add, pow_pos}
-use Rattle.std.proofs.Math.Nat.{mul-add-mod_self_left, mod-eq_of_lt, mul-div_cancel_left}
-use Rattle.rice_samples.specs.Parameters.{Parameters, IsSample, level, value_count}
-use Rattle.rice_samples.specs.Places.{is_reference_sample, is_reference}
+use Rattle.std.proofs.lemmas.Grind.{common_steps}
+use Rattle.std.proofs.Common.{◌≡◌, ℕ, zero, suc, ◌+◌, ◌-◌, ◌*◌, ◌/◌, ◌%◌, ◌^◌, ◌<◌, ◌≤◌, ◌==◌, Bool, true, false, cond, ◌&&◌, List, [], ◌∷◌, length, refl, ap, arith, sym, ◌∙◌, ℤ, pos, negsuc, neg_ℤ}
+use Rattle.std.proofs.Common.{◌≤ℤ◌, ◌<ℤ◌, w64}
+use Rattle.std.proofs.{Math.Nat.mul-add-mod_self_left, Math.Nat.mod-eq_of_lt, Math.Nat.mul-div_cancel_left, lemmas.Nat.mod-mul-add, lemmas.Nat.pow-add, lemmas.Nat.pow_pos, lemmas.Int.ints}
+use Rattle.std.{proofs.lemmas.Bool.Decides.nat_tests, specs.Int.cast_unsigned, specs.Int.int_gap, specs.List.AllByRecursion}
 use Rattle.rice_samples.specs.predict.Residuals.{twos_complement, pattern, rank, residual, residuals}
-use Rattle.rice_samples.proofs.lemmas.predict.Ranks.{rank_injective}
-use Rattle.rice_samples.proofs.lemmas.setting.LevelsOfSamples.{half_pow, same_level}
+use Rattle.rice_samples.proofs.lemmas.{setting.LevelsOfSamples.half_pow, setting.LevelsOfSamples.same_level, predict.Ranks.rank_injective}
+use Rattle.rice_samples.specs.{Parameters.Parameters, Parameters.IsSample, Parameters.level, Parameters.value_count, Places.is_reference_sample, Places.is_reference}
 
 -- the lowest digits of a small number in 64 bits
 pub low_digits : (bits : ℕ) (x : ℤ) → bits ≤ 32 → neg_ℤ (pos (2 ^ bits)) ≤ℤ x → x <ℤ pos (2 ^ bits) → cast_unsigned w64 x % 2 ^ bits ≡ twos_complement bits x
@@ -39,21 +34,11 @@ same_unsigned n (negsuc v) y h k f = absurd (omega (arith, ints))
 
 -- samples with the same pattern are the same
 pub same_pattern : (s : Parameters) (x y : ℤ) → 1 ≤ s.bits → IsSample s x → IsSample s y → pattern s x ≡ pattern s y → x ≡ y
-same_pattern s x y h k l e = by_sign s.signed s.bits h k.0 k.1 l.0 l.1 e
-  where
-    by_sign : (signed : Bool) (n : ℕ) → 1 ≤ n → cond signed (neg_ℤ (pos (2 ^ (n - 1)))) (pos 0) ≤ℤ x → int_gap (cond signed (neg_ℤ (pos (2 ^ (n - 1)))) (pos 0)) x < 2 ^ n →
-        cond signed (neg_ℤ (pos (2 ^ (n - 1)))) (pos 0) ≤ℤ y → int_gap (cond signed (neg_ℤ (pos (2 ^ (n - 1)))) (pos 0)) y < 2 ^ n → twos_complement n x ≡ twos_complement n y → x ≡ y
-    by_sign true n h a b c d e = same_signed n (half_pow n h) (pow_pos (n - 1)) a b c d e
-    by_sign false n h a b c d e = same_unsigned n x y a c e
+same_pattern s x y h k l e = grind (arith, common_steps, same_signed, half_pow, pow_pos, same_unsigned)
 
 -- where a sample is no reference, its residual tells it
 pub same_residual : (s : Parameters) (i : ℕ) (p : ℤ) {x y : ℤ} → 1 ≤ s.bits → IsSample s p → IsSample s x → IsSample s y → is_reference_sample s i ≡ false → residual s i p x ≡ residual s i p y → x ≡ y
-same_residual s i p {x} {y} n h k l r e = by_way s.preprocess (is_reference_sample s i) r e
-  where
-    by_way : (a b : Bool) → b ≡ false → cond a (cond b 0 (rank s p x)) (pattern s x) ≡ cond a (cond b 0 (rank s p y)) (pattern s y) → x ≡ y
-    by_way true true r e = absurd (let f : true ≡ false = r in cc)
-    by_way true false r e = same_level s x y k l (rank_injective (value_count s) (level s p) (level s x) (level s y) h.1 k.1 l.1 e)
-    by_way false b r e = same_pattern s x y n k l e
+same_residual s i p {x} {y} n h k l r e = grind (arith, common_steps, same_level, rank_injective, same_pattern)
 
 -- samples that follow the same sample, with no reference sample among them, and have the same residuals are the same
 pub same_residuals : (s : Parameters) (i : ℕ) (p : ℤ) {xs ys : List ℤ} → 1 ≤ s.bits → IsSample s p → AllByRecursion (IsSample s) xs → AllByRecursion (IsSample s) ys →
@@ -72,20 +57,8 @@ same_residuals s i p {xs = x ∷ xs} {ys = y ∷ ys} n h k l r e =
 
 -- only the first sample of a block is a reference
 pub inside_block : (s : Parameters) (b t : ℕ) → 1 ≤ t → t < s.block → is_reference_sample s (s.block * b + t) ≡ false
-inside_block s b t h lt =
-    let m : (s.block * b + t) % s.block ≡ t = mul-add-mod_self_left s.block b t ∙ mod-eq_of_lt lt in
-    ap (λ v. is_reference s ((s.block * b + t) / s.block) && (v == 0)) m
-    ∙ (ap (λ v. is_reference s ((s.block * b + t) / s.block) && v) (some t h) ∙ never (is_reference s ((s.block * b + t) / s.block)))
-  where
-    some : (t : ℕ) → 1 ≤ t → (t == 0) ≡ false
-    some t h = grind (arith, nat_tests)
-
-    never : (v : Bool) → (v && false) ≡ false
-    never true = refl
-    never false = refl
+inside_block s b t h lt = grind (arith, common_steps, mul-add-mod_self_left, mod-eq_of_lt)
 
 -- the first sample of a block without a reference is no reference sample
 pub no_reference_at : (s : Parameters) (b : ℕ) → 1 ≤ s.block → is_reference s b ≡ false → is_reference_sample s (s.block * b) ≡ false
-no_reference_at s b h e =
-    let q : s.block * b / s.block ≡ b = mul-div_cancel_left b h in
-    ap (λ m. is_reference s m && (s.block * b % s.block == 0)) q ∙ ap (λ v. v && (s.block * b % s.block == 0)) e
+no_reference_at s b h e = grind (arith, common_steps, mul-div_cancel_left)

@@ -1,14 +1,10 @@
 -- Each number below the count of values is the pattern of a sample, its level, and its rank from each other sample.
+use Rattle.std.proofs.lemmas.Grind.{common_steps}
 use Rattle.std.proofs.Common.{◌≡◌, ℕ, zero, suc, ◌+◌, ◌-◌, ◌^◌, ◌<◌, ◌≤◌, Bool, true, false, cond, refl, ap, arith, ◌∙◌, inl, inr, ℤ, pos, negsuc, neg_ℤ, ◌≤ℤ◌}
-use Rattle.std.specs.Int.{int_gap}
-use Rattle.std.proofs.lemmas.Bool.Decides.{nat_tests}
-use Rattle.std.proofs.lemmas.Bool.{cases_lt}
-use Rattle.std.proofs.lemmas.Int.{ints}
-use Rattle.std.proofs.lemmas.Nat.{pow_pos}
-use Rattle.rice_samples.specs.Parameters.{Parameters, IsSample, level, value_count}
+use Rattle.std.{proofs.lemmas.Bool.Decides.nat_tests, proofs.lemmas.Bool.cases_lt, proofs.lemmas.Nat.pow_pos, proofs.lemmas.Int.ints, specs.Int.int_gap}
 use Rattle.rice_samples.specs.predict.Residuals.{twos_complement, pattern, rank, rank_below}
-use Rattle.rice_samples.proofs.lemmas.predict.Ranks.{number_with, rank_of_number}
-use Rattle.rice_samples.proofs.lemmas.setting.LevelsOfSamples.{half_pow}
+use Rattle.rice_samples.specs.Parameters.{Parameters, IsSample, level, value_count}
+use Rattle.rice_samples.proofs.lemmas.{predict.Ranks.number_with, predict.Ranks.rank_of_number, setting.LevelsOfSamples.half_pow}
 
 -- a value from the least one on
 abbrev Value : ℤ → ℕ → ℤ → Type 0
@@ -59,7 +55,4 @@ pub has_rank : (s : Parameters) → 1 ≤ s.bits → (p : ℤ) → IsSample s p 
 has_rank s h p hp d lt =
     let n = number_with (value_count s) (level s p) d in
     let x = has_level s h n (number_fits (value_count s) (level s p) d hp.1 lt) in
-    (x.0, x.1, rank_at (value_count s) (level s p) _ _ x.2 ∙ rank_of_number (value_count s) (level s p) d hp.1 lt)
-  where
-    rank_at : (count p m n : ℕ) → m ≡ n → rank_below count p m ≡ rank_below count p n
-    rank_at count p m n e = ap (λ v. rank_below count p v) e
+    grind (arith, common_steps, rank_of_number)

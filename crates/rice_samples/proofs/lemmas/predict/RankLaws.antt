@@ -1,16 +1,10 @@
 -- The rank of a sample, which goes by levels, as a count over all samples and as the standard's fold.
+use Rattle.std.proofs.lemmas.Grind.{common_steps}
 use Rattle.std.proofs.Common.{◌≡◌, ℕ, zero, suc, ◌+◌, ◌-◌, ◌*◌, ◌<◌, ◌≤◌, cond, nat_lt, map, refl, ap, subst, sym, arith, ◌∙◌, ◌⊎◌, inl, inr, ℤ, pos, negsuc, ◌≤ℤ◌, ◌+ℤ◌, ◌-ℤ◌}
-use Rattle.std.specs.Prelude.{count_by}
-use Rattle.std.specs.List.{range_with_len}
-use Rattle.std.specs.Int.{int_gap, abs_diff}
-use Rattle.std.proofs.lemmas.Bool.Decides.{nat_tests}
-use Rattle.std.proofs.lemmas.Bool.{cases_lt}
-use Rattle.std.proofs.lemmas.Int.{ints}
-use Rattle.std.proofs.lemmas.List.Sums.{sum_by-cons}
-use Rattle.rice_samples.specs.Parameters.{Parameters, IsSample, least, level, value_count}
-use Rattle.rice_samples.specs.predict.Residuals.{nearer, rank, rank_below}
-use Rattle.rice_samples.specs.Laws.{distance, nearer_count, IsSecondOfTwo}
-use Rattle.rice_samples.proofs.lemmas.predict.Ranks.{nearer_is_count}
+use Rattle.std.{proofs.lemmas.Bool.Decides.nat_tests, proofs.lemmas.List.Sums.sum_by-cons, specs.Int.int_gap, specs.Int.abs_diff, proofs.lemmas.Bool.cases_lt, specs.List.range_with_len}
+use Rattle.std.{specs.Prelude.count_by, proofs.lemmas.Int.ints}
+use Rattle.rice_samples.specs.{Parameters.Parameters, Parameters.IsSample, Parameters.least, Parameters.level, Parameters.value_count, Laws.distance, Laws.nearer_count, Laws.IsSecondOfTwo}
+use Rattle.rice_samples.{specs.predict.Residuals.nearer, specs.predict.Residuals.rank, specs.predict.Residuals.rank_below, proofs.lemmas.predict.Ranks.nearer_is_count}
 
 -- a value is the least one and its level
 pub gap_is : (z x : ℤ) → z ≤ℤ x → x ≡ z +ℤ pos (int_gap z x)
@@ -40,13 +34,7 @@ distance_levels (negsuc a) (negsuc p) (negsuc x) h k = omega (arith, ints)
 counted_by_levels : (z p : ℤ) (d a n : ℕ) → z ≤ℤ p →
     count_by (λ y. nat_lt (distance p y) d) (map (λ l. z +ℤ pos l) (range_with_len a n)) ≡ count_by (λ l. nat_lt (abs_diff (int_gap z p) l) d) (range_with_len a n)
 counted_by_levels z p d a zero h = refl
-counted_by_levels z p d a (suc n) h =
-    let y = z +ℤ pos a in
-    let rest = map (λ l. z +ℤ pos l) (range_with_len (a + 1) n) in
-    let here : distance p y ≡ abs_diff (int_gap z p) a = distance_levels z p y h (above_least z a) ∙ ap (λ l. abs_diff (int_gap z p) l) (gap_above z a) in
-    let later = counted_by_levels z p d (a + 1) n h in
-    sum_by-cons (λ v. cond (nat_lt (distance p v) d) 1 0) y rest
-    ∙ ((λ i. cond (nat_lt (here i) d) 1 0 + later i) ∙ sym (sum_by-cons (λ l. cond (nat_lt (abs_diff (int_gap z p) l) d) 1 0) a (range_with_len (a + 1) n)))
+counted_by_levels z p d a (suc n) h = grind (arith, common_steps, distance_levels, above_least, gap_above, nat_lt, counted_by_levels z p d (a + 1) n h)
 
 -- the legal values nearer to p than x, counted one by one, are as many as the overlap by levels says
 pub nearer_count_is : (s : Parameters) (p x : ℤ) → IsSample s p → IsSample s x → nearer_count s p x ≡ nearer (value_count s) (level s p) (level s x)
@@ -57,24 +45,10 @@ nearer_count_is s p x hp hx =
 
 -- the second of two values as near, by levels
 second_levels : (s : Parameters) (p x : ℤ) → IsSample s p → IsSample s x → IsSecondOfTwo s p x → (level s p < level s x) × (level s x ≤ 2 * level s p)
-second_levels s p x hp hx h =
-    let e = gap_is (least s) p hp.0 in
-    let f = gap_is (least s) x hx.0 in
-    let above = h.0 in
-    let legal = h.1.0 in
-    (omega (arith, ints), omega (arith, ints))
+second_levels s p x hp hx h = grind (arith, common_steps, gap_is)
 
 second_of_levels : (s : Parameters) (p x : ℤ) → IsSample s p → IsSample s x → level s p < level s x → level s x ≤ 2 * level s p → IsSecondOfTwo s p x
-second_of_levels s p x hp hx lt le =
-    let z = least s in
-    let e = gap_is z p hp.0 in
-    let f = gap_is z x hx.0 in
-    let k = 2 * level s p - level s x in
-    let mirror : p +ℤ p -ℤ x ≡ z +ℤ pos k = omega (arith, ints) in
-    let IsLegalLevel : ℤ → Type 0 = λ y. int_gap z y < value_count s in
-    let small : k < value_count s = omega (arith, hp.1) in
-    let IsBelow : ℕ → Type 0 = λ n. n < value_count s in
-    (omega (arith, ints), (omega (arith, ints), subst IsLegalLevel (sym mirror) (subst IsBelow (sym (gap_above z k)) small)))
+second_of_levels s p x hp hx lt le = grind (arith, common_steps, gap_is, gap_above)
 
 with_tie : (count p x : ℕ) → p < x → x ≤ 2 * p → rank_below count p x ≡ nearer count p x + 1
 with_tie count p x lt le = grind (arith, nat_tests)
@@ -85,19 +59,8 @@ without_tie count p x (inr lt) = grind (arith, nat_tests)
 
 -- where x is the second of two values as near, its rank is one more than the number of nearer values
 pub rank_of_second : (s : Parameters) (p x : ℤ) → IsSample s p → IsSample s x → IsSecondOfTwo s p x → rank s p x ≡ nearer_count s p x + 1
-rank_of_second s p x hp hx h =
-    let l = second_levels s p x hp hx h in
-    with_tie (value_count s) (level s p) (level s x) l.0 l.1 ∙ sym (ap (λ n. n + 1) (nearer_count_is s p x hp hx))
+rank_of_second s p x hp hx h = grind (arith, common_steps, second_levels, with_tie, nearer_count_is)
 
 -- and else it is this number
 pub rank_of_other : (s : Parameters) (p x : ℤ) → IsSample s p → IsSample s x → (IsSecondOfTwo s p x → ⊥) → rank s p x ≡ nearer_count s p x
-rank_of_other s p x hp hx h = without_tie (value_count s) (level s p) (level s x) one ∙ sym (nearer_count_is s p x hp hx)
-  where
-    one : (level s x ≤ level s p) ⊎ (2 * level s p < level s x)
-    one = elim (cases_lt (level s p) (level s x)) [
-      | inr le ↦ inl le
-      | inl lt ↦ elim (cases_lt (2 * level s p) (level s x)) [
-        | inl far ↦ inr far
-        | inr le ↦ absurd (h (second_of_levels s p x hp hx lt le))
-      ]
-    ]
+rank_of_other s p x hp hx h = grind (arith, common_steps, without_tie, nearer_count_is, second_of_levels)

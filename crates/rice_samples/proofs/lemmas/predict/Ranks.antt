@@ -1,10 +1,7 @@
 -- Each number below count has one rank from p, and each rank is that of one number.
+use Rattle.std.proofs.lemmas.Grind.{common_steps}
 use Rattle.std.proofs.Common.{◌≡◌, ℕ, zero, suc, ◌+◌, ◌-◌, ◌*◌, ◌/◌, ◌%◌, ◌<◌, min, max, cond, nat_lt, nat_le, ap, arith, ◌∙◌, if◌then◌else◌, ◌==◌}
-use Rattle.std.specs.Prelude.{count_by}
-use Rattle.std.specs.List.{range_with_len}
-use Rattle.std.specs.Int.{abs_diff}
-use Rattle.std.proofs.lemmas.Bool.Decides.{nat_tests}
-use Rattle.std.proofs.lemmas.List.Sums.{sum_by-cons}
+use Rattle.std.{proofs.lemmas.Bool.Decides.nat_tests, proofs.lemmas.List.Sums.sum_by-cons, specs.List.range_with_len, specs.Prelude.count_by, specs.Int.abs_diff}
 use Rattle.rice_samples.specs.predict.Residuals.{nearer, rank_below}
 
 -- a rank is below the count too
@@ -29,12 +26,7 @@ rank_of_number count p d hp hd = grind (arith, nat_tests)
 -- the numbers nearer to p than x, counted one by one
 count_step : (p d a n : ℕ) → count_by (λ y. nat_lt (abs_diff p y) d) (range_with_len a n) ≡ min (a + n) (p + d) - max a (p + 1 - d)
 count_step p d a zero = grind (arith, nat_tests)
-count_step p d a (suc n) =
-    let e = count_step p d (a + 1) n in
-    sum_by-cons (λ y. cond (nat_lt (abs_diff p y) d) 1 0) a (range_with_len (a + 1) n) ∙ (ap (λ k. cond (nat_lt (abs_diff p a) d) 1 0 + k) e ∙ one_more p d a n)
-  where
-    one_more : (p d a n : ℕ) → cond (nat_lt (abs_diff p a) d) 1 0 + (min (a + 1 + n) (p + d) - max (a + 1) (p + 1 - d)) ≡ min (a + suc n) (p + d) - max a (p + 1 - d)
-    one_more p d a n = grind (arith, nat_tests)
+count_step p d a (suc n) = grind (arith, common_steps, nat_lt, count_step p d (a + 1) n)
 
 -- the definition by the overlap is the count
 pub nearer_is_count : (count p x : ℕ) → count_by (λ y. nat_lt (abs_diff p y) (abs_diff p x)) (range_with_len 0 count) ≡ nearer count p x

@@ -1,14 +1,9 @@
 -- The residuals of samples: how many, how large, and 0 at a reference place.
 use Rattle.std.proofs.Common.{◌≡◌, ℕ, suc, ◌+◌, ◌*◌, ◌/◌, ◌%◌, ◌<◌, ◌≤◌, ◌==◌, Bool, true, false, cond, ◌&&◌, List, [], ◌∷◌, length, refl, ap, ◌∙◌, ℤ}
-use Rattle.std.specs.Prelude.{slice_index}
-use Rattle.std.specs.List.{AllByRecursion}
-use Rattle.std.proofs.lemmas.Nat.{pow_pos}
-use Rattle.std.proofs.Math.Nat.{mul-div_cancel_left, mul-mod_right}
-use Rattle.rice_samples.specs.Parameters.{Parameters, IsSample, level, value_count}
-use Rattle.rice_samples.specs.Places.{is_reference_sample, is_reference}
-use Rattle.rice_samples.specs.predict.Residuals.{rank, residual, residuals, pattern}
+use Rattle.std.{proofs.Math.Nat.mul-div_cancel_left, proofs.Math.Nat.mul-mod_right, specs.Prelude.slice_index, specs.List.AllByRecursion, proofs.lemmas.Nat.pow_pos}
+use Rattle.rice_samples.specs.{predict.Residuals.rank, predict.Residuals.residual, predict.Residuals.residuals, predict.Residuals.pattern, Places.is_reference_sample, Places.is_reference}
+use Rattle.rice_samples.{specs.Parameters.Parameters, specs.Parameters.IsSample, specs.Parameters.level, specs.Parameters.value_count, proofs.lemmas.setting.LevelsOfSamples.pattern_fits}
 use Rattle.rice_samples.proofs.lemmas.predict.Ranks.{rank_fits}
-use Rattle.rice_samples.proofs.lemmas.setting.LevelsOfSamples.{pattern_fits}
 
 -- there are as many residuals as samples
 pub length-residuals : (s : Parameters) (i : ℕ) (p : ℤ) (xs : List ℤ) → length (residuals s i p xs) ≡ length xs

@@ -1,9 +1,7 @@
 -- The way of a rank, by its digits.
 use Rattle.std.proofs.Common.{◌≡◌, ℕ, zero, suc, ◌+◌, ◌-◌, ◌/◌, ◌%◌, ◌^◌, ◌<◌, refl, ◌∙◌, ap, arith}
-use Rattle.std.specs.Prelude.{bit_and}
-use Rattle.std.specs.Int.Bits.{bit_xor, xor_add_and, xor_zero_r}
+use Rattle.std.{specs.Int.Bits.bit_xor, specs.Int.Bits.xor_add_and, specs.Int.Bits.xor_zero_r, proofs.Math.Nat.mod-eq_of_lt, proofs.Math.Nat.add-mod_right, specs.Prelude.bit_and}
 use Rattle.std.proofs.lemmas.Nat.{and_mask, pow_pos}
-use Rattle.std.proofs.Math.Nat.{mod-eq_of_lt, add-mod_right}
 use Rattle.rice_samples.specs.predict.NearNumbers.{way}
 
 -- half of a rank, with each of its k digits turned over where the rank is odd, is the way of this rank

@@ -1,7 +1,7 @@
 -- Identifiers, splits and widths of samples of so many bits.
+use Rattle.std.proofs.lemmas.Grind.{common_steps}
 use Rattle.std.proofs.Common.{◌≡◌, ◌-◌, ◌*◌, ◌^◌, ◌<◌, ◌≤◌, ap, arith}
-use Rattle.std.proofs.lemmas.Bool.Decides.{nat_tests}
-use Rattle.std.proofs.Math.Nat.{pow-le-pow_right}
+use Rattle.std.proofs.{lemmas.Bool.Decides.nat_tests, Math.Nat.pow-le-pow_right}
 use Rattle.rice_samples.specs.Parameters.{Parameters, id_len, k_max, width}
 
 -- at most 8 bits
@@ -22,10 +22,7 @@ half_id s more most = grind (arith, nat_tests)
 
 -- their splits, and those of fewer bits
 pub half_splits : (s : Parameters) → s.bits ≤ 16 → k_max s < 16
-half_splits s most =
-    let id : id_len s ≤ 4 = grind (arith, nat_tests) in
-    let k = pow-le-pow_right {n = 2} (omega arith) {i = id_len s} {j = 4} id in
-    omega (arith, k)
+half_splits s most = grind (arith, common_steps, nat_tests, pow-le-pow_right)
 
 -- eight of them in bytes
 pub half_row : (s : Parameters) → s.bits ≤ 16 → width s * 8 ≤ 32
@@ -37,10 +34,7 @@ word_id s more = grind (arith, nat_tests)
 
 -- all splits
 pub word_splits : (s : Parameters) → s.bits ≤ 32 → k_max s < 32
-word_splits s most =
-    let id : id_len s ≤ 5 = grind (arith, nat_tests) in
-    let k = pow-le-pow_right {n = 2} (omega arith) {i = id_len s} {j = 5} id in
-    omega (arith, k)
+word_splits s most = grind (arith, common_steps, nat_tests, pow-le-pow_right)
 
 -- eight of any samples in bytes
 pub word_row : (s : Parameters) → s.bits ≤ 32 → width s * 8 ≤ 32

@@ -1,11 +1,8 @@
 -- Samples are numbered by their levels.
+use Rattle.std.proofs.lemmas.Grind.{common_steps}
 use Rattle.std.proofs.Common.{◌≡◌, ℕ, zero, suc, ◌+◌, ◌-◌, ◌^◌, ◌<◌, ◌≤◌, Bool, true, false, cond, ap, arith, ℤ, pos, negsuc, neg_ℤ, ◌≤ℤ◌}
-use Rattle.std.specs.Int.{int_gap}
-use Rattle.std.proofs.lemmas.Int.{ints}
-use Rattle.std.proofs.Math.Nat.{pow-suc}
-use Rattle.std.proofs.lemmas.Nat.{pow_pos}
-use Rattle.rice_samples.specs.Parameters.{Parameters, IsSample, least, level, value_count}
-use Rattle.rice_samples.specs.predict.Residuals.{twos_complement, pattern}
+use Rattle.std.{proofs.lemmas.Nat.pow_pos, proofs.Math.Nat.pow-suc, proofs.lemmas.Int.ints, specs.Int.int_gap}
+use Rattle.rice_samples.specs.{Parameters.Parameters, Parameters.IsSample, Parameters.least, Parameters.level, Parameters.value_count, predict.Residuals.twos_complement, predict.Residuals.pattern}
 
 -- from the least value the gap tells the value
 pub same_gap : (l x y : ℤ) → l ≤ℤ x → l ≤ℤ y → int_gap l x ≡ int_gap l y → x ≡ y
@@ -37,12 +34,7 @@ fits_unsigned n (negsuc v) h k = absurd (omega (arith, ints))
 
 -- the pattern of a sample is below the count of values
 pub pattern_fits : (s : Parameters) (x : ℤ) → 1 ≤ s.bits → IsSample s x → pattern s x < value_count s
-pattern_fits s x h k = by_sign s.signed s.bits x h k.0 k.1
-  where
-    by_sign : (signed : Bool) (n : ℕ) (x : ℤ) → 1 ≤ n → cond signed (neg_ℤ (pos (2 ^ (n - 1)))) (pos 0) ≤ℤ x
-        → int_gap (cond signed (neg_ℤ (pos (2 ^ (n - 1)))) (pos 0)) x < 2 ^ n → twos_complement n x < 2 ^ n
-    by_sign true n x h l g = fits_signed n (2 ^ (n - 1)) x (half_pow n h) (pow_pos (n - 1)) l g
-    by_sign false n x h l g = fits_unsigned n x l g
+pattern_fits s x h k = grind (arith, common_steps, fits_signed, half_pow, fits_unsigned)
 
 -- 0 is a legal value, signed or not
 pub zero_is_sample : (s : Parameters) → 1 ≤ s.bits → IsSample s (pos 0)

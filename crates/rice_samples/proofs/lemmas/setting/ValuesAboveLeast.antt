@@ -1,7 +1,6 @@
 -- The least value of a sample, and the values above it by their levels.
 use Rattle.std.proofs.Common.{◌≡◌, ℕ, ◌<◌, arith, ℤ, pos, negsuc, ◌≤ℤ◌, ◌+ℤ◌, ◌-ℤ◌}
-use Rattle.std.specs.Int.{int_gap}
-use Rattle.std.proofs.lemmas.Int.{ints}
+use Rattle.std.{proofs.lemmas.Int.ints, specs.Int.int_gap}
 use Rattle.rice_samples.specs.Parameters.{Parameters, IsSample, least, value_count}
 
 -- the gap is the difference

@@ -1,7 +1,5 @@
 use Rattle.std.proofs.Common.{◌^◌, ◌%◌, ◌∙◌, ap, arith, w64}
-use Rattle.std.specs.Int.{cast_unsigned}
-use Rattle.std.proofs.lemmas.Int.{to_z-of_z}
-use Rattle.std.proofs.lemmas.Nat.{one_shl}
+use Rattle.std.{proofs.lemmas.Int.to_z-of_z, proofs.lemmas.Nat.one_shl, specs.Int.cast_unsigned}
 use Rattle.rice_samples.proofs.lemmas.predict.DistinctPatternsAndResiduals.{low_digits}
 use Rattle.rice_samples.proofs.patterns.digits_of.Goals as goal
 

@@ -1,7 +1,5 @@
 use Rattle.std.proofs.Common.{◌≡◌, ◌+◌, ◌*◌, ◌-◌, ◌%◌, ◌^◌, arith, pos, ◌-ℤ◌, w64, to_z, of_z}
-use Rattle.std.proofs.lemmas.Int.{ints}
-use Rattle.std.proofs.lemmas.Nat.{one_shl}
-use Rattle.std.proofs.Math.Pow.{pow_mono}
+use Rattle.std.proofs.{lemmas.Nat.one_shl, Math.Pow.pow_mono, lemmas.Int.ints}
 use Rattle.rice_samples.proofs.lemmas.bytes.SpellingLemmas.{signed_digits}
 use Rattle.rice_samples.proofs.patterns.value_of_digits.Goals as goal
 

@@ -1,5 +1,4 @@
-use Rattle.std.proofs.Common.{arith, map-id, w64}
-use Rattle.std.proofs.lemmas.Simd.{adds_fit, sum_fits}
+use Rattle.std.proofs.{lemmas.Simd.adds_fit, lemmas.Simd.sum_fits, Common.arith, Common.map-id, Common.w64}
 use Rattle.rice_samples.proofs.lemmas.blocks.EightsInLanes.{sums_fit, sum_added, lanes_added, whole_sum, total_fits, sum_limited}
 use Rattle.rice_samples.proofs.blocks.tests_and_sums.sum_shifted_in_lanes_of_64.Goals as goal
 

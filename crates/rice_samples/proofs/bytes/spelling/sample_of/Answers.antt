@@ -1,7 +1,6 @@
 use Rattle.std.proofs.Common.{◌*◌, ◌<◌, arith, Option, Some, None, IfSome, IfNone}
 use Rattle.std.proofs.lemmas.Nat.{one_shl}
-use Rattle.rice_samples.specs.Parameters.{level, value_count}
-use Rattle.rice_samples.proofs.lemmas.bytes.SpellingLemmas.{spelled_level, level_spelled}
+use Rattle.rice_samples.{proofs.lemmas.bytes.SpellingLemmas.spelled_level, proofs.lemmas.bytes.SpellingLemmas.level_spelled, specs.Parameters.level, specs.Parameters.value_count}
 use Rattle.rice_samples.proofs.bytes.spelling.sample_of.Goals as goal
 
 if_some : {A : Type 0} (P Q : A → Type 0) (found : Option A) → ((x : A) → P x → Q x) → IfSome found P → IfSome found Q

@@ -1,9 +1,6 @@
 use Rattle.std.proofs.Common.{arith, ◌≡◌, ◌*◌, ◌<◌, ◌∙◌, ap, length, get_or, sym}
-use Rattle.rice_samples.specs.Parameters.{value_at, value_count}
-use Rattle.rice_samples.specs.predict.Residuals.{twos_complement}
-use Rattle.rice_samples.specs.bytes.Spelling.{spelling, ordered_bytes}
-use Rattle.rice_samples.proofs.lemmas.bytes.LevelPatterns.{word_of_level}
-use Rattle.rice_samples.proofs.lemmas.bytes.SamplesInTurn.{one_len, one_written}
+use Rattle.rice_samples.proofs.lemmas.bytes.{SamplesInTurn.one_len, SamplesInTurn.one_written, LevelPatterns.word_of_level}
+use Rattle.rice_samples.specs.{bytes.Spelling.spelling, bytes.Spelling.ordered_bytes, predict.Residuals.twos_complement, Parameters.value_at, Parameters.value_count}
 use Rattle.rice_samples.proofs.bytes.writing.write_spellings.Goals as goal
 
 pub loop-i-preserved : goal.loop-i-preserved

@@ -1,9 +1,7 @@
 use Rattle.std.proofs.Common.{rules, arith, ◌≡◌, ◌+◌, ◌-◌, ◌∙◌, ap, sym, w64, FitsSigned}
 use Rattle.std.proofs.lemmas.Int.{to_z-of_z}
+use Rattle.rice_samples.{proofs.lemmas.setting.LevelsOfSamples.same_level, proofs.lemmas.predict.Ranks.rank_injective, specs.predict.Residuals.rank, specs.predict.Residuals.rank_below}
 use Rattle.rice_samples.specs.Parameters.{level, value_count}
-use Rattle.rice_samples.specs.predict.Residuals.{rank, rank_below}
-use Rattle.rice_samples.proofs.lemmas.setting.LevelsOfSamples.{same_level}
-use Rattle.rice_samples.proofs.lemmas.predict.Ranks.{rank_injective}
 use Rattle.rice_samples.proofs.predict.preprocessor.restore.Goals as goal
 
 pub returns-clause-only : goal.returns-clause-only
