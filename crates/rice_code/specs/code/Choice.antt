@@ -1,9 +1,8 @@
 -- The option that is chosen for a block: the one of least length, of several the first.
-use Rattle.std.specs.List.{best_of, range_with_len}
 use Rattle.std.specs.Prelude.{ℕ, ◌+◌, ◌<◌, ◌≤◌, nat_lt, List, ◌∷◌, map}
+use Rattle.std.specs.List.{best_of, range_with_len}
 use Rattle.rice_samples.specs.Parameters.{Parameters, k_max}
-use Rattle.rice_code.specs.code.Blocks.{BlockData}
-use Rattle.rice_code.specs.code.CodedDataSets.{CodedDataSet, NoCompression, SecondExtension, Split, cost}
+use Rattle.rice_code.specs.code.{CodedDataSets.CodedDataSet, CodedDataSets.NoCompression, CodedDataSets.SecondExtension, CodedDataSets.Split, CodedDataSets.cost, Blocks.BlockData}
 
 -- the options after no compression, in the order in which ties go (own rule)
 abbrev pub other_options : Parameters → BlockData → List CodedDataSet

@@ -1,10 +1,8 @@
 -- The code of samples.
 use Rattle.std.specs.Prelude.{ℕ, ◌+◌, ◌&&◌, not, Bool, false, if◌then◌else◌, List, [], ◌∷◌, ◌++◌, take, length, sum_by, ℤ, pos}
-use Rattle.rice_samples.specs.Parameters.{Parameters}
-use Rattle.rice_samples.specs.Places.{begins_segment, block_count, cut}
+use Rattle.rice_samples.specs.{Places.begins_segment, Places.block_count, Places.cut, Parameters.Parameters}
 use Rattle.rice_bits.specs.Bits.{padded_bits, whole_bytes}
-use Rattle.rice_code.specs.code.Blocks.{BlockData, blocks_of, is_zero_block}
-use Rattle.rice_code.specs.{code.Choice.shortest, code.CodedDataSets.CodedDataSet, code.CodedDataSets.bits_of_set, code.Layout.layout, code.Runs.zero_run}
+use Rattle.rice_code.specs.code.{Blocks.BlockData, Blocks.blocks_of, Blocks.is_zero_block, CodedDataSets.CodedDataSet, CodedDataSets.bits_of_set, Choice.shortest, Layout.layout, Runs.zero_run}
 
 -- What is sent at block b: a run where one starts, nothing inside it, and else the shortest option. A zero block goes into a run and nowhere else (own rule).
 abbrev pub data_set_at : Parameters → ℕ → Bool → BlockData → List BlockData → List CodedDataSet

@@ -1,9 +1,8 @@
 -- Which coded data sets a decoder takes at a block, and which of them are sound (own rules, wider than what the coder writes).
 use Rattle.std.specs.Prelude.{◌≡◌, ℕ, ◌+◌, ◌-◌, ◌<◌, ◌≤◌, List, [], ◌∷◌, ◌++◌, length, replicate, All, slice_index, Option, None, IfSome, OnSome, is_some, ⊤}
-use Rattle.rice_samples.specs.Parameters.{Parameters, k_max, value_count}
-use Rattle.rice_samples.specs.Places.{is_reference, blocks_left}
-use Rattle.rice_code.specs.{code.Blocks.BlockData, code.Blocks.zero_block}
+use Rattle.rice_samples.specs.{Parameters.Parameters, Parameters.k_max, Parameters.value_count, Places.is_reference, Places.blocks_left}
 use Rattle.rice_code.specs.code.CodedDataSets.{CodedDataSet, NoCompression, SecondExtension, Split, ZeroBlocks, RemainderOfSegment}
+use Rattle.rice_code.specs.code.Blocks.{BlockData, zero_block}
 
 -- a reference where block b has one, and a word of n bits
 pub record IsReference (s : Parameters) (b : ℕ) (reference : Option ℕ) : Type 0 where

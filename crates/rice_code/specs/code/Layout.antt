@@ -1,9 +1,8 @@
 -- How coded data sets lie in the bits: one after the other, and each interval filled to a byte where intervals are padded (own rule).
 use Rattle.std.specs.Prelude.{◌≡◌, ℕ, ◌+◌, Bool, false, if◌then◌else◌, List, [], ◌∷◌, ◌++◌, length, replicate, min}
 use Rattle.rice_bits.specs.Bits.{bits_to_byte}
-use Rattle.rice_samples.specs.Parameters.{Parameters}
-use Rattle.rice_samples.specs.Places.{is_padded}
-use Rattle.rice_code.specs.{code.CodedDataSets.CodedDataSet, code.CodedDataSets.bits_of_set, code.Forms.blocks_in}
+use Rattle.rice_samples.specs.{Parameters.Parameters, Places.is_padded}
+use Rattle.rice_code.specs.code.{CodedDataSets.CodedDataSet, CodedDataSets.bits_of_set, Forms.blocks_in}
 
 -- the block after a coded data set at block b
 abbrev pub block_after : Parameters → ℕ → CodedDataSet → ℕ

@@ -1,9 +1,8 @@
 -- Runs of zero blocks.
-use Rattle.std.specs.List.{prefix_len}
 use Rattle.std.specs.Prelude.{ℕ, Bool, ◌==◌, ◌&&◌, ◌||◌, if◌then◌else◌, nat_le, List, take, length, Option}
-use Rattle.rice_samples.specs.Parameters.{Parameters}
-use Rattle.rice_samples.specs.Places.{blocks_left}
-use Rattle.rice_code.specs.{code.Blocks.BlockData, code.Blocks.is_zero_block, code.CodedDataSets.CodedDataSet, code.CodedDataSets.ZeroBlocks, code.CodedDataSets.RemainderOfSegment}
+use Rattle.std.specs.List.{prefix_len}
+use Rattle.rice_samples.specs.{Parameters.Parameters, Places.blocks_left}
+use Rattle.rice_code.specs.code.{CodedDataSets.CodedDataSet, CodedDataSets.ZeroBlocks, CodedDataSets.RemainderOfSegment, Blocks.BlockData, Blocks.is_zero_block}
 
 -- the zero blocks from the front on, inside the segment of block b
 abbrev pub run_len : Parameters → ℕ → List BlockData → ℕ

@@ -1,13 +1,11 @@
 -- What a contract sees of a decoder, and what a call of it says.
 use Rattle.std.specs.Prelude.{◌≡◌, ℕ, zero, suc, ◌+◌, Bool, true, false, List, [], ◌∷◌, ◌++◌, length, replicate, All, Some, None, Result, Ok, Err, ℤ}
-use Rattle.rice_bits.specs.declared.read.fault.BitFault.{BitFault}
-use Rattle.rice_bits.specs.read.Reader.{Reader, Takes, is_blank}
-use Rattle.rice_samples.specs.Parameters.{Parameters}
-use Rattle.rice_samples.specs.Parameters.{IsSample}
-use Rattle.rice_code.specs.{code.Blocks.BlockData, code.Blocks.block_data, code.Blocks.zero_block, code.CodedDataSets.CodedDataSet, code.CodedDataSets.bits_of_set}
-use Rattle.rice_code.specs.{code.CodedDataSets.turns, code.Forms.IsForm, code.Forms.RunIsSound, code.Forms.ResidualsAreSound, code.Forms.blocks_in, code.Layout.block_after, code.Layout.padding}
-use Rattle.rice_code.specs.{decode.ReadSets.SetCut, declared.decode.call_results.Step.Step, declared.decode.call_results.Step.TheVariants.Block, declared.decode.call_results.Step.TheVariants.Done}
-use Rattle.rice_code.specs.{declared.decode.call_results.CodeFault.CodeFault, decode.DecoderState.DecoderState, decode.DecoderState.state_after_block}
+use Rattle.rice_bits.specs.{declared.read.fault.BitFault.BitFault, read.Reader.Reader, read.Reader.Takes, read.Reader.is_blank}
+use Rattle.rice_samples.specs.Parameters.{Parameters, IsSample}
+use Rattle.rice_code.specs.code.{Forms.IsForm, Forms.RunIsSound, Forms.ResidualsAreSound, Forms.blocks_in, CodedDataSets.CodedDataSet, CodedDataSets.bits_of_set, CodedDataSets.turns}
+use Rattle.rice_code.specs.declared.decode.call_results.{Step.TheVariants.Block, Step.TheVariants.Done, CodeFault.CodeFault, Step.Step}
+use Rattle.rice_code.specs.{decode.DecoderState.DecoderState, decode.DecoderState.state_after_block, code.Blocks.BlockData, code.Blocks.block_data, code.Blocks.zero_block, decode.ReadSets.SetCut}
+use Rattle.rice_code.specs.code.Layout.{block_after, padding}
 use Rattle.rice_bits.specs.declared.read.fault.BitFault.TheVariants as bit_faults
 use Rattle.rice_code.specs.declared.decode.call_results.CodeFault.TheVariants as faults
 

@@ -1,10 +1,9 @@
 -- The state of a decoder: the place of the next block, the sample before it, and the run that it is in; and samples that are restored one after another.
 use Rattle.std.specs.Prelude.{◌≡◌, ◌≢◌, ℕ, ◌+◌, ◌*◌, ◌<◌, ◌≤◌, ◌==◌, ◌&&◌, if◌then◌else◌, Bool, false, List, All, take, length, slice_index_or, Option, Some, IfSome, is_some, Result, Ok, ℤ}
+use Rattle.rice_samples.specs.{predict.Residuals.last_of, predict.Residuals.rank, predict.Residuals.pattern, predict.Residuals.residuals, Places.blocks_left, Places.begins_segment}
 use Rattle.rice_samples.specs.Parameters.{Parameters, IsLegal, IsSample}
-use Rattle.rice_samples.specs.Places.{blocks_left, begins_segment}
-use Rattle.rice_samples.specs.predict.Residuals.{last_of, rank, pattern, residuals}
+use Rattle.rice_code.specs.declared.decode.call_results.{Step.TheVariants.Block, CodeFault.CodeFault, Step.Step}
 use Rattle.rice_code.specs.code.Blocks.{BlockData, block_data}
-use Rattle.rice_code.specs.{declared.decode.call_results.Step.Step, declared.decode.call_results.Step.TheVariants.Block, declared.decode.call_results.CodeFault.CodeFault}
 
 -- The state of a decoder.
 pub record DecoderState : Type 0 where

@@ -1,15 +1,12 @@
 -- What a reader took of a coded data set.
 use Rattle.std.specs.Prelude.{◌≡◌, ℕ, ◌+◌, ◌/◌, ◌^◌, ◌<◌, ◌≤◌, Bool, true, false, List, [], ◌∷◌, ◌++◌, All, length, flat_map, Option, Some, None, ⊤}
-use Rattle.rice_bits.specs.read.JoinedParts.{joined_parts}
-use Rattle.rice_bits.specs.read.Reader.{Reader, Takes, Stops, is_blank}
-use Rattle.rice_bits.specs.declared.read.fault.BitFault.{BitFault}
-use Rattle.rice_samples.specs.Parameters.{Parameters}
-use Rattle.rice_bits.specs.Bits.{word, fundamental_sequence}
-use Rattle.rice_code.specs.{code.Blocks.BlockData, declared.decode.options.BlockSummary.BlockSummary}
-use Rattle.rice_code.specs.{declared.decode.options.SetSummary.SetSummary, declared.decode.options.SetSummary.TheVariants.Residuals, declared.decode.options.SetSummary.TheVariants.Zeros}
 use Rattle.rice_code.specs.code.CodedDataSets.{CodedDataSet, NoCompression, SecondExtension, Split, ZeroBlocks, RemainderOfSegment, bits_of_set, turns, run_with_zeros, run_number, no_compression_tail}
+use Rattle.rice_bits.specs.{read.Reader.Reader, read.Reader.Takes, read.Reader.Stops, read.Reader.is_blank, declared.read.fault.BitFault.BitFault, Bits.word, Bits.fundamental_sequence}
+use Rattle.rice_bits.specs.read.JoinedParts.{joined_parts}
+use Rattle.rice_samples.specs.Parameters.{Parameters}
+use Rattle.rice_code.specs.code.{Forms.IsForm, Forms.IsBlock, Forms.IsZeroAtReference, Forms.RunIsSound, Forms.ResidualsAreSound, Forms.AllFit, Forms.blocks_in, Blocks.BlockData}
+use Rattle.rice_code.specs.declared.decode.options.{SetSummary.TheVariants.Residuals, SetSummary.TheVariants.Zeros, BlockSummary.BlockSummary, SetSummary.SetSummary}
 use Rattle.rice_code.specs.code.CodedDataSets.{second_extension_tail, split_tail, run_tail}
-use Rattle.rice_code.specs.code.Forms.{IsForm, IsBlock, IsZeroAtReference, RunIsSound, ResidualsAreSound, AllFit, blocks_in}
 
 -- A reader took the fundamental sequences of the high parts of `count` residuals, and then their low parts, words of k bits.
 -- `small` says that no high part is above `most`: then the residuals are these.

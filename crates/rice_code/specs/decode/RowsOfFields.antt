@@ -1,9 +1,7 @@
 -- Rows of fields of a coded data set, as a reader takes them: words, or fundamental sequences, one after another.
 use Rattle.std.specs.Prelude.{◌≡◌, ℕ, suc, All, length, flat_map, sum, ◌+◌, ◌-◌, ◌*◌, ◌^◌, ◌<◌, ◌≤◌, Bool, true, false, List, [], ◌∷◌, ◌++◌}
-use Rattle.rice_bits.specs.Limits.{step_limit, most_bits_read}
-use Rattle.rice_bits.specs.read.Reader.{Reader, Takes}
+use Rattle.rice_bits.specs.{Limits.step_limit, Limits.most_bits_read, Bits.fundamental_sequence, Bits.word, read.Reader.Reader, read.Reader.Takes}
 use Rattle.rice_samples.specs.blocks.Pairs.{pair_codes}
-use Rattle.rice_bits.specs.Bits.{fundamental_sequence, word}
 
 -- how many of the bits are 1
 abbrev pub ones : List Bool → ℕ

@@ -1,7 +1,6 @@
 -- Bits that are gathered before they are put into a sink, and what a put does.
 use Rattle.std.specs.Prelude.{◌≡◌, ℕ, ◌+◌, ◌*◌, ◌^◌, ◌<◌, ◌≤◌, Bool, List, ◌++◌, length}
-use Rattle.rice_bits.specs.Bits.{put_width}
-use Rattle.rice_bits.specs.Limits.{step_limit}
+use Rattle.rice_bits.specs.{Limits.step_limit, Bits.put_width}
 use Rattle.rice_samples.specs.Parameters.{Parameters}
 use Rattle.rice_code.specs.code.CodedDataSets.{CodedDataSet, bits_of_set, cost}
 

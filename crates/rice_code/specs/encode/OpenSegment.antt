@@ -1,11 +1,9 @@
 -- What a coder holds of the segment that it fills: its residuals, and how each call changes it.
-use Rattle.std.specs.Prelude.{◌≡◌, ℕ, ◌+◌, ◌*◌, ◌/◌, ◌<◌, ◌≤◌, ◌⊎◌, Bool, true, false, ◌&&◌, ◌==◌, if◌then◌else◌, List, [], ◌∷◌, ◌++◌, length, replicate, Option, Some, None, IfSome, sum_by, ℤ}
-use Rattle.std.specs.Prelude.{pos}
-use Rattle.rice_samples.specs.Parameters.{Parameters, IsLegal, IsSample, value_count}
-use Rattle.rice_samples.specs.Places.{place, begins_segment, blocks_left}
+use Rattle.std.specs.Prelude.{◌≡◌, ℕ, ◌+◌, ◌*◌, ◌/◌, ◌<◌, ◌≤◌, ◌⊎◌, Bool, true, false, ◌&&◌, ◌==◌, if◌then◌else◌, List, [], ◌∷◌, ◌++◌, length, replicate, Option, Some, None, IfSome, sum_by, ℤ, pos}
+use Rattle.rice_samples.specs.{Parameters.Parameters, Parameters.IsLegal, Parameters.IsSample, Parameters.value_count, Places.place, Places.begins_segment, Places.blocks_left}
 use Rattle.rice_samples.specs.predict.Residuals.{pattern, rank, last_of}
-use Rattle.rice_code.specs.{Bounds.block_bound, code.Blocks.BlockData, code.Code.data_sets, code.CodedDataSets.CodedDataSet, code.CodedDataSets.bits_of_set, encode.BitBuffer.sink_bits}
-use Rattle.rice_code.specs.{code.SoundBlocks.AreSoundBlocks, CoderSteps.least_looks, CoderSteps.most_looks, encode.HeldBlocks.held_blocks, code.Layout.layout}
+use Rattle.rice_code.specs.{code.CodedDataSets.CodedDataSet, code.CodedDataSets.bits_of_set, CoderSteps.least_looks, CoderSteps.most_looks, code.SoundBlocks.AreSoundBlocks, code.Blocks.BlockData}
+use Rattle.rice_code.specs.{encode.HeldBlocks.held_blocks, encode.BitBuffer.sink_bits, code.Code.data_sets, Bounds.block_bound, code.Layout.layout}
 
 -- the residuals of the segment so far and its reference, the sample before the next, and the place at which the segment begins
 pub record CoderState : Type 0 where

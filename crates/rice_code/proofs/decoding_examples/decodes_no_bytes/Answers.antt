@@ -1,6 +1,5 @@
 use Rattle.std.proofs.Common.{[], None}
-use Rattle.rice_code.proofs.Words.{word, bits_of, defaults, Ended}
-use Rattle.rice_code.proofs.lemmas.meaning.DecodingWitnesses.{zeros_end, decoded_by_none}
+use Rattle.rice_code.proofs.{lemmas.meaning.DecodingWitnesses.zeros_end, lemmas.meaning.DecodingWitnesses.decoded_by_none, Words.word, Words.bits_of, Words.defaults, Words.Ended}
 use Rattle.rice_code.proofs.decoding_examples.decodes_no_bytes.Goals as goal
 
 pub returns : goal.returns

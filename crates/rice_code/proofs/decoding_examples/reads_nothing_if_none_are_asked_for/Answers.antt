@@ -1,6 +1,5 @@
 use Rattle.std.proofs.Common.{◌∷◌, [], Some, refl, lit≤}
-use Rattle.rice_code.proofs.Words.{word, bits_of, defaults, Reached}
-use Rattle.rice_code.proofs.lemmas.meaning.DecodingWitnesses.{decoded_by_none}
+use Rattle.rice_code.proofs.{lemmas.meaning.DecodingWitnesses.decoded_by_none, Words.word, Words.bits_of, Words.defaults, Words.Reached}
 use Rattle.rice_code.proofs.decoding_examples.reads_nothing_if_none_are_asked_for.Goals as goal
 
 pub returns : goal.returns

@@ -1,6 +1,5 @@
 use Rattle.std.proofs.Common.{◌≤◌, ◌∷◌, [], replicate, false, Some, None, refl, lit<, lit≤, arith}
-use Rattle.rice_code.proofs.Words.{word, bits_of, defaults, ZeroBlocks, Past}
-use Rattle.rice_code.proofs.lemmas.meaning.DecodingWitnesses.{begins_unsound, decoded_by_none}
+use Rattle.rice_code.proofs.{lemmas.meaning.DecodingWitnesses.begins_unsound, lemmas.meaning.DecodingWitnesses.decoded_by_none, Words.word, Words.bits_of, Words.defaults, Words.ZeroBlocks, Words.Past}
 use Rattle.rice_code.proofs.decoding_examples.refuses_a_run_past_its_segment.Goals as goal
 
 pub returns-clause-all : goal.returns-clause-all

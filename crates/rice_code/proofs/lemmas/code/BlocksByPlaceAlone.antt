@@ -1,10 +1,9 @@
 -- Of a block only its place in its interval matters.
-use Rattle.std.proofs.Common.{◌≡◌, ℕ, zero, suc, ◌+◌, ◌-◌, ◌*◌, ◌/◌, ◌%◌, ◌≤◌, ◌==◌, min, Bool, false, cond, not, ◌&&◌, ◌||◌, nat_le}
-use Rattle.std.proofs.Common.{List, [], ◌∷◌, ◌++◌, length, take, drop, replicate, refl, ap, arith, sym, ◌∙◌, inl, inr, Option, Some, None, ℤ}
-use Rattle.rice_code.proofs.Words.{slice_index_or, prefix_len, suc-mod, mul-add-div, mul-add-mod_self_left, bits_to_byte, Parameters, IsLegal, place, is_reference, is_reference_sample, begins_segment}
-use Rattle.rice_code.proofs.Words.{blocks_left, block_count, rank, pattern, residuals, last_of, filled_samples, cases_lt, BlockData, block_data, blocks_from, blocks_of, is_zero_block, CodedDataSet}
-use Rattle.rice_code.proofs.Words.{NoCompression, SecondExtension, Split, ZeroBlocks, RemainderOfSegment, bits_of_set, blocks_in, zero_blocks, block_after, layout, shortest, data_sets, code_from}
-use Rattle.rice_code.proofs.Words.{zero_run, common_steps}
+use Rattle.std.proofs.Common.{◌≡◌, ℕ, zero, suc, ◌+◌, ◌-◌, ◌*◌, ◌/◌, ◌%◌, ◌≤◌, ◌==◌, min, Bool, false, cond, ◌&&◌, nat_le, List, [], ◌∷◌, ◌++◌, length, take, drop, replicate, refl, ap, arith, sym}
+use Rattle.std.proofs.Common.{◌∙◌, Option, ℤ}
+use Rattle.rice_code.proofs.Words.{suc-mod, mul-add-div, mul-add-mod_self_left, bits_to_byte, Parameters, IsLegal, place, is_reference, is_reference_sample, blocks_left, rank, pattern, residuals}
+use Rattle.rice_code.proofs.Words.{last_of, cases_lt, BlockData, block_data, blocks_from, is_zero_block, CodedDataSet, NoCompression, SecondExtension, Split, ZeroBlocks, RemainderOfSegment}
+use Rattle.rice_code.proofs.Words.{bits_of_set, blocks_in, zero_blocks, block_after, layout, data_sets, code_from, zero_run, common_steps}
 use Rattle.rice_code.proofs.lemmas.code.Layouts.{sent_first}
 
 -- two blocks at the same place of their intervals: the next ones are at the same place, too,
@@ -27,10 +26,6 @@ place_on s b c (suc n) e =
 pub same_reference : (s : Parameters) (b c : ℕ) → place s b ≡ place s c → is_reference s b ≡ is_reference s c
 same_reference s b c e = ap (λ v. s.preprocess && v == 0) e
 
--- both begin a segment, or neither does
-pub same_start : (s : Parameters) (b c : ℕ) → place s b ≡ place s c → begins_segment s b ≡ begins_segment s c
-same_start s b c e = ap (λ v. v == 64 * (v / 64)) e
-
 -- as many blocks are left of the segments of both
 pub same_left : (s : Parameters) (b c : ℕ) → place s b ≡ place s c → blocks_left s b ≡ blocks_left s c
 same_left s b c e = ap (λ v. 64 * (v / 64) + min 64 (s.interval - 64 * (v / 64)) - v) e
@@ -52,9 +47,7 @@ pub same_contents : (s : Parameters) (b c : ℕ) (p : ℤ) (xs : List ℤ) → 1
 same_contents s b c p xs h e =
     let f : s.block * b ≡ s.block * b + 0 = omega arith in
     let g : s.block * c + 0 ≡ s.block * c = omega arith in
-    let ds = ap (λ n. residuals s n p xs) f ∙ (same_residuals s b c 0 p xs h e ∙ ap (λ n. residuals s n p xs) g) in
-    let r = ap (λ v. cond v (Some (pattern s (slice_index_or xs 0 p))) None) (same_reference s b c e) in
-    λ i. record { reference = r i; residuals = ds i }
+    grind (arith, common_steps, same_residuals, same_reference)
 
 -- and the same blocks from both on
 pub same_blocks : (s : Parameters) (b c : ℕ) (p : ℤ) (n : ℕ) (xs : List ℤ) → 1 ≤ s.block → place s b ≡ place s c → blocks_from s b p n xs ≡ blocks_from s c p n xs
@@ -67,7 +60,7 @@ same_run s b c r cs e = grind (arith, common_steps, nat_le, same_left)
 -- and the same blocks are sent by the same coded data sets from both on
 pub same_data_sets : (s : Parameters) (b c : ℕ) (after : Bool) (cs : List BlockData) → place s b ≡ place s c → data_sets s b after cs ≡ data_sets s c after cs
 same_data_sets s b c after [] e = refl
-same_data_sets s b c after (d ∷ ds) e = grind (arith, common_steps, same_run, same_start, place_step, same_data_sets s (b + 1) (c + 1) (is_zero_block d) ds (place_step s b c e))
+same_data_sets s b c after (d ∷ ds) e = grind (arith, common_steps, same_run, place_step, same_data_sets s (b + 1) (c + 1) (is_zero_block d) ds (place_step s b c e))
 
 -- a coded data set stands for the same blocks at both
 pub same_blocks_in : (s : Parameters) (b c : ℕ) (d : CodedDataSet) → place s b ≡ place s c → blocks_in s b d ≡ blocks_in s c d
@@ -88,12 +81,7 @@ same_laid s end stop b c m [] same = refl
 same_laid s end stop b c m (d ∷ ds) same =
     let n = ap length (same_blocks_in s b c d same.begins) in
     let next : place s (block_after s b d) ≡ place s (block_after s c d) = place_on s b c (length (blocks_in s b d)) same.begins ∙ ap (λ k. place s (c + k)) n in
-    let at : place s (min end (block_after s b d)) ≡ place s (min stop (block_after s c d)) =
-    elim (cases_lt end (block_after s b d)) [
-      | inl lt ↦ let x : min end (block_after s b d) ≡ end = omega arith in let y : stop ≡ min stop (block_after s c d) = omega arith in ap (λ v. place s v) x ∙ (same.ends ∙ ap (λ v. place s v) y)
-      | inr le ↦ let x : min end (block_after s b d) ≡ block_after s b d = omega arith in
-          let y : block_after s c d ≡ min stop (block_after s c d) = omega arith in ap (λ v. place s v) x ∙ (next ∙ ap (λ v. place s v) y)
-    ] in
+    let at : place s (min end (block_after s b d)) ≡ place s (min stop (block_after s c d)) = grind (arith, common_steps, cases_lt) in
     let first : sent_first s end b m d ≡ sent_first s stop c m d = ap (λ v. bits_of_set s d ++ replicate (cond (s.pad && v == 0) (bits_to_byte (m + length (bits_of_set s d))) 0) false) at in
     let k = length (sent_first s end b m d) in
     let rest = same_laid s end stop (block_after s b d) (block_after s c d) (m + k) ds (record { begins = next; ends = same.ends; apart = omega arith }) in

@@ -19,9 +19,7 @@ filled_after s q p xs ys h e =
     let j = s.block in
     let len : length (xs ++ ys) ≡ j * q + length ys = length-append xs ys ∙ ap (λ n. n + length ys) e in
     let f = fill_after j q (length ys) (length (xs ++ ys)) h len in
-    let last = last_append p xs ys in
-    let same = f.0 in
-    ((λ i. (xs ++ ys) ++ replicate (same i) (last i)) ∙ append_assoc xs ys (replicate (next_multiple_of (length ys) j - length ys) (last_of (last_of p xs) ys)), f.1)
+    grind (arith, common_steps, last_append, append_assoc)
 
 -- whole blocks are not filled
 pub own_blocks : (s : Parameters) (b q : ℕ) (p : ℤ) (xs : List ℤ) → 1 ≤ s.block → length xs ≡ s.block * q → blocks_of s b p xs ≡ blocks_from s b p q xs
@@ -65,9 +63,7 @@ sets_go_on s legal b q p xs ys len begins =
     let second = blocks_of s (b + q) (last_of p xs) ys in
     let blocks : blocks_of s b p (xs ++ ys) ≡ first ++ second = (λ i. blocks_from s b p (counted i) (parted i)) ∙ blocks_append s b p q n xs (filled_samples s (last_of p xs) ys) len in
     let count : length first ≡ q = count_blocks s b p q xs in
-    let begins' = ap (λ i. begins_segment s (b + i)) count ∙ begins in
-    let later = data_sets s (b + q) false second in
-    grind (arith, common_steps, sets_of_segments, own_blocks)
+    grind (arith, common_steps, common_steps, sets_of_segments, own_blocks)
 
 -- samples of whole blocks, after which a segment begins
 pub record WholeSegments (s : Parameters) (b blocks : ℕ) (p : ℤ) (xs : List ℤ) : Type 0 where

@@ -1,9 +1,8 @@
 -- Coded data sets are read in one way.
-use Rattle.std.proofs.Common.{◌≡◌, ◌≢◌, ℕ, suc, ◌+◌, ◌-◌, ◌*◌, ◌/◌, ◌%◌, ◌^◌, ◌<◌, ◌≤◌, Bool, true, false}
-use Rattle.std.proofs.Common.{List, [], ◌∷◌, ◌++◌, length, refl, ap, arith, sym, ◌∙◌, subst, append_assoc, Option, Some, None}
-use Rattle.rice_code.proofs.Words.{All, flat_map, slice_index, OnSome, AllZip, nat_tests, mod-eq_of_lt, pow_mono, div-add-mod', word_reads, sequence_reads, pieces_read, Parameters, IsLegal, id_len}
-use Rattle.rice_code.proofs.Words.{k_max, pair_codes, same_pairs, length-pair_codes, word, fundamental_sequence, BlockData, CodedDataSet, NoCompression, SecondExtension, Split, ZeroBlocks}
-use Rattle.rice_code.proofs.Words.{RemainderOfSegment, bits_of_set, sent_residuals, sent_from, reference_bits, run_number, IsForm, IsBlock, IsReference, IsZeroAtReference, common_steps}
+use Rattle.std.proofs.Common.{◌≡◌, ◌≢◌, ℕ, suc, ◌+◌, ◌-◌, ◌/◌, ◌%◌, ◌^◌, ◌<◌, ◌≤◌, Bool, true, false, List, [], ◌∷◌, ◌++◌, length, refl, ap, arith, sym, ◌∙◌, append_assoc, Option, Some, None}
+use Rattle.rice_code.proofs.Words.{All, flat_map, slice_index, OnSome, AllZip, nat_tests, mod-eq_of_lt, pow_mono, word_reads, sequence_reads, pieces_read, Parameters, IsLegal, id_len, pair_codes}
+use Rattle.rice_code.proofs.Words.{same_pairs, length-pair_codes, word, fundamental_sequence, BlockData, CodedDataSet, NoCompression, SecondExtension, Split, ZeroBlocks, RemainderOfSegment}
+use Rattle.rice_code.proofs.Words.{bits_of_set, sent_residuals, sent_from, reference_bits, run_number, IsForm, IsBlock, IsReference, IsZeroAtReference, common_steps}
 
 -- numbers below a limit that are alike modulo it are the same
 pub same_below : (m a b : ℕ) → a < m → b < m → a % m ≡ b % m → a ≡ b
@@ -18,14 +17,10 @@ same_all_below m (x ∷ xs) (y ∷ ys) h k e =
     cc
 same_all_below m _ _ h k e = absurd e
 
--- a number is its high and its low part
-pub same_parts : (m a b : ℕ) → a / m ≡ b / m → a % m ≡ b % m → a ≡ b
-same_parts m a b e f = sym (div-add-mod' a m) ∙ (ap (λ d. d * m + a % m) e ∙ (ap (λ r. b / m * m + r) f ∙ div-add-mod' b m))
-
 -- and so are the numbers of a list
 pub same_all_parts : (m : ℕ) (xs ys : List ℕ) → AllZip (λ a b. a / m ≡ b / m) xs ys → AllZip (λ a b. a % m ≡ b % m) xs ys → xs ≡ ys
 same_all_parts m [] [] e f = refl
-same_all_parts m (x ∷ xs) (y ∷ ys) e f = grind (arith, common_steps, same_parts, same_all_parts m xs ys e.1 f.1)
+same_all_parts m (x ∷ xs) (y ∷ ys) e f = grind (arith, common_steps, same_all_parts m xs ys e.1 f.1)
 same_all_parts m _ _ e f = absurd e
 
 -- lists that are alike at each place are the same
@@ -154,8 +149,7 @@ second_reads {s} b c e x y legal h k eq =
     (length-pair_codes c.residuals e.residuals (same_len s b c e h k)) a.1 in
     let half = even_block s legal in
     let g = same_pairs (s.block / 2) c.residuals e.residuals (h.len ∙ half) (k.len ∙ half) (same_all (pair_codes c.residuals) (pair_codes e.residuals) p.0) in
-    let r = a.0 in
-    (λ i. record { reference = r i; residuals = g i }, p.1)
+    grind (arith, common_steps)
 
 split_reads : (s : Parameters) (b k : ℕ) {c e : BlockData} (x y : List Bool) → IsForm s b (Split k c) → IsForm s b (Split k e) →
     tail s (Split k c) ++ x ≡ tail s (Split k e) ++ y → (c ≡ e) × (x ≡ y)

@@ -1,14 +1,9 @@
 -- How coded data sets lie: without padding their texts are joined, what is laid is taken, and each interval has seven bits of padding at most.
-use Rattle.std.proofs.Common.{◌≡◌, ℕ, ◌+◌, ◌-◌, ◌*◌, ◌/◌, ◌%◌, ◌<◌, ◌≤◌, ◌==◌, min, Bool, true, false, cond, ◌&&◌}
-use Rattle.std.proofs.Common.{List, [], ◌∷◌, ◌++◌, length, replicate, refl, ap, arith, sym, ◌∙◌, inl, inr, append_assoc, append-nil, length-append}
-use Rattle.rice_code.proofs.Words.{flat_map, sum_by, cases_lt, length-replicate, sum_by-cons, le-div, div-add-mod, div-mul-le_self, mul-le-mul_left, bits_to_byte, Parameters, place, common_steps}
-use Rattle.rice_code.proofs.Words.{is_padded, CodedDataSet, NoCompression, SecondExtension, Split, ZeroBlocks, RemainderOfSegment, bits_of_set, blocks_in, blocks_in_all, block_after, padding}
-use Rattle.rice_code.proofs.Words.{bits_with_padding, layout, Lies, eqb-true}
-use Rattle.rice_code.proofs.lemmas.meaning.CoveredBlocks.{bool_cases, and-split}
-
--- without padding an interval ends with no zeros of its own
-no_padding : (s : Parameters) (next bits : ℕ) → s.pad ≡ false → padding s next bits ≡ 0
-no_padding s next bits e = ap (λ v. cond (v && place s next == 0) (bits_to_byte bits) 0) e
+use Rattle.std.proofs.Common.{◌≡◌, ℕ, ◌+◌, ◌-◌, ◌*◌, ◌/◌, ◌%◌, ◌<◌, ◌≤◌, min, Bool, true, false, cond, List, [], ◌∷◌, ◌++◌, length, replicate, refl, ap, arith, sym, ◌∙◌, inl, inr, append_assoc}
+use Rattle.std.proofs.Common.{append-nil, length-append}
+use Rattle.rice_code.proofs.Words.{flat_map, sum_by, cases_lt, length-replicate, sum_by-cons, le-div, div-add-mod, div-mul-le_self, mul-le-mul_left, bits_to_byte, Parameters, common_steps, is_padded}
+use Rattle.rice_code.proofs.Words.{CodedDataSet, NoCompression, SecondExtension, Split, ZeroBlocks, RemainderOfSegment, bits_of_set, blocks_in, blocks_in_all, block_after, padding, bits_with_padding}
+use Rattle.rice_code.proofs.{lemmas.meaning.CoveredBlocks.bool_cases, lemmas.meaning.CoveredBlocks.and-split, Words.layout, Words.Lies, Words.eqb-true}
 
 -- one coded data set, as it is sent
 abbrev pub sent_first : Parameters → ℕ → ℕ → ℕ → CodedDataSet → List Bool
@@ -17,7 +12,7 @@ sent_first s end b position d = bits_with_padding s (min end (block_after s b d)
 -- where intervals are not padded, coded data sets are laid as their texts, one after the other
 pub laid_plain : (s : Parameters) (end b position : ℕ) (ds : List CodedDataSet) → s.pad ≡ false → layout s end b position ds ≡ flat_map (bits_of_set s) ds
 laid_plain s end b position [] e = refl
-laid_plain s end b position (d ∷ ds) e = grind (arith, common_steps, no_padding, append-nil, laid_plain s end (block_after s b d) (position + length (sent_first s end b position d)) ds e)
+laid_plain s end b position (d ∷ ds) e = grind (arith, common_steps, append-nil, laid_plain s end (block_after s b d) (position + length (sent_first s end b position d)) ds e)
 
 -- the blocks of the first of several coded data sets end no later than those of all
 pub ends_inside : (s : Parameters) (b : ℕ) (d : CodedDataSet) (ds : List CodedDataSet) → block_after s b d + length (blocks_in_all s (block_after s b d) ds) ≡ b + length (blocks_in_all s b (d ∷ ds))
@@ -70,13 +65,9 @@ lies_laid s end b position (d ∷ []) e h =
     let n = padding s (min end next) bits in
     let zeros = replicate n false in
     let len = length-append (t ++ zeros) [] in
-    let len' = length-append t zeros in
     let size = length-replicate n false in
     elim (cases_lt end next) [
-      | inr le ↦
-          let same : min end next ≡ next = omega arith in
-          let none : List Bool = [] in
-          (0, omega arith, (zeros, none, size ∙ ap (λ v. padding s v bits) same, append-nil (sent_first s end b position d ++ none) ∙ append_assoc t zeros none, refl))
+      | inr le ↦ grind (arith, common_steps, append-nil, append_assoc)
       | inl past ↦
           let same : min end next ≡ end = omega arith in
           let nothing : n ≡ 0 = ap (λ v. padding s v bits) same ∙ ap (λ v. cond v (bits_to_byte bits) 0) e in
@@ -125,9 +116,7 @@ laid_append s end b position (d ∷ ds) es =
     let at = position + length first in
     let rest = layout s end next at ds in
     let ih = laid_append s end next at ds es in
-    let e = ends_inside s b d ds in
-    let f : at + length rest ≡ position + length (first ++ rest) = omega (arith, length-append first rest) in
-    ap (λ v. first ++ v) ih ∙ (sym (append_assoc first rest (layout s end (next + length (blocks_in_all s next ds)) (at + length rest) es)) ∙ (λ i. (first ++ rest) ++ layout s end (e i) (f i) es))
+    grind (arith, common_steps, ends_inside, length-append, append_assoc)
 
 -- a coded data set stands for a block at least
 pub some_block : (s : Parameters) (b : ℕ) (d : CodedDataSet) → 1 ≤ length (blocks_in s b d)
@@ -157,23 +146,7 @@ padding_bound s end b bits d h lt =
     let some = some_block s b d in
     let here : b + k ≡ next = omega arith in
     let there : next + (b + n - next) ≡ b + n = omega arith in
-    let q = no_end_passed next (b + n - next) r h in
-    let q' = ap (λ m. m / r) there in
-    elim (bool_cases (is_padded s next)) [
-      | inl e ↦
-          let at_end : place s next ≡ 0 = eqb-true (place s next) 0 (and-split s.pad (place s next == 0) e).1 in
-          let p = end_passed b k r h (omega arith) (ap (λ m. m % r) here ∙ at_end) in
-          let p' = ap (λ m. m / r) here in
-          let f : padding s next bits ≡ bits_to_byte bits = ap (λ v. cond v (bits_to_byte bits) 0) e in
-          sums _ _ _ _ f (few_zeros bits) (omega arith)
-      | inr e ↦
-          let p = no_end_passed b n r h in
-          let f : padding s next bits ≡ 0 = ap (λ v. cond v (bits_to_byte bits) 0) e in
-          omega arith
-    ]
-  where
-    sums : (p bits x y : ℕ) → p ≡ bits → bits ≤ 7 → x + 1 ≤ y → p + 7 * x ≤ 7 * y
-    sums p bits x y e h k = omega arith
+    grind (arith, common_steps, no_end_passed, bool_cases, common_steps, eqb-true, and-split, end_passed, few_zeros)
 
 -- the bits of coded data sets, with at most seven for each end of an interval
 pub laid_bound : (s : Parameters) (end b position : ℕ) (ds : List CodedDataSet) → 1 ≤ s.interval → BeginBefore s end b ds →
@@ -189,10 +162,7 @@ laid_bound s end b position (d ∷ ds) h k =
     let one = padding_bound s end b bits d h k.0 in
     let len = length-append first rest in
     let len' = length-append (bits_of_set s d) (replicate n false) in
-    let zeros = length-replicate n false in
-    let sum = sum_by-cons (λ d. length (bits_of_set s d)) d ds in
-    let f = ap (λ n. n / s.interval) (ends_inside s b d ds) in
-    grind (arith, common_steps)
+    grind (arith, common_steps, length-replicate, sum_by-cons, common_steps)
 
 -- of the position only its place in a byte matters
 same_to_byte : (m n : ℕ) → m % 8 ≡ n % 8 → bits_to_byte m ≡ bits_to_byte n

@@ -1,9 +1,8 @@
 -- Every form contains a one.
-use Rattle.std.proofs.Common.{◌≡◌, ℕ, zero, suc, ◌+◌, ◌-◌, ◌*◌, ◌/◌, ◌%◌, ◌^◌, ◌<◌, ◌≤◌, ◌==◌, Bool, true, false, List, [], ◌∷◌, ◌++◌, replicate, refl, ap, arith, ◌∙◌, inl, inr}
+use Rattle.std.proofs.Common.{◌≡◌, ℕ, zero, suc, ◌+◌, ◌-◌, ◌*◌, ◌/◌, ◌%◌, ◌^◌, ◌<◌, ◌≤◌, ◌==◌, Bool, true, false, List, [], ◌∷◌, ◌++◌, refl, ap, arith, ◌∙◌, inl, inr}
 use Rattle.rice_code.proofs.Words.{Contains, flat_map, nat_tests, Contains-append_left, Contains-append_right, Contains-push, mod-eq_of_lt, digit_split, Parameters, IsLegal, id_len, pair_codes, word}
 use Rattle.rice_code.proofs.Words.{fundamental_sequence, CodedDataSet, NoCompression, SecondExtension, Split, ZeroBlocks, RemainderOfSegment, bits_of_set, sent_residuals, reference_bits, run_number}
-use Rattle.rice_code.proofs.Words.{IsForm, common_steps}
-use Rattle.rice_code.proofs.lemmas.{meaning.CoveredBlocks.bool_cases, code.FormsReadInOneWay.wide_id}
+use Rattle.rice_code.proofs.{lemmas.meaning.CoveredBlocks.bool_cases, lemmas.code.FormsReadInOneWay.wide_id, Words.IsForm, Words.common_steps}
 
 -- the word of a number has a one, where its digits are not all zeros
 word_has_one : (w v : ℕ) → 1 ≤ v % 2 ^ w → Contains (word w v) true

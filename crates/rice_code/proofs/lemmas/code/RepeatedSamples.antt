@@ -1,9 +1,8 @@
 -- Samples that repeat the last one make blocks of zeros.
-use Rattle.std.proofs.lemmas.Grind.{common_steps}
-use Rattle.std.proofs.Common.{◌≡◌, ℕ, zero, suc, ◌+◌, ◌-◌, ◌*◌, ◌≤◌, ◌==◌, Bool, true, false, cond, List, [], ◌∷◌, ◌++◌}
-use Rattle.std.proofs.Common.{length, take, drop, replicate, refl, ap, arith, sym, ◌∙◌, ◌⊎◌, inl, inr, length-drop, Some, None, ℤ}
-use Rattle.rice_code.proofs.Words.{slice_index_or, list_all, nat_tests, take-append-le, drop-append-le, take-append-drop, take-replicate, drop-replicate, take-length, Parameters, value_count, level}
-use Rattle.rice_code.proofs.Words.{is_reference_sample, is_reference, rank_below, rank, residual, residuals, pattern, last_of, reference_begins, block_data, blocks_from, zero_block, eqb-true}
+use Rattle.std.proofs.Common.{◌≡◌, ℕ, zero, suc, ◌+◌, ◌-◌, ◌*◌, ◌≤◌, ◌==◌, true, false, cond, List, [], ◌∷◌, ◌++◌, length, take, drop, replicate, refl, ap, arith, sym, ◌∙◌, ◌⊎◌, inl, inr, length-drop}
+use Rattle.std.proofs.{lemmas.Grind.common_steps, Common.None, Common.ℤ}
+use Rattle.rice_code.proofs.Words.{list_all, nat_tests, take-append-le, drop-append-le, take-append-drop, take-replicate, drop-replicate, take-length, Parameters, is_reference_sample, is_reference}
+use Rattle.rice_code.proofs.Words.{rank_below, rank, residual, residuals, pattern, last_of, reference_begins, block_data, blocks_from, zero_block, eqb-true}
 use Rattle.rice_code.proofs.lemmas.meaning.CoveredBlocks.{bool_cases, and-split, GoOn, EndsInZeros}
 
 -- the last of samples in two parts is the last of the second part, after that of the first
@@ -32,9 +31,7 @@ blocks_append s b p (suc m) n xs ys e =
     let front = take-append-le s.block xs ys le in
     let back = drop-append-le s.block xs ys le in
     let z : suc m + n ≡ suc (m + n) = omega arith in
-    let k : b + 1 + m ≡ b + suc m = omega arith in
-    let last = last_after p s.block xs in
-    grind (arith, common_steps)
+    grind (arith, common_steps, last_after, common_steps)
 
 -- a sample that repeats the one before is predicted exactly, and without prediction it is zero where the one before is
 abbrev pub Repeats : Parameters → ℤ → Type 0

@@ -1,11 +1,10 @@
 -- How the coded data sets of a segment lie: one after the other, and padded where they end an interval.
-use Rattle.std.proofs.Common.{◌≡◌, ℕ, suc, ◌+◌, ◌-◌, ◌*◌, ◌/◌, ◌%◌, ◌<◌, ◌≤◌, ◌==◌, min, Bool, true, false, cond, ◌&&◌, List}
-use Rattle.std.proofs.Common.{[], ◌∷◌, ◌++◌, length, replicate, refl, ap, arith, sym, ◌∙◌, inl, inr, subst, append_assoc, append-nil, length-append, None, Some}
+use Rattle.std.proofs.Common.{◌≡◌, ℕ, suc, ◌+◌, ◌-◌, ◌*◌, ◌<◌, ◌≤◌, ◌==◌, min, false, cond, ◌&&◌, List, [], ◌∷◌, ◌++◌, length, replicate, ap, arith, sym, ◌∙◌, subst, append_assoc, append-nil}
+use Rattle.std.proofs.Common.{length-append, None, Some}
 use Rattle.rice_code.proofs.Words.{nat_tests, cases_lt, mod-lt, mod-eq_of_lt, mul-le-mul_left, mod_self, bits_to_byte, Parameters, IsLegal, place, blocks_left, is_padded, BlockData, zero_block}
-use Rattle.rice_code.proofs.Words.{data_sets, CodedDataSet, bits_of_set, bits_of_sets, AreTaken, blocks_in_all, AreSoundBlocks, block_after, padding, bits_with_padding, layout, common_steps}
-use Rattle.rice_code.proofs.lemmas.{meaning.CoveredBlocks.covers_blocks, cost.PaddingBounds.are_blocks, code.SegmentPlaces.none_padded, meaning.SentSetsAreTaken.are_taken}
-use Rattle.rice_code.proofs.lemmas.{meaning.SentSetsAreTaken.begin_before}
-use Rattle.rice_code.proofs.lemmas.code.Layouts.{BeginBefore, ends_inside, sent_first, some_block}
+use Rattle.rice_code.proofs.Words.{data_sets, CodedDataSet, bits_of_set, bits_of_sets, AreTaken, blocks_in_all, AreSoundBlocks, block_after, padding, layout, common_steps}
+use Rattle.rice_code.proofs.lemmas.{code.Layouts.BeginBefore, code.Layouts.ends_inside, code.Layouts.some_block, meaning.SentSetsAreTaken.are_taken, meaning.SentSetsAreTaken.begin_before}
+use Rattle.rice_code.proofs.lemmas.{meaning.CoveredBlocks.covers_blocks, code.SegmentPlaces.none_padded, cost.PaddingBounds.are_blocks}
 
 -- only the last can be padded, since the others end inside
 laid_to_end : (s : Parameters) (end b position : ℕ) (d : CodedDataSet) (ds : List CodedDataSet) → ((m : ℕ) → b < m → m < end → is_padded s m ≡ false)
@@ -21,10 +20,8 @@ laid_to_end s end b position d (c ∷ ds) none h le =
     let before : next < end = h.1.0 in
     let e : min end next ≡ next = omega arith in
     let nothing : padding s next (position + length t) ≡ 0 = ap (λ v. cond v (bits_to_byte (position + length t)) 0) (none next (omega arith) before) in
-    let first : sent_first s end b position d ≡ t = ap (λ m. bits_with_padding s m position d) e ∙ (ap (λ k. t ++ replicate k false) nothing ∙ append-nil t) in
     let ih = laid_to_end s end next (position + length t) c ds (λ m p q. none m (omega arith) q) h.1 (omega arith) in
-    let n : position + length t + length more ≡ position + length (t ++ more) = omega (arith, length-append t more) in
-    grind (arith, common_steps, append_assoc)
+    grind (arith, common_steps, length-append, common_steps, append_assoc)
 
 -- the same, where there are blocks
 laid_some : (s : Parameters) (end b position : ℕ) (ds : List CodedDataSet) → b < end → ((m : ℕ) → b < m → m < end → is_padded s m ≡ false)
@@ -66,8 +63,7 @@ inside_interval s start count lt at few = grind (arith, common_steps)
 
 -- the code of blocks of a segment: their texts, and zeros up to a byte where they end an interval and intervals are padded
 pub code_lies : {s : Parameters} {start : ℕ} (position : ℕ) {count : ℕ} (cs : List BlockData) → length cs ≡ count → IsLegal s → place s start ≡ start → AreSoundBlocks s start cs
-    → count ≤ blocks_left s start →
-    bits_of_sets s (data_sets s start false cs) ++ replicate
+    → count ≤ blocks_left s start → bits_of_sets s (data_sets s start false cs) ++ replicate
     (cond (s.pad && start + count == s.interval) (bits_to_byte (position + length (bits_of_sets s (data_sets s start false cs)))) 0) false ≡ layout s
     (start + count) start position (data_sets s start false cs)
 code_lies {s} {start} position {count} [] e legal at sound few = grind (arith, common_steps, mod-lt, nat_tests)
@@ -76,5 +72,4 @@ code_lies {s} {start} position {count} (c ∷ cs) e legal at sound few =
     let bits = position + length (bits_of_sets s ds) in
     let lt : start < s.interval = omega (arith, at, mod-lt start legal.interval_from) in
     let l = laid_segment s start position (c ∷ cs) legal sound (omega arith) (omega arith) in
-    let same = padded_at_end s start count bits lt (omega arith) (inside_interval s start count lt at few) in
-    grind (arith, common_steps)
+    grind (arith, common_steps, padded_at_end, inside_interval, common_steps)

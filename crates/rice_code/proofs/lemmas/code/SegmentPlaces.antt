@@ -1,8 +1,7 @@
 -- The places of the blocks of a segment, and of the segment after it.
-use Rattle.std.proofs.Common.{◌≡◌, ℕ, zero, suc, ◌+◌, ◌-◌, ◌*◌, ◌/◌, ◌%◌, ◌<◌, ◌≤◌, ◌==◌, min, true, false, cond, ap, arith, sym, ◌∙◌, inl, inr}
+use Rattle.std.proofs.Common.{◌≡◌, ℕ, zero, suc, ◌+◌, ◌-◌, ◌*◌, ◌/◌, ◌%◌, ◌<◌, ◌≤◌, ◌==◌, true, false, cond, ap, arith, ◌∙◌, inl, inr}
 use Rattle.rice_code.proofs.Words.{nat_tests, div-mul-add, div-add-mod, mod-lt, mod-eq_of_lt, Parameters, place, segment_start, begins_segment, blocks_left, is_padded, cut, eqb-true, common_steps}
-use Rattle.rice_code.proofs.Words.{next_place, some_left, lt_of_mul-lt-mul_left}
-use Rattle.rice_code.proofs.lemmas.meaning.CoveredBlocks.{bool_cases, and-split}
+use Rattle.rice_code.proofs.{Words.next_place, Words.some_left, Words.lt_of_mul-lt-mul_left, lemmas.meaning.CoveredBlocks.bool_cases, lemmas.meaning.CoveredBlocks.and-split}
 
 -- places go on inside a segment
 pub place_inside : (s : Parameters) (b q : ℕ) → 1 ≤ s.interval → q < blocks_left s b → place s (b + q) ≡ place s b + q
@@ -10,7 +9,6 @@ place_inside s b zero h k = let e : b + 0 ≡ b = omega arith in ap (place s) e 
 place_inside s b (suc q) h k =
     let ih = place_inside s b q h (omega arith) in
     let e : b + suc q ≡ b + q + 1 = omega arith in
-    let f = ap (place s) e in
     grind (arith, common_steps, next_place)
 
 -- a segment begins after a whole one
@@ -22,22 +20,7 @@ begins_next s b h e =
     let q = blocks_left s b - 1 in
     let p = place_inside s b q h (omega arith) in
     let n : b + q + 1 ≡ b + blocks_left s b = omega arith in
-    let lt = mod-lt b h in
-    let t : x ≡ 64 * (x / 64) = eqb-true x (64 * (x / 64)) e in
-    let l : blocks_left s b ≡ min 64 (r - x) = left_is x r t in
-    elim (next_place s (b + q) h) [
-      | inl f ↦ ap (begins_segment s) (sym n) ∙ (ap (λ y. y == 64 * (y / 64)) (up x r (place s (b + q)) (place s (b + q + 1)) (blocks_left s b) t l left.0 p f.0 f.1) ∙ whole (x / 64 + 1))
-      | inr f ↦ ap (begins_segment s) (sym n) ∙ ap (λ y. y == 64 * (y / 64)) f.0
-    ]
-  where
-    left_is : (x r : ℕ) → x ≡ 64 * (x / 64) → 64 * (x / 64) + min 64 (r - 64 * (x / 64)) - x ≡ min 64 (r - x)
-    left_is x r e = omega arith
-
-    up : (x r y z left : ℕ) → x ≡ 64 * (x / 64) → left ≡ min 64 (r - x) → 1 ≤ left → y ≡ x + (left - 1) → z ≡ y + 1 → y + 1 < r → z ≡ 64 * (x / 64 + 1)
-    up x r y z left e f g h k l = omega arith
-
-    whole : (n : ℕ) → (64 * n == 64 * (64 * n / 64)) ≡ true
-    whole n = grind (arith, nat_tests)
+    grind (arith, common_steps, eqb-true, next_place, nat_tests)
 
 -- the samples of whole segments
 pub cut_is : (s : Parameters) (b m n : ℕ) → 1 ≤ s.interval → 1 ≤ s.block → begins_segment s b ≡ true → m ≡ s.block * b + n → n < s.block * blocks_left s b → cut s m ≡ s.block * b
@@ -82,7 +65,4 @@ next_start_is s b start r e =
     let p = place_inside s b q r (omega arith) in
     let n : b + q + 1 ≡ b + blocks_left s b = omega arith in
     let m = ap (place s) n in
-    let lt : start < s.interval = omega (arith, e, mod-lt b r) in
-    let at : place s start ≡ place s b = mod-eq_of_lt lt ∙ sym e in
-    let l : blocks_left s start ≡ blocks_left s b = ap (λ p. 64 * (p / 64) + min 64 (s.interval - 64 * (p / 64)) - p) at in
-    grind (arith, common_steps, next_place, nat_tests)
+    grind (arith, common_steps, mod-lt, mod-eq_of_lt, common_steps, next_place, nat_tests)

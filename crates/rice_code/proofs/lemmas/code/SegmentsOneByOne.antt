@@ -1,9 +1,7 @@
 -- Segments are coded one by one: what stands after a segment's end changes nothing before it.
-use Rattle.std.proofs.Common.{◌≡◌, ℕ, zero, suc, ◌+◌, ◌≤◌, ◌==◌, Bool, true, false, cond, not, ◌&&◌, ◌||◌, nat_le}
-use Rattle.std.proofs.Common.{List, [], ◌∷◌, ◌++◌, length, refl, ap, arith, sym, ◌∙◌, inl, inr, append_assoc, length-append, Option}
-use Rattle.rice_code.proofs.Words.{prefix_len, nat_tests, cases_lt, take-append-le, Parameters, begins_segment, blocks_left, one_less_left, last_of_segment, BlockData, is_zero_block, ZeroBlocks}
-use Rattle.rice_code.proofs.Words.{RemainderOfSegment, shortest, data_sets, data_set_at, zero_run, run_len, common_steps}
-use Rattle.rice_code.proofs.lemmas.meaning.CoveredBlocks.{bool_cases, run_inside}
+use Rattle.std.proofs.Common.{◌≡◌, ℕ, zero, suc, ◌+◌, ◌≤◌, Bool, true, cond, not, ◌&&◌, nat_le, List, [], ◌∷◌, ◌++◌, length, refl, ap, arith, sym, ◌∙◌, inl, inr, append_assoc, length-append, Option}
+use Rattle.rice_code.proofs.Words.{take-append-le, Parameters, begins_segment, blocks_left, one_less_left, last_of_segment, BlockData, is_zero_block, shortest, data_sets, data_set_at, zero_run}
+use Rattle.rice_code.proofs.{lemmas.meaning.CoveredBlocks.bool_cases, lemmas.meaning.CoveredBlocks.run_inside, Words.common_steps}
 
 -- a segment that begins n blocks on ends the one before
 pub ends_before : (s : Parameters) (b n : ℕ) → 1 ≤ s.interval → begins_segment s (b + suc n) ≡ true → blocks_left s b ≤ suc n
@@ -17,13 +15,8 @@ ends_before s b (suc n) h e =
           omega arith
     ]
 
--- which of the two runs does not depend on whether the list ends after the segment
-same_kind : (z left len len' : ℕ) → z ≤ left → left ≤ len → left ≤ len' → (z == left || z == len) ≡ (z == left || z == len')
-same_kind z left len len' h k l =
-    elim (cases_lt z left) [ inl lt ↦ grind (arith, nat_tests) | inr le ↦ grind (arith, nat_tests) ]
-
 same_run : (s : Parameters) (b : ℕ) (r : Option ℕ) (cs ds : List BlockData) → blocks_left s b ≤ length cs → zero_run s b r (cs ++ ds) ≡ zero_run s b r cs
-same_run s b r cs ds h = grind (arith, common_steps, nat_le, take-append-le, same_kind, run_inside, length-append)
+same_run s b r cs ds h = grind (arith, common_steps, nat_le, take-append-le, run_inside, length-append)
 
 -- at the head of a segment it makes no difference what stood before it
 pub head_of_segment : (s : Parameters) (b : ℕ) (v w : Bool) (cs : List BlockData) → begins_segment s b ≡ true → data_sets s b v cs ≡ data_sets s b w cs

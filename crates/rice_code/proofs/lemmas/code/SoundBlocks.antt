@@ -1,11 +1,10 @@
 -- The blocks of legal samples are sound, and as many as they should be.
-use Rattle.std.proofs.Common.{◌≡◌, ℕ, zero, suc, ◌+◌, ◌-◌, ◌*◌, ◌/◌, ◌%◌, ◌<◌, ◌≤◌, min, Bool, true, false, cond, List}
-use Rattle.std.proofs.Common.{[], ◌∷◌, ◌++◌, length, take, drop, replicate, refl, ap, arith, ◌∙◌, inl, inr, length-append, Some, None, ℤ}
-use Rattle.rice_code.proofs.Words.{All, OnSome, slice_index, AllByRecursion, next_multiple_of, cases_lt, length-take, length-drop, length-replicate, recursion_from_All, All-from_recursion}
-use Rattle.rice_code.proofs.Words.{div-add-mod, mod-lt, mod-eq_of_lt, mod_self, Parameters, IsLegal, IsSample, value_count, is_reference, block_count, pattern, residuals, last_of, filled_samples}
-use Rattle.rice_code.proofs.Words.{pattern_fits, length-residuals, residuals_fit, zero_at_reference, block_data, blocks_from, blocks_of, bits_from, bit_bound, IsReference, IsSoundBlock}
-use Rattle.rice_code.proofs.Words.{AreSoundBlocks, common_steps}
-use Rattle.rice_code.proofs.lemmas.cost.BlockBounds.{blocks_are_bounded}
+use Rattle.std.proofs.Common.{◌≡◌, ℕ, zero, suc, ◌+◌, ◌-◌, ◌*◌, ◌/◌, ◌%◌, ◌<◌, ◌≤◌, min, Bool, true, false, cond, List, [], ◌∷◌, ◌++◌, length, take, drop, replicate, refl, ap, arith, ◌∙◌, inl, inr}
+use Rattle.std.proofs.Common.{length-append, Some, None, ℤ}
+use Rattle.rice_code.proofs.Words.{All, OnSome, slice_index, AllByRecursion, next_multiple_of, cases_lt, length-take, length-drop, length-replicate, recursion_from_All, All-from_recursion, mod-lt}
+use Rattle.rice_code.proofs.Words.{mod-eq_of_lt, mod_self, Parameters, IsLegal, IsSample, value_count, is_reference, block_count, pattern, residuals, last_of, filled_samples, pattern_fits}
+use Rattle.rice_code.proofs.Words.{length-residuals, residuals_fit, zero_at_reference, block_data, blocks_from, blocks_of, bits_from, bit_bound, IsReference, IsSoundBlock, AreSoundBlocks}
+use Rattle.rice_code.proofs.{lemmas.cost.BlockBounds.blocks_are_bounded, Words.common_steps}
 
 abbrev Samples : Parameters → List ℤ → Type 0
 Samples s xs = AllByRecursion (IsSample s) xs
@@ -73,7 +72,6 @@ count_blocks s b p (suc n) xs = ap (λ m. suc m) (count_blocks s (b + 1) (last_o
 -- filled up, the samples make whole blocks
 filled_to_whole_blocks : (j n : ℕ) → 1 ≤ j → n + (n + (j - n % j) % j - n) ≡ j * (n / j + min 1 (n % j))
 filled_to_whole_blocks j n h =
-    let e = div-add-mod n j in
     elim (cases_lt 0 (n % j)) [
       | inl some ↦ let f = mod-eq_of_lt (rest_below j n h some) in let g : min 1 (n % j) ≡ 1 = omega arith in let k = ap (λ v. j * (n / j + v)) g in let b = mod-lt n h in omega arith
       | inr none ↦ let z : n % j ≡ 0 = omega arith in let same : j - 0 ≡ j = omega arith in let f = ap (λ v. (j - v) % j) z

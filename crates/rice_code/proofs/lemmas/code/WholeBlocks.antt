@@ -1,6 +1,6 @@
 -- Whole blocks are not filled.
 use Rattle.std.proofs.Common.{◌≡◌, ℕ, ◌-◌, ◌*◌, ◌/◌, ◌%◌, ◌≤◌, min, List, ◌++◌, length, replicate, ap, arith, ◌∙◌, append-nil, ℤ}
-use Rattle.rice_code.proofs.Words.{next_multiple_of, mul-mod_right, mul-div_cancel_left, mod_self, Parameters, block_count, last_of, filled_samples}
+use Rattle.rice_code.proofs.Words.{next_multiple_of, mul-mod_right, mul-div_cancel_left, mod_self, Parameters, block_count, last_of, filled_samples, common_steps}
 
 -- whole blocks are not filled
 pub not_filled : (s : Parameters) (q : ℕ) (p : ℤ) (xs : List ℤ) → 1 ≤ s.block → length xs ≡ s.block * q → (filled_samples s p xs ≡ xs) × (block_count s (length xs) ≡ q)
@@ -9,7 +9,4 @@ not_filled s q p xs h e =
     let r : length xs % j ≡ 0 = ap (λ n. n % j) e ∙ mul-mod_right j q in
     let d : length xs / j ≡ q = ap (λ n. n / j) e ∙ mul-div_cancel_left q h in
     let same : j - 0 ≡ j = omega arith in
-    let f : (j - length xs % j) % j ≡ 0 = ap (λ v. (j - v) % j) r ∙ (ap (λ v. v % j) same ∙ mod_self j) in
-    let none : next_multiple_of (length xs) j - length xs ≡ 0 = omega arith in
-    let m = ap (λ v. min 1 v) r in
-    (ap (λ n. xs ++ replicate n (last_of p xs)) none ∙ append-nil xs, omega arith)
+    grind (arith, common_steps, mod_self, append-nil)

@@ -1,12 +1,11 @@
 -- What samples add to the code of whole segments is bounded, and so is what is sent at once.
-use Rattle.std.proofs.Common.{◌≡◌, ℕ, suc, ◌+◌, ◌≤◌, Bool, true, false, not, ◌&&◌, List, [], ◌∷◌, ◌++◌, length, length-append, ap, arith, sym, ◌∙◌, inl, inr, subst, Option, pos}
+use Rattle.std.proofs.Common.{◌≡◌, ℕ, suc, ◌+◌, ◌≤◌, Bool, true, false, not, ◌&&◌, List, [], ◌∷◌, length, length-append, ap, arith, sym, ◌∙◌, inl, inr, subst, Option, pos}
 use Rattle.rice_code.proofs.Words.{AllByRecursion, nat_tests, All-from_recursion, recursion_from_All, Parameters, IsLegal, IsSample, begins_segment, last_of, cut_is_start, zero_is_sample, set_bound}
-use Rattle.rice_code.proofs.Words.{AddedCodeIsBounded, SetsAreBounded, BlockData, is_zero_block, code, code_from, data_sets, sets_of, CodedDataSet, bits_of_set, cost, run_number, IsReference}
-use Rattle.rice_code.proofs.Words.{RunIsSound, zero_run, run_len, AreSoundBlocks, common_steps}
-use Rattle.rice_code.proofs.lemmas.{code.CodeGoesOn.code_goes_on, cost.BlockBounds.shortest_bound, cost.BlockBounds.reference_bound, cost.CostIsLength.cost_is_length}
-use Rattle.rice_code.proofs.lemmas.{cost.PaddingBounds.padding_after_is_bounded, meaning.SentSetsAreTaken.zero_run_is_sound}
-use Rattle.rice_code.proofs.lemmas.code.SoundBlocks.{blocks_sound_after, code_is_bounded, last_legal}
+use Rattle.rice_code.proofs.Words.{AddedCodeIsBounded, SetsAreBounded, BlockData, is_zero_block, data_sets, CodedDataSet, bits_of_set, run_number, IsReference, zero_run, run_len, AreSoundBlocks}
 use Rattle.rice_code.proofs.lemmas.meaning.CoveredBlocks.{bool_cases, skipped, data_sets_plain, data_sets_start, data_sets_inside, zero_run_is, run_cons}
+use Rattle.rice_code.proofs.lemmas.{code.SoundBlocks.blocks_sound_after, code.SoundBlocks.code_is_bounded, code.SoundBlocks.last_legal, cost.PaddingBounds.padding_after_is_bounded}
+use Rattle.rice_code.proofs.lemmas.{meaning.SentSetsAreTaken.zero_run_is_sound, cost.CostIsLength.cost_is_length, cost.BlockBounds.shortest_bound, code.CodeGoesOn.code_goes_on}
+use Rattle.rice_code.proofs.Words.{common_steps}
 
 -- After whole segments other samples add at most so many bits, all padding included.
 pub added_code_is_bounded : AddedCodeIsBounded
@@ -23,9 +22,7 @@ added_code_is_bounded s legal xs ys h k whole =
     }) in
     let p = last_of (pos 0) xs in
     let sample = last_legal s (pos 0) xs zero (recursion_from_All (IsSample s) xs h) in
-    let more = code_from s (0 + b) (0 + length (code s xs)) p ys in
-    let size : length (code s (xs ++ ys)) ≡ length (code s xs) + length more = ap length goes ∙ length-append (code s xs) more in
-    omega (arith, size, padding_after_is_bounded s legal (0 + b) (0 + length (code s xs)) p ys sample k, code_is_bounded s legal (0 + b) p ys sample k)
+    grind (arith, common_steps, length-append, padding_after_is_bounded, code_is_bounded)
 
 -- the number of a run's codeword is at most that of its blocks
 few_zeros : (z : ℕ) → run_number z ≤ z
@@ -36,7 +33,6 @@ run_fits s b w r cs legal h e =
     let d = zero_run s b r cs in
     let sound = zero_run_is_sound s b w r cs legal.interval_from h e in
     let len = cost_is_length s b d (omega (arith, legal.block)) sound.0 in
-    let ref = reference_bound s r in
     grind (arith, common_steps, zero_run_is, few_zeros)
 
 sets_fit : (s : Parameters) (b : ℕ) (after : Bool) (cs : List BlockData) → IsLegal s → AreSoundBlocks s b cs → AllByRecursion (λ d. length (bits_of_set s d) ≤ set_bound s) (data_sets s b after cs)

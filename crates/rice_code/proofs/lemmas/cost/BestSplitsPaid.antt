@@ -1,16 +1,14 @@
 -- The best split is no larger than the bits of a sample, and costs less than J bits for each of its digits.
-use Rattle.std.proofs.Common.{◌≡◌, ℕ, zero, suc, ◌+◌, ◌*◌, ◌/◌, ◌^◌, ◌<◌, ◌≤◌, Bool, true, false, cond, nat_lt, map}
-use Rattle.std.proofs.Common.{min, List, [], ◌∷◌, length, ap, arith, inl, inr, Option, None, Some, ◌∙◌, ◌++◌, ℤ, pos}
+use Rattle.std.proofs.Common.{◌≡◌, ℕ, zero, suc, ◌+◌, ◌*◌, ◌/◌, ◌^◌, ◌<◌, ◌≤◌, Bool, true, false, cond, nat_lt, map, min, List, [], ◌∷◌, length, ap, arith, inl, inr, Option, None, Some, ◌∙◌, ◌++◌, ℤ}
+use Rattle.std.proofs.Common.{pos}
 use Rattle.rice_code.proofs.Words.{sum_by, All, AllByRecursion, range_with_len, cases_lt, sum_by-cons, sum_by-append, recursion_from_All, mul-le-mul_left, div-eq_of_lt, Parameters, IsLegal, IsSample}
-use Rattle.rice_code.proofs.Words.{id_len, k_max, begins_segment, block_count, last_of, filled_samples, zero_is_sample, pair_code, pair_codes, cut_sum, sum_halves, BlockData, blocks_of, is_zero_block}
-use Rattle.rice_code.proofs.Words.{block_bound, step_bound, amortised_step_bound, CodedDataSet, NoCompression, SecondExtension, Split, bits_of_set, cost, sent_residuals, sent_from, reference_len}
-use Rattle.rice_code.proofs.Words.{data_sets, data_set_at, bits_from, code_bits, IsSoundData, AreSoundBlocks, SplitIsPaid, most_looks, most_looks_at, most_steps, IsBestSplit, best_split, shortest}
-use Rattle.rice_code.proofs.Words.{other_options, common_steps}
-use Rattle.rice_code.proofs.lemmas.meaning.CoveredBlocks.{best_keeps, bool_cases, data_sets_plain}
-use Rattle.rice_code.proofs.lemmas.cost.SplitSavings.{coded_sum, best_where_it_stops, best_where_it_ends, first_more}
-use Rattle.rice_code.proofs.lemmas.{encode.ChoiceLemmas.best_split_is, encode.PushedCode.blocks_go_on, code.CodeGoesOn.bits_go_on}
-use Rattle.rice_code.proofs.lemmas.encode.SegmentBlocksInTurn.{most_of_one, looks_zero, sound_of, shortest_len}
-use Rattle.rice_code.proofs.lemmas.code.SoundBlocks.{blocks_sound_after, count_blocks, last_legal, code_is_bounded}
+use Rattle.rice_code.proofs.Words.{id_len, k_max, begins_segment, block_count, last_of, filled_samples, zero_is_sample, pair_codes, cut_sum, sum_halves, BlockData, blocks_of, is_zero_block}
+use Rattle.rice_code.proofs.Words.{block_bound, step_bound, amortised_step_bound, NoCompression, SecondExtension, Split, bits_of_set, cost, sent_residuals, sent_from, reference_len, data_sets}
+use Rattle.rice_code.proofs.Words.{bits_from, code_bits, IsSoundData, AreSoundBlocks, SplitIsPaid, most_looks, most_looks_at, most_steps, IsBestSplit, best_split, shortest, other_options}
+use Rattle.rice_code.proofs.lemmas.{cost.SplitSavings.coded_sum, cost.SplitSavings.best_where_it_stops, cost.SplitSavings.best_where_it_ends, cost.SplitSavings.first_more, code.CodeGoesOn.bits_go_on}
+use Rattle.rice_code.proofs.lemmas.{code.SoundBlocks.blocks_sound_after, code.SoundBlocks.count_blocks, code.SoundBlocks.last_legal, code.SoundBlocks.code_is_bounded, encode.PushedCode.blocks_go_on}
+use Rattle.rice_code.proofs.lemmas.encode.{SegmentBlocksInTurn.most_of_one, SegmentBlocksInTurn.looks_zero, SegmentBlocksInTurn.sound_of, SegmentBlocksInTurn.shortest_len, ChoiceLemmas.best_split_is}
+use Rattle.rice_code.proofs.{lemmas.meaning.CoveredBlocks.best_keeps, lemmas.meaning.CoveredBlocks.bool_cases, lemmas.meaning.CoveredBlocks.data_sets_plain, Words.common_steps}
 
 none_above : (n : ℕ) (ds : List ℕ) → AllByRecursion (λ d. d < 2 ^ n) ds → cut_sum ds n ≡ 0
 none_above n [] h = omega arith
@@ -61,16 +59,12 @@ cut_sum_grows ds zero = omega arith
 cut_sum_grows ds (suc k) =
     let ih = cut_sum_grows ds k in
     let e : suc k ≡ k + 1 = omega arith in
-    let g = ap (cut_sum ds) e in
     let h = sum_halves ds k in
     grind (arith, common_steps, mul-le-mul_left)
 
-pair_covers : (a b : ℕ) → a + b ≤ pair_code a b
-pair_covers a b = grind (arith, common_steps, mul-le-mul_left)
-
 pairs_cover : (half : ℕ) (ds : List ℕ) → length ds ≡ half + half → cut_sum ds 0 ≤ sum_by (λ g. g + 1) (pair_codes ds)
 pairs_cover zero [] h = omega arith
-pairs_cover (suc half) (a ∷ b ∷ ds) h = grind (arith, common_steps, sum_by-cons, pair_covers, pairs_cover half ds (omega arith))
+pairs_cover (suc half) (a ∷ b ∷ ds) h = grind (arith, common_steps, sum_by-cons, pairs_cover half ds (omega arith))
 pairs_cover _ _ h = absurd (omega arith)
 
 coded_most : (r : Option ℕ) (ds : List ℕ) → length ds ≤ length (sent_from r ds) + 1
@@ -94,8 +88,7 @@ second_pays s c (suc k) half e h b =
     let most = coded_most c.reference c.residuals in
     let j : s.block ≤ l + 1 = omega (arith, most, h.len) in
     let m : suc k * s.block ≤ suc k * (l + 1) = mul-le-mul_left (suc k) j in
-    let t : s.block * suc k ≡ suc k * s.block = omega arith in
-    omega (arith, p, q, same, pairs, m, t)
+    omega (arith, p, q, same, pairs, m)
   where
     larger : (l k base x y : ℕ) → base + l * (suc k + 1) + y < base + l * (k + 1) + x → l + 1 ≤ x
     larger l k base x y h = omega arith
@@ -104,10 +97,7 @@ best_from : (s : Parameters) (c : BlockData) (fuel k : ℕ) → k + fuel ≡ k_m
 best_from s c zero k e first = (k, best_where_it_ends s c k (omega arith) first)
 best_from s c (suc fuel) k e first =
     let next = λ (lt : cost s (Split (k + 1) c) < cost s (Split k c)). best_from s c fuel (k + 1) (omega arith) (first_more s c k first lt) in
-    elim (cases_lt (cost s (Split (k + 1) c)) (cost s (Split k c))) [
-      | inl lt ↦ next lt
-      | inr le ↦ (k, best_where_it_stops s c k (omega arith) first le)
-    ]
+    elim (cases_lt (cost s (Split (k + 1) c)) (cost s (Split k c))) [ inl lt ↦ next lt | inr le ↦ (k, best_where_it_stops s c k (omega arith) first le) ]
 
 shortest_pays : (s : Parameters) (c : BlockData) (k half : ℕ) → s.block ≡ half + half → 1 ≤ s.block → IsSoundData s c → IsBestSplit s c k → s.block * k ≤ cost s (shortest s c)
 shortest_pays s c k half e j h b =
@@ -141,7 +131,20 @@ looks_are_paid s c legal h =
 looks_of_all_are_paid : (s : Parameters) (b : ℕ) (after : Bool) (cs : List BlockData) → IsLegal s → AreSoundBlocks s b cs →
     sum_by (most_looks s) cs ≤ sum_by (λ d. length (bits_of_set s d)) (data_sets s b after cs) + length cs * (6 * s.block)
 looks_of_all_are_paid s b after [] legal h = omega arith
-looks_of_all_are_paid s b after (c ∷ cs) legal h = grind (arith, common_steps, sum_by-cons, bool_cases, looks_zero, sum_by-append, looks_are_paid, sound_of, shortest_len, data_sets_plain, looks_of_all_are_paid s (b + 1) (is_zero_block c) cs legal h.1)
+looks_of_all_are_paid s b after (c ∷ cs) legal h =
+    grind (
+      arith,
+      common_steps,
+      sum_by-cons,
+      bool_cases,
+      looks_zero,
+      sum_by-append,
+      looks_are_paid,
+      sound_of,
+      shortest_len,
+      data_sets_plain,
+      looks_of_all_are_paid s (b + 1) (is_zero_block c) cs legal h.1,
+    )
 
 -- and they are bounded by the number of splits
 looks_are_few : (s : Parameters) (cs : List BlockData) → sum_by (most_looks s) cs ≤ length cs * (s.block * (k_max s + 5))

@@ -1,12 +1,10 @@
 -- Blocks cost no more bits than sent as they are, or a bit more each where two samples of one bit make a block.
-use Rattle.std.proofs.Common.{◌≡◌, ℕ, zero, suc, ◌+◌, ◌-◌, ◌*◌, ◌<◌, ◌≤◌, Bool, true, false, cond, not, ◌&&◌, nat_lt}
-use Rattle.std.proofs.Common.{map, List, [], ◌∷◌, length, refl, ap, arith, sym, ◌∙◌, inl, inr, subst, Option, Some, None}
+use Rattle.std.proofs.Common.{◌≡◌, ℕ, zero, suc, ◌+◌, ◌-◌, ◌*◌, ◌≤◌, Bool, true, false, not, ◌&&◌, nat_lt, map, List, [], ◌∷◌, length, refl, ap, arith, sym, ◌∙◌, inl, inr, subst, Option, Some, None}
 use Rattle.rice_code.proofs.Words.{sum_by, best_of, range_with_len, AllByRecursion, nat_tests, sum_by-cons, mul-le-mul_left, Parameters, IsLegal, id_len, k_max, begins_segment, BlockData}
 use Rattle.rice_code.proofs.Words.{is_zero_block, CodedDataSet, NoCompression, Split, ZeroBlocks, RemainderOfSegment, bits_of_set, cost, reference_len, run_number, IsForm, IsReference, shortest}
+use Rattle.rice_code.proofs.lemmas.meaning.CoveredBlocks.{bool_cases, skipped, data_sets_plain, data_sets_start, data_sets_inside, skipped_nil, skipped_plain, skipped_go, skipped_stop, zero_run_is}
 use Rattle.rice_code.proofs.Words.{other_options, IsSoundBlock, AreSoundBlocks, data_sets, block_bound, RunIsNeverLonger, zero_run, run_len, common_steps}
-use Rattle.rice_code.proofs.lemmas.meaning.CoveredBlocks.{bool_cases, skipped, data_sets_plain, data_sets_start, data_sets_inside, skipped_nil}
-use Rattle.rice_code.proofs.lemmas.meaning.CoveredBlocks.{skipped_plain, skipped_go, skipped_stop, zero_run_is, best_keeps, run_cons}
-use Rattle.rice_code.proofs.lemmas.cost.CostIsLength.{cost_is_length}
+use Rattle.rice_code.proofs.lemmas.{meaning.CoveredBlocks.best_keeps, meaning.CoveredBlocks.run_cons, cost.CostIsLength.cost_is_length}
 
 -- one that costs no more than the first wins
 best_costs : (f : CodedDataSet → ℕ) (a : CodedDataSet) (xs : List CodedDataSet) → f (best_of (λ x y. nat_lt (f x) (f y)) a xs) ≤ f a

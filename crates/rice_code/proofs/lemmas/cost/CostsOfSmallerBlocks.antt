@@ -1,9 +1,8 @@
 -- Blocks of which no residual is greater than another block's: no option of theirs is longer.
 use Rattle.std.proofs.Common.{◌≡◌, ℕ, zero, suc, ◌+◌, ◌*◌, ◌/◌, ◌^◌, ◌<◌, ◌≤◌, List, [], ◌∷◌, ◌++◌, length, replicate, refl, ap, arith, sym, ◌∙◌, subst, Option, Some, None}
 use Rattle.rice_code.proofs.Words.{OnSome, slice_index, sum_by, AllZip, AllByRecursion, recursion_from_All, All-from_recursion, sum_by-cons, le-div, pow_pos, div-mul-le_self, mul-le-mul}
-use Rattle.rice_code.proofs.Words.{mul-le-mul_right, Parameters, id_len, value_count, pair_code, pair_codes, BlockData, zero_block, NoCompression, SecondExtension, Split, cost, sent_residuals}
-use Rattle.rice_code.proofs.Words.{sent_from, reference_len, IsReference, IsSoundBlock, common_steps}
-use Rattle.rice_code.proofs.lemmas.cost.BlockBounds.{reference_bound}
+use Rattle.rice_code.proofs.Words.{mul-le-mul_right, Parameters, id_len, value_count, pair_code, pair_codes, BlockData, zero_block, NoCompression, SecondExtension, Split, cost, sent_from}
+use Rattle.rice_code.proofs.{Words.reference_len, Words.IsReference, Words.IsSoundBlock, Words.common_steps, lemmas.cost.BlockBounds.reference_bound}
 
 -- each number is at most the one at its place
 abbrev pub AreAtMost : List ℕ → List ℕ → Type 0
@@ -48,9 +47,6 @@ sent_at_most (Some v) [] [] h = tt
 sent_at_most (Some v) (x ∷ xs) (y ∷ ys) h = h.1
 sent_at_most (Some v) _ _ h = absurd h
 
-those_sent : (c x : BlockData) → IsAtMost c x → AreAtMost (sent_residuals c) (sent_residuals x)
-those_sent c x h = subst (λ (r : Option ℕ). AreAtMost (sent_from r c.residuals) (sent_residuals x)) (sym h.reference) (sent_at_most x.reference c.residuals x.residuals h.residuals)
-
 pair_rises : (a b c d : ℕ) → a ≤ c → b ≤ d → pair_code a b ≤ pair_code c d
 pair_rises a b c d h k =
     let sums : (a + b) * (a + b + 1) ≤ (c + d) * (c + d + 1) = mul-le-mul (let le : a + b ≤ c + d = omega arith in le) (let le : a + b + 1 ≤ c + d + 1 = omega arith in le) in
@@ -77,7 +73,7 @@ high_part_rises k x y h = le-div (x / 2 ^ k) y (2 ^ k) (pow_pos k) (omega (arith
 
 -- and by a split
 pub split_at_most : (s : Parameters) (k : ℕ) (c x : BlockData) → IsAtMost c x → cost s (Split k c) ≤ cost s (Split k x)
-split_at_most s k c x h = grind (arith, common_steps, those_sent, sums_at_most, high_part_rises, same_len)
+split_at_most s k c x h = grind (arith, common_steps, sums_at_most, high_part_rises, same_len)
 
 -- ---- what they are
 

@@ -2,14 +2,13 @@
 use Rattle.std.proofs.Common.{◌≡◌, ℕ, suc, ◌+◌, ◌-◌, ◌≤◌, min, false, map, List, [], ◌∷◌, ◌++◌, length, refl, ap, arith, sym, ◌∙◌, inl, inr, subst, Option, None}
 use Rattle.rice_code.proofs.Words.{range_with_len, length-map, length-replicate, get_or-map-range_with_len, length-range_with_len, Parameters, IsLegal, id_len, k_max, blocks_left, some_left}
 use Rattle.rice_code.proofs.Words.{NoSetsAreShorter, BlockData, is_zero_block, zero_block, shortest, data_sets, CodedDataSet, NoCompression, SecondExtension, Split, ZeroBlocks, RemainderOfSegment}
+use Rattle.rice_code.proofs.lemmas.cost.CostsOfSmallerBlocks.{BeginAtMost, IsAtMost, begin_with, no_compression_at_most, no_compression_exceeds, second_extension_at_most, second_extension_exceeds}
 use Rattle.rice_code.proofs.Words.{bits_of_set, cost, reference_len, run_number, AreTaken, IsForm, blocks_in, blocks_in_all, zero_blocks, block_after, IsSoundBlock}
-use Rattle.rice_code.proofs.lemmas.{cost.BlockBounds.shortest_is_form, cost.SplitSavings.choice_is_least}
 use Rattle.rice_code.proofs.lemmas.cost.WhereSetsEnd.{IsFill, code_end, never_back, sent_bits, taken_bits, taken_end, unfilled_is}
-use Rattle.rice_code.proofs.lemmas.cost.CostIsLength.{cost_is_length, numbered_run_len, remainder_len}
-use Rattle.rice_code.proofs.lemmas.cost.LeastRuns.{IsLeastCodeword, by_run, run_and_more}
-use Rattle.rice_code.proofs.lemmas.cost.CostsOfSmallerBlocks.{BeginAtMost, IsAtMost, begin_with, no_compression_at_most, no_compression_exceeds}
-use Rattle.rice_code.proofs.lemmas.cost.CostsOfSmallerBlocks.{second_extension_at_most, second_extension_exceeds, sound_at_most, split_at_most, split_exceeds}
 use Rattle.rice_code.proofs.lemmas.meaning.CoveredBlocks.{bool_cases, data_sets_plain, shortest_covers, zero_block_is}
+use Rattle.rice_code.proofs.lemmas.cost.{CostsOfSmallerBlocks.sound_at_most, CostsOfSmallerBlocks.split_at_most, CostsOfSmallerBlocks.split_exceeds, BlockBounds.shortest_is_form}
+use Rattle.rice_code.proofs.lemmas.cost.{CostIsLength.cost_is_length, CostIsLength.numbered_run_len, CostIsLength.remainder_len, LeastRuns.IsLeastCodeword, LeastRuns.by_run, LeastRuns.run_and_more}
+use Rattle.rice_code.proofs.lemmas.cost.SplitSavings.{choice_is_least}
 
 least_split : (s : Parameters) (c : BlockData) (k : ℕ) → k ≤ k_max s → cost s (shortest s c) ≤ cost s (Split k c)
 least_split s c k le =
@@ -87,7 +86,6 @@ by_set {s} {fill} {b} {end} {p} {q} {n} {number} {others} {r} cs {ys} d legal is
     let next : block_after s b d ≡ b + 1 + (n - 1) = omega (arith, ap length run.blocks, length-replicate (n - 1) (zero_block s None)) in
     let count : n ≡ suc (n - 1) = omega (arith, run.some) in
     let theirs = id_len s + 2 + reference_len s r + number in
-    let bits = length (bits_of_set s d) in
     let first = subst (λ (m : ℕ). fill m (q + theirs) ≤ others) next (subst (λ (m : ℕ). fill (block_after s b d) (q + m) ≤ others) run.bits following.ends) in
     let after = subst (λ (m : ℕ). (rest : List BlockData) (position : ℕ) → BeginAtMost rest ys → end ≡ m + length rest → position ≤ fill m (q + theirs)
     → code_end s fill end m position (data_sets s m false rest) ≤ others) next

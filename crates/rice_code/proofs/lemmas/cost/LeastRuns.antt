@@ -1,14 +1,12 @@
 -- No runs of the same zero blocks have fewer bits than the coder's one run.
-use Rattle.std.proofs.Common.{◌≡◌, ℕ, zero, suc, ◌+◌, ◌-◌, ◌<◌, ◌≤◌, ◌==◌, min, Bool, true, false, cond, not, ◌||◌, List, []}
-use Rattle.std.proofs.Common.{◌∷◌, ◌++◌, length, take, replicate, refl, ap, arith, sym, ◌∙◌, ◌⊎◌, inl, inr, append-nil, length-append, Option, None}
+use Rattle.std.proofs.Common.{◌≡◌, ℕ, zero, suc, ◌+◌, ◌-◌, ◌<◌, ◌≤◌, ◌==◌, Bool, true, false, cond, not, ◌||◌, List, [], ◌∷◌, ◌++◌, length, replicate, refl, ap, arith, sym, ◌∙◌, ◌⊎◌, inl, inr}
+use Rattle.std.proofs.Common.{append-nil, length-append, Option, None}
 use Rattle.rice_code.proofs.Words.{nat_tests, length-replicate, length-take, prefix_len-le-length, Parameters, id_len, begins_segment, blocks_left, BlockData, is_zero_block, zero_block, data_sets}
-use Rattle.rice_code.proofs.Words.{bits_of_set, reference_len, run_number, zero_blocks, block_after, run_len, zero_run, zeros_of_run, common_steps}
-use Rattle.rice_code.proofs.lemmas.{code.SegmentsOneByOne.head_of_segment, cost.CostsOfSmallerBlocks.BeginAtMost, cost.CostsOfSmallerBlocks.zero_at_most, encode.OptionTexts.run_cost}
-use Rattle.rice_code.proofs.lemmas.{encode.OptionTexts.run_text_len, encode.SegmentBlocksInTurn.left_inside}
-use Rattle.rice_code.proofs.lemmas.cost.WhereSetsEnd.{IsFill, code_end, ends_later}
-use Rattle.rice_code.proofs.lemmas.encode.PendingRuns.{count_zeros, is_zero_zeros, skip_zeros}
-use Rattle.rice_code.proofs.lemmas.meaning.CoveredBlocks.{bool_cases, data_sets_inside, data_sets_plain, data_sets_start, nothing_more, run_cons, run_inside}
-use Rattle.rice_code.proofs.lemmas.meaning.CoveredBlocks.{skipped, skipped_go, skipped_nil, skipped_plain, skipped_stop, zero_run_is}
+use Rattle.rice_code.proofs.lemmas.meaning.CoveredBlocks.{bool_cases, data_sets_inside, data_sets_plain, data_sets_start, nothing_more, run_cons, run_inside, skipped, skipped_go, skipped_nil}
+use Rattle.rice_code.proofs.Words.{bits_of_set, reference_len, run_number, run_len, zero_run, zeros_of_run, common_steps}
+use Rattle.rice_code.proofs.lemmas.{meaning.CoveredBlocks.skipped_plain, meaning.CoveredBlocks.skipped_stop, meaning.CoveredBlocks.zero_run_is, code.SegmentsOneByOne.head_of_segment}
+use Rattle.rice_code.proofs.lemmas.encode.{PendingRuns.count_zeros, PendingRuns.is_zero_zeros, PendingRuns.skip_zeros, OptionTexts.run_cost, OptionTexts.run_text_len, SegmentBlocksInTurn.left_inside}
+use Rattle.rice_code.proofs.lemmas.cost.{CostsOfSmallerBlocks.BeginAtMost, CostsOfSmallerBlocks.zero_at_most, WhereSetsEnd.IsFill, WhereSetsEnd.code_end, WhereSetsEnd.ends_later}
 
 -- ---- the zeros of codewords
 
@@ -21,10 +19,6 @@ to_the_end v z h e = grind (arith, nat_tests)
 
 as_numbered : (v : Bool) (z : ℕ) → 1 ≤ z → zeros_of_run v z ≤ run_number z
 as_numbered v z h = grind (arith, nat_tests)
-
--- a run to the end, where others of more blocks are numbered
-last_of_fewer : (v : Bool) (k n : ℕ) → v ≡ true → 1 ≤ k → k ≤ n → zeros_of_run v k ≤ run_number n
-last_of_fewer v k n e h le = grind (arith, nat_tests)
 
 -- one run of n and m blocks takes no more zeros than two, and their ones and a bit of an identifier
 one_for_two : (v w : Bool) (n m : ℕ) → 1 ≤ n → 1 ≤ m → (w ≡ true → v ≡ true) → zeros_of_run v (n + m) ≤ run_number n + zeros_of_run w m + 2
@@ -86,9 +80,7 @@ run_or_afresh s fill b (c ∷ cs) h =
               reference = c.reference;
               some = omega (arith, skipped_go s b true c cs h z (ap not e));
               count = sym (ap (λ v. cond (not v) (run_len s b (c ∷ cs)) 0) e);
-              laid = λ end p f. ap (λ l. code_end s fill end b p l) (data_sets_start s b false c cs z refl)
-                  ∙ (run_laid s fill b p c.reference c cs (record { interval = h; zero = z; end_is = f }) ∙ sym
-                  (ap (λ l. code_end s fill end next (fill next (p + length (bits_of_set s (zero_run s b c.reference (c ∷ cs))))) l) inside));
+              laid = grind (arith, common_steps, data_sets_start, run_laid);
             })
       ]
     ]
@@ -144,10 +136,7 @@ run_and_more {s} {fill} b {end} {p} {q} {w} number r rest is run e begins more =
     elim (run_or_afresh s fill here rest run.interval) [
       | inl none ↦
           let exact : z ≡ suc w = omega (arith, count, none.0) in
-          let few : zeros_of_run v z ≤ number = elim run.least [
-            | inl numbered ↦ omega (arith, as_numbered v z (omega (arith, exact)), ap run_number exact, numbered)
-            | inr full ↦ omega (arith, to_the_end v z (omega (arith, exact)) (fills_segment z (blocks_left s b) (length all) (exact ∙ full.1)), full.0)
-          ] in
+          let few : zeros_of_run v z ≤ number = grind (arith, common_steps, as_numbered, to_the_end, fills_segment) in
           let next : b + z ≡ here = omega (arith, exact) in
           let moved = ap (λ n. code_end s fill end n (fill n (p + text)) later) next ∙ ap (λ l. code_end s fill end here (fill here (p + text)) l) none.1 in
           omega (arith, laid, moved, more (fill here (p + text)) (is.rises here (p + text) (q + run_bits s r number) (omega (arith, size, few, begins))))
@@ -172,7 +161,7 @@ run_and_more {s} {fill} b {end} {p} {q} {w} number r rest is run e begins more =
 -- the last zero blocks, by a run of more
 last_run : {s : Parameters} {fill : ℕ → ℕ → ℕ} (b : ℕ) {end p q j n : ℕ} (number : ℕ) (r : Option ℕ) → IsFill s fill → LeastRun s b n number → suc j < n → end ≡ b + suc j → p ≤ q →
     code_end s fill end b p (data_sets s b false (zeros_and s r j [])) ≤ q + run_bits s r number
-last_run {s} {fill} b {end} {p} {j} {n} number r is run some e begins = grind (arith, common_steps, front_count, skipped_nil, fills_list, front_len, last_of_fewer, to_the_end, front_laid, run_size)
+last_run {s} {fill} b {end} {p} {j} {n} number r is run some e begins = grind (arith, common_steps, front_count, skipped_nil, fills_list, front_len, to_the_end, front_laid, run_size)
 
 -- the first zero blocks are all there, or the list ends among them
 run_splits : (s : Parameters) (w : ℕ) (cs ys : List BlockData) → BeginAtMost cs (replicate w (zero_block s None) ++ ys) →
@@ -195,8 +184,7 @@ pub record OthersAfterRun (s : Parameters) (fill : ℕ → ℕ → ℕ) (b end q
 -- blocks that another code begins with a run, where the coder's choice for those after the run ends no later than the other code
 pub by_run : {s : Parameters} {fill : ℕ → ℕ → ℕ} {b end p q w number others : ℕ} (r : Option ℕ) (cs ys : List BlockData) →
     IsFill s fill → LeastRun s b (suc w) number → end ≡ b + length cs → p ≤ q →
-    BeginAtMost cs (zeros_and s r w ys) → OthersAfterRun s fill b end q w number others r ys →
-    code_end s fill end b p (data_sets s b false cs) ≤ others
+    BeginAtMost cs (zeros_and s r w ys) → OthersAfterRun s fill b end q w number others r ys → code_end s fill end b p (data_sets s b false cs) ≤ others
 by_run {s} {b} {q} {w} {number} r [] ys is run e begins below after = omega (arith, begins, is.more (b + 1 + w) (q + run_bits s r number), after.ends)
 by_run {s} {fill} {b} {end} {p} {q} {w} {number} {others} r (c ∷ cs) ys is run e begins below after =
     let first = zero_at_most s r c below.0 in

@@ -1,13 +1,12 @@
 -- The padding of the code of samples is bounded.
+use Rattle.std.proofs.Common.{◌≡◌, ℕ, zero, suc, ◌+◌, ◌*◌, ◌/◌, ◌%◌, ◌<◌, ◌≤◌, Bool, true, false, cond, List, [], ◌∷◌, length, ap, arith, subst, ◌∙◌, inl, inr, length-append, ℤ, Some}
 use Rattle.std.proofs.lemmas.Grind.{common_steps}
-use Rattle.std.proofs.Common.{◌≡◌, ℕ, zero, suc, ◌+◌, ◌*◌, ◌/◌, ◌%◌, ◌<◌, ◌≤◌, Bool, true, false, cond, List, []}
-use Rattle.std.proofs.Common.{◌∷◌, length, replicate, ap, arith, subst, sym, ◌∙◌, inl, inr, length-append, None, ℤ, pos, Some}
 use Rattle.rice_code.proofs.Words.{All, div_ceil, nat_tests, cases_lt, div_ceil_times, length-replicate, length-flat_map, recursion_from_All, div-add-mod, mod-lt, mod-eq_of_lt, mul-add-mod_self_left}
 use Rattle.rice_code.proofs.Words.{div-mul-add, Parameters, IsLegal, IsSample, place, begins_segment, block_count, interval_count, filled_samples, zero_is_sample, mul-le-mul_left, mul-le-mul_right}
-use Rattle.rice_code.proofs.Words.{BlockData, blocks_of, zero_block, bits_of_set, blocks_in_all, sets_from, code, code_from, code_bits, bits_from, AreTaken, padding_bound, AreSoundBlocks}
+use Rattle.rice_code.proofs.Words.{BlockData, blocks_of, zero_block, sets_from, code, code_from, code_bits, bits_from, AreTaken, padding_bound, AreSoundBlocks}
 use Rattle.rice_code.proofs.lemmas.meaning.CoveredBlocks.{bool_cases, GoOn, AreBlocks, covers_blocks}
-use Rattle.rice_code.proofs.lemmas.code.Layouts.{BeginBefore, laid_plain, laid_bound}
-use Rattle.rice_code.proofs.lemmas.{meaning.SentSetsAreTaken.are_taken, meaning.SentSetsAreTaken.begin_before, code.SoundBlocks.count_blocks, code.SoundBlocks.blocks_sound_after}
+use Rattle.rice_code.proofs.lemmas.code.{SoundBlocks.count_blocks, SoundBlocks.blocks_sound_after, Layouts.BeginBefore, Layouts.laid_plain, Layouts.laid_bound}
+use Rattle.rice_code.proofs.lemmas.meaning.SentSetsAreTaken.{are_taken, begin_before}
 
 -- sound blocks are blocks
 pub are_blocks : (s : Parameters) (b : ℕ) (cs : List BlockData) → AreSoundBlocks s b cs → AreBlocks s b cs
@@ -26,8 +25,7 @@ inside_interval s b (suc n) h k =
     let ih = inside_interval s (b + 1) n h k.1 in
     let e : b + 1 + n ≡ b + suc n = omega arith in
     let f = ap (λ m. m / r) e in
-    let some : 1 ≤ b % r = elim (cases_lt 0 (b % r))
-    [ inl lt ↦ lt | inr le ↦ absurd (let none : b % r ≡ 0 = omega arith in let g : true ≡ false = sym (interval_begins_segment s b none) ∙ k.0 in cc) ] in
+    let some : 1 ≤ b % r = grind (arith, common_steps, cases_lt, interval_begins_segment) in
     let up = ceil_step b r h some in
     omega arith
   where
@@ -76,8 +74,7 @@ padding_from s legal b position p xs h k =
     let sets = sets_from s b p xs in
     let sound = blocks_sound_after s b p xs legal j h (recursion_from_All (IsSample s) xs k) in
     let cover = covers_blocks s b false cs legal.interval_from (are_blocks s b cs sound) in
-    let n : length cs ≡ count = count_blocks s b p count (filled_samples s p xs) in
-    grind (arith, common_steps, bool_cases, laid_plain, length-flat_map, laid_bound, sets_begin, length-append, zero_block, length-replicate, inside_interval)
+    grind (arith, common_steps, count_blocks, common_steps, bool_cases, laid_plain, length-flat_map, laid_bound, sets_begin, length-append, zero_block, length-replicate, inside_interval)
 
 -- The code of samples has at most so many bits more than its coded data sets: seven for each interval begun, where intervals are padded.
 pub padding_is_bounded : (s : Parameters) → IsLegal s → (xs : List ℤ) → All (IsSample s) xs → length (code s xs) ≤ code_bits s xs + padding_bound s (length xs)

@@ -28,5 +28,4 @@ pairs_are_longer s c k n h some even =
     let first = h.first 0 some in
     let more : length (sent_residuals c) * 1 ≤ length (sent_residuals c) * k = mul-le-mul_left (length (sent_residuals c)) some in
     let pairs = pairs_long n c.residuals even in
-    let few = coded_few (λ d. d / 2 ^ 0) c.reference c.residuals in
-    omega (arith, first, more, pairs, few)
+    grind (arith, common_steps, coded_few)

@@ -1,26 +1,17 @@
 -- How the costs of the splits go from one to the next, and which option is chosen.
-use Rattle.std.proofs.Common.{◌≡◌, ℕ, zero, suc, ◌+◌, ◌-◌, ◌*◌, ◌/◌, ◌^◌, ◌<◌, ◌≤◌, Bool, true, false, cond, nat_lt, map, List, [], ◌∷◌, length, refl, ap, arith, sym, ◌∙◌, ◌⊎◌, inl, inr, subst}
+use Rattle.std.proofs.Common.{◌≡◌, ℕ, zero, suc, ◌+◌, ◌-◌, ◌*◌, ◌<◌, ◌≤◌, Bool, true, false, cond, nat_lt, map, List, [], ◌∷◌, length, refl, ap, arith, ◌∙◌, ◌⊎◌, inl, inr, subst}
 use Rattle.rice_code.proofs.Words.{All, OnSome, slice_index, Option, Some, None, best_of, range_with_len, AllByRecursion, All-from_recursion, cases_lt, nat_tests, sum_by-cons, zero-div, Parameters}
 use Rattle.rice_code.proofs.Words.{id_len, k_max, cut_sum, sum_halves, BlockData, NoCompression, SecondExtension, Split, cost, sent_residuals, sent_from, reference_len, shortest, other_options}
-use Rattle.rice_code.proofs.Words.{IsBestSplit, IsZeroAtReference, common_steps}
-use Rattle.rice_code.proofs.lemmas.meaning.CoveredBlocks.{bool_cases}
+use Rattle.rice_code.proofs.{Words.IsBestSplit, Words.IsZeroAtReference, Words.common_steps, lemmas.meaning.CoveredBlocks.bool_cases}
 
 -- What a split saves against the one before never rises.
 pub saving_never_rises : (s : Parameters) (c : BlockData) (k : ℕ) → 2 * cost s (Split (k + 1) c) ≤ cost s (Split k c) + cost s (Split (k + 2) c)
 saving_never_rises s c k = grind (arith, common_steps, sum_halves)
 
--- a sum never rises
-sum_falls : (ds : List ℕ) (k m : ℕ) → cut_sum ds (k + m) ≤ cut_sum ds k
-sum_falls ds k zero = let e : k + 0 ≡ k = omega arith in let f = ap (cut_sum ds) e in omega arith
-sum_falls ds k (suc m) =
-    let e : k + suc m ≡ k + m + 1 = omega arith in
-    let f = ap (cut_sum ds) e in
-    omega (arith, f, sum_falls ds k m, sum_halves ds (k + m))
-
 -- where the next is no shorter, none after it is
 pub no_later_is_shorter : (ds : List ℕ) (l k m : ℕ) → l * (k + 1) + cut_sum ds k ≤ l * (k + 1 + 1) + cut_sum ds (k + 1) → l * (k + 1) + cut_sum ds k ≤ l * (k + m + 1) + cut_sum ds (k + m)
 no_later_is_shorter ds l k zero h = let e : k + 0 ≡ k = omega arith in let f = ap (λ n. l * (n + 1) + cut_sum ds n) e in omega arith
-no_later_is_shorter ds l k (suc m) h = grind (arith, common_steps, sum_falls, sum_halves, no_later_is_shorter ds l k m h)
+no_later_is_shorter ds l k (suc m) h = grind (arith, common_steps, sum_halves, no_later_is_shorter ds l k m h)
 
 -- where a number is less than another, the test says so,
 pub nat_lt-true : (m n : ℕ) → m < n → nat_lt m n ≡ true
@@ -65,24 +56,8 @@ best_numbered {A} f g a from (suc n) k first_least =
             least = λ j p. first_least.least j (omega arith);
           }) in
           let less = first_least.before from (omega arith) lt in
-          elim (bool_cases (nat_lt (f (g from)) (f a))) [
-            | inl e ↦
-                let one : nat_lt (f (g k)) (f (g from)) ≡ true = yes (f (g k)) (f (g from)) less in
-                let two : nat_lt (f (g k)) (f a) ≡ true = yes (f (g k)) (f a) (let l = is (f (g from)) (f a) e in omega arith) in
-                step true e ∙ (ih (g from) ∙ (ap (λ v. cond v (g k) (g from)) one ∙ sym (ap (λ v. cond v (g k) a) two)))
-            | inr e ↦ step false e ∙ ih a
-          ]
-      | inr le ↦
-          let same : from ≡ k = omega arith in
-          elim (bool_cases (nat_lt (f (g from)) (f a))) [
-            | inl e ↦
-                step true e ∙ (first_is_kept f g (g from) (from + 1) n (λ j p q. subst (λ n. f (g n) ≤ f (g j)) (sym same) (first_least.least j (omega arith)))
-                ∙ (sym (ap (λ v. cond v (g from) a) e) ∙ ap (λ n. cond (nat_lt (f (g n)) (f a)) (g n) a) same))
-            | inr e ↦
-                let over : f a ≤ f (g from) = at_least (f (g from)) (f a) e in
-                step false e ∙ (first_is_kept f g a (from + 1) n (λ j p q. let l = subst (λ n. f (g n) ≤ f (g j)) (sym same) (first_least.least j (omega arith)) in omega arith)
-                ∙ (sym (ap (λ v. cond v (g from) a) e) ∙ ap (λ n. cond (nat_lt (f (g n)) (f a)) (g n) a) same))
-          ]
+          elim (bool_cases (nat_lt (f (g from)) (f a))) [ inl e ↦ grind (arith, common_steps, nat_lt) | inr e ↦ step false e ∙ ih a ]
+      | inr le ↦ grind (arith, common_steps, bool_cases, nat_lt, first_is_kept)
     ]
   where
     yes : (m n : ℕ) → m < n → nat_lt m n ≡ true
@@ -125,7 +100,6 @@ pub shortest_is : (s : Parameters) (c : BlockData) (k : ℕ) → IsBestSplit s c
     shortest s c ≡ (let first = cond (nat_lt (cost s (SecondExtension c)) (cost s (NoCompression c))) (SecondExtension c) (NoCompression c) in
     cond (nat_lt (cost s (Split k c)) (cost s first)) (Split k c) first)
 shortest_is s c k h =
-    let at = h.at_most in
     best_numbered (cost s) (λ k. Split k c) (cond (nat_lt (cost s (SecondExtension c)) (cost s (NoCompression c))) (SecondExtension c) (NoCompression c)) 0
     (k_max s + 1) k (record {
       above = omega arith;
@@ -174,14 +148,10 @@ sum_stop_is_best s c k at_reference le falls ends =
     no_shorter : (l base k x y : ℕ) → x ≤ y + l → base + l * (k + 1) + x ≤ base + l * (k + 1 + 1) + y
     no_shorter l base k x y h = omega arith
 
--- the one that is taken of two is no longer than either
-taken_is_no_longer : {A : Type 0} (f : A → ℕ) (a x : A) → (f (cond (nat_lt (f x) (f a)) x a) ≤ f a) × (f (cond (nat_lt (f x) (f a)) x a) ≤ f x)
-taken_is_no_longer {A} f a x = grind (arith, common_steps, nat_lt, nat_tests)
-
 -- the best of several is no longer than any of them
 best_is_least : {A : Type 0} (f : A → ℕ) (a : A) (xs : List A) → AllByRecursion (λ x. f (best_of (λ x y. nat_lt (f x) (f y)) a xs) ≤ f x) (a ∷ xs)
 best_is_least f a [] = (omega arith, tt)
-best_is_least f a (x ∷ xs) = grind (arith, common_steps, nat_lt, taken_is_no_longer, best_is_least f (cond (nat_lt (f x) (f a)) x a) xs)
+best_is_least f a (x ∷ xs) = grind (arith, common_steps, nat_lt, best_is_least f (cond (nat_lt (f x) (f a)) x a) xs)
 
 -- No option is shorter than the one that is chosen.
 pub choice_is_least : (s : Parameters) (c : BlockData) → All (λ d. cost s (shortest s c) ≤ cost s d) (NoCompression c ∷ other_options s c)

@@ -22,19 +22,14 @@ run_residuals s reference zeros = by_four (zeros == 4)
 -- a sound run was taken, and the samples of its first block are given
 pub run_given : {I : Type 0} {old new : Reader I} {first last : ℕ} {s : Parameters} {b : ℕ} {p : ℤ} (r : Option ℕ) (zeros z : ℕ) {samples : List ℤ} {items : List ℕ}
     → SetRead old new first last s b (Zeros r zeros) items → RunIsSound s b (run_with_zeros r zeros) → blocks_in s b (run_with_zeros r zeros) ≡ zero_blocks s r z
-    → length samples ≡ s.block → All (IsSample s) samples → block_data s b p samples ≡ zero_block s r
-    → TakesSet old new first last s b p samples (z - 1)
+    → length samples ≡ s.block → All (IsSample s) samples → block_data s b p samples ≡ zero_block s r → TakesSet old new first last s b p samples (z - 1)
 run_given {old} {new} {first} {last} {s} {b} r zeros z read run blocks len legal says = record {
   set = run_with_zeros r zeros;
   form = subst (λ x. IsForm s b x) read.tells read.form;
   run_sound = run;
   residuals_sound = run_residuals s r zeros;
   takes = subst (λ x. Takes old new (bits_of_set s x)) read.tells read.takes;
-  gives = record {
-    len = len;
-    legal = legal;
-    blocks_are = ap (λ c. c ∷ replicate (z - 1) (zero_block s None)) says ∙ sym blocks;
-  };
+  gives = grind (arith, common_steps, zero_block);
   steps = subst (λ x. last + old.taken ≡ first + new.taken + turns x) read.tells read.steps;
 }
 
@@ -66,10 +61,7 @@ run_goes_on s b run legal h pos le = by_begin (begins_segment s (b + 1)) refl
     by_begin false e =
         let less = one_less_left s b legal.interval_from e in
         let at : place s b ≡ b = mod-eq_of_lt h in
-        let inside : b + 1 < s.interval = elim (next_place s b legal.interval_from) [
-          | inl q ↦ omega (arith, q.1, at)
-          | inr q ↦ absurd (not_first (place s (b + 1)) q.0 e)
-        ] in
+        let inside : b + 1 < s.interval = grind (arith, common_steps, next_place, not_first) in
         let same : next_block_place s b ≡ b + 1 = grind (arith, nat_tests) in
         (ap (λ n. begins_segment s n) same ∙ e, rw same (omega arith))
 
@@ -85,10 +77,6 @@ place_moves {s} {b} run last stopped legal h e sample more no_block = record {
   no_block = no_block;
 }
 
-replicate-first : (run : ℕ) (z : BlockData) → 0 < run → z ∷ replicate (run - 1) z ≡ replicate run z
-replicate-first zero z h = absurd (omega arith)
-replicate-first (suc run) z h = let e : suc run - 1 ≡ run = omega arith in ap (λ n. z ∷ replicate n z) e
-
 -- the samples of a block of zeros
 pub record ZeroBlock (s : Parameters) (b : ℕ) (p : ℤ) (samples : List ℤ) : Type 0 where
   pub len : length samples ≡ s.block
@@ -97,15 +85,13 @@ pub record ZeroBlock (s : Parameters) (b : ℕ) (p : ℤ) (samples : List ℤ) :
 
 -- a block of zeros is given from a run: the place moves on, and one block fewer is to come
 pub goes_on : (s : Parameters) (b : ℕ) {next run : ℕ} (p : ℤ) {last : ℤ} (stopped : Option (Result Step CodeFault)) {samples : List ℤ} → 0 < run → next ≡ next_block_place s b
-    → last ≡ last_of p samples
-    → ZeroBlock s b p samples
+    → last ≡ last_of p samples → ZeroBlock s b p samples
     → GivesFromRun (record { setting = s; block = b; before = p; run = run; stopped = stopped }) (record { setting = s; block = next; before = last; run = run - 1; stopped = stopped }) samples
-goes_on s b {run} p stopped pos e f zeros = grind (arith, common_steps, zero_block, replicate-first)
+goes_on s b {run} p stopped pos e f zeros = grind (arith, common_steps, zero_block)
 
 -- a block of a run repeats the sample before it
 pub repeats_on : {s : Parameters} {b : ℕ} (next : ℕ) {run : ℕ} {p : ℤ} {stopped : Option (Result Step CodeFault)} → IsDecoderState s b p run stopped → 0 < run
-    → s.preprocess ≡ true → next ≡ next_block_place s b
-    → GivesFromRun (record { setting = s; block = b; before = p; run = run; stopped = stopped })
+    → s.preprocess ≡ true → next ≡ next_block_place s b → GivesFromRun (record { setting = s; block = b; before = p; run = run; stopped = stopped })
     (record { setting = s; block = next; before = p; run = run - 1; stopped = stopped }) (replicate s.block p)
 repeats_on {s} {b} next {run} {p} {stopped} state pos ways e = grind (arith, common_steps, goes_on, last_replicate, length-replicate, All-replicate, repeated_block, no_reference)
 
@@ -134,7 +120,6 @@ passes_blocks (suc n) {s} {b} {next} {run} {p} {stopped} state few ways e =
     let first = repeats_on middle state some ways refl in
     let on : next ≡ place_after s middle n = e ∙ place_on s b n state.within (inside_interval s b (suc n) run p stopped state few) in
     let rest = passes_blocks n there (omega (arith, few)) ways on in
-    let left : run - 1 - n ≡ run - suc n = omega (arith, few) in
     grind (arith, common_steps)
 
 block_limit : (s : Parameters) → IsLegal s → s.block ≤ 64
@@ -165,12 +150,7 @@ pub samples_by_bits : {I : Type 0} {old new : Reader I} {first last : ℕ} {s : 
     → IsLegal s → TakesSet old new first last s b p samples run → length samples + run * s.block ≤ 456 * (new.taken - old.taken)
 samples_by_bits {old} {new} {s} {b} {run} legal given =
     let n : suc (length (replicate run (zero_block s None))) ≡ length (blocks_in s b given.set) = ap length given.gives.blocks_are in
-    let m : length (replicate run (zero_block s None)) ≡ run = length-replicate run (zero_block s None) in
-    let t : new.taken - old.taken ≡ length (bits_of_set s given.set) = omega (arith, given.takes.taken) in
-    let few : length (blocks_in s b given.set) * s.block ≤ 456 * length (bits_of_set s given.set) = few_samples (length (blocks_in s b given.set)) s.block
-    (length (bits_of_set s given.set)) (block_limit s legal) (few_blocks s b given.set legal given.form given.run_sound) in
-    let k : (1 + run) * s.block ≡ length (blocks_in s b given.set) * s.block = ap (λ j. j * s.block) (omega arith) in
-    omega (arith, given.gives.len)
+    grind (arith, common_steps, zero_block, length-replicate, common_steps, few_samples, block_limit, few_blocks)
 
 cut_at_end : {I : Type 0} (old new : Reader I) (first last : ℕ) (s : Parameters) (b : ℕ) (blank : Bool) → old.blank ≡ true
     → SetCut old new first last s b (bit_faults.End blank) → SetEnds old new first last s b blank

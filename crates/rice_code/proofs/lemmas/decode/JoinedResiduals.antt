@@ -21,10 +21,7 @@ joined_highs k most ms ls same lows highs = grind (arith, common_steps, length-j
 pub below_by_high : (bits k d : ℕ) → k ≤ bits → d / 2 ^ k ≤ (2 ^ bits - 1) / 2 ^ k → d < 2 ^ bits
 below_by_high bits k d h le =
     let n : bits - k + k ≡ bits = omega (arith, h) in
-    let whole : 2 ^ (bits - k) * 2 ^ k ≡ 2 ^ bits = sym (pow-add 2 (bits - k) k) ∙ ap (λ m. 2 ^ m) n in
-    let small : (2 ^ bits - 1) / 2 ^ k < 2 ^ (bits - k) = (div-lt_iff_lt-mul {k = 2 ^ k} {x = 2 ^ bits - 1} {y = 2 ^ (bits - k)} (pow_pos k)).1 (omega (arith, whole, pow_pos bits)) in
-    let below : d < 2 ^ (bits - k) * 2 ^ k = (div-lt_iff_lt-mul {k = 2 ^ k} {x = d} {y = 2 ^ (bits - k)} (pow_pos k)).0 (omega (arith, le, small)) in
-    omega (arith, whole, below)
+    grind (arith, common_steps, pow-add, div-lt_iff_lt-mul, pow_pos)
 
 -- the pieces of joined parts
 pub high_pieces : (k : ℕ) (ms ls : List ℕ) → length ls ≡ length ms → All (λ l. l < 2 ^ k) ls →
@@ -68,8 +65,7 @@ pub record AsManyParts (ms old now : List ℕ) (i : ℕ) : Type 0 where
 
 -- high parts are put before low parts, one more
 pub join-more : {k : ℕ} (ms old now : List ℕ) {i : ℕ} → AsManyParts ms old now i → k ≤ 29 → All (λ h. h ≤ (2 ^ 32 - 1) / 2 ^ k) ms → All (λ l. l < 2 ^ k) old
-    → take i now ≡ take i (joined_parts k ms old) → drop i now ≡ drop i old
-    → (get_or now i 0 + get_or ms i 0 * 2 ^ k % 2 ^ 32 < 2 ^ 32)
+    → take i now ≡ take i (joined_parts k ms old) → drop i now ≡ drop i old → (get_or now i 0 + get_or ms i 0 * 2 ^ k % 2 ^ 32 < 2 ^ 32)
     × (take (i + 1) (set now i (get_or now i 0 + get_or ms i 0 * 2 ^ k % 2 ^ 32)) ≡ take (i + 1) (joined_parts k ms old))
     × (drop (i + 1) (set now i (get_or now i 0 + get_or ms i 0 * 2 ^ k % 2 ^ 32)) ≡ drop (i + 1) old)
     × (get_or now i 0 + get_or ms i 0 * 2 ^ k % 2 ^ 32 ≡ get_or (joined_parts k ms old) i 0)
@@ -79,10 +75,9 @@ join-more {k} ms old now {i} lens few highs lows done rest =
     let low : get_or old i 0 < 2 ^ k = lows i 0 (omega (arith, lens.old_are, lens.inside)) in
     let here : get_or now i 0 ≡ get_or old i 0 = at_rest now old i rest in
     let fits : get_or ms i 0 * 2 ^ k + get_or old i 0 < 2 ^ 32 = part_fits (get_or ms i 0) (get_or old i 0) k few high low in
-    let whole : get_or ms i 0 * 2 ^ k % 2 ^ 32 ≡ get_or ms i 0 * 2 ^ k = mod-eq_of_lt (omega (arith, fits)) in
     let n : length (joined_parts k ms old) ≡ length ms = length-joined k ms old lens.old_are in
-    let value : v ≡ get_or (joined_parts k ms old) i 0 = omega (arith, here, whole, joined-at k ms old i lens.inside lens.old_are) in (
-      omega (arith, here, whole, fits),
+    let value : v ≡ get_or (joined_parts k ms old) i 0 = omega (arith, here, joined-at k ms old i lens.inside lens.old_are) in (
+      omega (arith, here, fits),
       take_more_set now i v (omega (arith, lens.now_are, lens.old_are, lens.inside)) ∙ ((λ j. done j ++ value j ∷ []) ∙ sym (take_more (joined_parts k ms old) i 0 (omega (arith, n, lens.inside)))),
       drop-set-lt (i + 1) now i v (omega arith) ∙ (drop_next now i ∙ (ap (λ zs. drop 1 zs) rest ∙ sym (drop_next old i))),
       value,

@@ -1,16 +1,15 @@
 -- What is read of a block after its identifier.
-use Rattle.std.proofs.lemmas.Grind.{common_steps}
-use Rattle.std.proofs.Common.{◌≡◌, ℕ, zero, suc, ◌+◌, ◌-◌, ◌*◌, ◌/◌, ◌^◌, ◌<◌, ◌≤◌, Bool, true, false, List, [], ◌∷◌, ◌++◌}
-use Rattle.std.proofs.Common.{length, refl, sym, ◌∙◌, ap, subst, arith, append_assoc, length-append, replicate, take, drop, length-drop, Option, Some, None}
+use Rattle.std.proofs.Common.{◌≡◌, ℕ, suc, ◌+◌, ◌-◌, ◌*◌, ◌/◌, ◌^◌, ◌<◌, ◌≤◌, Bool, true, false, List, [], ◌∷◌, ◌++◌, length, refl, sym, ◌∙◌, ap, subst, arith, append_assoc, length-append, replicate}
+use Rattle.std.proofs.{Common.take, Common.drop, Common.length-drop, Common.Option, Common.Some, Common.None, lemmas.Grind.common_steps}
 use Rattle.rice_code.proofs.Words.{All, flat_map, is_some, slice_index, OnSome, append-nil, length-replicate, length-take-le, take-append-drop, All-replicate, Reader, Takes, Stops, BitFault}
 use Rattle.rice_code.proofs.Words.{sequence_reads, takes-append, stops-append, length-word, Parameters, IsBlockSize, IsLegal, value_count, k_max, is_reference, pair_codes, joined_parts, count_pairs}
 use Rattle.rice_code.proofs.Words.{length-words, length-joined, pow_pos, word, fundamental_sequence, BlockData, CodedDataSet, NoCompression, SecondExtension, Split, sent_residuals, sent_from}
 use Rattle.rice_code.proofs.Words.{reference_bits, run_tail, IsForm, IsReference, IsBlock, Row, CountRow, WordRow, PairRow, ones, BlockRead, BlockCut, PartsRead, PartsCut, reference_place, set_tail}
-pub use Rattle.rice_bits.proofs.lemmas.bits.JoinedBits.{up_to_end}
 use Rattle.rice_code.proofs.lemmas.decode.RowsOfFields.{put_rest, ones-append, ones-zeros, ones-sequence, ones-sequences}
 use Rattle.rice_code.proofs.lemmas.decode.JoinedResiduals.{high_pieces, low_pieces, highs_small, joined_highs}
-use borrow.Rule.Slice.PartMut.{put_mid}
 use Rattle.rice_code.proofs.lemmas.{code.FormsReadInOneWay.after_reference, encode.OptionTexts.no_digits}
+pub use Rattle.rice_bits.proofs.lemmas.bits.JoinedBits.{up_to_end}
+use borrow.Rule.Slice.PartMut.{put_mid}
 
 -- residuals put after the place of the reference sample are those that are sent
 pub coded-placed : (r : Option ℕ) (vs : List ℕ) → sent_from r (reference_place r ++ vs) ≡ vs
@@ -148,8 +147,7 @@ pub record IsSplitOf (s : Parameters) (b k : ℕ) (r : Option ℕ) (count : ℕ)
 
 -- a split was read, sound or not: its reference, and then the parts whose joined residuals are those of the block
 pub split_read : {I : Type 0} {old mid new : Reader I} {first last : ℕ} {s : Parameters} {b k : ℕ} {r : Option ℕ} {count most : ℕ} {small : Bool} {reported items : List ℕ} (sound : Bool)
-    → IsSplitOf s b k r count → Takes old mid (reference_bits s r)
-    → (p : PartsRead mid new most k small count reported) → last + old.taken ≡ first + new.taken
+    → IsSplitOf s b k r count → Takes old mid (reference_bits s r) → (p : PartsRead mid new most k small count reported) → last + old.taken ≡ first + new.taken
     → (sound ≡ true → All (λ d. d < value_count s) (joined_parts k p.highs p.lows)) → (sound ≡ true → items ≡ reference_place r ++ joined_parts k p.highs p.lows)
     → (sound ≡ false → All (λ d. d < value_count s) (joined_parts k p.highs p.lows) → ⊥)
     → BlockRead old new first last s b (Split k) (record { reference = r; sound = sound }) items
@@ -258,10 +256,7 @@ pub parts_cut_low : {I : Type 0} {old mid new : Reader I} {most : ℕ} (k : ℕ)
 parts_cut_low {old} {mid} {new} k {count} {bits} {f} high short stops = record {
   bits = flat_map fundamental_sequence high.values ++ bits;
   stops = stops-append old mid new _ bits f high.takes stops;
-  none = λ ds more n e.
-      (let low = after_sequences k high.values ds bits (flat_map (word k) ds ++ more) (high.len ∙ sym n)
-      (e ∙ append_assoc (flat_map (λ d. fundamental_sequence (d / 2 ^ k)) ds) (flat_map (word k) ds) more) in
-      short_words k count ds bits more n short low);
+  none = grind (arith, common_steps, after_sequences, append_assoc, short_words);
 }
 
 -- a split is cut off among its high and low parts
@@ -271,9 +266,7 @@ pub split_cut : {I : Type 0} {old mid new : Reader I} {s : Parameters} {b k : �
 split_cut {old} {mid} {new} {s} {b} {k} {r} {count} {f} h n t cut = record {
   bits = reference_bits s r ++ cut.bits;
   stops = stops-append old mid new _ cut.bits f t cut.stops;
-  none = λ c more form e.
-      (let a = bits_after_reference cut.bits (flat_map (λ d. fundamental_sequence (d / 2 ^ k)) (sent_residuals c) ++ flat_map (word k) (sent_residuals c)) more h form.0.reference e in
-      cut.none (sent_residuals c) more (length-coded_at s b c r count form.0 h n) a.1);
+  none = grind (arith, common_steps, bits_after_reference, length-coded_at);
 }
 
 -- a block is two halves

@@ -1,15 +1,9 @@
 -- Samples of a block, restored.
-use Rattle.std.proofs.lemmas.Grind.{common_steps}
-use Rattle.std.proofs.Common.{◌≡◌, ℕ, suc, ◌+◌, ◌*◌, ◌/◌, ◌%◌, ◌<◌, ◌==◌, Bool, true, false, cond, List, [], ◌∷◌, length, map}
-use Rattle.std.proofs.Common.{drop, refl, sym, ◌∙◌, ap, arith, Option, Some, None, ℤ, zero, subst, ◌≤◌, inl, inr, replicate}
+use Rattle.std.proofs.Common.{◌≡◌, ℕ, suc, ◌+◌, ◌*◌, ◌<◌, ◌==◌, Bool, true, false, cond, List, [], ◌∷◌, length, map, drop, refl, sym, ◌∙◌, ap, arith, Option, Some, None, ℤ, zero, subst, ◌≤◌, inl, inr}
+use Rattle.std.proofs.{lemmas.Grind.common_steps, Common.replicate}
 use Rattle.rice_code.proofs.Words.{All, IfSome, IfNone, OnSome, is_some, slice_index, slice_index_or, ◌&&◌, div-mul-add, mul_comm, mod-mul-add, eqb-suc-zero, Parameters, IsSample, level, value_count}
-use Rattle.rice_code.proofs.Words.{same_level, rank_injective, is_reference, is_reference_sample, place, residual, residuals, rank, ranks, pattern, block_data, zero_block, IsReference, residual_at}
-use Rattle.rice_code.proofs.lemmas.meaning.CoveredBlocks.{bool_cases}
-use Rattle.rice_code.proofs.lemmas.code.RepeatedSamples.{Repeats, repeated_all, same_rank}
-
--- of a block's samples only the first is a reference, if the block has one
-pub reference_within : (s : Parameters) (b j : ℕ) → j < s.block → is_reference_sample s (s.block * b + j) ≡ (is_reference s b && j == 0)
-reference_within s b j h = grind (arith, common_steps, mul_comm, div-mul-add, mod-mul-add)
+use Rattle.rice_code.proofs.Words.{same_level, rank_injective, is_reference_sample, residual, residuals, rank, ranks, pattern, block_data, zero_block, IsReference, residual_at}
+use Rattle.rice_code.proofs.lemmas.{code.RepeatedSamples.Repeats, code.RepeatedSamples.repeated_all, code.RepeatedSamples.same_rank, meaning.CoveredBlocks.bool_cases}
 
 and-swap : (a b : Bool) → (a && b) ≡ (b && a)
 and-swap true true = refl
@@ -19,7 +13,7 @@ and-swap false false = refl
 
 -- so a residual inside a block follows from whether it is the first, and whether the block has a reference
 pub residual_within : (s : Parameters) (b j : ℕ) (r : Option ℕ) (p x : ℤ) → j < s.block → IsReference s b r → residual s (s.block * b + j) p x ≡ residual_at s r (j == 0) p x
-residual_within s b j r p x h k = grind (arith, common_steps, reference_within, and-swap)
+residual_within s b j r p x h k = grind (arith, common_steps, mul_comm, div-mul-add, mod-mul-add, and-swap)
 
 -- the residuals of samples that no reference is among
 ranks_within : {s : Parameters} {b : ℕ} (j : ℕ) {r : Option ℕ} (p : ℤ) (xs : List ℤ) → IsReference s b r → s.preprocess ≡ true → ((j == 0) && is_some r) ≡ false
@@ -89,10 +83,7 @@ zeros_restored s b p x r h j res ref = contents_are s b p r (replicate s.block 0
     first (suc n) h = refl
 
     repeats : Repeats s x
-    repeats = elim (bool_cases s.preprocess) [
-      | inl e ↦ inl e
-      | inr e ↦ inr (sym (ap (λ v. cond v (cond (is_some r) 0 (rank s p x)) (pattern s x)) e) ∙ res)
-    ]
+    repeats = elim (bool_cases s.preprocess) [ inl e ↦ inl e | inr e ↦ inr (sym (ap (λ v. cond v (cond (is_some r) 0 (rank s p x)) (pattern s x)) e) ∙ res) ]
 
     here : s.block * b ≡ s.block * b + 0
     here = omega arith
@@ -128,8 +119,7 @@ pub record SamplesRestored (s : Parameters) (x : ℤ) (ds : List ℕ) (xs : List
 
 -- samples restored from all residuals of a block, after its reference sample or the sample before it
 pub contents_restored : {s : Parameters} {b : ℕ} (p x : ℤ) {r : Option ℕ} {ds : List ℕ} (xs : List ℤ) → IsReference s b r → s.preprocess ≡ true
-    → ResidualsOfBlock s r ds
-    → FirstSample s p x r → SamplesRestored s x ds xs → block_data s b p xs ≡ record { reference = r; residuals = ds }
+    → ResidualsOfBlock s r ds → FirstSample s p x r → SamplesRestored s x ds xs → block_data s b p xs ≡ record { reference = r; residuals = ds }
 contents_restored {s} {b} p x {r = None} {ds} xs h pre of_block begins restored = contents_of_ranks s b p ds xs h pre restored.len (ap (λ q. ranks s q xs) (sym begins.none) ∙ restored.ranks)
 contents_restored p x {r = Some v} [] h pre of_block begins restored = absurd (omega arith)
 contents_restored p x {r = Some v} {ds = []} (y ∷ ys) h pre of_block begins restored = absurd (omega arith)

@@ -8,15 +8,8 @@ use borrow.Rule.Slice.PartMut.{put_mid}
 use Rattle.rice_code.proofs.lemmas.meaning.CoveredBlocks.{and-split}
 
 -- no pieces: the reader stays as it is, and no number is appended
-pub row-none : {I : Type 0} (f : ℕ → List Bool) (P : ℕ → Type 0) (r : Reader I) (before : List ℕ)
-    → r.refusal ≡ None → Row f P r r 0 before before
-row-none f P r before h = record {
-  values = [];
-  len = refl;
-  each = λ i d lt. absurd (omega arith);
-  appended = sym (append-nil before);
-  takes = takes-none r h;
-}
+pub row-none : {I : Type 0} (f : ℕ → List Bool) (P : ℕ → Type 0) (r : Reader I) (before : List ℕ) → r.refusal ≡ None → Row f P r r 0 before before
+row-none f P r before h = record { values = []; len = refl; each = λ i d lt. absurd (omega arith); appended = sym (append-nil before); takes = takes-none r h }
 
 all_front : (P : ℕ → Type 0) (xs ys : List ℕ) → All P (xs ++ ys) → All P xs
 all_front P xs ys h = λ i d lt. subst P (get_or_append_left xs ys d i lt) (h i d (omega (arith, length-append xs ys, lt)))
@@ -38,17 +31,13 @@ row_of_counts-none r most reported e h = record {
 -- one more is given, where it is at most `most`
 pub row_of_counts-more : {I : Type 0} {old mid new : Reader I} {most done : ℕ} {small : Bool} (fits : Bool) (m v : ℕ) (counts : List ℕ) → done < length counts
     → CountRow old mid most small done (take done counts) → Takes mid new (fundamental_sequence m)
-    → (fits ≡ true → (v ≡ m) × (m ≤ most)) → (fits ≡ false → most < m)
-    → CountRow old new most (small && fits) (done + 1) (take (done + 1) (set counts done v))
+    → (fits ≡ true → (v ≡ m) × (m ≤ most)) → (fits ≡ false → most < m) → CountRow old new most (small && fits) (done + 1) (take (done + 1) (set counts done v))
 row_of_counts-more {old} {mid} {new} {most} {done} {small} fits m v counts lt r t good bad =
     let P : ℕ → Type 0 = λ x. x ≤ most in
     record {
       values = r.values ++ m ∷ [];
       len = omega (arith, length-append r.values (m ∷ []), r.len);
-      reported_are = λ e. (let b = and-split small fits e in (
-        take_more_set counts done v lt ∙ (λ i. (r.reported_are b.0).0 i ++ (good b.1).0 i ∷ []),
-        All-append P r.values (m ∷ []) (r.reported_are b.0).1 (λ i d below. subst P (sym (get_or_head m [] i d (omega arith))) (good b.1).1),
-      ));
+      reported_are = grind (arith, common_steps, and-split, take_more_set, All-append, get_or_head);
       refused = not_reported small fits (λ f h. r.refused f (all_front P r.values (m ∷ []) h)) (λ f h. omega (arith, bad f, all_back P r.values (m ∷ []) h 0 0 (omega arith)));
       takes = rw (flat_map-push fundamental_sequence r.values m) (takes-append old mid new _ _ r.takes t);
     }
@@ -146,8 +135,7 @@ pub sum-push2 : (xs : List ℕ) (a b : ℕ) → sum ((xs ++ a ∷ []) ++ b ∷ [
 sum-push2 xs a b = omega (arith, sum_by-append (λ (x : ℕ). x) (xs ++ a ∷ []) (b ∷ []), sum_by-append (λ (x : ℕ). x) xs (a ∷ []))
 
 -- no pairs: the reader stays as it is, and no step is made
-pub pairs-none : {I : Type 0} (r : Reader I) (steps : ℕ)
-    → r.refusal ≡ None → PairRow r r 0 [] steps steps
+pub pairs-none : {I : Type 0} (r : Reader I) (steps : ℕ) → r.refusal ≡ None → PairRow r r 0 [] steps steps
 pairs-none r steps h = grind (arith, common_steps, takes-none)
 
 -- a pair of numbers, by its code
@@ -158,8 +146,7 @@ pub record IsPairOf (g a b : ℕ) : Type 0 where
 -- one pair more after others: a step for each bit of its codeword, and as many turns as its numbers add up to
 pub pairs-more : {I : Type 0} {old mid new : Reader I} {count : ℕ} {front after : List ℕ} {g : ℕ} (a b : ℕ) {first second : ℕ} (third : ℕ) {fourth : ℕ}
     → PairRow old mid count front first second → Takes mid new (fundamental_sequence g) → IsPairOf g a b
-    → third + mid.taken ≡ second + new.taken → fourth ≡ third + (a + b) → after ≡ (front ++ a ∷ []) ++ b ∷ []
-    → PairRow old new (count + 1) after first fourth
+    → third + mid.taken ≡ second + new.taken → fourth ≡ third + (a + b) → after ≡ (front ++ a ∷ []) ++ b ∷ [] → PairRow old new (count + 1) after first fourth
 pairs-more {old} {mid} {new} {count} {front} {g} a b {first} third {fourth} r t pair steps turns is =
     subst (λ xs. PairRow old new (count + 1) xs first fourth) (sym is)
     (let codes : flat_map fundamental_sequence (pair_codes ((front ++ a ∷ []) ++ b ∷ [])) ≡ flat_map fundamental_sequence (pair_codes front) ++ fundamental_sequence g =

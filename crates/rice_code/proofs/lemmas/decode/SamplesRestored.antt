@@ -35,11 +35,9 @@ pub restored-more : {s : Parameters} {b : ℕ} {p : ℤ} {r : Option ℕ} {ds : 
     → IsRestored s b p r ds (i + 1) (samples ++ x ∷ []) x
 restored-more {s} {b} {p} {r} {ds} {i} {samples} last x h k lt n sample res first =
     let at : s.block * b + length samples ≡ s.block * b + i = omega (arith, h.len) in
-    let here : residual s (s.block * b + length samples) (last_of p samples) x ≡ get_or ds i 0 =
-    ap (λ j. residual s j (last_of p samples) x) at ∙ (ap (λ l. residual s (s.block * b + i) l x) (sym h.last_is) ∙ (residual_within s b i r last x (omega arith) k ∙ res)) in
+    let here : residual s (s.block * b + length samples) (last_of p samples) x ≡ get_or ds i 0 = grind (arith, common_steps, residual_within) in
     record {
-      same = residuals-push s (s.block * b) p samples x
-          ∙ (ap (λ z. z ++ residual s (s.block * b + length samples) (last_of p samples) x ∷ []) h.same ∙ (ap (λ d. take i ds ++ d ∷ []) here ∙ sym (take_more ds i 0 lt)));
+      same = grind (arith, common_steps, residuals-push, take_more);
       len = omega (arith, length-append samples (x ∷ []), h.len);
       legal = All-push (IsSample s) samples x h.legal sample;
       last_is = sym (last_of-push p samples x);

@@ -97,15 +97,7 @@ no_compression_set {old} {mid} {new} head e t steps read = record {
   set = NoCompression read.contents;
   form = read.form;
   takes = rw (← e) (takes-append old mid new _ _ t read.takes);
-  tells = record {
-    contents = read.contents;
-    blocks = refl;
-    block = read.form.0;
-    reference_is = read.reference_is;
-    run = tt;
-    reported = λ h. (let q = read.reported h in (q.0, read.form.1, q.1, q.2));
-    refused = read.refused;
-  };
+  tells = grind (arith, common_steps);
   steps = omega (arith, read.steps);
 }
 
@@ -117,15 +109,7 @@ split_set {old} {mid} {new} id k head e t steps read = record {
   set = Split k read.contents;
   form = read.form;
   takes = rw (← e) (takes-append old mid new _ _ t read.takes);
-  tells = record {
-    contents = read.contents;
-    blocks = refl;
-    block = read.form.0;
-    reference_is = read.reference_is;
-    run = tt;
-    reported = λ h. (let q = read.reported h in (q.0, read.form.1, q.1, q.2));
-    refused = read.refused;
-  };
+  tells = grind (arith, common_steps);
   steps = omega (arith, read.steps);
 }
 
@@ -213,15 +197,7 @@ second_low {old} {mid} {new} {v} head lt pos t steps read = record {
   low = tt;
   form = read.form;
   takes = takes-append old mid new (true ∷ []) _ (rw (one_bit v lt pos) at t) read.takes;
-  tells = record {
-    contents = read.contents;
-    blocks = refl;
-    block = read.form;
-    reference_is = read.reference_is;
-    run = tt;
-    reported = λ h. (let q = read.reported h in (q.0, q.0.0, q.1, q.2));
-    refused = read.refused;
-  };
+  tells = grind (arith, common_steps);
   steps = omega (arith, read.steps);
 }
 
@@ -256,9 +232,6 @@ run_low {old} {mid} {new} {first} second {last} {s} {b} {r} zeros {items} t step
       steps = omega arith;
     }
 
-short_id : (s : Parameters) → id_len s ≤ 5
-short_id s = grind (arith, nat_tests)
-
 -- the identifier of ones
 pub ones_id : (s : Parameters) → (1 * 2 ^ id_len s) % 2 ^ 32 - 1 ≡ 2 ^ id_len s - 1
-ones_id s = grind (arith, common_steps, short_id, pow_mono, mod-eq_of_lt)
+ones_id s = grind (arith, common_steps, pow_mono, mod-eq_of_lt)

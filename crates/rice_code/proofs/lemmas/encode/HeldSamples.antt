@@ -101,8 +101,7 @@ held_are s b p (suc n) xs h j k e =
     let rlen : length (residuals s (s.block * b) p front) ≡ s.block = length-residuals s (s.block * b) p front ∙ flen in
     let t : take s.block (residuals s (s.block * b) p xs) ≡ residuals s (s.block * b) p front = ap (take s.block) all ∙ take_at (residuals s (s.block * b) p front) _ s.block rlen in
     let at : s.block * b + length front ≡ s.block * (b + 1) = omega arith in
-    let d : drop s.block (residuals s (s.block * b) p xs) ≡ residuals s (s.block * (b + 1)) q back = ap (drop s.block) all
-    ∙ (drop_at (residuals s (s.block * b) p front) _ s.block rlen ∙ ap (λ i. residuals s i q back) at) in
+    let d : drop s.block (residuals s (s.block * b) p xs) ≡ residuals s (s.block * (b + 1)) q back = grind (arith, common_steps, drop_at) in
     let ref : cond (is_reference s b) (Some (pattern s (slice_index_or front 0 p))) None ≡ reference_in s b xs = same_reference xs front flen refl in
     let rest : blocks_from s (b + 1) q n back ≡ held_blocks s None n (residuals s (s.block * (b + 1)) q back) = after n back
     (residuals s (s.block * (b + 1)) q back) (blocks_from s (b + 1) q n back) k (no_blocks s (b + 1) q n back)
@@ -134,16 +133,12 @@ the_reference coder b (y ∷ ys) p x e f g = grind (arith, common_steps, and-fal
 
 -- one sample more is held
 pub one_more : (coder : CoderState) (b : ℕ) (coded held : List ℤ) (x : ℤ) → HasCodedBefore coder b coded held
-    → length held < coder.setting.block * blocks_left coder.setting b → IsSample coder.setting x →
-    HasCodedBefore (state_after coder x) b coded (held ++ x ∷ [])
+    → length held < coder.setting.block * blocks_left coder.setting b → IsSample coder.setting x → HasCodedBefore (state_after coder x) b coded (held ++ x ∷ [])
 one_more coder b coded held x h k legal =
     let s = coder.setting in
     let j : 1 ≤ s.block = grind (arith, h.legal.block) in
     let more = append_assoc coded held (x ∷ []) in
-    let p = last_of (pos 0) coded in
-    let len = ap length h.residuals ∙ length-residuals s (s.block * b) p held in
-    let before : last_of p held ≡ coder.previous = sym (h.previous ∙ last_append (pos 0) coded held) in
-    grind (arith, common_steps, all_more, length-append, last_append, residuals_append, the_residual, the_reference)
+    grind (arith, common_steps, length-residuals, common_steps, all_more, length-append, last_append, residuals_append, the_residual, the_reference)
 
 -- a repeated sample fills a block
 push_last : {X : Type 0} (n : ℕ) (x : X) (xs : List X) → xs ++ replicate (suc n) x ≡ (xs ++ x ∷ []) ++ replicate n x
@@ -158,21 +153,13 @@ holds_fill coder b coded held (suc n) h legal f k =
     let x = coder.previous in
     let first = f (omega arith) in
     let more = one_more coder b coded held x h (omega arith) legal in
-    let ref : next_reference coder x ≡ coder.reference = ap
-    (λ v. cond (coder.setting.preprocess && (v && coder.start == 0)) (Some (pattern coder.setting x)) coder.reference) first
-    ∙ ap (λ v. cond v (Some (pattern coder.setting x)) coder.reference) (and-false coder.setting.preprocess) in
+    let ref : next_reference coder x ≡ coder.reference = grind (arith, common_steps, and-false) in
     let later = not_first coder.residuals (next_residual coder x) in
     let same : next_residual (state_after coder x) x ≡ next_residual coder x = ap
     (λ v. cond coder.setting.preprocess (cond (v && coder.start == 0) 0 (rank coder.setting x x)) (pattern coder.setting x)) (later ∙ sym first) in
     let ih = holds_fill (state_after coder x) b coded (held ++ x ∷ []) n more legal (λ p. later) (omega (arith, length-append held (x ∷ []), k)) in
     let d = next_residual coder x in
-    let state : state_with_fill (state_after coder x) n ≡ state_with_fill coder (suc n) = λ i. record {
-      setting = coder.setting;
-      residuals = (ap (λ v. (coder.residuals ++ d ∷ []) ++ replicate n v) same ∙ sym (push_last n d coder.residuals)) i;
-      reference = ref i;
-      previous = x;
-      start = coder.start;
-    } in
+    let state : state_with_fill (state_after coder x) n ≡ state_with_fill coder (suc n) = grind (arith, common_steps, push_last) in
     subst (λ v. HasCodedBefore v b coded (held ++ replicate (suc n) x)) state (subst (HasCodedBefore (state_with_fill (state_after coder x) n) b coded) (sym (push_last n x held)) ih)
   where
     not_first : (ds : List ℕ) (d : ℕ) → is_empty (ds ++ d ∷ []) ≡ false

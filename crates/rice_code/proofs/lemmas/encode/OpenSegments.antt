@@ -27,7 +27,6 @@ segment_meter n bound looks m len h e f = grind (arith, common_steps, mul-le-mul
 -- the fill stays in the segment
 pub fill_inside : (n j left : ℕ) → 1 ≤ j → n < j * left → n + (j - n % j) % j ≤ j * left
 fill_inside n j left h k =
-    let d = div-add-mod n j in
     let r = mod-lt n h in
     grind (arith, common_steps, cases_lt, mul-le-mul_left, mod-eq_of_lt, mod_self)
 

@@ -1,14 +1,12 @@
 -- The texts of blocks, piece by piece. `split_is_joined` says what joins the parts of a split block.
-use Rattle.std.proofs.Common.{◌≡◌, ℕ, zero, suc, ◌+◌, ◌-◌, ◌*◌, ◌/◌, ◌^◌, ◌<◌, Bool, true, false, cond}
-use Rattle.std.proofs.Common.{◌&&◌, nat_le, List, [], ◌∷◌, ◌++◌, length, drop, get_or, refl, ap, arith, sym, ◌∙◌, append_assoc, Option}
+use Rattle.std.proofs.Common.{◌≡◌, ℕ, zero, suc, ◌+◌, ◌-◌, ◌*◌, ◌/◌, ◌^◌, ◌<◌, Bool, true, false, nat_le, List, [], ◌∷◌, ◌++◌, length, drop, get_or, refl, ap, arith, sym, ◌∙◌, append_assoc, Option}
 use Rattle.rice_code.proofs.Words.{flat_map, sum_by, length-drop, Parameters, id_len, pair_code, pair_codes, word-fs, word-zero, word-cat, word-nil, BlockData, bits_of_set, cost, common_steps}
-use Rattle.rice_code.proofs.Words.{reference_bits, reference_len, run_number, sent_residuals, Split, ZeroBlocks, RemainderOfSegment, run_of_blocks, zeros_of_run, word, fundamental_sequence}
+use Rattle.rice_code.proofs.Words.{reference_bits, reference_len, sent_residuals, Split, run_of_blocks, zeros_of_run, word, fundamental_sequence}
 use Rattle.rice_code.proofs.lemmas.cost.CostIsLength.{numbered_run_len, remainder_len}
 
 -- What joins a split block: identifier and reference sample, the fundamental sequences of the high parts, and then the words of the low
 -- parts, put into a sink one after the other, are the text of its coded data set.
-pub split_is_joined : (s : Parameters) (k : ℕ) (block : BlockData) (sink : List Bool)
-    → sink ++ word (id_len s) (k + 1) ++ reference_bits s block.reference
+pub split_is_joined : (s : Parameters) (k : ℕ) (block : BlockData) (sink : List Bool) → sink ++ word (id_len s) (k + 1) ++ reference_bits s block.reference
     ++ flat_map (λ d. fundamental_sequence (d / 2 ^ k)) (sent_residuals block) ++ flat_map (word k) (sent_residuals block)
     ≡ sink ++ bits_of_set s (Split k block)
 split_is_joined s k block sink = grind (arith, common_steps, append_assoc)
@@ -63,6 +61,5 @@ pairs_left (suc i) (a ∷ b ∷ xs) h =
     let ih = pairs_left i xs (omega arith) in
     let e : 2 * (suc i + 1) ≡ suc (suc (2 * (i + 1))) = omega arith in
     let k : 2 * suc i ≡ suc (suc (2 * i)) = omega arith in
-    let l : 2 * suc i + 1 ≡ suc (suc (2 * i + 1)) = omega arith in
     grind (arith, common_steps, get_or)
 pairs_left i _ h = absurd (omega arith)

@@ -13,8 +13,7 @@ slice_snoc ds from i le lt =
 
 -- the piece of one residual more is written
 pub one_written : (f : ℕ → List Bool) (ds : List ℕ) {from i : ℕ} (all : List Bool) {a b x : List Bool} → from ≤ i → i < length ds
-    → a ≡ all ++ flat_map f (slice_range ds from i) → b ≡ a ++ x → x ≡ f (get_or ds i 0) →
-    b ≡ all ++ flat_map f (slice_range ds from (i + 1))
+    → a ≡ all ++ flat_map f (slice_range ds from i) → b ≡ a ++ x → x ≡ f (get_or ds i 0) → b ≡ all ++ flat_map f (slice_range ds from (i + 1))
 one_written f ds {from} {i} all le lt before put same = grind (arith, common_steps, get_or, append_assoc, append-nil, flat_map-append, slice_snoc)
 
 -- what is left of n residuals has w digits fewer after one more

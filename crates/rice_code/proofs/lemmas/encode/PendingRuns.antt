@@ -91,7 +91,7 @@ pub zero_block_joins_run : (s : Parameters) (run : ℕ) (r q : Option ℕ) (c : 
 zero_block_joins_run s zero r q c cs e f g = ap (λ c. c ∷ cs) (e ∙ ap (zero_block s) (f refl))
 zero_block_joins_run s (suc w) r q c cs e f g =
     let h : zero_block s r ∷ (replicate w (zero_block s None) ++ c ∷ cs) ≡ zero_block s r ∷ (zero_block s None ∷ (replicate w (zero_block s None) ++ cs)) =
-    ap (λ c. zero_block s r ∷ (replicate w (zero_block s None) ++ c ∷ cs)) (e ∙ ap (zero_block s) (g (omega arith))) ∙ ap (λ l. zero_block s r ∷ l) (replicate_push w (zero_block s None) cs) in
+    grind (arith, common_steps, zero_block, replicate_push) in
     let n : suc (suc w) ≡ suc w + 1 = omega arith in
     h ∙ ap (λ n. pending_zeros s r n ++ cs) n
 

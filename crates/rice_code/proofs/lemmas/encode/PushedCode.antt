@@ -1,20 +1,17 @@
 -- The samples that a coder has taken, and the code that a push or the end completes.
-use Rattle.std.proofs.Common.{◌≡◌, ℕ, ◌+◌, ◌-◌, ◌*◌, ◌/◌, ◌%◌, ◌<◌, ◌≤◌, ◌==◌, min, Bool, true, false, List, [], ◌∷◌}
-use Rattle.std.proofs.Common.{◌++◌, length, take, replicate, refl, ap, arith, sym, ◌∙◌, inl, inr, subst, append_assoc, append-nil, length-append, None, ℤ, pos}
-use Rattle.rice_code.proofs.Words.{sum_by, AllByRecursion, next_multiple_of, cases_lt, nat_tests, take_at, All-from_recursion, sum_by-append, mod-lt, mod-eq_of_lt, mul-div_cancel_left, common_steps}
-use Rattle.rice_code.proofs.Words.{mul-add-mod_self_left, mod_self, mul-le-mul_left, Parameters, IsLegal, IsSample, id_len, k_max, place, begins_segment, blocks_left, cut, block_count, last_of}
-use Rattle.rice_code.proofs.Words.{filled_samples, some_left, length-residuals, zero_is_sample, BlockData, blocks_from, blocks_of, fill_count_of, fill_count, code, code_bits, data_sets}
-use Rattle.rice_code.proofs.Words.{complete_samples, reference_in, HasCodedBefore, HasTaken, IsCoder, AddsCode, CoderState, IsOpen, IsWhole, state_between, empty_state, state_after, state_with_fill}
-use Rattle.rice_code.proofs.Words.{state_after_segment, next_start, blocks_held, contents_held, sets_held, code_held, bits_held, HoldsSoundBlocks, CodesHeld, is_empty, CodedDataSet, bits_of_set}
-use Rattle.rice_code.proofs.Words.{held_blocks, AreSoundBlocks, layout, block_bound, least_looks, most_looks, least_looks_at, most_looks_at, least_steps, most_steps, coding_steps, segment_steps}
-use Rattle.rice_code.proofs.lemmas.{meaning.CoveredBlocks.bool_cases, code.RepeatedSamples.last_append, code.RepeatedSamples.blocks_append, code.Layouts.laid_plain, code.Layouts.laid_at}
-use Rattle.rice_code.proofs.lemmas.{encode.OpenSegments.fill_inside, code.WholeBlocks.not_filled}
-use Rattle.rice_code.proofs.lemmas.code.CodeGoesOn.{filled_after, own_blocks, code_goes_on, bits_go_on}
-use Rattle.rice_code.proofs.lemmas.encode.HeldSamples.{held_are, one_more, holds_fill, all_first}
+use Rattle.std.proofs.Common.{◌≡◌, ℕ, ◌+◌, ◌-◌, ◌*◌, ◌/◌, ◌%◌, ◌<◌, ◌≤◌, ◌==◌, Bool, true, false, List, [], ◌∷◌, ◌++◌, length, take, replicate, refl, ap, arith, sym, ◌∙◌, inl, inr, subst}
+use Rattle.std.proofs.Common.{append_assoc, append-nil, length-append, None, ℤ, pos}
+use Rattle.rice_code.proofs.Words.{sum_by, next_multiple_of, cases_lt, nat_tests, take_at, All-from_recursion, sum_by-append, mod-lt, mod-eq_of_lt, mul-div_cancel_left, common_steps}
+use Rattle.rice_code.proofs.Words.{mul-add-mod_self_left, mod_self, mul-le-mul_left, Parameters, IsLegal, IsSample, place, begins_segment, blocks_left, cut, block_count, last_of, filled_samples}
+use Rattle.rice_code.proofs.Words.{some_left, length-residuals, zero_is_sample, BlockData, blocks_from, blocks_of, fill_count_of, fill_count, code, code_bits, data_sets, complete_samples}
+use Rattle.rice_code.proofs.Words.{HasCodedBefore, HasTaken, IsCoder, AddsCode, CoderState, IsOpen, IsWhole, state_between, empty_state, state_after, state_with_fill, state_after_segment, next_start}
+use Rattle.rice_code.proofs.Words.{blocks_held, contents_held, sets_held, code_held, bits_held, HoldsSoundBlocks, CodesHeld, is_empty, CodedDataSet, bits_of_set, held_blocks, AreSoundBlocks, layout}
+use Rattle.rice_code.proofs.Words.{least_looks, most_looks, least_looks_at, most_looks_at, coding_steps, segment_steps, nil_from_length, le_of_mul-le-mul_left}
 use Rattle.rice_code.proofs.lemmas.code.BlocksByPlaceAlone.{same_blocks, same_data_sets, same_reference, place_step, code_stands_in_intervals}
-use Rattle.rice_code.proofs.lemmas.code.SegmentPlaces.{begins_next, cut_is, next_start_is}
-use Rattle.rice_code.proofs.lemmas.code.SoundBlocks.{blocks_sound, last_legal, filled_len}
-use Rattle.rice_code.proofs.Words.{nil_from_length, le_of_mul-le-mul_left}
+use Rattle.rice_code.proofs.lemmas.code.{CodeGoesOn.filled_after, CodeGoesOn.own_blocks, CodeGoesOn.code_goes_on, CodeGoesOn.bits_go_on, RepeatedSamples.last_append, RepeatedSamples.blocks_append}
+use Rattle.rice_code.proofs.lemmas.{encode.HeldSamples.held_are, encode.HeldSamples.one_more, encode.HeldSamples.holds_fill, encode.HeldSamples.all_first, meaning.CoveredBlocks.bool_cases}
+use Rattle.rice_code.proofs.lemmas.code.{SegmentPlaces.begins_next, SegmentPlaces.cut_is, SegmentPlaces.next_start_is, SoundBlocks.blocks_sound, SoundBlocks.last_legal, SoundBlocks.filled_len}
+use Rattle.rice_code.proofs.lemmas.{code.Layouts.laid_plain, code.Layouts.laid_at, encode.OpenSegments.fill_inside, code.WholeBlocks.not_filled}
 
 -- of the samples that a coder has taken, those of whole segments are the ones that are coded
 pub complete_are_coded : (coder : CoderState) (xs : List ℤ) (h : HasTaken coder xs) → complete_samples coder.setting xs ≡ h.coded
@@ -30,7 +27,6 @@ pub none_taken : (s : Parameters) → IsLegal s → HasTaken (empty_state s) []
 none_taken s legal =
     let zero_place : place s 0 ≡ 0 = let lt : 0 < s.interval = omega (arith, legal.interval_from) in mod-eq_of_lt lt in
     let j : 1 ≤ s.block = grind (arith, legal.block) in
-    let left = some_left s 0 legal.interval_from in
     grind (arith, common_steps, mul-le-mul_left)
 
 -- how many samples are pending
@@ -40,8 +36,7 @@ pending_are coder xs h =
     let j : 1 ≤ s.block = grind (arith, h.holds.legal.block) in
     let len : length xs ≡ s.block * h.block + length h.held = omega (arith, ap length h.parts, length-append h.coded h.held, h.holds.whole) in
     let c = cut_is s h.block (length xs) (length h.held) h.holds.legal.interval_from j h.holds.begins len h.short in
-    let r = ap length h.holds.residuals ∙ length-residuals s (s.block * h.block) (last_of (pos 0) h.coded) h.held in
-    omega (arith, len, c, r)
+    grind (arith, common_steps, length-residuals)
 
 -- fewer samples are pending than 64 blocks have
 pub few_pending : (coder : CoderState) → IsCoder coder → length coder.residuals < 64 * coder.setting.block
@@ -49,9 +44,7 @@ few_pending coder k =
     let h = k.taken in
     let s = coder.setting in
     let left = some_left s h.block h.holds.legal.interval_from in
-    let r = ap length h.holds.residuals ∙ length-residuals s (s.block * h.block) (last_of (pos 0) h.coded) h.held in
-    let m : s.block * blocks_left s h.block ≤ s.block * 64 = mul-le-mul_left s.block left.1 in
-    omega (arith, r, m, h.short)
+    grind (arith, common_steps, length-residuals, mul-le-mul_left)
 
 -- the previous sample of a coder is legal
 pub previous_legal : (coder : CoderState) → IsCoder coder → IsSample coder.setting coder.previous
@@ -67,8 +60,7 @@ held_count coder b coded held h = ap length h.residuals ∙ length-residuals cod
 
 -- a sample that leaves the segment open
 pub stays_open : (coder : CoderState) (x : ℤ) (xs : List ℤ) → HasTaken coder xs → IsSample coder.setting x
-    → length (state_after coder x).residuals < coder.setting.block * blocks_left coder.setting coder.start →
-    HasTaken (state_after coder x) (xs ++ x ∷ [])
+    → length (state_after coder x).residuals < coder.setting.block * blocks_left coder.setting coder.start → HasTaken (state_after coder x) (xs ++ x ∷ [])
 stays_open coder x xs h legal less =
     let more = one_more coder h.block h.coded h.held x h.holds h.short legal in
     let count = held_count (state_after coder x) h.block h.coded (h.held ++ x ∷ []) more in
@@ -140,10 +132,7 @@ pub record IsPart (coder : CoderState) (coded held : List ℤ) : Type 0 where
 -- of the position only the place in a byte matters, and where nothing is padded not even that
 same_position : (s : Parameters) (end b m n : ℕ) (ds : List CodedDataSet) → (s.pad ≡ true → n % 8 ≡ m % 8) → layout s end b m ds ≡ layout s end b n ds
 same_position s end b m n ds h =
-    elim (bool_cases s.pad) [
-      | inl e ↦ laid_at s end b m n ds (sym (h e))
-      | inr e ↦ laid_plain s end b m ds e ∙ sym (laid_plain s end b n ds e)
-    ]
+    elim (bool_cases s.pad) [ inl e ↦ laid_at s end b m n ds (sym (h e)) | inr e ↦ laid_plain s end b m ds e ∙ sym (laid_plain s end b n ds e) ]
 
 -- what a coder holds is such a part where it holds the samples with their last block filled
 pub held_part : {coder : CoderState} {b n : ℕ} {coded held full : List ℤ} → HasCodedBefore coder b coded full
@@ -222,17 +211,7 @@ next_begins coder b coded held start h len e =
       coded = coded ++ held;
       held = [];
       parts = sym nil;
-      holds = record {
-        legal = h.legal;
-        samples = subst (AllByRecursion (IsSample s)) (sym nil) h.samples;
-        whole = omega (arith, length-append coded held, h.whole, len);
-        place = e;
-        begins = begins_next s b h.legal.interval_from h.begins;
-        few = omega arith;
-        previous = h.previous ∙ ap (last_of (pos 0)) (sym nil);
-        residuals = refl;
-        reference = refl;
-      };
+      holds = grind (arith, common_steps, length-append, begins_next);
       short = let m : s.block * 1 ≤ s.block * blocks_left s c = mul-le-mul_left s.block left.0 in omega arith;
     }
 
@@ -261,8 +240,7 @@ takes_last_of_segment coder x xs h legal e =
     let l = ap (λ n. s.block * n) (left_same coder h.block h.coded h.held h.holds) in
     let start = next_start_is s h.block coder.start h.holds.legal.interval_from h.holds.place in
     let next = next_begins (state_after coder x) h.block h.coded (h.held ++ x ∷ []) (next_start (state_after coder x)) more (sym count ∙ (e ∙ l)) start in
-    let parts : xs ++ x ∷ [] ≡ h.coded ++ (h.held ++ x ∷ []) = ap (λ v. v ++ x ∷ []) h.parts ∙ append_assoc h.coded h.held (x ∷ []) in
-    subst (λ v. HasTaken (state_after_segment (state_after coder x)) v) (sym parts) next
+    grind (arith, common_steps, append_assoc)
 
 -- and this completes the code of the segment
 pub whole_segment_adds_code : (coder : CoderState) (x : ℤ) (xs : List ℤ) → HasTaken coder xs → IsSample coder.setting x → IsWhole (state_after coder x)
@@ -304,9 +282,7 @@ filled_part coder xs h =
     let holds = holds_fill coder h.block h.coded h.held n h.holds legal (λ p. not_first_of coder.residuals (some p)) inside in
     let full = h.held ++ replicate n x in
     let last : last_of p h.held ≡ x = sym (h.holds.previous ∙ last_append (pos 0) h.coded h.held) in
-    let fill : next_multiple_of (length h.held) s.block - length h.held ≡ n =
-    (let e : length h.held + (s.block - length h.held % s.block) % s.block - length h.held ≡ (s.block - length h.held % s.block) % s.block = omega arith in
-    e) ∙ ap (λ v. (s.block - v % s.block) % s.block) (sym count) in
+    let fill : next_multiple_of (length h.held) s.block - length h.held ≡ n = grind (arith, common_steps) in
     let shape : filled_samples s p h.held ≡ full = λ i. h.held ++ replicate (fill i) (last i) in
     held_part holds shape refl (sym (ap length shape) ∙ filled_len s p h.held j)
 

@@ -1,12 +1,10 @@
 -- What pushing samples does: what pushing the last of them does after the others.
-use Rattle.std.proofs.Common.{◌≡◌, ℕ, ◌+◌, ◌-◌, ◌*◌, ◌%◌, ◌^◌, ◌<◌, ◌≤◌, Bool, List, [], ◌∷◌, ◌++◌, length}
-use Rattle.std.proofs.Common.{take, refl, ap, arith, inl, inr, sym, ◌∙◌, subst, append_assoc, append-nil, length-append, ℤ}
-use Rattle.rice_code.proofs.Words.{AllByRecursion, mod-lt, mul-le-mul_left, take-length, cases_lt, IsSample, blocks_left, cut, some_left, common_steps}
-use Rattle.rice_code.proofs.Words.{complete_samples, HasTaken, IsCoder, PushesSamples, fill_count, CoderState, IsWhole, state_after, state_after_all, state_after_segment}
-use Rattle.rice_code.proofs.Words.{state_with_fill, next_residual, HoldsSoundBlocks, CodesHeld, coding_steps, segment_steps}
-use Rattle.rice_code.proofs.lemmas.encode.PushedCode.{stays_open, stays_open_completes_none, short_of, pending_are, whole_sound, takes_last_of_segment}
-use Rattle.rice_code.proofs.lemmas.encode.PushedCode.{whole_segment_adds_code, AddsHeldCode, adds_code, adds_nothing, steps_of_segment}
+use Rattle.std.proofs.Common.{◌≡◌, ℕ, ◌+◌, ◌-◌, ◌*◌, ◌^◌, ◌<◌, ◌≤◌, Bool, List, [], ◌∷◌, ◌++◌, length, refl, ap, arith, sym, ◌∙◌, subst, append_assoc, append-nil, length-append, ℤ}
+use Rattle.rice_code.proofs.Words.{AllByRecursion, mod-lt, mul-le-mul_left, take-length, cases_lt, IsSample, blocks_left, some_left, common_steps, complete_samples, HasTaken, IsCoder, PushesSamples}
+use Rattle.rice_code.proofs.Words.{fill_count, CoderState, IsWhole, state_after, state_after_all, state_after_segment, state_with_fill, next_residual, HoldsSoundBlocks, CodesHeld, coding_steps}
+use Rattle.rice_code.proofs.lemmas.encode.PushedCode.{stays_open, stays_open_completes_none, short_of, pending_are, whole_sound, takes_last_of_segment, whole_segment_adds_code, AddsHeldCode}
 use Rattle.rice_code.proofs.lemmas.encode.SeveralSamplesHeld.{state_after_all-none, state_after_all-cons, state_after_all-snoc, length-state_after_all}
+use Rattle.rice_code.proofs.{lemmas.encode.PushedCode.adds_code, lemmas.encode.PushedCode.adds_nothing, lemmas.encode.PushedCode.steps_of_segment, Words.segment_steps}
 
 -- samples that leave the segment open
 pub several_stay_open : (coder : CoderState) (ys xs : List ℤ) → HasTaken coder xs → AllByRecursion (IsSample coder.setting) ys
@@ -76,10 +74,7 @@ several_add_code coder ys xs legal whole h =
     let l = whole_last coder ys xs legal whole h in
     let last = state_after (state_after_all coder l.others) l.x in
     let adds = whole_segment_adds_code (state_after_all coder l.others) l.x (xs ++ l.others) l.taken l.legal (subst IsWhole l.grows whole) in
-    let before : AddsHeldCode last (complete_samples s xs) (complete_samples s ((xs ++ l.others) ++ l.x ∷ [])) = subst
-    (λ v. AddsHeldCode last v (complete_samples s ((xs ++ l.others) ++ l.x ∷ []))) l.completes_none adds in
-    let both : AddsHeldCode last (complete_samples s xs) (complete_samples s (xs ++ ys)) = subst (λ v. AddsHeldCode last (complete_samples s xs) (complete_samples s v)) (sym l.all) before in
-    subst (λ v. AddsHeldCode v (complete_samples s xs) (complete_samples s (xs ++ ys))) (sym l.grows) both
+    grind (arith, common_steps, common_steps)
 
 -- after a whole segment all samples are complete
 all_complete : (coder : CoderState) (xs : List ℤ) → HasTaken coder xs → length coder.residuals ≡ 0 → complete_samples coder.setting xs ≡ xs
@@ -115,8 +110,7 @@ whole_has_steps value coder held ys m0 m1 h room steps =
     let same : held.setting ≡ s = ap (λ (v : CoderState). v.setting) h.holds in
     let room : m0 + segment_steps s < 2 ^ 62 = subst (λ (v : CoderState). m0 + segment_steps v.setting < 2 ^ 62) (sym h.same) room in
     let left : s.block * blocks_left s coder.start ≤ s.block * 64 = mul-le-mul_left s.block (some_left s coder.start h.coded.taken.holds.legal.interval_from).1 in
-    let fits : m1 + coding_steps s < 2 ^ 62 = let all = steps_of_segment s in omega (arith, room, h.room, left, all, steps) in
-    subst (λ s. m1 + coding_steps s < 2 ^ 62) (sym same) fits
+    grind (arith, common_steps, steps_of_segment)
 
 -- also after the samples that fill the last block,
 pub filled_has_steps : {value coder held : CoderState} (m0 : ℕ) {m1 : ℕ} → coder ≡ value → IsCoder coder
@@ -126,8 +120,7 @@ filled_has_steps {coder} m0 {m1} e k f room steps = grind (arith, common_steps, 
 
 -- and this is what the call does
 pub whole_pushes : {value coder held after : CoderState} {ys : List ℤ} {old new : List Bool} {n m0 m1 m2 : ℕ} → HoldsMore value coder held ys → IsWhole held
-    → after ≡ state_after_segment held → CodesHeld held old new n m1 m2 → m1 ≡ m0 + length ys →
-    PushesSamples value after ys old new n m0 m2
+    → after ≡ state_after_segment held → CodesHeld held old new n m1 m2 → m1 ≡ m0 + length ys → PushesSamples value after ys old new n m0 m2
 whole_pushes {coder} {after} {ys} {old} {new} {n} {m0} {m1} {m2} h whole e codes steps =
     let full = state_after_all coder ys in
     let is_whole : IsWhole full = subst IsWhole h.holds whole in

@@ -92,7 +92,6 @@ next_other s start r {n} ds {i} {run} h m l k z =
     let rest = drop (i + 1) (held_blocks s r n ds) in
     let e = held_at s r n i ds k in
     let b = start + (i - run) in
-    let w = pending_run false (reference_at r (i - run)) run in
     let f = run_then_block s b run (reference_at r (i - run)) c rest h (run_is_inside s start n i run h l k m) z in
     let g : b + run + 1 ≡ start + (i + 1 - 0) = omega arith in
     grind (arith, common_steps, flat_map-append)
@@ -121,8 +120,7 @@ sum_next f (suc i) (d ∷ cs) c rest e = grind (arith, common_steps, sum_by-cons
 pub most_of_one : (s : Parameters) (c : BlockData) → most_looks s c ≤ s.block * (k_max s + 5)
 most_of_one s c =
     let p : s.block * (min (best_split s c + 1) (k_max s) + 5) ≤ s.block * (k_max s + 5) = mul-le-mul_left s.block (omega arith) in
-    let q : s.block * 1 ≤ s.block * (k_max s + 5) = mul-le-mul_left s.block (omega arith) in
-    elim (is_zero_block c) as (λ v. cond v s.block (s.block * (min (best_split s c + 1) (k_max s) + 5)) ≤ s.block * (k_max s + 5)) [ true ↦ omega (arith, q) | false ↦ p ]
+    elim (is_zero_block c) as (λ v. cond v s.block (s.block * (min (best_split s c + 1) (k_max s) + 5)) ≤ s.block * (k_max s + 5)) [ true ↦ omega arith | false ↦ p ]
 
 -- and i blocks take at most i times as many
 pub most_of_all : (s : Parameters) (i : ℕ) (cs : List BlockData) → sum_by (most_looks s) (take i cs) ≤ i * (s.block * (k_max s + 5))
@@ -161,8 +159,7 @@ pub record OtherBlock (s : Parameters) (start : ℕ) (r : Option ℕ) (n : ℕ) 
 
 -- what is put has room
 pub room_other : {s : Parameters} {start : ℕ} (r : Option ℕ) {n : ℕ} (ds : List ℕ) {i run : ℕ} (sink before all : List Bool) → SomeBlocks s
-    → BlockAfterRun s start n i run →
-    OtherBlock s start r n ds i → sink ++ to_come s start r n ds i run ≡ before ++ all →
+    → BlockAfterRun s start n i run → OtherBlock s start r n ds i → sink ++ to_come s start r n ds i run ≡ before ++ all →
     length sink + length (bits_of_sets s (pending_run false (reference_at r (i - run)) run)) + cost s (shortest s (held s r ds i)) ≤ length before + length all
 room_other {s} {start} r {n} ds {i} {run} sink before all some place other same =
     let c = held s r ds i in

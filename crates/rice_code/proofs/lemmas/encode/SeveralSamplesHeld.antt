@@ -1,9 +1,7 @@
 -- What a coder holds when it takes several samples.
-use Rattle.std.proofs.Common.{◌≡◌, ℕ, suc, ◌+◌, ◌==◌, Bool, true, false, cond, ◌&&◌, List, [], ◌∷◌}
-use Rattle.std.proofs.Common.{◌++◌, length, map, refl, ap, arith, sym, ◌∙◌, append_assoc, append-nil, length-append, Some, ℤ}
-use Rattle.rice_code.proofs.Words.{and-false, Parameters, level, value_count, pattern, rank, ranks, last_of, common_steps}
-use Rattle.rice_code.specs.encode.OpenSegment.{CoderState, is_empty, is_first, next_residual, next_residuals, next_references, later_residuals, state_after, state_after_all, state_with_later}
-use Rattle.rice_code.proofs.lemmas.code.RepeatedSamples.{same_rank}
+use Rattle.std.proofs.Common.{◌≡◌, suc, ◌+◌, true, false, cond, ◌&&◌, List, [], ◌∷◌, ◌++◌, length, map, refl, ap, arith, sym, ◌∙◌, append_assoc, append-nil, length-append, Some, ℤ}
+use Rattle.rice_code.specs.encode.OpenSegment.{CoderState, is_first, next_residuals, next_references, later_residuals, state_after, state_after_all, state_with_later}
+use Rattle.rice_code.proofs.{Words.and-false, Words.Parameters, Words.pattern, Words.rank, Words.ranks, Words.common_steps, lemmas.code.RepeatedSamples.same_rank}
 
 -- samples after others, with preprocessing and without
 pub later_ranks : (s : Parameters) (p : ℤ) (xs : List ℤ) → s.preprocess ≡ true → later_residuals s p xs ≡ ranks s p xs
@@ -28,11 +26,6 @@ length-next coder (x ∷ xs) = ap (λ n. suc n) (length-later coder.setting x xs
 pub length-state_after_all : (coder : CoderState) (xs : List ℤ) → length (state_after_all coder xs).residuals ≡ length coder.residuals + length xs
 length-state_after_all coder xs = length-append coder.residuals (next_residuals coder xs) ∙ ap (λ n. length coder.residuals + n) (length-next coder xs)
 
--- where the next sample is no reference sample
-next_later : (coder : CoderState) (xs : List ℤ) → (coder.setting.preprocess && is_first coder) ≡ false → next_residuals coder xs ≡ later_residuals coder.setting coder.previous xs
-next_later coder [] e = refl
-next_later coder (x ∷ xs) e = grind (arith, common_steps)
-
 next_none : (coder : CoderState) (xs : List ℤ) → (coder.setting.preprocess && is_first coder) ≡ false → next_references coder xs ≡ coder.reference
 next_none coder [] e = refl
 next_none coder (x ∷ xs) e = ap (λ v. cond v (Some (pattern coder.setting x)) coder.reference) e
@@ -48,7 +41,7 @@ not_first coder x = grind (arith, common_steps, and-false)
 
 -- one first,
 pub state_after_all-cons : (coder : CoderState) (x : ℤ) (xs : List ℤ) → state_after_all (state_after coder x) xs ≡ state_after_all coder (x ∷ xs)
-state_after_all-cons coder x xs = grind (arith, common_steps, append_assoc, next_later, not_first, next_none)
+state_after_all-cons coder x xs = grind (arith, common_steps, append_assoc, not_first, next_none)
 
 -- and one last
 pub state_after_all-snoc : (coder : CoderState) (xs : List ℤ) (x : ℤ) → state_after_all coder (xs ++ x ∷ []) ≡ state_after (state_after_all coder xs) x
@@ -57,12 +50,11 @@ state_after_all-snoc coder (y ∷ ys) x = sym (state_after_all-cons coder y (ys 
     ∙ (state_after_all-snoc (state_after coder y) ys x ∙ ap (λ v. state_after v x) (state_after_all-cons coder y ys))
 
 -- After a reference the samples are held as after that sample itself.
-pub state_after_all-first : (coder : CoderState) (x : ℤ) (xs : List ℤ) → (coder.setting.preprocess && is_first coder) ≡ true →
-    state_with_later (record {
-      setting = coder.setting;
-      residuals = coder.residuals;
-      reference = Some (pattern coder.setting x);
-      previous = coder.previous;
-      start = coder.start;
-    }) x (x ∷ xs) ≡ state_after_all coder (x ∷ xs)
+pub state_after_all-first : (coder : CoderState) (x : ℤ) (xs : List ℤ) → (coder.setting.preprocess && is_first coder) ≡ true → state_with_later (record {
+  setting = coder.setting;
+  residuals = coder.residuals;
+  reference = Some (pattern coder.setting x);
+  previous = coder.previous;
+  start = coder.start;
+}) x (x ∷ xs) ≡ state_after_all coder (x ∷ xs)
 state_after_all-first coder x xs e = grind (arith, common_steps, same_rank)

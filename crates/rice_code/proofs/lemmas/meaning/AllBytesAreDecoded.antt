@@ -1,15 +1,14 @@
 -- All bytes are decoded, in one way or another.
-use Rattle.std.proofs.Common.{◌≡◌, ℕ, zero, suc, ◌+◌, ◌-◌, ◌*◌, ◌%◌, ◌<◌, ◌≤◌, ◌⊎◌, inl, inr, Bool, true, false, cond, List, []}
-use Rattle.std.proofs.Common.{◌∷◌, ◌++◌, length, take, drop, replicate, refl, ap, arith, sym, ◌∙◌, subst, length-append, Option, Some, None, ℤ}
+use Rattle.std.proofs.Common.{◌≡◌, ℕ, zero, suc, ◌+◌, ◌-◌, ◌*◌, ◌%◌, ◌<◌, ◌≤◌, ◌⊎◌, inl, inr, Bool, true, false, cond, List, [], ◌∷◌, ◌++◌, length, take, drop, replicate, refl, ap, arith, sym, ◌∙◌}
+use Rattle.std.proofs.Common.{subst, length-append, Option, Some, None, ℤ}
 use Rattle.rice_code.proofs.Words.{Contains, IsSomeAnd, OnSome, slice_index, AllByRecursion, cases_lt, length-replicate, length-take-le, length-drop, take-append-drop, All-from_recursion}
 use Rattle.rice_code.proofs.Words.{recursion_from_All, All-replicate, Contains-append_right, pow_pos, take-append_seam, drop-append_seam, length-bits_of, Parameters, IsLegal, IsSample, value_count}
-use Rattle.rice_code.proofs.Words.{is_reference, is_reference_sample, is_padded, blocks_left, pattern, rank, residual, residuals, last_of, some_left, reference_begins, zero_is_sample, common_steps}
+use Rattle.rice_code.proofs.Words.{is_reference, is_reference_sample, is_padded, pattern, rank, residual, residuals, last_of, some_left, reference_begins, zero_is_sample, common_steps}
 use Rattle.rice_code.proofs.Words.{zero_at_reference, inside_block, no_reference_at, has_pattern, has_rank, bits_to_byte, bits_of, BlockData, block_data, blocks_from, zero_block, CodedDataSet}
 use Rattle.rice_code.proofs.Words.{NoCompression, SecondExtension, Split, ZeroBlocks, RemainderOfSegment, bits_of_set, IsReference, AllFit, RunIsSound, ResidualsAreSound, blocks_in, block_after}
 use Rattle.rice_code.proofs.Words.{padding, Decoded, DecodedFrom, Ending, Reached, Ended, CutOff, Past, Large, IsWanted, EndsWith, cut_to, IsSoundBlock, AreSoundBlocks}
-use Rattle.rice_code.proofs.lemmas.meaning.CoveredBlocks.{bool_cases, GoOn, segment_goes_on}
-use Rattle.rice_code.proofs.lemmas.{code.SoundBlocks.all_append, code.SoundBlocks.last_legal, meaning.SentSetsAreTaken.IsSound, code.OnesOfForms.forms_have_a_one, meaning.FormsAtFront.form_piece}
-use Rattle.rice_code.proofs.lemmas.{meaning.DecodingWitnesses.decoded_from_none, meaning.DecodingGoesOn.decoding_goes_on}
+use Rattle.rice_code.proofs.lemmas.meaning.{CoveredBlocks.bool_cases, CoveredBlocks.GoOn, CoveredBlocks.segment_goes_on, DecodingWitnesses.decoded_from_none, DecodingGoesOn.decoding_goes_on}
+use Rattle.rice_code.proofs.lemmas.{code.SoundBlocks.all_append, code.SoundBlocks.last_legal, code.OnesOfForms.forms_have_a_one, meaning.SentSetsAreTaken.IsSound, meaning.FormsAtFront.form_piece}
 
 -- what can be decided
 run_or_not : (s : Parameters) (b : ℕ) (d : CodedDataSet) → RunIsSound s b d ⊎ (RunIsSound s b d → ⊥)
@@ -55,13 +54,8 @@ goes_or_not : (s : Parameters) (asked : Option ℕ) (b : ℕ) → IsWanted s ask
 goes_or_not s None b = inl tt
 goes_or_not s (Some n) b = cases_lt (s.block * b) n
 
--- a sound form stands for sound blocks
-first_zero : (n : ℕ) → slice_index (replicate n 0) 0 ≡ 0
-first_zero zero = refl
-first_zero (suc n) = refl
-
 zeros_sound : (s : Parameters) (b : ℕ) (r : Option ℕ) → IsReference s b r → IsSoundBlock s b (zero_block s r)
-zeros_sound s b r h = grind (arith, common_steps, length-replicate, All-replicate, pow_pos, first_zero)
+zeros_sound s b r h = grind (arith, common_steps, length-replicate, All-replicate, pow_pos)
 
 more_zeros : (s : Parameters) (b n : ℕ) → GoOn s b n → AreSoundBlocks s b (replicate n (zero_block s None))
 more_zeros s b zero h = tt
@@ -141,10 +135,7 @@ blocks_have_samples s b p (c ∷ cs) legal j h k =
     let ys = rest.0 in
     let front : take s.block (xs ++ ys) ≡ xs = ap (λ n. take n (xs ++ ys)) (sym one.1) ∙ take-append_seam xs ys in
     let back : drop s.block (xs ++ ys) ≡ ys = ap (λ n. drop n (xs ++ ys)) (sym one.1) ∙ drop-append_seam xs ys in
-    let first = one.3 in
-    let others = rest.3 in
-    let l1 = one.1 in
-    grind (arith, common_steps, length-append, all_append)
+    grind (arith, common_steps, common_steps, length-append, all_append)
 
 -- what decoding can come to
 abbrev Comes : Parameters → ℕ → ℕ → ℤ → List Bool → Option ℕ → Type 0

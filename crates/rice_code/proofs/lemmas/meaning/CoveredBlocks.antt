@@ -52,9 +52,6 @@ no_run_of (suc n) c cs z = ap (λ v. cond v (1 + prefix_len is_zero_block (take 
 pub run_cons : (s : Parameters) (b : ℕ) (c : BlockData) (cs : List BlockData) → 1 ≤ s.interval → is_zero_block c ≡ true → run_len s b (c ∷ cs) ≡ suc (skipped s (b + 1) true cs)
 run_cons s b c cs h z = grind (arith, common_steps, bool_cases, last_of_segment, run_of, one_less_left)
 
-run_stops : (s : Parameters) (b : ℕ) (c : BlockData) (cs : List BlockData) → 1 ≤ s.interval → is_zero_block c ≡ false → run_len s b (c ∷ cs) ≡ 0
-run_stops s b c cs h z = no_run_of (blocks_left s b) c cs z
-
 -- a block that is not zero is sent by its shortest option
 pub data_sets_plain : (s : Parameters) (b : ℕ) (after : Bool) (c : BlockData) (cs : List BlockData) → is_zero_block c ≡ false
     → data_sets s b after (c ∷ cs) ≡ shortest s c ∷ data_sets s (b + 1) false cs
@@ -70,17 +67,13 @@ pub data_sets_inside : (s : Parameters) (b : ℕ) (after : Bool) (c : BlockData)
     data_sets s b after (c ∷ cs) ≡ data_sets s (b + 1) true cs
 data_sets_inside s b after c cs e f = grind (arith, common_steps)
 
-prefix_none : (n : ℕ) → prefix_len is_zero_block (take n []) ≡ 0
-prefix_none zero = refl
-prefix_none (suc n) = refl
-
 -- where there are no blocks, none is skipped,
 pub skipped_nil : (s : Parameters) (b : ℕ) (after : Bool) → skipped s b after [] ≡ 0
-skipped_nil s b after = grind (arith, common_steps, bool_cases, prefix_none)
+skipped_nil s b after = grind (arith, common_steps, bool_cases)
 
 -- nor is one before a block that is not zero
 pub skipped_plain : (s : Parameters) (b : ℕ) (after : Bool) (c : BlockData) (cs : List BlockData) → 1 ≤ s.interval → is_zero_block c ≡ false → skipped s b after (c ∷ cs) ≡ 0
-skipped_plain s b after c cs h z = grind (arith, common_steps, bool_cases, run_stops)
+skipped_plain s b after c cs h z = grind (arith, common_steps, bool_cases)
 
 -- a zero block inside a run is skipped, and so is what would be skipped after it
 pub skipped_go : (s : Parameters) (b : ℕ) (after : Bool) (c : BlockData) (cs : List BlockData) → 1 ≤ s.interval → is_zero_block c ≡ true → (after && not (begins_segment s b)) ≡ true →
@@ -144,10 +137,6 @@ shortest_covers s b c =
     splits [] = tt
     splits (k ∷ ks) = (refl, splits ks)
 
-drop_none : (n : ℕ) → drop n (let e : List BlockData = [] in e) ≡ []
-drop_none zero = refl
-drop_none (suc n) = refl
-
 cons_covers : (s : Parameters) (b : ℕ) (d : CodedDataSet) (ds : List CodedDataSet) (xs : List BlockData) → blocks_in s b d ≡ xs → blocks_in_all s b (d ∷ ds) ≡ xs ++ blocks_in_all s (b + length xs) ds
 cons_covers s b d ds xs e = ap (λ x. x ++ blocks_in_all s (b + length x) ds) e
 
@@ -170,8 +159,7 @@ record RunOfSet (s : Parameters) (b k : ℕ) (d : CodedDataSet) (c : BlockData) 
   zeros : take k cs ≡ replicate k (zero_block s None)
 
 -- the blocks of a run that has z blocks, before what follows it
-run_covers : (s : Parameters) (b k : ℕ) (d : CodedDataSet) (ds : List CodedDataSet) {c : BlockData} (cs tail : List BlockData) →
-    RunOfSet s b k d c cs →
+run_covers : (s : Parameters) (b k : ℕ) (d : CodedDataSet) (ds : List CodedDataSet) {c : BlockData} (cs tail : List BlockData) → RunOfSet s b k d c cs →
     blocks_in_all s (b + 1 + k) ds ≡ drop k cs ++ tail → blocks_in_all s (b + 0) (d ∷ ds) ≡ (c ∷ cs) ++ tail
 run_covers s b k d ds {c} cs tail run ih =
     let zs = zero_block s c.reference ∷ replicate k (zero_block s None) in
@@ -210,10 +198,6 @@ EndsInZeros [] = ⊥
 EndsInZeros (c ∷ []) = is_zero_block c ≡ true
 EndsInZeros (c ∷ d ∷ cs) = EndsInZeros (d ∷ cs)
 
-ends_cons : (c : BlockData) (cs : List BlockData) → EndsInZeros cs → EndsInZeros (c ∷ cs)
-ends_cons c [] h = absurd h
-ends_cons c (d ∷ cs) h = h
-
 -- where all blocks are skipped, they are zeros
 all_skipped : (s : Parameters) (b : ℕ) (c : BlockData) (cs : List BlockData) → 1 ≤ s.interval → is_zero_block c ≡ true → skipped s b true cs ≡ length cs → EndsInZeros (c ∷ cs)
 all_skipped s b c [] h z e = z
@@ -238,11 +222,11 @@ pub record Covering (s : Parameters) (b : ℕ) (after : Bool) (cs : List BlockDa
 covers_one_more : (s : Parameters) (b : ℕ) (after ahead : Bool) (c : BlockData) (cs : List BlockData) → (ih : Covering s (b + 1) ahead cs) →
     blocks_in_all s (b + skipped s b after (c ∷ cs)) (data_sets s b after (c ∷ cs)) ≡ drop (skipped s b after (c ∷ cs)) (c ∷ cs) ++ replicate ih.fill
     (zero_block s None) → Covering s b after (c ∷ cs)
-covers_one_more s b after ahead c cs ih e = grind (arith, common_steps, ends_cons)
+covers_one_more s b after ahead c cs ih e = grind (arith, common_steps)
 
 -- The coded data sets of any blocks cover these in this way.
 pub covers_blocks : (s : Parameters) (b : ℕ) (after : Bool) (cs : List BlockData) → 1 ≤ s.interval → AreBlocks s b cs → Covering s b after cs
-covers_blocks s b after [] h k = grind (arith, common_steps, drop_none)
+covers_blocks s b after [] h k = grind (arith, common_steps)
 covers_blocks s b after (c ∷ cs) h k =
     let at = λ (n : ℕ) (ds : List CodedDataSet) (fill : ℕ) (e : skipped s b after (c ∷ cs) ≡ n) (f : data_sets s b after (c ∷ cs) ≡ ds)
     (g : blocks_in_all s (b + n) ds ≡ drop n (c ∷ cs) ++ replicate fill (zero_block s None)).

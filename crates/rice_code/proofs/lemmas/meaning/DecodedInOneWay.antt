@@ -1,13 +1,12 @@
 -- Bits are decoded in one way only.
-use Rattle.std.proofs.Common.{◌≡◌, ℕ, zero, suc, ◌+◌, ◌*◌, ◌<◌, ◌≤◌, Bool, true, false, List, [], ◌∷◌, ◌++◌, length, take}
-use Rattle.std.proofs.Common.{drop, refl, ap, arith, sym, ◌∙◌, inl, inr, subst, append_assoc, length-append, length-drop, Option, Some, None, ℤ}
+use Rattle.std.proofs.Common.{◌≡◌, ℕ, zero, suc, ◌+◌, ◌*◌, ◌<◌, ◌≤◌, Bool, true, false, List, [], ◌∷◌, ◌++◌, length, take, drop, refl, ap, arith, sym, ◌∙◌, inl, inr, subst, append_assoc}
+use Rattle.std.proofs.Common.{length-append, length-drop, Option, Some, None, ℤ}
 use Rattle.rice_code.proofs.Words.{All, Contains, IfSome, IsSomeAnd, cond, AllByRecursion, length-take-le, take-append-drop, All-contains, Contains-append_left, recursion_from_All, bits_read}
 use Rattle.rice_code.proofs.Words.{Parameters, IsLegal, IsSample, is_reference, is_reference_sample, pattern, residuals, residual, last_of, same_pattern, same_residual, same_residuals, inside_block}
-use Rattle.rice_code.proofs.Words.{no_reference_at, BlockData, block_data, blocks_from, CodedDataSet, NoCompression, SecondExtension, Split, ZeroBlocks, RemainderOfSegment, bits_of_set, IsForm}
-use Rattle.rice_code.proofs.Words.{RunIsSound, ResidualsAreSound, blocks_in, blocks_in_all, block_after, padding, Lies, DecodedFrom, Ending, Reached, Ended, CutOff, Past, Large, IsWanted, AreTaken}
-use Rattle.rice_code.proofs.Words.{BeginsUnsound, EndsWith, cut_to, common_steps}
-use Rattle.rice_code.proofs.lemmas.{meaning.CoveredBlocks.bool_cases, code.FormsReadInOneWay.forms_read_in_one_way, code.OnesOfForms.forms_have_a_one, meaning.SentSetsAreTaken.IsSound}
-use Rattle.rice_code.proofs.lemmas.code.SoundBlocks.{all_take, all_drop, last_legal}
+use Rattle.rice_code.proofs.Words.{no_reference_at, BlockData, block_data, blocks_from, CodedDataSet, bits_of_set, IsForm, RunIsSound, ResidualsAreSound, blocks_in, blocks_in_all, block_after}
+use Rattle.rice_code.proofs.Words.{padding, Lies, DecodedFrom, Ending, Reached, Ended, CutOff, Past, Large, IsWanted, AreTaken, BeginsUnsound, EndsWith, common_steps}
+use Rattle.rice_code.proofs.lemmas.code.{SoundBlocks.all_take, SoundBlocks.all_drop, SoundBlocks.last_legal, FormsReadInOneWay.forms_read_in_one_way, OnesOfForms.forms_have_a_one}
+use Rattle.rice_code.proofs.lemmas.meaning.{CoveredBlocks.bool_cases, SentSetsAreTaken.IsSound}
 
 -- what excludes each other
 reached_or_not : (asked : Option ℕ) (m : ℕ) → IsSomeAnd asked (λ n. n ≤ m) → IfSome asked (λ n. m < n) → ⊥
@@ -24,15 +23,8 @@ refused_here : {s : Parameters} {b : ℕ} {rest : List Bool} {used : ℕ} (P : C
     → BeginsUnsound s b rest used P → IsForm s b d → rest ≡ bits_of_set s d ++ more → P d → ⊥
 refused_here {s} {b} P d more legal r h e k = grind (arith, common_steps, forms_read_in_one_way)
 
-past_or_large : (s : Parameters) (b : ℕ) (d : CodedDataSet) → (RunIsSound s b d → ⊥) → (ResidualsAreSound s d → ⊥) → ⊥
-past_or_large s b (NoCompression c) h k = h tt
-past_or_large s b (SecondExtension c) h k = h tt
-past_or_large s b (Split n c) h k = h tt
-past_or_large s b (ZeroBlocks r z) h k = k tt
-past_or_large s b (RemainderOfSegment r) h k = h tt
-
 past_and_large : (s : Parameters) (b : ℕ) (rest : List Bool) (m n : ℕ) → IsLegal s → BeginsUnsound s b rest m (RunIsSound s b) → BeginsUnsound s b rest n (ResidualsAreSound s) → ⊥
-past_and_large s b rest m n legal h k = grind (arith, common_steps, forms_read_in_one_way, past_or_large)
+past_and_large s b rest m n legal h k = grind (arith, common_steps, forms_read_in_one_way)
 
 same_refusal : (s : Parameters) (b : ℕ) (rest : List Bool) (m n : ℕ) (P : CodedDataSet → Type 0) → IsLegal s → BeginsUnsound s b rest m P → BeginsUnsound s b rest n P → m ≡ n
 same_refusal s b rest m n P legal h k = grind (arith, common_steps, forms_read_in_one_way)
@@ -87,20 +79,16 @@ same_sets asked b position {ds = []} {es = []} {r} {q} legal this_way that_way e
 same_sets {s} asked b position {m} {ds = []} {es = d ∷ es} {r} {q} legal this_way that_way e =
     let P : ℕ → Type 0 = λ i. NothingFollows s asked i r in
     let here : m ≡ b = omega arith in
-    let all : r ≡ bits_of_set s d ++ ((that_way.lie.0 ++ that_way.lie.1) ++ q) = ap (λ v. v ++ r) (sym this_way.lie)
-    ∙ (e ∙ (ap (λ v. v ++ q) that_way.lie.3 ∙ append_assoc (bits_of_set s d) (that_way.lie.0 ++ that_way.lie.1) q)) in
+    let all : r ≡ bits_of_set s d ++ ((that_way.lie.0 ++ that_way.lie.1) ++ q) = grind (arith, common_steps, append_assoc) in
     absurd (subst P here this_way.nothing d ((that_way.lie.0 ++ that_way.lie.1) ++ q) that_way.taken.0 (that_way.taken.1, that_way.taken.2, that_way.taken.3) all)
 same_sets {s} asked b position {n} {ds = d ∷ ds} {es = []} {r} {q} legal this_way that_way e =
     let P : ℕ → Type 0 = λ i. NothingFollows s asked i q in
     let here : n ≡ b = omega arith in
-    let all : q ≡ bits_of_set s d ++ ((this_way.lie.0 ++ this_way.lie.1) ++ r) = ap (λ v. v ++ q) (sym that_way.lie)
-    ∙ (sym e ∙ (ap (λ v. v ++ r) this_way.lie.3 ∙ append_assoc (bits_of_set s d) (this_way.lie.0 ++ this_way.lie.1) r)) in
+    let all : q ≡ bits_of_set s d ++ ((this_way.lie.0 ++ this_way.lie.1) ++ r) = grind (arith, common_steps, append_assoc) in
     absurd (subst P here that_way.nothing d ((this_way.lie.0 ++ this_way.lie.1) ++ r) this_way.taken.0 (this_way.taken.1, this_way.taken.2, this_way.taken.3) all)
 same_sets {s} asked b position {m} {n} {ds = d ∷ ds} {es = c ∷ es} {f} {g} {r} {q} legal this_way that_way e =
-    let left : f ++ r ≡ bits_of_set s d ++ (this_way.lie.0 ++ (this_way.lie.1 ++ r)) = ap (λ v. v ++ r) this_way.lie.3
-    ∙ (append_assoc (bits_of_set s d) (this_way.lie.0 ++ this_way.lie.1) r ∙ ap (λ v. bits_of_set s d ++ v) (append_assoc this_way.lie.0 this_way.lie.1 r)) in
-    let right : g ++ q ≡ bits_of_set s c ++ (that_way.lie.0 ++ (that_way.lie.1 ++ q)) = ap (λ v. v ++ q) that_way.lie.3
-    ∙ (append_assoc (bits_of_set s c) (that_way.lie.0 ++ that_way.lie.1) q ∙ ap (λ v. bits_of_set s c ++ v) (append_assoc that_way.lie.0 that_way.lie.1 q)) in
+    let left : f ++ r ≡ bits_of_set s d ++ (this_way.lie.0 ++ (this_way.lie.1 ++ r)) = grind (arith, common_steps, append_assoc) in
+    let right : g ++ q ≡ bits_of_set s c ++ (that_way.lie.0 ++ (that_way.lie.1 ++ q)) = grind (arith, common_steps, append_assoc) in
     let one = forms_read_in_one_way b d c (this_way.lie.0 ++ (this_way.lie.1 ++ r)) (that_way.lie.0 ++ (that_way.lie.1 ++ q)) legal this_way.taken.1 that_way.taken.1 (sym left ∙ (e ∙ right)) in
     let same = one.0 in
     let two = bits_read this_way.lie.0 that_way.lie.0 (this_way.lie.1 ++ r) (that_way.lie.1 ++ q)
@@ -141,8 +129,7 @@ same_block {s} b p {xs = x ∷ xs} {ys = y ∷ ys} legal j h these those e =
       | inr f ↦ same_residual s i p legal.bits_from h these.legal.0 those.legal.0 (no_reference_at s b j f) one
     ] in
     let inside = λ (t : ℕ) (lt : t < length xs). (let z : i + 1 + t ≡ i + (1 + t) = omega arith in ap (λ v. is_reference_sample s v) z) ∙ inside_block s b (1 + t) (omega arith) (omega arith) in
-    let rest = same_residuals s (i + 1) x legal.bits_from these.legal.0 these.legal.1 those.legal.1 inside (others ∙ ap (λ v. residuals s (i + 1) v ys) (sym first)) in
-    λ t. first t ∷ rest t
+    grind (arith, common_steps, same_residuals)
 
 same_samples : {s : Parameters} (b : ℕ) (p : ℤ) (n : ℕ) {xs ys : List ℤ} → IsLegal s → 1 ≤ s.block → IsSample s p → AreSamples s (s.block * n) xs → AreSamples s (s.block * n) ys
     → blocks_from s b p n xs ≡ blocks_from s b p n ys → xs ≡ ys
@@ -199,5 +186,4 @@ decoded_is_one {s} legal {b} {position} {t} sample {asked} {p} {q} h k =
       legal = recursion_from_All (IsSample s) k.all k.legal;
       len = k.len ∙ ap (λ i. s.block * i) (sym count);
     }) (h.blocks ∙ (blocks ∙ (sym k.blocks ∙ ap (λ i. blocks_from s b t i k.all) (sym count)))) in
-    let front = ap length same.1 in
-    (h.asked_for ∙ (ap (λ v. cut_to s asked b v) all ∙ sym k.asked_for), ending.0, h.bits_used ∙ ((λ i. front i + ending.1 i) ∙ sym k.bits_used))
+    grind (arith, common_steps)

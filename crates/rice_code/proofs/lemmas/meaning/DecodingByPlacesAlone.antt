@@ -2,9 +2,8 @@
 use Rattle.std.proofs.Common.{◌≡◌, ℕ, ◌+◌, ◌*◌, ◌%◌, ◌≤◌, ◌==◌, Bool, cond, ◌&&◌, List, [], ◌∷◌, ◌++◌, length, refl, ap, arith, sym, ◌∙◌, subst, Option, None, ℤ}
 use Rattle.rice_code.proofs.Words.{IsSomeAnd, bits_to_byte, Parameters, IsLegal, place, blocks_left, blocks_from, CodedDataSet, NoCompression, SecondExtension, Split, ZeroBlocks, RemainderOfSegment}
 use Rattle.rice_code.proofs.Words.{bits_of_set, IsForm, IsReference, RunIsSound, blocks_in, blocks_in_all, block_after, Lies, DecodedFrom, Ending, Reached, Ended, CutOff, Past, Large, AreTaken}
-use Rattle.rice_code.proofs.Words.{EndsWith, IsWanted, common_steps}
-use Rattle.rice_code.proofs.lemmas.code.Layouts.{lies_at}
 use Rattle.rice_code.proofs.lemmas.code.BlocksByPlaceAlone.{place_on, same_reference, same_left, same_blocks_in, same_blocks}
+use Rattle.rice_code.proofs.{Words.EndsWith, Words.IsWanted, Words.common_steps, lemmas.code.Layouts.lies_at}
 
 -- after the same coded data set two blocks at the same place in their intervals are followed by such blocks
 pub next_place : (s : Parameters) (b c : ℕ) (d : CodedDataSet) → place s b ≡ place s c → place s (block_after s b d) ≡ place s (block_after s c d)

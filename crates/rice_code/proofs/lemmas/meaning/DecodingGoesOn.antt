@@ -1,8 +1,7 @@
 -- After a coded data set that is taken, decoding goes on.
-use Rattle.std.proofs.Common.{◌≡◌, ℕ, zero, suc, ◌+◌, ◌-◌, ◌*◌, Bool, List, [], ◌∷◌, ◌++◌, length, take, refl, ap, arith, sym, ◌∙◌, subst, append_assoc, length-append, Option, Some, None, ℤ}
+use Rattle.std.proofs.Common.{◌≡◌, ℕ, zero, suc, ◌+◌, ◌-◌, ◌*◌, Bool, List, [], ◌∷◌, ◌++◌, length, take, refl, ap, arith, ◌∙◌, subst, append_assoc, length-append, Option, Some, None, ℤ}
 use Rattle.rice_code.proofs.Words.{All-append, Parameters, IsLegal, IsSample, last_of, blocks_from, CodedDataSet, bits_of_set, blocks_in, blocks_in_all, block_after, padding, DecodedFrom, Ending}
-use Rattle.rice_code.proofs.Words.{EndsWith, cut_to, IsWantedSet, MakeBlocks, take-nil}
-use Rattle.rice_code.proofs.lemmas.code.RepeatedSamples.{blocks_append}
+use Rattle.rice_code.proofs.{Words.EndsWith, Words.cut_to, Words.IsWantedSet, Words.MakeBlocks, Words.take-nil, Words.common_steps, lemmas.code.RepeatedSamples.blocks_append}
 
 take_parts : (n : ℕ) (xs ys : List ℤ) → take n xs ++ take (n - length xs) ys ≡ take n (xs ++ ys)
 take_parts n [] ys = let e : n - 0 ≡ n = omega arith in ap (λ l. l ++ take (n - 0) ys) (take-nil n) ∙ ap (λ m. take m ys) e
@@ -17,8 +16,7 @@ cut_parts s (Some m) b n xs ys e = let f : m - s.block * (b + n) ≡ m - s.block
 -- Bits that are decoded after a wanted coded data set and its padding are decoded from this set on: its samples come first, and its bits are used too.
 pub decoding_goes_on : {s : Parameters} → IsLegal s
     → {b position : ℕ} {p : ℤ} (d : CodedDataSet) (skipped : List Bool) {rest : List Bool} {asked : Option ℕ} (xs : List ℤ) {ys : List ℤ} {ending : Ending} {used : ℕ} →
-    IsWantedSet s asked b d → length skipped ≡ padding s (block_after s b d) (position + length (bits_of_set s d)) →
-    MakeBlocks s b p d xs →
+    IsWantedSet s asked b d → length skipped ≡ padding s (block_after s b d) (position + length (bits_of_set s d)) → MakeBlocks s b p d xs →
     DecodedFrom s (block_after s b d) (position + length (bits_of_set s d ++ skipped)) (last_of p xs) rest asked ys ending used →
     DecodedFrom s b position p (bits_of_set s d ++ (skipped ++ rest)) asked (cut_to s asked b xs ++ ys) ending (length (bits_of_set s d ++ skipped) + used)
 decoding_goes_on {s} legal {b} {p} d skipped {rest} {asked} xs {ending} set len makes h =
@@ -29,15 +27,12 @@ decoding_goes_on {s} legal {b} {p} d skipped {rest} {asked} xs {ending} set len 
     let P : ℕ → Type 0 = λ i. EndsWith s asked i h.rest ending h.last in
     let place : next + length more ≡ b + length (blocks_in_all s b (d ∷ h.sets)) = omega arith in
     let front = bits_of_set s d ++ (skipped ++ h.front) in
-    let whole : bits_of_set s d ++ (skipped ++ rest) ≡ front ++ h.rest =
-    ap (λ v. bits_of_set s d ++ (skipped ++ v)) h.parts
-    ∙ (ap (λ v. bits_of_set s d ++ v) (sym (append_assoc skipped h.front h.rest)) ∙ sym (append_assoc (bits_of_set s d) (skipped ++ h.front) h.rest)) in
+    let whole : bits_of_set s d ++ (skipped ++ rest) ≡ front ++ h.rest = grind (arith, common_steps, append_assoc) in
     let l1 = length-append (bits_of_set s d) (skipped ++ h.front) in
     let l2 = length-append skipped h.front in
     let l3 = length-append (bits_of_set s d) skipped in
     let l4 = length-append xs h.all in
     let l5 = h.len in
-    let l6 = h.bits_used in
     record {
       sets = d ∷ h.sets;
       front = front;

@@ -1,13 +1,12 @@
 -- Bits begin with a form, or with none.
-use Rattle.std.proofs.Common.{◌≡◌, ℕ, zero, suc, ◌+◌, ◌-◌, ◌/◌, ◌^◌, ◌<◌, ◌≤◌, inl, inr, Bool, true, false, map}
-use Rattle.std.proofs.Common.{List, [], ◌∷◌, ◌++◌, length, refl, ap, arith, sym, ◌∙◌, subst, append_assoc, Option, Some, None}
+use Rattle.std.proofs.Common.{◌≡◌, ℕ, zero, suc, ◌+◌, ◌-◌, ◌/◌, ◌^◌, ◌<◌, ◌≤◌, inl, inr, Bool, true, false, map, List, [], ◌∷◌, ◌++◌, length, refl, ap, arith, sym, ◌∙◌, subst, append_assoc, Option}
+use Rattle.std.proofs.Common.{Some, None}
 use Rattle.rice_code.proofs.Words.{flat_map, AllByRecursion, nat_tests, cases_lt, length-map, All-from_recursion, recursion_from_All, flat_map-map, pow_pos, word_reads, sequence_reads, pieces_read}
 use Rattle.rice_code.proofs.Words.{bits_read, Piece, NoPiece, Search, word_piece, bits_piece, sequence_piece, search_pieces, two_pieces, length-word, followed_by, high-followed_by, word-followed_by}
 use Rattle.rice_code.proofs.Words.{Parameters, IsLegal, id_len, k_max, value_count, is_reference, pair_codes, unpaired, codes_of_unpaired, length-unpaired, count_pairs, word, fundamental_sequence}
 use Rattle.rice_code.proofs.Words.{BlockData, CodedDataSet, NoCompression, SecondExtension, Split, ZeroBlocks, RemainderOfSegment, bits_of_set, sent_residuals, sent_from, reference_bits, run_number}
-use Rattle.rice_code.proofs.Words.{IsForm, IsBlock, IsReference, IsZeroAtReference, common_steps}
-use Rattle.rice_code.proofs.lemmas.meaning.CoveredBlocks.{bool_cases}
 use Rattle.rice_code.proofs.lemmas.code.FormsReadInOneWay.{reference_reads, identifier, tail, text_is, identifier_fits, wide_id, same_below, same_all, even_block, All-coded}
+use Rattle.rice_code.proofs.{Words.IsForm, Words.IsBlock, Words.IsReference, Words.IsZeroAtReference, Words.common_steps, lemmas.meaning.CoveredBlocks.bool_cases}
 
 -- a reference
 reference_piece : (s : Parameters) (b : ℕ) (bits : List Bool) → Search (reference_bits s) (IsReference s b) bits
@@ -347,13 +346,7 @@ form_piece s b bits legal =
     elim (word_piece (id_len s) bits) [
       | inr miss ↦ inr (λ d more h e. miss (identifier s d) (tail s d ++ more) (identifier_fits s b d h) (after d more e))
       | inl p ↦ elim (tail_piece s b p.piece p.more legal p.fits) [
-        | inl q ↦ inl (record {
-          piece = q.piece;
-          more = q.more;
-          fits = q.fits.0;
-          begins = p.begins ∙ (ap (λ v. word (id_len s) p.piece ++ v) q.begins ∙ (sym (append_assoc (word (id_len s) p.piece) (tail s q.piece) q.more)
-              ∙ (ap (λ n. (word (id_len s) n ++ tail s q.piece) ++ q.more) (sym q.fits.1) ∙ ap (λ v. v ++ q.more) (sym (text_is s q.piece)))));
-        })
+        | inl q ↦ grind (arith, common_steps, append_assoc, text_is)
         | inr miss ↦ inr (λ d more h e.
             let a = word_reads (id_len s) p.piece (identifier s d) p.more (tail s d ++ more) (sym p.begins ∙ after d more e) in
             let same = same_below (2 ^ id_len s) p.piece (identifier s d) p.fits (identifier_fits s b d h) a.0 in

@@ -1,25 +1,19 @@
 -- Intervals stand alone: their code begins afresh, ends with a byte where intervals are padded, and is decoded by itself.
-use Rattle.std.proofs.Common.{◌≡◌, ℕ, zero, suc, ◌+◌, ◌-◌, ◌*◌, ◌/◌, ◌%◌, ◌<◌, ◌≤◌, ◌==◌, min, Bool, true, false, cond, ◌&&◌, List, [], ◌∷◌}
-use Rattle.std.proofs.Common.{◌++◌, length, take, drop, replicate, refl, ap, arith, sym, ◌∙◌, inl, inr, subst, append_assoc, append-nil, length-append, Some, None, ℤ, pos}
+use Rattle.std.proofs.Common.{◌≡◌, ℕ, zero, suc, ◌+◌, ◌-◌, ◌*◌, ◌/◌, ◌%◌, ◌<◌, ◌≤◌, ◌==◌, min, Bool, true, false, cond, ◌&&◌, List, [], ◌∷◌, ◌++◌, length, take, replicate, refl, ap, arith, sym, ◌∙◌}
+use Rattle.std.proofs.Common.{inl, inr, append_assoc, append-nil, length-append, Some, None, ℤ, pos}
 use Rattle.rice_code.proofs.Words.{div_ceil, length-replicate, drop_at, recursion_from_All, mul-div_cancel_left, mul-le-mul_left, mul-mod_right, mod-eq_of_lt, take-length, bits_of-append}
-use Rattle.rice_code.proofs.Words.{bits_of-padded, Parameters, IsLegal, IsSample, place, is_padded, is_reference, is_reference_sample, block_count, rank, pattern, residual, residuals, last_of}
-use Rattle.rice_code.proofs.Words.{filled_samples, zero_is_sample, bits_of, bits_to_byte, padded_bits, whole_bytes, AreIntervals, IntervalsBeginAfresh, IntervalsAreJoined, PaddedIntervalsAreJoined}
-use Rattle.rice_code.proofs.Words.{IntervalsAreDecodedAlone, DamageStaysInItsInterval, block_data, blocks_from, blocks_of, zero_block, data_sets, sets_of, sets_from, code, code_from, output}
-use Rattle.rice_code.proofs.Words.{CodedDataSet, bits_of_set, Decoded, Reached, blocks_in_all, block_after, padding, layout, common_steps}
-use Rattle.rice_code.proofs.lemmas.{code.BlocksByPlaceAlone.code_stands_in_intervals, code.SoundBlocks.blocks_sound_after, code.SoundBlocks.count_blocks, code.WholeBlocks.not_filled}
-use Rattle.rice_code.proofs.lemmas.{code.WholeBytes.whole-append, cost.PaddingBounds.are_blocks, cost.PaddingBounds.interval_begins_segment, meaning.CoveredBlocks.bool_cases}
-use Rattle.rice_code.proofs.lemmas.{meaning.CoveredBlocks.covers_blocks, meaning.SentSetsAreTaken.are_taken}
-use Rattle.rice_code.proofs.lemmas.code.CodeGoesOn.{code_goes_on, no_zeros_past_segment, own_blocks}
-use Rattle.rice_code.proofs.lemmas.code.Layouts.{ends_inside, laid_at, laid_plain, lies_inside, sent_first}
+use Rattle.rice_code.proofs.Words.{bits_of-padded, Parameters, IsLegal, IsSample, place, is_padded, block_count, last_of, filled_samples, zero_is_sample, bits_of, bits_to_byte, padded_bits}
+use Rattle.rice_code.proofs.Words.{whole_bytes, AreIntervals, IntervalsBeginAfresh, IntervalsAreJoined, PaddedIntervalsAreJoined, IntervalsAreDecodedAlone, DamageStaysInItsInterval, block_data}
+use Rattle.rice_code.proofs.Words.{blocks_from, blocks_of, zero_block, data_sets, sets_of, code, code_from, output, CodedDataSet, bits_of_set, blocks_in_all, block_after, padding, layout}
+use Rattle.rice_code.proofs.lemmas.code.{Layouts.ends_inside, Layouts.laid_at, Layouts.laid_plain, Layouts.lies_inside, Layouts.sent_first, SoundBlocks.blocks_sound_after, SoundBlocks.count_blocks}
+use Rattle.rice_code.proofs.lemmas.code.{CodeGoesOn.code_goes_on, CodeGoesOn.no_zeros_past_segment, CodeGoesOn.own_blocks, BlocksByPlaceAlone.code_stands_in_intervals, WholeBytes.whole-append}
+use Rattle.rice_code.proofs.lemmas.{cost.PaddingBounds.are_blocks, cost.PaddingBounds.interval_begins_segment, meaning.CoveredBlocks.bool_cases, meaning.CoveredBlocks.covers_blocks}
+use Rattle.rice_code.proofs.{lemmas.meaning.SentSetsAreTaken.are_taken, lemmas.code.WholeBlocks.not_filled, Words.common_steps}
 
 -- ---- an interval begins afresh
 
--- its first sample is a reference sample, or is coded as it is
-first_residual : (s : Parameters) (b : ℕ) (p q x : ℤ) → 1 ≤ s.block → place s b ≡ 0 → residual s (s.block * b) p x ≡ residual s (s.block * b) q x
-first_residual s b p q x j e = grind (arith, common_steps, bool_cases, mul-div_cancel_left, mul-mod_right)
-
 first_block : (s : Parameters) (b : ℕ) (p q x : ℤ) (ys : List ℤ) → 1 ≤ s.block → place s b ≡ 0 → block_data s b p (x ∷ ys) ≡ block_data s b q (x ∷ ys)
-first_block s b p q x ys j e = grind (arith, common_steps, first_residual)
+first_block s b p q x ys j e = grind (arith, common_steps, bool_cases, mul-div_cancel_left, mul-mod_right)
 
 -- where an interval begins, the blocks that samples make do not depend on the sample before them
 pub first_blocks : (s : Parameters) (b : ℕ) (p q : ℤ) (n : ℕ) (x : ℤ) (xs : List ℤ) → 1 ≤ s.block → place s b ≡ 0 → blocks_from s b p n (x ∷ xs) ≡ blocks_from s b q n (x ∷ xs)
@@ -70,8 +64,7 @@ laid_to_byte s end b position (d ∷ ds) pads reach whole =
         let next = block_after s b d in
         let end_is : min end next ≡ end = omega (arith, ends_inside s b d ds, reach, ap (λ l. length (blocks_in_all s next l)) none) in
         let count : padding s (min end next) bits ≡ bits_to_byte bits = ap (λ m. padding s m bits) end_is ∙ ap (λ v. cond v (bits_to_byte bits) 0) pads in
-        let size : position + length (sent_first s end b position d) ≡ bits + bits_to_byte bits = omega
-        (arith, length-append t (replicate (padding s (min end next) bits) false), length-replicate (padding s (min end next) bits) false, count) in
+        let size : position + length (sent_first s end b position d) ≡ bits + bits_to_byte bits = grind (arith, common_steps, length-append, length-replicate) in
         ap (λ n. n % 8) size ∙ to_byte bits
 
 -- What is known of the code of whole intervals: their blocks, and that no run goes past the last of them.
@@ -180,8 +173,4 @@ damage_stays s legal pads m n xs ys zs damaged h k same =
     let last = output s zs in
     let whole_code = padded_bits (code s xs) in
     let spelled : bits_of first ≡ code s xs = bits_of-padded (code s xs) ∙ not_padded (code s xs) (code_to_byte s xs pads (intervals_are_whole s legal m xs h)) in
-    let bits : bits_of ((first ++ damaged) ++ last) ≡ code s xs ++ (bits_of damaged ++ bits_of last) =
-    bits_of-append (first ++ damaged) last ∙ (ap (λ l. l ++ bits_of last) (bits_of-append first damaged ∙ ap (λ l. l ++ bits_of damaged) spelled)
-    ∙ append_assoc (code s xs) (bits_of damaged) (bits_of last)) in
-    let decoded = intervals_are_decoded_alone s legal m xs (bits_of damaged ++ bits_of last) h in
-    grind (arith, common_steps, padded_intervals_are_joined, length-append, drop_at)
+    grind (arith, common_steps, common_steps, bits_of-append, append_assoc, intervals_are_decoded_alone, padded_intervals_are_joined, length-append, drop_at)

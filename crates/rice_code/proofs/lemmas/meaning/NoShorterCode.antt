@@ -53,7 +53,6 @@ blocks_begin s b (suc (suc m)) (suc count) {k} p xs ys filled =
     let rest = drop s.block xs in
     let last = last_after p s.block xs in
     let own = ap (λ v. blocks_from s b p (suc (suc m)) (xs ++ replicate k v)) (sym last) ∙ first_block s b (suc m) p xs (replicate k (last_of next rest)) whole in
-    let other = first_block s b count p xs ys whole in
     let ih = blocks_begin s (b + 1) (suc m) count next rest ys (record {
       block = filled.block;
       least = filled.least;
@@ -61,9 +60,7 @@ blocks_begin s b (suc (suc m)) (suc count) {k} p xs ys filled =
       first = omega (arith, filled.first, length-drop s.block xs, whole);
       all = omega (arith, filled.all, length-drop s.block xs, whole);
     }) in
-    let same : IsAtMost (block_data s b p (take s.block xs)) (block_data s b p (take s.block xs)) =
-    record { reference = refl; residuals = at_most_itself (residuals s (s.block * b) p (take s.block xs)) } in
-    grind (arith, common_steps)
+    grind (arith, common_steps, common_steps, at_most_itself)
 
 -- ---- and so has their code
 

@@ -1,15 +1,14 @@
 -- The output decodes to its samples, and without their number to less than a segment more.
-use Rattle.std.proofs.Common.{◌≡◌, ℕ, zero, suc, ◌+◌, ◌-◌, ◌*◌, ◌/◌, ◌%◌, ◌<◌, ◌≤◌, ◌==◌, Bool, true, false, List, ◌++◌, length}
-use Rattle.std.proofs.Common.{take, replicate, refl, ap, arith, sym, ◌∙◌, inl, inr, append_assoc, append-nil, length-append, subst, Option, Some, None, ℤ, pos}
+use Rattle.std.proofs.Common.{◌≡◌, ℕ, zero, suc, ◌+◌, ◌-◌, ◌*◌, ◌%◌, ◌<◌, ◌≤◌, ◌==◌, Bool, true, false, List, ◌++◌, length, take, replicate, refl, ap, arith, sym, ◌∙◌, inl, inr, append_assoc}
+use Rattle.std.proofs.Common.{append-nil, length-append, subst, Option, Some, None, ℤ, pos}
 use Rattle.rice_code.proofs.Words.{All, div_ceil, next_multiple_of, cases_lt, length-replicate, replicate-append-replicate, recursion_from_All, All-from_recursion, All-replicate, eqb-true}
 use Rattle.rice_code.proofs.Words.{div-add-mod, mod-lt, mul-le-mul_left, take-append_seam, bits_of-padded, Parameters, IsLegal, IsSample, place, is_padded, block_count, last_of, filled_samples}
 use Rattle.rice_code.proofs.Words.{zero_is_sample, bits_to_byte, padded_bits, whole_bytes, bits_of, blocks_from, blocks_of, zero_block, CodedDataSet, Lies, blocks_in_all, sets_of, code, output}
-use Rattle.rice_code.proofs.Words.{Decoded, Ending, Reached, Ended, IsWanted, EndsWith, cut_to, common_steps}
-use Rattle.rice_code.proofs.lemmas.meaning.CoveredBlocks.{bool_cases, and-split, GoOn, covers_blocks}
-use Rattle.rice_code.proofs.lemmas.{code.Layouts.lies_laid, code.Layouts.lies_inside, meaning.SentSetsAreTaken.are_taken}
-use Rattle.rice_code.proofs.lemmas.cost.PaddingBounds.{are_blocks, interval_begins_segment, sets_begin}
 use Rattle.rice_code.proofs.lemmas.code.SoundBlocks.{all_append, all_replicate, last_legal, count_blocks, filled_len, blocks_sound_after}
-use Rattle.rice_code.proofs.lemmas.code.RepeatedSamples.{blocks_append, repeated_blocks, last_repeats}
+use Rattle.rice_code.proofs.Words.{Decoded, Ending, Reached, Ended, IsWanted, EndsWith, cut_to, common_steps}
+use Rattle.rice_code.proofs.lemmas.cost.PaddingBounds.{are_blocks, interval_begins_segment, sets_begin}
+use Rattle.rice_code.proofs.lemmas.code.{RepeatedSamples.blocks_append, RepeatedSamples.repeated_blocks, RepeatedSamples.last_repeats, Layouts.lies_laid, Layouts.lies_inside}
+use Rattle.rice_code.proofs.lemmas.meaning.{CoveredBlocks.bool_cases, CoveredBlocks.and-split, CoveredBlocks.GoOn, CoveredBlocks.covers_blocks, SentSetsAreTaken.are_taken}
 
 -- What the output of samples decodes to, whether their number is known or not.
 pub record Returned (s : Parameters) (xs : List ℤ) : Type 0 where
@@ -65,17 +64,10 @@ samples_are_returned s legal xs k =
         let back_len = length-replicate (j * fill) end in
         let whole : length base ≡ j * n = filled_len s (pos 0) xs jay in
         let blocks : length cs ≡ n = count_blocks s 0 (pos 0) n base in
-        let found : length (blocks_in_all s 0 sets) ≡ n + fill =
-        ap length cover.blocks ∙ (length-append cs (replicate fill (zero_block s None)) ∙ (λ i. blocks i + length-replicate fill (zero_block s None) i)) in
+        let found : length (blocks_in_all s 0 sets) ≡ n + fill = grind (arith, common_steps, length-append, zero_block, length-replicate) in
         let base_legal = all_append (IsSample s) xs front samples (all_replicate (IsSample s) _ (last_of (pos 0) xs) (last_legal s (pos 0) xs zero samples)) in
         let all_legal = all_append (IsSample s) base back base_legal (all_replicate (IsSample s) (j * fill) end (last_legal s (pos 0) base zero base_legal)) in
-        let after : blocks_from s (0 + n) end fill back ≡ replicate fill (zero_block s None) =
-        elim (cases_lt 0 fill) [
-          | inl some ↦
-              let P : ℕ → Type 0 = λ m. GoOn s (0 + m) fill in
-              repeated_blocks s (0 + n) end fill (subst P blocks cover.inside) (last_repeats s 0 (pos 0) n base jay whole (cover.last some))
-          | inr none ↦ let e : fill ≡ 0 = omega arith in ap (λ f. blocks_from s (0 + n) end f (replicate (j * f) end)) e ∙ sym (ap (λ f. replicate f (zero_block s None)) e)
-        ] in
+        let after : blocks_from s (0 + n) end fill back ≡ replicate fill (zero_block s None) = grind (arith, common_steps, cases_lt, repeated_blocks, last_repeats, zero_block) in
         let made = ap (λ m. blocks_from s 0 (pos 0) m (base ++ back)) found ∙ (blocks_append s 0 (pos 0) n fill base back whole ∙ (ap (λ v. cs ++ v) after ∙ sym cover.blocks)) in
         let len = whole_len (length base) (length back) (length (base ++ back)) n fill j _ (length-append base back) whole back_len found in
         let base_len = length-append xs front in

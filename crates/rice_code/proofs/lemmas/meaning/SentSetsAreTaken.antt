@@ -1,12 +1,11 @@
 -- The coded data sets that a coder sends are ones that a decoder takes.
-use Rattle.std.proofs.Common.{◌≡◌, ℕ, suc, ◌+◌, ◌-◌, ◌*◌, ◌<◌, ◌≤◌, ◌==◌, Bool, true, false, cond, not, ◌&&◌, ◌||◌, nat_le}
-use Rattle.std.proofs.Common.{nat_lt, map, List, [], ◌∷◌, length, ap, arith, sym, ◌∙◌, inl, inr, subst, Option, Some, None}
-use Rattle.rice_code.proofs.Words.{range_with_len, AllByRecursion, nat_tests, cases_lt, length-replicate, mul-le-mul_left, Parameters, k_max, begins_segment, blocks_left, some_left, BlockData}
-use Rattle.rice_code.proofs.Words.{is_zero_block, zero_block, CodedDataSet, NoCompression, Split, ZeroBlocks, RemainderOfSegment, cost, IsForm, IsReference, RunIsSound, ResidualsAreSound, blocks_in}
-use Rattle.rice_code.proofs.Words.{zero_blocks, block_after, shortest, other_options, data_sets, zero_run, run_len, IsWanted, AreTaken, IsSoundBlock, AreSoundBlocks, common_steps}
-use Rattle.rice_code.proofs.lemmas.{code.Layouts.BeginBefore, cost.BlockBounds.shortest_is_form}
-use Rattle.rice_code.proofs.lemmas.meaning.CoveredBlocks.{bool_cases, skipped, data_sets_plain, data_sets_start, data_sets_inside, skipped_plain, skipped_go}
-use Rattle.rice_code.proofs.lemmas.meaning.CoveredBlocks.{skipped_stop, zero_run_is, best_keeps, run_cons, run_inside, shortest_covers, nothing_more}
+use Rattle.std.proofs.Common.{◌≡◌, ℕ, suc, ◌+◌, ◌-◌, ◌*◌, ◌<◌, ◌≤◌, Bool, true, false, not, ◌&&◌, nat_le, nat_lt, map, List, [], ◌∷◌, length, ap, arith, sym, ◌∙◌, inl, inr, subst, Option, Some, None}
+use Rattle.rice_code.proofs.Words.{range_with_len, AllByRecursion, cases_lt, length-replicate, mul-le-mul_left, Parameters, k_max, begins_segment, some_left, BlockData, is_zero_block, zero_block}
+use Rattle.rice_code.proofs.Words.{CodedDataSet, NoCompression, Split, cost, IsForm, IsReference, RunIsSound, ResidualsAreSound, blocks_in, zero_blocks, block_after, shortest, other_options}
+use Rattle.rice_code.proofs.lemmas.meaning.CoveredBlocks.{bool_cases, skipped, data_sets_plain, data_sets_start, data_sets_inside, skipped_plain, skipped_go, skipped_stop, zero_run_is, best_keeps}
+use Rattle.rice_code.proofs.Words.{data_sets, zero_run, run_len, IsWanted, AreTaken, IsSoundBlock, AreSoundBlocks, common_steps}
+use Rattle.rice_code.proofs.lemmas.meaning.CoveredBlocks.{run_cons, run_inside, shortest_covers, nothing_more}
+use Rattle.rice_code.proofs.lemmas.{cost.BlockBounds.shortest_is_form, code.Layouts.BeginBefore}
 
 -- a form that is sound
 abbrev pub IsSound : Parameters → ℕ → CodedDataSet → Type 0
@@ -22,14 +21,9 @@ shortest_is_sound s b c h =
     splits [] = tt
     splits (k ∷ ks) = ((tt, h.fit), splits ks)
 
--- a run that is numbered has no more than 63 blocks
-numbered_is_short : (z left len : ℕ) → z ≤ left → left ≤ 64 → (nat_le 5 z && (z == left || z == len)) ≡ false → z ≤ 63
-numbered_is_short z left len h k e =
-    elim (cases_lt z left) [ inl lt ↦ omega arith | inr le ↦ elim (cases_lt z 64) [ inl lt ↦ omega arith | inr ge ↦ absurd (grind (arith, nat_tests)) ] ]
-
 -- what is sent for a run of at least one zero block is a sound form
 pub zero_run_is_sound : (s : Parameters) (b w : ℕ) (r : Option ℕ) (cs : List BlockData) → 1 ≤ s.interval → IsReference s b r → run_len s b cs ≡ suc w → IsSound s b (zero_run s b r cs)
-zero_run_is_sound s b w r cs h k e = grind (arith, common_steps, bool_cases, nat_le, run_inside, numbered_is_short, some_left)
+zero_run_is_sound s b w r cs h k e = grind (arith, common_steps, bool_cases, nat_le, run_inside, some_left)
 
 count_zeros : (s : Parameters) (r : Option ℕ) (z w : ℕ) → z ≡ suc w → length (zero_blocks s r z) ≡ suc w
 count_zeros s r z w e = omega (arith, length-replicate (z - 1) (zero_block s None))
@@ -74,12 +68,7 @@ are_taken s asked b after (c ∷ cs) h k go =
                 at (d ∷ rest) (skipped_stop s b after (c ∷ cs) stop) (data_sets_start s b after c cs z stop)
                 (elim (zero_run_is s b c.reference (c ∷ cs)) [
                   | inl e ↦ take_one s asked b d rest here sound (ap (λ d. length (blocks_in s b d)) e ∙ count_zeros s c.reference (run_len s b (c ∷ cs)) j len) ih
-                  | inr e ↦ elim e.1 [
-                    | inl full ↦ take_one s asked b d rest here sound (ap (λ d. length (blocks_in s b d)) e.0 ∙ count_zeros s c.reference (blocks_left s b) j (sym full ∙ len)) ih
-                    | inr all ↦
-                        let R : List CodedDataSet → Type 0 = λ ds. AreTaken s asked (block_after s b d) ds in
-                        (here, sound.0, sound.1, sound.2, subst R (sym (nothing_more s (b + 1) cs h (omega arith))) tt)
-                  ]
+                  | inr e ↦ grind (arith, common_steps, count_zeros, nothing_more)
                 ])
           ]
     ]
@@ -91,6 +80,5 @@ are_taken s asked b after (c ∷ cs) h k go =
 pub begin_before : (s : Parameters) (end b : ℕ) (ds : List CodedDataSet) → AreTaken s (Some (s.block * end)) b ds → BeginBefore s end b ds
 begin_before s end b [] h = tt
 begin_before s end b (d ∷ ds) h =
-    let lt : s.block * b < s.block * end = h.0 in
     let before : b < end = elim (cases_lt b end) [ inl l ↦ l | inr le ↦ let m : s.block * end ≤ s.block * b = mul-le-mul_left s.block le in absurd (omega arith) ] in
     (before, begin_before s end (block_after s b d) ds h.4)

@@ -1,6 +1,5 @@
 use Rattle.std.proofs.Common.{◌++◌, false, replicate}
-use Rattle.rice_code.proofs.Words.{takes-append, stops-append, err_from_is_err_and, reference_bits}
-use Rattle.rice_code.proofs.lemmas.decode.OptionsRead.{run_cut, run_cut_at_reference}
+use Rattle.rice_code.proofs.{Words.takes-append, Words.stops-append, Words.err_from_is_err_and, Words.reference_bits, lemmas.decode.OptionsRead.run_cut, lemmas.decode.OptionsRead.run_cut_at_reference}
 use Rattle.rice_code.proofs.decode.options.read_run.Goals as goal
 
 pub returns-in_err-reference-clause-err : goal.returns-in_err-reference-clause-err

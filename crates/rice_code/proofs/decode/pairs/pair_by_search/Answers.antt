@@ -3,16 +3,10 @@ use Rattle.rice_samples.proofs.lemmas.blocks.PairNumbers.{triangle_none, triangl
 use Rattle.rice_code.proofs.decode.pairs.pair_by_search.Goals as goal
 
 pub loop-sum-init : goal.loop-sum-init
-loop-sum-init c = let e = triangle_none in record {
-  parts = omega arith;
-  below = omega arith;
-}
+loop-sum-init c = let e = triangle_none in record { parts = omega arith; below = omega arith }
 
 pub loop-sum-preserved : goal.loop-sum-preserved
-loop-sum-preserved c = let e = triangle-more c.loop-sum.sum in record {
-  parts = omega arith;
-  below = omega arith;
-}
+loop-sum-preserved c = let e = triangle-more c.loop-sum.sum in record { parts = omega arith; below = omega arith }
 
 pub overflow_cast-result : goal.overflow_cast-result
 overflow_cast-result c = let small : c.loop-sum.sum < 2 ^ 32 = triangle_small c.loop-sum.sum (omega arith) in omega arith

@@ -1,7 +1,6 @@
 use Rattle.std.proofs.Common.{arith, rules, ◌≡◌, ap, ◌∙◌, w64, to_z, length, take}
-use Rattle.rice_code.proofs.Words.{to_z-of_z, take-length}
+use Rattle.rice_code.proofs.{lemmas.decode.SamplesRestored.restored-none, lemmas.decode.SamplesRestored.restored-more, lemmas.decode.RestoredBlocks.contents_are, Words.to_z-of_z, Words.take-length}
 use mir.Val.{SFits}
-use Rattle.rice_code.proofs.lemmas.{decode.RestoredBlocks.contents_are, decode.SamplesRestored.restored-none, decode.SamplesRestored.restored-more}
 use Rattle.rice_code.proofs.decode.restoring.restore_block.Goals as goal
 
 pub loop-i-init : goal.loop-i-init

@@ -1,6 +1,5 @@
 use Rattle.std.proofs.Common.{◌≡◌, ◌<◌, arith, take, subst}
-use Rattle.rice_code.proofs.Words.{All, true_from_ne_false, take_all}
-use Rattle.rice_code.proofs.lemmas.decode.JoinedResiduals.{below-more}
+use Rattle.rice_code.proofs.{lemmas.decode.JoinedResiduals.below-more, Words.All, Words.true_from_ne_false, Words.take_all}
 use Rattle.rice_code.proofs.decode.sound_residuals.are_below.Goals as goal
 
 pub loop-i-preserved : goal.loop-i-preserved

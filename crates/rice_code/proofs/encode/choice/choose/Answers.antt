@@ -1,8 +1,6 @@
 use Rattle.std.proofs.Common.{arith, ℕ, ◌≡◌, ◌+◌, ◌*◌, ◌/◌, ◌≤◌, ◌∙◌, ap, min}
-use Rattle.rice_code.proofs.Words.{mul-le-mul_left, k_max}
-use Rattle.rice_code.proofs.lemmas.cost.PairsAreLonger.{pairs_are_longer}
+use Rattle.rice_code.proofs.{encode.choice.choose.Goals.then-k-gt0+then-k-k_max, encode.choice.choose.Goals.else-k-gt0, lemmas.cost.PairsAreLonger.pairs_are_longer, Words.mul-le-mul_left, Words.k_max}
 use Rattle.rice_code.proofs.encode.choice.choose.Goals as goal
-use Rattle.rice_code.proofs.encode.choice.choose.Goals.{then-k-gt0+then-k-k_max, else-k-gt0}
 
 -- the looks of a search that stops at k
 looks_within : (j k m : ℕ) → j * (min (k + 1) m + 1) ≤ j * (k + 2)

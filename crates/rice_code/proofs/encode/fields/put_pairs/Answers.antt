@@ -1,6 +1,5 @@
-use Rattle.rice_code.proofs.Words.{common_steps, sum_by}
 use Rattle.std.proofs.Common.{arith, ◌+◌, ap}
-use Rattle.rice_code.proofs.lemmas.encode.OptionTexts.{pairs_left}
+use Rattle.rice_code.proofs.{lemmas.encode.OptionTexts.pairs_left, Words.common_steps, Words.sum_by}
 use Rattle.rice_code.proofs.encode.fields.put_pairs.Goals as goal
 
 pub at-a-requires-clause-meter : goal.at-a-requires-clause-meter
@@ -10,8 +9,4 @@ pub loop-i-preserved : goal.loop-i-preserved
 loop-i-preserved c =
     let e = pairs_left c.loop-i.i c.args.block.now (omega arith) in
     let f = ap (sum_by (λ g. g + 1)) e in
-    record {
-      same = grind (arith, common_steps, e);
-      len = grind (arith, common_steps, f);
-      steps = grind (arith, common_steps, f);
-    }
+    record { same = grind (arith, common_steps, e); len = grind (arith, common_steps, f); steps = grind (arith, common_steps, f) }

@@ -17,10 +17,7 @@ put_low-requires-clause-room c =
     let bits = ap (λ n. (length c.residuals-residuals.result.now - c.first_coded-from.result) * n) c.bits-bits.ensures.value in
     let len = ap length c.residuals-residuals.ensures in
     let ref = ap (reference_len s) c.reference.ensures in
-    record {
-      room = omega (arith, all, sent.count, sent.digits, bits, len, ref);
-      steps = omega (arith, all, sent.count, sent.digits, bits, len, ref);
-    }
+    record { room = omega (arith, all, sent.count, sent.digits, bits, len, ref); steps = omega (arith, all, sent.count, sent.digits, bits, len, ref) }
 
 pub returns : goal.returns
 returns c =

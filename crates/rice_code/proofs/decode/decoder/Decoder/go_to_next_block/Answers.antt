@@ -1,6 +1,5 @@
 use Rattle.std.proofs.Common.{arith, w64}
-use Rattle.rice_code.proofs.Words.{common_steps, to_z-of_z}
-use Rattle.rice_code.proofs.lemmas.decode.DecoderLemmas.{place_moves}
+use Rattle.rice_code.proofs.{lemmas.decode.DecoderLemmas.place_moves, Words.common_steps, Words.to_z-of_z}
 use Rattle.rice_code.proofs.decode.decoder.Decoder.go_to_next_block.Goals as goal
 
 pub invariant_of-self : goal.invariant_of-self

@@ -1,7 +1,6 @@
 use Rattle.std.proofs.Common.{◌∙◌, [], ap, inl, subst, sym}
+use Rattle.rice_code.proofs.lemmas.encode.{PushedCode.finish_sound, PushedCode.finish_adds, PushedCode.none_taken, PushedSamples.filled_has_steps}
 use Rattle.rice_code.proofs.Words.{IsCoder, HasTaken, CoderState, empty_state}
-use Rattle.rice_code.proofs.lemmas.encode.PushedCode.{finish_sound, finish_adds, none_taken}
-use Rattle.rice_code.proofs.lemmas.encode.PushedSamples.{filled_has_steps}
 use Rattle.rice_code.proofs.encode.coder.Coder.finish_counted.Goals as goal
 
 pub code-bits-requires : goal.code-bits-requires

@@ -1,6 +1,5 @@
-use Rattle.rice_code.proofs.Words.{common_steps, IsCoder, HasTaken, CoderState}
 use Rattle.std.proofs.Common.{arith, [], subst, sym}
-use Rattle.rice_code.proofs.lemmas.encode.PushedCode.{none_taken}
+use Rattle.rice_code.proofs.{Words.common_steps, Words.IsCoder, Words.HasTaken, Words.CoderState, lemmas.encode.PushedCode.none_taken}
 use Rattle.rice_code.proofs.encode.coder.Coder.new.Goals as goal
 
 pub invariant_of-result : goal.invariant_of-result

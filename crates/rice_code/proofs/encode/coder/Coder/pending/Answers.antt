@@ -1,6 +1,5 @@
 use Rattle.std.proofs.Common.{◌≡◌, ◌<◌, arith, length, ◌+◌, ◌*◌, subst, ℤ, List}
-use Rattle.rice_code.proofs.Words.{cut, HasTaken, CoderState}
-use Rattle.rice_code.proofs.lemmas.encode.PushedCode.{pending_are, few_pending}
+use Rattle.rice_code.proofs.{lemmas.encode.PushedCode.pending_are, lemmas.encode.PushedCode.few_pending, Words.cut, Words.HasTaken, Words.CoderState}
 use Rattle.rice_code.proofs.encode.coder.Coder.pending.Goals as goal
 
 pub returns-clause-value : goal.returns-clause-value

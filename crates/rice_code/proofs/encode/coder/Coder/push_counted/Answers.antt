@@ -1,7 +1,6 @@
 use Rattle.std.proofs.Common.{rules, inl, subst, sym, w64}
-use Rattle.rice_code.proofs.Words.{to_z-of_z, IsSample, CoderState}
-use Rattle.rice_code.proofs.lemmas.encode.PushedCode.{short_of}
 use Rattle.rice_code.proofs.lemmas.encode.PushedSamples.{holds_one, whole_is_sound, whole_has_steps, whole_pushes, open_pushes, is_coder_after}
+use Rattle.rice_code.proofs.{Words.to_z-of_z, Words.IsSample, Words.CoderState, lemmas.encode.PushedCode.short_of}
 use Rattle.rice_code.proofs.encode.coder.Coder.push_counted.Goals as goal
 
 pub hold-requires : goal.hold-requires

@@ -1,6 +1,5 @@
 use Rattle.std.proofs.Common.{ℤ, ◌*◌, ◌∙◌, ap, rules, subst, sym, w64}
-use Rattle.rice_code.proofs.Words.{to_z-of_z, blocks_left, IsCoder, IsOpen, state_between}
-use Rattle.rice_code.proofs.lemmas.encode.PushedCode.{open_between}
+use Rattle.rice_code.proofs.{Words.to_z-of_z, Words.blocks_left, Words.IsCoder, Words.IsOpen, Words.state_between, lemmas.encode.PushedCode.open_between}
 use Rattle.rice_code.proofs.encode.coder.Coder.resume.Goals as goal
 
 pub resume-requires : goal.resume-requires

@@ -1,6 +1,5 @@
 use Rattle.std.proofs.Common.{List, ℕ, subst, sym, None, pos}
-use Rattle.rice_code.specs.encode.OpenSegment.{IsOpen}
-use Rattle.rice_code.proofs.lemmas.encode.OpenSegments.{first_is_open}
+use Rattle.rice_code.{proofs.lemmas.encode.OpenSegments.first_is_open, specs.encode.OpenSegment.IsOpen}
 use Rattle.rice_code.proofs.encode.open_segment.OpenSegment.begin_first.Goals as goal
 
 pub invariant_of-self : goal.invariant_of-self

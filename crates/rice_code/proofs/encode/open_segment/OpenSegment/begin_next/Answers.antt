@@ -1,6 +1,5 @@
 use Rattle.std.proofs.Common.{ℕ, List, ◌∙◌, ◌*◌, ap, sym, subst, None}
-use Rattle.rice_code.proofs.Words.{blocks_left, CoderState, IsOpen}
-use Rattle.rice_code.proofs.lemmas.encode.OpenSegments.{next_is_open}
+use Rattle.rice_code.proofs.{lemmas.encode.OpenSegments.next_is_open, Words.blocks_left, Words.CoderState, Words.IsOpen}
 use Rattle.rice_code.proofs.encode.open_segment.OpenSegment.begin_next.Goals as goal
 
 pub invariant_of-self : goal.invariant_of-self

@@ -1,6 +1,5 @@
 use Rattle.std.proofs.Common.{arith, ◌≡◌, ◌+◌, ◌-◌, ◌%◌, ◌∙◌, ap, length, refl, length-append}
-use Rattle.rice_code.proofs.Words.{length-replicate, blocks_left}
-use Rattle.rice_code.proofs.lemmas.encode.OpenSegments.{fill_room, holds_any}
+use Rattle.rice_code.proofs.{lemmas.encode.OpenSegments.fill_room, lemmas.encode.OpenSegments.holds_any, Words.length-replicate, Words.blocks_left}
 use Rattle.rice_code.proofs.encode.open_segment.OpenSegment.fill.Goals as goal
 
 pub push_copies-requires : goal.push_copies-requires
