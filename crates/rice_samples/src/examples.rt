@@ -1,11 +1,8 @@
 //! Worked examples of the definitions, which the check computes.
 ghost use Rattle.std.specs.Prelude.{◌≡◌, ◌≢◌, [], ◌∷◌, ℤ, pos, negsuc, true, false};
+ghost use Rattle.rice_samples.specs.{Examples.defaults, Examples.signed_defaults, Examples.unprocessed_defaults, Examples.one_bit_defaults, bytes.Spelling.spelling, blocks.Pairs.pair_code};
+ghost use Rattle.rice_samples.specs.{Places.segment_blocks, Places.blocks_left, Places.is_reference, Places.cut, predict.Residuals.rank, predict.Residuals.pattern, predict.Residuals.residual_list};
 ghost use Rattle.rice_samples.specs.Parameters.{IsSample, id_len, k_max, width};
-ghost use Rattle.rice_samples.specs.Places.{segment_blocks, blocks_left, is_reference, cut};
-ghost use Rattle.rice_samples.specs.predict.Residuals.{rank, pattern, residual_list};
-ghost use Rattle.rice_samples.specs.blocks.Pairs.{pair_code};
-ghost use Rattle.rice_samples.specs.bytes.Spelling.{spelling};
-ghost use Rattle.rice_samples.specs.Examples.{defaults, signed_defaults, unprocessed_defaults, one_bit_defaults};
 
 /// Identifiers have 3, 4 or 5 bits.
 pub fn identifiers()

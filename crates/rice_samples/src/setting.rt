@@ -1,11 +1,8 @@
 //! The setting of a coder and a decoder.
 ghost use Rattle.std.specs.Prelude.{◌≡◌, ◌+◌, ◌-◌, if◌then◌else◌, ◌*◌, ◌%◌, ◌^◌, ◌<◌, ◌≤◌, ◌↔◌, IsTrue, IsOk, IfErr};
-ghost use Rattle.rice_samples.specs.Limits.{longest_interval};
-ghost use Rattle.rice_samples.specs.Parameters.{Parameters, IsLegal, IsSample, id_len, k_max, width, value_at as value_at_level, value_count, least, level, level as level_of};
-ghost use Rattle.rice_samples.specs.Places.{segment_blocks, blocks_left, is_reference};
-ghost use Rattle.rice_samples.specs.Parameters.{IsBlockSize, IsStandardSize};
-ghost use Rattle.rice_samples.specs.Settings.{parameters, setting_of, any_setting_of, IsRefused, IsRefusedOfAny};
-ghost use Rattle.rice_samples.specs.bytes.ValueRange.{offset};
+ghost use Rattle.rice_samples.specs.Parameters.{Parameters, IsLegal, IsSample, id_len, k_max, width, value_at as value_at_level, value_count, least, level, level as level_of, IsBlockSize};
+ghost use Rattle.rice_samples.specs.{Settings.parameters, Settings.setting_of, Settings.any_setting_of, Settings.IsRefused, Settings.IsRefusedOfAny, Parameters.IsStandardSize};
+ghost use Rattle.rice_samples.specs.{Places.segment_blocks, Places.blocks_left, Places.is_reference, Limits.longest_interval, bytes.ValueRange.offset};
 
 use std::marker::Model;
 use thiserror::Error;
@@ -45,9 +42,7 @@ pub struct Setting {
 
 impl Model for Setting {
     ghost use Rattle.std.specs.Prelude.{◌-◌};
-    ghost use Rattle.rice_samples.specs.Parameters.{Parameters, IsLegal, value_count};
-    ghost use Rattle.rice_samples.specs.Settings.{parameters, HasLevels};
-    ghost use Rattle.rice_samples.specs.bytes.ValueRange.{offset as offset_of};
+    ghost use Rattle.rice_samples.specs.{Parameters.Parameters, Parameters.IsLegal, Parameters.value_count, bytes.ValueRange.offset as offset_of, Settings.parameters, Settings.HasLevels};
 
     ghost Value = { Parameters };
 

@@ -1,7 +1,6 @@
 //! Eight bytes at a time.
 ghost use Rattle.std.specs.Prelude.{All, false, ◌≡◌, ℕ, ◌+◌, ◌-◌, ◌*◌, ◌/◌, ◌%◌, ◌^◌, ◌<◌, ◌≤◌, ◌∷◌, ◌++◌, bit_or, drop, length, min, replicate, set, take};
-ghost use Rattle.std.specs.Int.{to_be_bytes, to_le_bytes, w64};
-ghost use Rattle.std.specs.List.{slice_index};
+ghost use Rattle.std.specs.{Int.to_be_bytes, Int.to_le_bytes, Int.w64, List.slice_index};
 ghost use Rattle.rice_bits.specs.Bits.{bits_of, word};
 
 use crate::bits::digits::digits_after;

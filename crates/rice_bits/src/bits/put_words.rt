@@ -1,8 +1,6 @@
 //! A call of a sink: many words at a time.
 ghost use Rattle.std.specs.Prelude.{◌≡◌, ◌+◌, ◌*◌, ◌%◌, ◌^◌, ◌<◌, ◌≤◌, ◌++◌, length, flat_map};
-ghost use Rattle.rice_bits.specs.Limits.{step_limit};
-ghost use Rattle.rice_bits.specs.Bits.{word, IsBitSink, Joins, Puts};
-ghost use Rattle.rice_bits.specs.WholeWords.{IsWholeWidth};
+ghost use Rattle.rice_bits.specs.{Bits.word, Bits.IsBitSink, Bits.Joins, Bits.Puts, WholeWords.IsWholeWidth, Limits.step_limit};
 
 use crate::Meter;
 use crate::bits::sink::{BitSink, join_digits_in_memory};

@@ -1,8 +1,7 @@
 //! An outlet over a `BufWriter` of `std`.
 ghost use Rattle.std.specs.Prelude.{◌≡◌, ◌+◌, ◌^◌, ◌<◌, ◌≤◌, length, take, IfOk, OnErr};
 ghost use Rattle.std.specs.Io.Buffered.{writer_contents};
-ghost use Rattle.rice_bits.specs.device.Failures.{CountsFailure};
-ghost use Rattle.rice_bits.specs.device.OutletRoom.{Appends, Keeps, known};
+ghost use Rattle.rice_bits.specs.device.{OutletRoom.Appends, OutletRoom.Keeps, OutletRoom.known, Failures.CountsFailure};
 
 use crate::device::{Outlet, WriteFault};
 use std::io::{BufWriter, Write};

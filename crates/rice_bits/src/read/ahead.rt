@@ -1,7 +1,6 @@
 //! Calls of a reader that look at buffered bits, and take them without a call of the intake.
 ghost use Rattle.std.specs.Prelude.{◌≡◌, ◌+◌, ◌<◌, ◌≤◌, None, drop, length, take};
-ghost use Rattle.rice_bits.specs.Limits.{step_limit, most_bits_read};
-ghost use Rattle.rice_bits.specs.read.Ahead.{AreBitsFrom};
+ghost use Rattle.rice_bits.specs.{Limits.step_limit, Limits.most_bits_read, read.Ahead.AreBitsFrom};
 
 use crate::device::Intake;
 use crate::meter::Meter;

@@ -1,7 +1,6 @@
 //! The residuals of a segment.
 ghost use Rattle.std.specs.Prelude.{◌≡◌, ◌+◌, ◌*◌, ◌<◌, ◌≤◌, [], ◌∷◌, ◌++◌, length, slice_range};
-ghost use Rattle.rice_samples.specs.Limits.{longest_segment};
-ghost use Rattle.rice_samples.specs.Parameters.{IsBlockSize};
+ghost use Rattle.rice_samples.specs.{Limits.longest_segment, Parameters.IsBlockSize};
 
 use crate::Block;
 use arrayvec::ArrayVec;

@@ -54,16 +54,14 @@ whole_short (a ∷ b ∷ c ∷ d ∷ e ∷ f ∷ g ∷ []) h = refl
 whole_short (a ∷ b ∷ c ∷ d ∷ e ∷ f ∷ g ∷ i ∷ rest) h = absurd (omega arith)
 
 -- the whole bytes of the bits of bytes, and fewer than eight bits after them, are these bytes
-pub whole-bits : (bytes : List ℕ) (rest : List Bool) → ((i : ℕ) → get_or bytes i 0 < 256) → length rest < 8
-    → whole_bytes (bits_of bytes ++ rest) ≡ bytes
+pub whole-bits : (bytes : List ℕ) (rest : List Bool) → ((i : ℕ) → get_or bytes i 0 < 256) → length rest < 8 → whole_bytes (bits_of bytes ++ rest) ≡ bytes
 unfolding bits_of
 whole-bits [] rest f h = whole_short rest h
 whole-bits (b ∷ bytes) rest f h =
     rw (append_assoc (word 8 b) (bits_of bytes) rest, whole_word b (bits_of bytes ++ rest) (f 0), whole-bits bytes rest (λ i. f (suc i)) h) refl
 
 -- the bits that are no whole byte
-pub rest-bits : (bytes : List ℕ) (rest : List Bool) → length rest < 8
-    → drop (bits_in_bytes (length (bits_of bytes ++ rest))) (bits_of bytes ++ rest) ≡ rest
+pub rest-bits : (bytes : List ℕ) (rest : List Bool) → length rest < 8 → drop (bits_in_bytes (length (bits_of bytes ++ rest))) (bits_of bytes ++ rest) ≡ rest
 rest-bits bytes rest h = grind (arith, common_steps, length-append, length-bits_of, drop_at)
 
 -- each number in the list is a byte, and so is the 0 past its end

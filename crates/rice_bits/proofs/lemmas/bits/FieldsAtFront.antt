@@ -1,4 +1,5 @@
 -- Bits begin with a piece of a kind, or with none.
+use Rattle.std.proofs.lemmas.Grind.{common_steps}
 use Rattle.std.proofs.Common.{◌≡◌, ℕ, zero, suc, ◌^◌, ◌<◌, ◌⊎◌, inl, inr, Bool, true, false, List, [], ◌∷◌, ◌++◌, length, take, drop, refl, ap, arith, sym, ◌∙◌, subst, append_assoc, length-append}
 use Rattle.std.{proofs.lemmas.List.length-take-le, proofs.lemmas.List.take-append-drop, proofs.lemmas.Bool.cases_lt, specs.List.AllByRecursion, specs.Prelude.flat_map}
 use Rattle.rice_bits.proofs.lemmas.bits.WordsAndNumbers.{length-word, length-fundamental_sequence, number_of-lt, word-number_of}
@@ -95,9 +96,6 @@ two_pieces {X = X} {Y = Y} f P g Q bits one tells next =
           fits = (p.fits, q.fits);
           begins = p.begins ∙ (ap (λ v. f p.piece ++ v) q.begins ∙ sym (append_assoc (f p.piece) (g p.piece q.piece) q.more));
         })
-        | inr miss ↦ inr (λ r more h e.
-            let same = tells p.piece r.0 p.more (g r.0 r.1 ++ more) p.fits h.0 (sym p.begins ∙ (e ∙ append_assoc (f r.0) (g r.0 r.1) more)) in
-            let R : X → Type 0 = λ x. Q x r.1 in
-            miss r.1 more (subst R (sym same.0) h.1) (same.1 ∙ ap (λ x. g x r.1 ++ more) (sym same.0)))
+        | inr miss ↦ grind (arith, common_steps, append_assoc)
       ]
     ]

@@ -15,9 +15,7 @@ pub one_high : (v : ℕ) → 0 < v → v < 2 ^ 64 → 1 ≡ v / 2 ^ (63 - count_
 one_high v p h =
     let t = leading_top 64 v p h in
     let j : 63 - count_leading_zeros 64 v ≡ t.0 = omega (arith, t.1) in
-    let below : v - 2 ^ t.0 < 2 ^ t.0 = omega (arith, t.2, t.3, pow-suc 2 t.0) in
-    let whole : 1 * 2 ^ t.0 + (v - 2 ^ t.0) ≡ v = omega (arith, t.2) in
-    sym (ap (λ k. v / 2 ^ k) j ∙ (ap (λ n. n / 2 ^ t.0) (sym whole) ∙ div-mul-add 1 (2 ^ t.0) (v - 2 ^ t.0) below))
+    grind (arith, common_steps, pow-suc, div-mul-add)
 
 -- a number is its first digits and the others
 pub word-parts : (size n m : ℕ) → n ≤ size → word size m ≡ word n (m / 2 ^ (size - n)) ++ word (size - n) m
@@ -30,9 +28,7 @@ pub word-moved : (size n m : ℕ) → n ≤ size → word size (m * 2 ^ n % 2 ^ 
 word-moved size n m h =
     let e : (size - n) + n ≡ size = omega arith in
     let plain : m * 2 ^ n + 0 ≡ m * 2 ^ n = omega arith in
-    word-mod size size (m * 2 ^ n) (omega arith)
-    ∙ (ap (λ k. word k (m * 2 ^ n)) (sym e) ∙ (ap (word (size - n + n)) (sym plain)
-    ∙ (word-cat (size - n) n m 0 (pow_pos n) ∙ ap (λ v. word (size - n) m ++ v) (word-zero n))))
+    grind (arith, common_steps, word-mod, word-cat, pow_pos, word-zero)
 
 -- the first digits of a word are those of the number without its other digits
 pub take-front : (size n m : ℕ) → n ≤ size → take n (word size m) ≡ word n (m / 2 ^ (size - n))

@@ -1,10 +1,9 @@
 -- Bits that are gathered in bytes, with zeros after them.
-use Rattle.std.proofs.Common.{◌≡◌, ℕ, suc, ◌+◌, ◌-◌, ◌*◌, ◌/◌, ◌%◌, ◌^◌, ◌<◌, ◌≤◌, Bool, true, false, List, [], ◌∷◌, ◌++◌, length, drop, take, replicate, refl, sym, ◌∙◌, ap, inl, inr, arith}
-use Rattle.std.proofs.Common.{append_assoc, length-append, get_or, mod-eq_of_lt, bit_or, set}
+use Rattle.std.proofs.Common.{◌≡◌, ℕ, ◌+◌, ◌-◌, ◌*◌, ◌/◌, ◌%◌, ◌^◌, ◌<◌, ◌≤◌, Bool, true, false, List, [], ◌∷◌, ◌++◌, length, drop, take, replicate, refl, sym, ◌∙◌, ap, inl, inr, arith, append_assoc}
 use Rattle.std.proofs.lemmas.List.{append-nil, replicate-append-replicate, length-replicate, length-drop, length-set, length-take-le, take-append-drop, take-replicate, take_all, take_at, drop-drop}
 use Rattle.std.proofs.lemmas.{List.drop-replicate, List.drop-set-lt, List.drop_all, List.drop_at, List.drop_more, List.get_or_past, List.get_or-set_same, List.take-set, Grind.common_steps}
 use Rattle.std.proofs.{lemmas.Nat.or_shifted, lemmas.Nat.pow-add, lemmas.Nat.pow_pos, lemmas.Nat.shr_below, lemmas.Nat.shr_split, lemmas.Nat.mod_below, Math.Seq.take-append-add, lemmas.Bool.cases_lt}
-use Rattle.std.specs.{Int.to_be_bytes, Int.w64, List.slice_index}
+use Rattle.std.{proofs.Common.length-append, proofs.Common.get_or, proofs.Common.mod-eq_of_lt, proofs.Common.bit_or, proofs.Common.set, specs.Int.to_be_bytes, specs.Int.w64, specs.List.slice_index}
 use Rattle.rice_bits.proofs.lemmas.bits.WordsAndNumbers.{length-word, word-nil, word-zero, word-cat, word-split, word-fs, length-fundamental_sequence, shift_fits, join_below}
 use Rattle.rice_bits.proofs.lemmas.bits.BytesAndBits.{bits_of-nil, bits_of-append, bits_of-first, bits_of-zeros, length-bits_of, whole-bits, rest-bits}
 use Rattle.rice_bits.specs.Bits.{IsBitSink, bits_in_bytes, fundamental_sequence, word, bits_of, whole_bytes}
@@ -23,17 +22,14 @@ byte_parts g b h =
     ap (λ w. word w b) (sym size) ∙ word-split g (8 - g) b
 
 -- the bits before a place in a byte, and the others
-bits_at : (bytes : List ℕ) (at g : ℕ) → at < length bytes → g < 8
-    → bits_of bytes
+bits_at : (bytes : List ℕ) (at g : ℕ) → at < length bytes → g < 8 → bits_of bytes
     ≡ (bits_of (take at bytes) ++ word g (slice_index bytes at / 2 ^ (8 - g))) ++ (word (8 - g) (slice_index bytes at % 2 ^ (8 - g)) ++ bits_of (drop (at + 1) bytes))
 bits_at bytes at g h m =
     let b : ℕ = slice_index bytes at in
     let rest : bits_of (drop at bytes) ≡ word g (b / 2 ^ (8 - g)) ++ (word (8 - g) (b % 2 ^ (8 - g)) ++ bits_of (drop (at + 1) bytes)) =
     ap bits_of (drop_more bytes at 0 h) ∙ (bits_of-first b (drop (at + 1) bytes)
     ∙ (ap (λ d. d ++ bits_of (drop (at + 1) bytes)) (byte_parts g b m) ∙ append_assoc (word g (b / 2 ^ (8 - g))) (word (8 - g) (b % 2 ^ (8 - g))) (bits_of (drop (at + 1) bytes)))) in
-    sym (split-bytes at bytes)
-    ∙ (ap (λ d. bits_of (take at bytes) ++ d) rest
-    ∙ sym (append_assoc (bits_of (take at bytes)) (word g (b / 2 ^ (8 - g))) (word (8 - g) (b % 2 ^ (8 - g)) ++ bits_of (drop (at + 1) bytes))))
+    grind (arith, common_steps, split-bytes, append_assoc)
 
 -- how many bits stand before a byte's digits
 length_before : (bytes : List ℕ) (at g v : ℕ) → at ≤ length bytes → length (bits_of (take at bytes) ++ word g v) ≡ 8 * at + g
@@ -65,8 +61,7 @@ low_zeros w b z rest e =
     let size : w + length rest ≡ z =
     ap (λ k. k + length rest) (sym (length-word w (b % 2 ^ w))) ∙ (sym (length-append (word w (b % 2 ^ w)) rest) ∙ (ap length e ∙ length-replicate z false)) in
     let more : w + (z - w) ≡ z = omega (arith, size) in
-    let zeros : replicate z false ≡ word w 0 ++ replicate (z - w) false =
-    ap (λ k. replicate k false) (sym more) ∙ (sym (replicate-append-replicate w (z - w) false) ∙ ap (λ d. d ++ replicate (z - w) false) (sym (word-zero w))) in
+    let zeros : replicate z false ≡ word w 0 ++ replicate (z - w) false = grind (arith, common_steps, replicate-append-replicate, word-zero) in
     zero_low b (2 ^ w) (pow_pos w) (word_reads w (b % 2 ^ w) 0 rest (replicate (z - w) false) (e ∙ zeros)).0
 
 -- zeros after bits
@@ -120,9 +115,7 @@ bytes_after bytes n q h place zeros = elim (cases_lt q (length bytes)) [
   | inl i ↦
       sym (drop_at (bits_of (take q bytes)) (bits_of (drop q bytes)) (8 * q) (length-front q bytes (omega arith)))
       ∙ (ap (drop (8 * q)) (split-bytes q bytes) ∙ (fewer_zeros_after (bits_of bytes) n (8 * q) (8 * length bytes) (length-bits_of bytes) place (omega arith) zeros).1)
-  | inr i ↦
-      let none : 8 * length bytes - 8 * q ≡ 0 = omega arith in
-      rw none (ap bits_of (drop_all q bytes (omega arith)) ∙ bits_of-nil)
+  | inr i ↦ grind (arith, common_steps, drop_all, bits_of-nil)
 ]
 
 -- a fundamental sequence as zeros and a digit
@@ -150,8 +143,7 @@ top-word : (size c j : ℕ) → c ≤ size → word size (j * 2 ^ (size - c)) �
 top-word size c j h =
     let all : c + (size - c) ≡ size = omega arith in
     let plain : j * 2 ^ (size - c) + 0 ≡ j * 2 ^ (size - c) = omega arith in
-    ap (λ w. word w (j * 2 ^ (size - c))) (sym all)
-    ∙ (ap (word (c + (size - c))) (sym plain) ∙ (word-cat c (size - c) j 0 (pow_pos (size - c)) ∙ ap (λ z. word c j ++ z) (word-zero (size - c))))
+    grind (arith, common_steps, word-cat, pow_pos, word-zero)
 
 append_five : (a b c d e : List Bool) → a ++ (((b ++ c) ++ d) ++ e) ≡ ((a ++ b) ++ c) ++ (d ++ e)
 append_five a b c d e =
@@ -220,8 +212,7 @@ gathered-put old {new} n width value room narrow below zeros e =
     bits_of-append (take at old) (to_be_bytes w64 x ++ drop (at + 8) old)
     ∙ (ap (λ d. bits_of (take at old) ++ d) (bits_of-append (to_be_bytes w64 x) (drop (at + 8) old))
     ∙ digits_written old n 8 s (word width value) (omega arith) (omega arith) zeros eight) in
-    let size : length bits ≡ n + width =
-    omega (arith, length-append (take n (bits_of old)) (word width value), length-take-le n (bits_of old) (omega (arith, length-bits_of old)), length-word width value) in
+    let size : length bits ≡ n + width = grind (arith, common_steps, length-append, length-take-le, length-bits_of, length-word) in
     zeros_after (bits_of new) bits (n + width) (8 * length old - (n + width))
     (ap bits_of e ∙ (zeros_within_room _ bits _ (length old) all (omega (arith, size)) (omega (arith, size)) ∙ ap (λ k. bits ++ replicate (8 * length old - k) false) size))
     size
@@ -245,7 +236,6 @@ one_joined x g zeros short =
 -- a byte among others
 set_apart : (bytes : List ℕ) (i b : ℕ) → i < length bytes → bits_of (set bytes i b) ≡ bits_of (take i bytes) ++ (word 8 b ++ bits_of (drop (i + 1) bytes))
 set_apart bytes i b h =
-    let next : suc i ≡ i + 1 = omega arith in
     let back : drop (i + 1) (set bytes i b) ≡ drop (i + 1) bytes = drop-set-lt (i + 1) bytes i b (omega arith) in
     sym (split-bytes i (set bytes i b))
     ∙ (ap (λ d. bits_of d ++ bits_of (drop i (set bytes i b))) (take-set bytes i b)
@@ -268,9 +258,7 @@ gathered-one old new n m room zeros e =
     let far = fewer_zeros_after (bits_of old) n p (8 * length old) (length-bits_of old) (omega arith) (omega arith) zeros in
     let gap : p - n ≡ m = omega arith in
     let bits : List Bool = take n (bits_of old) ++ fundamental_sequence m in
-    let byte : word 8 (bit_or x (2 ^ (7 - g))) ≡ (word g h ++ word 1 1) ++ replicate s false =
-    ap (word 8) (one_joined x g (last_zeros old p (omega arith) far.1) (omega arith))
-    ∙ (top-word 8 (g + 1) (h * 2 ^ 1 + 1) (omega arith) ∙ ap (λ d. d ++ replicate s false) (word-cat g 1 h 1 (omega arith))) in
+    let byte : word 8 (bit_or x (2 ^ (7 - g))) ≡ (word g h ++ word 1 1) ++ replicate s false = grind (arith, common_steps, one_joined, last_zeros, top-word, word-cat) in
     let left : s + (8 * length old - 8 * (at + 1)) ≡ 8 * length old - (n + (m + 1)) = omega arith in
     let sequence : take p (bits_of old) ++ word 1 1 ≡ bits =
     ap (λ d. d ++ word 1 1) (far.0 ∙ ap (λ k. take n (bits_of old) ++ replicate k false) gap) ∙ fs-parts m (take n (bits_of old)) in
@@ -305,12 +293,7 @@ zeros_dropped old new n count room far zeros e =
     ∙ (ap (λ d. d ++ (replicate (8 * count) false ++ bits_of (drop (count + 1) old))) (last_byte old n room zeros)
     ∙ (ap (λ d. (digits ++ replicate (8 - g) false) ++ (replicate (8 * count) false ++ d)) (bytes_after old n (count + 1) room (omega (arith, far)) zeros)
     ∙ three_zeros (8 - g) (8 * count) left digits)) in
-    let size : length digits ≡ g = length-word g (b / 2 ^ (8 - g)) in
-    let kept : drop (bits_in_bytes (length (take n (bits_of old)))) (take n (bits_of old)) ≡ digits =
-    ap (λ d. drop (bits_in_bytes (length d)) d) (whole_bytes_and_digits old n room) ∙ rest-bits (take at old) digits (omega (arith, size)) in
-    ap bits_of e
-    ∙ (zeros_within_room _ digits _ (length old) all (omega (arith, size)) (omega (arith, size, far))
-    ∙ (ap (λ k. digits ++ replicate (8 * length old - k) false) size ∙ ap (λ d. d ++ replicate (8 * length old - g) false) (sym kept)))
+    grind (arith, common_steps, length-word, whole_bytes_and_digits, rest-bits, zeros_within_room)
 
 -- the byte that is not whole comes to the front, when the others are dropped
 pub gathered-dropped : (old new : List ℕ) (capacity n count : ℕ) → IsBitSink capacity n old → length old ≡ capacity → n / 8 ≤ count

@@ -40,8 +40,7 @@ pub record JoinedTwice (a b c d first last v : ℕ) : Type 0 where
 -- four words of 16 digits
 pub four_words : (ws : List ℕ) (at : ℕ) {a b c d first last v : ℕ} → at + 4 ≤ length ws
     → LowDigits 16 (get_or ws at 0) a → LowDigits 16 (get_or ws (at + 1) 0) b → LowDigits 16 (get_or ws (at + 2) 0) c → LowDigits 16 (get_or ws (at + 3) 0) d
-    → JoinedTwice a b c d first last v
-    → word 64 v ≡ flat_map (word 16) (take (at + 4 - at) (drop at ws))
+    → JoinedTwice a b c d first last v → word 64 v ≡ flat_map (word 16) (take (at + 4 - at) (drop at ws))
 four_words ws at {a} {b} {c} {d} {first} {last} room a_low b_low c_low d_low joins =
     let count : at + 4 - at ≡ 4 = omega arith in
     let x = get_or ws at 0 in
@@ -86,8 +85,7 @@ eight_spelled xs bytes n r h e f g =
 
 -- eight words of 8 digits: the number of their lowest bytes, with its bytes swapped, spells them
 pub eight_words : (ws : List ℕ) (at : ℕ) (bytes : List ℕ) (n r : ℕ) → at + 8 ≤ length ws → bytes ≡ map (λ d. d % 2 ^ 8) (take 8 (drop at ws))
-    → n ≡ number_l 256 bytes % 18446744073709551616 → r ≡ swap_bytes w64 n
-    → word 64 r ≡ flat_map (word 8) (take (at + 8 - at) (drop at ws))
+    → n ≡ number_l 256 bytes % 18446744073709551616 → r ≡ swap_bytes w64 n → word 64 r ≡ flat_map (word 8) (take (at + 8 - at) (drop at ws))
 eight_words ws at bytes n r room e f g = grind (arith, common_steps, length-take-le, length-drop, eight_spelled)
 
 -- the lowest bytes fit bytes
@@ -110,10 +108,7 @@ seam_spelled last next left r some few fit e =
     let back : 64 - left + left ≡ 64 = omega arith in
     let low : next / 2 ^ left < 2 ^ (64 - left) = shr_below next (64 - left) left (rw back fit) in
     let high : last * 2 ^ (64 - left) % 2 ^ 64 ≡ last % 2 ^ left * 2 ^ (64 - left) = ap (λ k. last * 2 ^ (64 - left) % 2 ^ k) (sym size) ∙ moved_low left (64 - left) last in
-    let joined : r ≡ last % 2 ^ left * 2 ^ (64 - left) + next / 2 ^ left =
-    e ∙ (ap (λ h. bit_or h (next / 2 ^ left)) high ∙ or_shifted (last % 2 ^ left) (64 - left) (next / 2 ^ left) low) in
-    ap (λ w. word w r) (sym size) ∙ (ap (word (left + (64 - left))) joined ∙ (word-cat left (64 - left) (last % 2 ^ left) (next / 2 ^ left) low
-    ∙ ap (λ d. d ++ word (64 - left) (next / 2 ^ left)) (word-mod left left last (omega arith))))
+    grind (arith, common_steps, bit_or, or_shifted, word-cat, word-mod)
 
 -- the first digits of a number fit as many
 pub front_fits : (left next : ℕ) → next < 2 ^ 64 → left ≤ 64 → next / 2 ^ left < 2 ^ (64 - left)
@@ -125,8 +120,7 @@ first_and_last left next most = grind (arith, common_steps, word-split, word-mod
 
 -- 64 digits that are stored after whole bytes
 pub whole-put : (old : List ℕ) {new : List ℕ} (n value : ℕ) → n % 8 ≡ 0 → n + 64 ≤ 8 * length old → value < 2 ^ 64 → slice_index old (n / 8) < 256
-    → drop n (bits_of old) ≡ replicate (8 * length old - n) false
-    → new ≡ take (n / 8) old ++ (to_be_bytes w64 value ++ drop (n / 8 + 8) old)
+    → drop n (bits_of old) ≡ replicate (8 * length old - n) false → new ≡ take (n / 8) old ++ (to_be_bytes w64 value ++ drop (n / 8 + 8) old)
     → (take (n + 64) (bits_of new) ≡ take n (bits_of old) ++ word 64 value) × (drop (n + 64) (bits_of new) ≡ replicate (8 * length old - (n + 64)) false)
 whole-put old {new} n value whole room fit byte zeros e =
     let b = slice_index old (n / 8) in
@@ -135,14 +129,7 @@ whole-put old {new} n value whole room fit byte zeros e =
     let shift : 64 - (n % 8 + 64) ≡ 0 = omega arith in
     let value_is : b * 2 ^ 56 + value * 2 ^ (64 - (n % 8 + 64)) ≡ value = rw (none, shift) (omega arith) in
     let all = take (n / 8) old ++ (to_be_bytes w64 value ++ drop (n / 8 + 8) old) in
-    let size : length all ≡ length old =
-    omega (
-      arith,
-      length-append (take (n / 8) old) (to_be_bytes w64 value ++ drop (n / 8 + 8) old),
-      length-append (to_be_bytes w64 value) (drop (n / 8 + 8) old),
-      length-take-le (n / 8) old (omega arith),
-      length-drop (n / 8 + 8) old,
-    ) in
+    let size : length all ≡ length old = grind (arith, common_steps, length-append, length-take-le, length-drop) in
     gathered-put old n 64 value room (omega arith) fit zeros
     (e ∙ (sym (take_all (length old) all (omega (arith, size))) ∙ ap (λ v. take (length old) (take (n / 8) old ++ (to_be_bytes w64 v ++ drop (n / 8 + 8) old))) (sym value_is)))
 
@@ -164,13 +151,11 @@ first_below {b} {g} {count} value first {all} byte zeros short digits fit e =
     let shift : 64 - (g + (64 - g)) ≡ 0 = omega arith in
     let small : all < 2 ^ (64 - g) = rw (e, ← size) (join_below count (64 - (g + count)) value (first / 2 ^ (g + count)) digits.fit (front_fits (g + count) first fit (omega arith))) in
     let h : b * 2 ^ 56 + all * 2 ^ (64 - (g + (64 - g))) < 2 ^ 64 = joined_below b g (64 - g) all byte zeros short (omega arith) small in
-    let h2 : b * 2 ^ 56 + all * 2 ^ 0 < 2 ^ 64 = rw shift at h in
-    omega (arith, h2)
+    grind (arith, common_steps)
 
 -- the digits of a value, and then the first of a number, up to a whole byte
 pub first-put : (old : List ℕ) {new : List ℕ} (n : ℕ) {count value : ℕ} (first : ℕ) {all : ℕ} → FirstDigits count value → first < 2 ^ 64 → n + (count + 64) ≤ 8 * length old
-    → drop n (bits_of old) ≡ replicate (8 * length old - n) false
-    → all ≡ value * 2 ^ (64 - (n % 8 + count)) + first / 2 ^ (n % 8 + count)
+    → drop n (bits_of old) ≡ replicate (8 * length old - n) false → all ≡ value * 2 ^ (64 - (n % 8 + count)) + first / 2 ^ (n % 8 + count)
     → new ≡ take (length old) (take (n / 8) old ++ (to_be_bytes w64 (slice_index old (n / 8) * 2 ^ 56 + all) ++ drop (n / 8 + 8) old))
     → (take (n + (64 - n % 8)) (bits_of new) ≡ take n (bits_of old) ++ (word count value ++ word (64 - (n % 8 + count)) (first / 2 ^ (n % 8 + count))))
     × (drop (n + (64 - n % 8)) (bits_of new) ≡ replicate (8 * length old - (n + (64 - n % 8))) false)
@@ -182,8 +167,7 @@ first-put old {new} n {count} {value} first {all} digits fit room zeros e f =
     let shift : 64 - (n % 8 + (64 - n % 8)) ≡ 0 = omega arith in
     let moved : all ≡ all * 2 ^ (64 - (n % 8 + (64 - n % 8))) = rw shift (omega arith) in
     let small : all < 2 ^ (64 - n % 8) = rw (e, ← size) (join_below count rest value (first / 2 ^ left) digits.fit low) in
-    let spelled : word (64 - n % 8) all ≡ word count value ++ word rest (first / 2 ^ left) =
-    ap (λ w. word w all) (sym size) ∙ (ap (word (count + rest)) e ∙ word-cat count rest value (first / 2 ^ left) low) in
+    let spelled : word (64 - n % 8) all ≡ word count value ++ word rest (first / 2 ^ left) = grind (arith, common_steps, word-cat) in
     let put = gathered-put old n (64 - n % 8) all (omega arith) (omega arith) small zeros
     (f ∙ ap (λ v. take (length old) (take (n / 8) old ++ (to_be_bytes w64 (slice_index old (n / 8) * 2 ^ 56 + v) ++ drop (n / 8 + 8) old))) moved) in
     (put.0 ∙ ap (λ d. take n (bits_of old) ++ d) spelled, put.1)
@@ -241,14 +225,8 @@ words-joins {left} {last} {next} {sew} count value {width} {per} {i} {bits} {all
     ∙ sym (append_assoc (word count value) (flat_map (word width) (take at words)) (word 64 next))))) in
     rw (more, ← count_is) (next-joins next sew (omega (arith, before, most, some)) most f sewing.joined sewing.sewn sewing.whole)
 
--- eight whole words have as many digits
-many_digits : (width n : ℕ) → IsWholeWidth width → 8 ≤ n → 64 ≤ width * n
-many_digits width n (inl e) h = rw e (omega (arith, h))
-many_digits width n (inr (inl e)) h = rw e (omega (arith, h))
-many_digits width n (inr (inr e)) h = rw e (omega (arith, h))
-
 -- and the last digits
 pub last-joins : {left last : ℕ} (count width : ℕ) {n bits all now : ℕ} {more : List Bool} {old mid new : List ℕ} → IsWholeWidth width → 8 ≤ n → left ≤ 7 + count
     → left < 64 → JoinsAllBut left last more (count + width * n) bits all old mid → Joins (word left (last % (1 * 2 ^ left % 18446744073709551616))) left all now mid new
     → Joins more (count + width * n) bits now old new
-last-joins {left} {last} count width {n} whole some few short f g = grind (arith, common_steps, one_shl, join-more, word-mod, many_digits)
+last-joins {left} {last} count width {n} whole some few short f g = grind (arith, common_steps, one_shl, join-more, word-mod)

@@ -1,12 +1,7 @@
 -- Words, fundamental sequences and lists of pieces are read in one way.
 use Rattle.std.proofs.Common.{◌≡◌, ℕ, zero, suc, ◌+◌, ◌*◌, ◌/◌, ◌%◌, ◌^◌, Bool, List, [], ◌∷◌, ◌++◌, length, refl, sym, ◌∙◌, ap, arith, append_assoc}
-use Rattle.std.specs.Prelude.{◌==◌, flat_map}
-use Rattle.std.{proofs.lemmas.Bool.Decides.nat_tests, proofs.lemmas.Grind.common_steps, proofs.lemmas.Nat.mod-pow-add, specs.List.AllZip}
+use Rattle.std.{proofs.lemmas.Grind.common_steps, proofs.lemmas.Nat.mod-pow-add, specs.Prelude.flat_map, specs.List.AllZip}
 use Rattle.rice_bits.specs.Bits.{word, fundamental_sequence}
-
--- a test for 1 tells a bit
-same_bit : (a b : ℕ) → (a % 2 == 1) ≡ (b % 2 == 1) → a % 2 ≡ b % 2
-same_bit a b e = grind (arith, nat_tests)
 
 -- lists that are one have one head
 same_heads : {a b : Bool} {x y : List Bool} → a ∷ x ≡ b ∷ y → a ≡ b
@@ -28,7 +23,7 @@ next_digit w a b e f = digit_split w a ∙ (ap (λ d. d * 2 ^ w + a % 2 ^ w) e �
 pub word_reads : (w a b : ℕ) (x y : List Bool) → word w a ++ x ≡ word w b ++ y → (a % 2 ^ w ≡ b % 2 ^ w) × (x ≡ y)
 unfolding word
 word_reads zero a b x y e = (omega arith, e)
-word_reads (suc w) a b x y e = grind (arith, common_steps, same_tails, next_digit, same_bit, same_heads, word_reads w a b x y (same_tails e))
+word_reads (suc w) a b x y e = grind (arith, common_steps, same_tails, next_digit, same_heads, word_reads w a b x y (same_tails e))
 
 -- So is a fundamental sequence.
 pub sequence_reads : (m n : ℕ) (x y : List Bool) → fundamental_sequence m ++ x ≡ fundamental_sequence n ++ y → (m ≡ n) × (x ≡ y)
@@ -49,8 +44,7 @@ bits_read (c ∷ a) (d ∷ b) x y n e =
     ((λ i. first i ∷ rest.0 i), rest.1)
 
 -- So are as many pieces, if each is.
-pub pieces_read : {X : Type 0} (f : X → List Bool) (R : X → X → Type 0) →
-    ((a b : X) (x y : List Bool) → f a ++ x ≡ f b ++ y → R a b × (x ≡ y)) →
+pub pieces_read : {X : Type 0} (f : X → List Bool) (R : X → X → Type 0) → ((a b : X) (x y : List Bool) → f a ++ x ≡ f b ++ y → R a b × (x ≡ y)) →
     (xs ys : List X) (x y : List Bool) → length xs ≡ length ys → flat_map f xs ++ x ≡ flat_map f ys ++ y → AllZip R xs ys × (x ≡ y)
 pieces_read f R one [] [] x y n e = (tt, e)
 pieces_read f R one [] (b ∷ bs) x y n e = absurd cc

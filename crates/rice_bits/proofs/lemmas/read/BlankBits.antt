@@ -1,7 +1,7 @@
 -- Bits without a 1.
 use Rattle.std.proofs.Common.{◌≡◌, ℕ, zero, suc, ◌^◌, ◌<◌, Bool, true, false, List, [], ◌∷◌, ◌++◌, length, replicate, refl, sym, ◌∙◌, ap, arith}
 use Rattle.std.specs.Prelude.{◌&&◌, ◌==◌}
-use Rattle.std.proofs.lemmas.{Bool.Decides.nat_tests, List.append-nil}
+use Rattle.std.proofs.lemmas.{Bool.Decides.nat_tests, Grind.common_steps, List.append-nil}
 use Rattle.rice_bits.{proofs.lemmas.bits.WordsAndNumbers.word-zero, proofs.lemmas.bits.WordsAndNumbers.number_of-word, specs.Bits.word, specs.Bits.number_of, specs.read.Reader.is_blank}
 
 -- bits in two parts have no 1 just where neither part has one
@@ -58,7 +58,5 @@ pub one_after_zeros : (old more new : List Bool) (n : ℕ) → is_blank old ≡ 
 one_after_zeros old more [] n some e =
     let zeros : is_blank (replicate n false ++ []) ≡ true = ap is_blank (append-nil (replicate n false)) ∙ blank-zeros n in
     let joined : is_blank (old ++ more) ≡ (is_blank old && is_blank more) = blank-append old more in
-    let none : (is_blank old && is_blank more) ≡ false = ap (λ b. b && is_blank more) some in
-    let both : false ≡ true = sym none ∙ (sym joined ∙ (ap is_blank e ∙ zeros)) in
-    absurd cc
+    grind (arith, common_steps)
 one_after_zeros old more (b ∷ new) n some e = omega arith

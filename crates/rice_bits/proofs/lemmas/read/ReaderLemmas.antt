@@ -10,8 +10,7 @@ use Rattle.rice_bits.{proofs.lemmas.read.RefilledBytes.refills-append, proofs.le
 -- bits are taken of those that a window has
 pub takes_passed : {I : Type 0} {old : Reader I} (intake : I) {left : Option (List ℕ)} {failed : ℕ} {mid new : Window} (before : Bool) {refusal : Option BitFault} {bits : List Bool}
     → Refills old.left left old.buffered (window_bits new) bits → window_taken mid ≡ old.taken
-    → (before && is_blank (window_passed mid)) ≡ old.blank → refusal ≡ None → failed ≡ old.failed → Passes mid new bits
-    → Takes old
+    → (before && is_blank (window_passed mid)) ≡ old.blank → refusal ≡ None → failed ≡ old.failed → Passes mid new bits → Takes old
     (record { buffered = window_bits new; taken = window_taken new; blank = before && is_blank (window_passed new); refusal = refusal; intake = intake; left = left; failed = failed }) bits
 takes_passed intake {mid} before {bits} refills taken blank going same passes = grind (arith, common_steps, blank-append, and-assoc)
 
@@ -20,13 +19,11 @@ pub takes-none : {I : Type 0} (r : Reader I) → r.refusal ≡ None → Takes r 
 takes-none r h = grind (arith, common_steps, refills-buffered, and-true)
 
 -- bits that are taken in one step, and others in the next, are taken in both together
-pub takes-append : {I : Type 0} (old mid new : Reader I) (xs ys : List Bool)
-    → Takes old mid xs → Takes mid new ys → Takes old new (xs ++ ys)
+pub takes-append : {I : Type 0} (old mid new : Reader I) (xs ys : List Bool) → Takes old mid xs → Takes mid new ys → Takes old new (xs ++ ys)
 takes-append old mid new xs ys p q = grind (arith, common_steps, refills-append, length-append, blank_joined)
 
 -- where the next step takes the last bits and refuses, so do both together
-pub stops-append : {I : Type 0} (old mid new : Reader I) (xs ys : List Bool) (f : BitFault)
-    → Takes old mid xs → Stops mid new ys f → Stops old new (xs ++ ys) f
+pub stops-append : {I : Type 0} (old mid new : Reader I) (xs ys : List Bool) (f : BitFault) → Takes old mid xs → Stops mid new ys f → Stops old new (xs ++ ys) f
 stops-append old mid new xs ys f p q = record {
   middle = q.middle;
   refills = refills-append p.refills q.refills;
@@ -38,8 +35,7 @@ stops-append old mid new xs ys f p q = record {
 }
 
 -- where enough bits are buffered, enough are buffered after some were taken
-pub still_buffered : {I : Type 0} (old new : Reader I) (xs : List Bool)
-    → Takes old new xs → length old.buffered ≤ length xs + length new.buffered
+pub still_buffered : {I : Type 0} (old new : Reader I) (xs : List Bool) → Takes old new xs → length old.buffered ≤ length xs + length new.buffered
 still_buffered old new xs p =
     omega (arith, ap length p.refills.split, length-append old.buffered (bits_of p.refills.given), length-append xs new.buffered)
 
@@ -48,8 +44,7 @@ pub zeros-fs : (a b : ℕ) → replicate a false ++ fundamental_sequence b ≡ f
 zeros-fs a b = sym (append_assoc (replicate a false) (replicate b false) (true ∷ [])) ∙ ap (λ z. z ++ true ∷ []) (replicate-append-replicate a b false)
 
 -- where a 1 is buffered, some bit is buffered after zeros were taken
-pub one_buffered : {I : Type 0} (old new : Reader I) (n : ℕ)
-    → Takes old new (replicate n false) → is_blank old.buffered ≡ false → 0 < length new.buffered
+pub one_buffered : {I : Type 0} (old new : Reader I) (n : ℕ) → Takes old new (replicate n false) → is_blank old.buffered ≡ false → 0 < length new.buffered
 one_buffered old new n taken some = one_after_zeros old.buffered (bits_of taken.refills.given) new.buffered n some taken.refills.split
 
 -- where a test says that there is no refusal, there is none

@@ -32,19 +32,7 @@ pub refills-append : {a b c : Option (List ℕ)} {old mid new xs ys : List Bool}
 refills-append {a} {b} {c} {old} {mid} {new} {xs} {ys} p q =
     let lengths : length old + 8 * length p.given ≡ length xs + length mid =
     omega (arith, ap length p.split, length-append old (bits_of p.given), length-append xs mid, length-bits_of p.given) in
-    record {
-      given = p.given ++ q.given;
-      consumed = consumes-append a b c p.given q.given p.consumed q.consumed;
-      needed = λ some. needed-append (record { bytes = length-append p.given q.given; bits = length-append xs ys; between = lengths }) p.needed q.needed some;
-      split =
-          rw (
-            bits_of-append p.given q.given,
-            ← append_assoc old (bits_of p.given) (bits_of q.given),
-            p.split,
-            append_assoc xs mid (bits_of q.given),
-            q.split,
-          ) (sym (append_assoc xs ys new));
-    }
+    grind (arith, common_steps, consumes-append, needed-append, length-append, bits_of-append, append_assoc)
 
 -- nothing is supplied
 pub supplies-none : (a : Option (List ℕ)) (old : List Bool) → Supplies a a old old
@@ -56,12 +44,7 @@ refills-buffered a old new xs e = grind (arith, common_steps, consumes-nil, bits
 
 -- at least one bit is taken of those that are buffered after a supply
 pub refills-supplied : (a b : Option (List ℕ)) (old mid new xs : List Bool) → 0 < length xs → Supplies a b old mid → mid ≡ xs ++ new → Refills a b old new xs
-refills-supplied a b old mid new xs taken s e = record {
-  given = s.given;
-  consumed = s.consumed;
-  split = s.split ∙ e;
-  needed = λ some. omega (arith, s.at_once, ap length (s.needed some));
-}
+refills-supplied a b old mid new xs taken s e = grind (arith, common_steps)
 
 -- nothing is read where nothing is buffered
 pub refills_nothing : (a : Option (List ℕ)) (old : List Bool) → old ≡ [] → Refills a a old [] []

@@ -16,9 +16,7 @@ between-join : {A : Type 0} (xs : List A) (a s e : ℕ) → a ≤ s → s ≤ e 
 between-join xs a s e p q =
     let n : (s - a) + (e - s) ≡ e - a = omega arith in
     let m : a + (s - a) ≡ s = omega arith in
-    let d : drop (s - a) (drop a xs) ≡ drop s xs = drop-drop (s - a) a xs ∙ ap (λ k. drop k xs) m in
-    let j : take ((s - a) + (e - s)) (drop a xs) ≡ take (s - a) (drop a xs) ++ take (e - s) (drop (s - a) (drop a xs)) = take-add (s - a) (e - s) (drop a xs) in
-    ap (λ k. take (s - a) (drop a xs) ++ take (e - s) k) (sym d) ∙ sym j ∙ ap (λ k. take k (drop a xs)) n
+    grind (arith, common_steps, drop-drop, take-add)
 
 -- what stands after the first part of a list is the second
 pub drop-seam : {A : Type 0} (xs ys : List A) (n : ℕ) → length xs ≡ n → drop n (xs ++ ys) ≡ ys
@@ -43,9 +41,7 @@ drop-bits_of n xs h =
 -- no bits are buffered where the window is at its end
 pub window_empty : (w : Window) → w.at ≡ w.end → window_bits w ≡ []
 unfolding window_bits
-window_empty w e =
-    let n : w.end - w.at ≡ 0 = omega arith in
-    rw n refl
+window_empty w e = grind (arith, common_steps)
 
 -- in a window from the start of its buffer to the end of the first bytes the bits of these bytes are buffered
 pub window_filled : (w : Window) (n : ℕ) → w.at ≡ 0 → w.end ≡ 8 * n → n ≤ length w.buffer → window_bits w ≡ bits_of (take n w.buffer)
@@ -69,23 +65,12 @@ length-window w h =
 
 -- a window of which bits were taken
 pub window-moved : (w : Window) (at : ℕ) → IsWindow w → w.at ≤ at → at ≤ w.end → IsWindow (record w { at = at })
-window-moved w at h from to = record {
-  size = h.size;
-  marked = omega (arith, h.marked);
-  ordered = to;
-  fits = h.fits;
-  whole = h.whole;
-  held = omega (arith, h.held);
-  limit = h.limit;
-  after = h.after;
-}
+window-moved w at h from to = grind (arith, common_steps)
 
 -- no bits were passed where the mark is at the window's place
 pub passed_none : (w : Window) → w.marked ≡ w.at → window_passed w ≡ []
 unfolding window_passed
-passed_none w e =
-    let n : w.at - w.marked ≡ 0 = omega arith in
-    rw n refl
+passed_none w e = grind (arith, common_steps)
 
 -- the same bits are buffered wherever the mark is
 pub marked-bits : (w : Window) (marked : ℕ) → window_bits (record w { marked = marked }) ≡ window_bits w
@@ -99,14 +84,7 @@ unfolding window_bits window_passed
 window-passes w at n xs h place there e =
     let bits = bits_of w.buffer in
     let size : at - w.at ≡ n = omega arith in
-    let part : xs ≡ slice_range bits w.at at = e ∙ ap (λ k. take k (drop w.at bits)) (sym size) in
-    let len : length xs ≡ n =
-    ap length e ∙ length-take-le n (drop w.at bits) (omega (arith, length-drop w.at bits, length-bits_of w.buffer, h.size, h.fits)) in
-    record {
-      split = sym (between-join bits w.at at w.end (omega arith) there) ∙ ap (λ k. k ++ slice_range bits at w.end) (sym part);
-      passed = sym (between-join bits w.marked w.at at h.marked (omega arith)) ∙ ap (λ k. slice_range bits w.marked w.at ++ k) (sym part);
-      taken = omega (arith, len, h.held, h.ordered);
-    }
+    grind (arith, common_steps, length-take-le, length-drop, length-bits_of, between-join)
 
 -- the bits of eight bytes
 bits-loaded : (bytes : List ℕ) (q v : ℕ) → q + 8 ≤ length bytes → to_be_bytes w64 v ≡ take 8 (drop q bytes) → word 64 v ≡ take 64 (drop (8 * q) (bits_of bytes))
@@ -180,10 +158,7 @@ near-ahead w r h e =
           e ∙ (ap (λ k. take k ahead ++ replicate s false) (sym both) ∙ (ap (λ z. z ++ replicate s false) (take-add len d ahead ∙ ap (λ z. take len ahead ++ z) after)
           ∙ (append_assoc (take len ahead) (replicate d false) (replicate s false) ∙ (ap (λ z. take len ahead ++ z) (replicate-append-replicate d s false ∙ ap (λ k. replicate k false) gap)
           ∙ rw near (ap (λ z. z ++ replicate (64 - len) false) (sym (take-take len len ahead (omega arith))))))))
-      | inr long ↦
-          let near : bits_near w ≡ 64 - s = omega (arith, buffered, long) in
-          let gap : s ≡ 64 - (64 - s) = omega arith in
-          e ∙ rw near (ap (λ z. z ++ replicate s false) (sym (take-take (64 - s) len ahead long)) ∙ ap (λ k. take (64 - s) (take len ahead) ++ replicate k false) gap)
+      | inr long ↦ grind (arith, common_steps, take-take)
     ]
 
 -- the digits of words are as many as the width, for each of them
@@ -204,8 +179,7 @@ part-buffered w skip n h there =
     let all = w.end - w.at in
     let len : length (take all (drop w.at bits)) ≡ all = length-window w h in
     let room : skip + (all - skip) ≡ all = omega (arith, there, len) in
-    ap (λ k. take n (drop skip (take k (drop w.at bits)))) (sym room)
-    ∙ (ap (take n) (drop-take skip (all - skip) (drop w.at bits)) ∙ (take-take n (all - skip) (drop skip (drop w.at bits)) (omega (arith, there, len)) ∙ ap (take n) (drop-drop skip w.at bits)))
+    grind (arith, common_steps, drop-take, take-take, drop-drop)
 
 -- the buffer has the buffered bits after others
 pub ahead_in_buffer : {w : Window} {buffered : List Bool} (skip : ℕ) → IsWindow w → window_bits w ≡ buffered → skip ≤ length buffered → AreBitsFrom w.buffer (w.at + skip) (drop skip buffered)
@@ -230,8 +204,7 @@ blank-ahead : (bits : List Bool) (s n r v : ℕ) → n ≤ 57 → r < 2 ^ 64 →
     → v ≡ r / 2 ^ (64 - n) → is_blank (slice_range bits s (s + n)) ≡ (v == 0)
 blank-ahead bits s n r v few fits ahead e =
     let size : s + n - s ≡ n = omega arith in
-    let digits : word n v ≡ slice_range bits s (s + n) =
-    ap (word n) e ∙ (first-ahead (drop s bits) n (64 - s % 8) (s % 8) r (omega (arith, few)) (omega arith) ahead ∙ ap (λ k. take k (drop s bits)) (sym size)) in
+    let digits : word n v ≡ slice_range bits s (s + n) = grind (arith, common_steps, first-ahead) in
     ap is_blank (sym digits) ∙ blank-word n v (rw e (front_below 64 n r (omega (arith, few)) fits))
 
 -- a stretch without a 1 and the next n bits, where these spell 0, are a stretch without a 1

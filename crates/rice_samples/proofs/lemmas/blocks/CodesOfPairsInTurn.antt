@@ -1,7 +1,6 @@
 -- The codes of pairs, one pair after another.
-use Rattle.std.proofs.lemmas.Grind.{common_steps}
-use Rattle.std.proofs.Common.{◌≡◌, ℕ, zero, suc, ◌+◌, ◌*◌, ◌<◌, List, [], ◌∷◌, length, get_or, take, sum_by, refl, sym, ◌∙◌, ap, arith}
-use Rattle.std.proofs.lemmas.List.Sums.{sum_by-cons}
+use Rattle.std.proofs.Common.{◌≡◌, ℕ, zero, suc, ◌+◌, ◌*◌, ◌<◌, List, [], ◌∷◌, length, get_or, take, sum_by, refl, arith}
+use Rattle.std.proofs.lemmas.{List.Sums.sum_by-cons, Grind.common_steps}
 use Rattle.rice_samples.specs.blocks.Pairs.{pair_code, pair_codes}
 
 -- one pair more adds its number and 1, the bits of its fundamental sequence, to the sum of those before it
@@ -17,9 +16,4 @@ pairs_more (suc i) (a ∷ b ∷ xs) h =
     let k : 2 * suc i ≡ suc (suc (2 * i)) = omega arith in
     let l : 2 * suc i + 1 ≡ suc (suc (2 * i + 1)) = omega arith in
     let left = sum_by-cons f (pair_code a b) (pair_codes (take (2 * (i + 1)) xs)) in
-    let right = sum_by-cons f (pair_code a b) (pair_codes (take (2 * i) xs)) in
-    let next : sum_by f (pair_codes (take (suc (suc (2 * (i + 1)))) (a ∷ b ∷ xs))) ≡ sum_by f (pair_codes (take (suc (suc (2 * i))) (a ∷ b ∷ xs)))
-    + (pair_code (get_or (a ∷ b ∷ xs) (suc (suc (2 * i))) 0) (get_or (a ∷ b ∷ xs) (suc (suc (2 * i + 1))) 0) + 1) =
-    omega (arith, ih, left, right)
-    in
-    grind (arith, common_steps, sum_by, get_or)
+    grind (arith, common_steps, sum_by-cons, sum_by, get_or, common_steps)

@@ -113,8 +113,7 @@ sums_below k i limit xs total lanes room small value =
 
 -- with at most 64 numbers below 2^32, the sum in the lanes and that of the next chunk are below 2^64 together
 pub sums_fit : (k i : ℕ) (xs total : List ℕ) → length total ≡ 8 → 8 * i + 8 ≤ length xs → length xs ≤ 64 → ((j : ℕ) → get_or xs j 0 < 2 ^ 32)
-    → sum_l total ≡ sum_by (λ d. d / 2 ^ k) (take (8 * i) xs) →
-    sum_l total + sum_l (zip2 (λ d s. d / 2 ^ s) (chunk (8 * i) 8 xs) (replicate 8 k)) < 2 ^ 64
+    → sum_l total ≡ sum_by (λ d. d / 2 ^ k) (take (8 * i) xs) → sum_l total + sum_l (zip2 (λ d s. d / 2 ^ s) (chunk (8 * i) 8 xs) (replicate 8 k)) < 2 ^ 64
 sums_fit k i xs total lanes room few small value = sums_below k i (2 ^ 64) xs total lanes room (let b = sum_limit k (2 ^ 32) xs small in omega arith) value
 
 -- the lanes of the sum, with the next chunk added lane by lane, hold the sum up to the end of this chunk

@@ -1,7 +1,6 @@
 -- The numbers that stand for pairs stand for one pair each.
-use Rattle.std.proofs.lemmas.Grind.{common_steps}
-use Rattle.std.proofs.Common.{◌≡◌, ℕ, zero, suc, ◌+◌, ◌-◌, ◌*◌, ◌/◌, ◌^◌, ◌<◌, ◌≤◌, ◌∙◌, add-one, List, [], ◌∷◌, length, refl, ap, arith, inl, inr}
-use Rattle.std.proofs.lemmas.Bool.{cases_lt}
+use Rattle.std.proofs.Common.{◌≡◌, ℕ, zero, suc, ◌+◌, ◌-◌, ◌*◌, ◌/◌, ◌^◌, ◌<◌, ◌≤◌, add-one, List, [], ◌∷◌, length, refl, ap, arith, inl, inr}
+use Rattle.std.proofs.lemmas.{Grind.common_steps, Bool.cases_lt}
 use Rattle.rice_samples.specs.blocks.Pairs.{pair_code, pair_codes}
 
 -- the codes of the pairs whose sum is below s
@@ -23,10 +22,7 @@ triangle_below : (s u : ℕ) → s < u → triangle s + s < triangle u
 unfolding triangle
 triangle_below s zero h = absurd (omega arith)
 triangle_below s (suc u) h =
-    elim (cases_lt s u) [
-      | inl lt ↦ let g = triangle_below s u lt in omega arith
-      | inr le ↦ let e : s ≡ u = omega arith in let g = ap triangle e in omega arith
-    ]
+    elim (cases_lt s u) [ inl lt ↦ let g = triangle_below s u lt in omega arith | inr le ↦ let e : s ≡ u = omega arith in let g = ap triangle e in omega arith ]
 
 -- from the same code the same sum
 same_sum : (s u b d : ℕ) → b ≤ s → d ≤ u → triangle s + b ≡ triangle u + d → s ≡ u
@@ -39,8 +35,7 @@ same_pair a b c d e =
     let q = triangle_is (c + d) in
     let f : triangle (a + b) + b ≡ triangle (c + d) + d = omega arith in
     let sums : a + b ≡ c + d = same_sum (a + b) (c + d) b d (omega arith) (omega arith) f in
-    let triangles = ap triangle sums in
-    (omega arith, omega arith)
+    grind (arith, common_steps, triangle)
 
 -- lists of the same length have the same number of pairs
 pub length-pair_codes : (ds es : List ℕ) → length ds ≡ length es → length (pair_codes ds) ≡ length (pair_codes es)
@@ -122,10 +117,7 @@ triangle-more s = rw add-one refl
 -- the sum of a pair whose code is within the bits of a code
 pub triangle_small : (s : ℕ) → triangle s ≤ 2 ^ 52 → s < 2 ^ 32
 triangle_small s h =
-    elim (cases_lt s (2 ^ 32)) [
-      | inl lt ↦ lt
-      | inr le ↦ absurd (large (2 ^ 32) s le (triangle_is (2 ^ 32)) h (omega arith))
-    ]
+    elim (cases_lt s (2 ^ 32)) [ inl lt ↦ lt | inr le ↦ absurd (large (2 ^ 32) s le (triangle_is (2 ^ 32)) h (omega arith)) ]
   where
     large : (m s : ℕ) → m ≤ s → m * (m + 1) / 2 ≡ triangle m → triangle s ≤ 2 ^ 52 → (2 ^ 53 ≤ m * (m + 1) / 2) → ⊥
     large m s le e h k = elim (cases_lt m s) [

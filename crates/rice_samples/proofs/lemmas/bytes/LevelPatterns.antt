@@ -1,8 +1,7 @@
 -- Levels, and the patterns and words of the values at these.
-use Rattle.std.proofs.lemmas.Grind.{common_steps}
 use Rattle.std.proofs.Common.{◌≡◌, ℕ, ◌+◌, ◌-◌, ◌*◌, ◌%◌, ◌^◌, ◌<◌, ◌≤◌, ap, arith, sym, ◌∙◌}
 use Rattle.std.proofs.{lemmas.Nat.and_mask, lemmas.Nat.mod-mul-add, lemmas.Nat.mod_below, lemmas.Nat.pow-add, lemmas.Nat.pow_pos, Math.Nat.mod-add-mod, Math.Nat.mul-le-mul_right}
-use Rattle.std.{proofs.Math.Pow.mod-mod-pow, proofs.Math.Pow.pow_mono, specs.Prelude.bit_and}
+use Rattle.std.{proofs.Math.Pow.mod-mod-pow, proofs.Math.Pow.pow_mono, proofs.lemmas.Grind.common_steps, specs.Prelude.bit_and}
 use Rattle.rice_samples.proofs.lemmas.bytes.SpellingLemmas.{level_from_pattern, offset_limit, same_offset, wider_value}
 use Rattle.rice_samples.specs.{Parameters.Parameters, Parameters.least, Parameters.level, Parameters.value_at, Parameters.value_count, predict.Residuals.pattern, predict.Residuals.twos_complement}
 use Rattle.rice_samples.proofs.lemmas.{setting.ValuesAboveLeast.gap_above, setting.ValuesAboveLeast.sample_at, predict.InverseRanksAndPatterns.has_pattern, setting.ValuesAtLevels.value_of_level}

@@ -12,7 +12,4 @@ reads_then s bytes rest last xs ys f g = record {
 
 -- bytes after them change nothing
 pub reads_before : (s : Parameters) (xs : List ℤ) (bytes rest after : List ℕ) → Reads s bytes xs rest → Reads s (bytes ++ after) xs (rest ++ after)
-reads_before s xs bytes rest after r = record {
-  split = ap (λ l. l ++ after) r.split ∙ append_assoc (spellings s xs) rest after;
-  legal = r.legal;
-}
+reads_before s xs bytes rest after r = record { split = ap (λ l. l ++ after) r.split ∙ append_assoc (spellings s xs) rest after; legal = r.legal }

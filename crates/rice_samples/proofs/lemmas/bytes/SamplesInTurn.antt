@@ -1,7 +1,6 @@
 -- Samples that are read, and written, one after the other.
-use Rattle.std.proofs.lemmas.Grind.{common_steps}
-use Rattle.std.proofs.Common.{◌≡◌, ℕ, ◌+◌, ◌-◌, ◌*◌, ◌<◌, ◌≤◌, List, [], ◌∷◌, ◌++◌, length, take, drop, ap, sym, arith, ◌∙◌, append-nil, length-drop, get_or, map, ℤ}
-use Rattle.std.proofs.{lemmas.List.map_more, lemmas.List.length-take-le, lemmas.Grind.flat_map-append, lemmas.Slice.take-put_mid, Math.Nat.mul-le-mul_left}
+use Rattle.std.proofs.Common.{◌≡◌, ℕ, ◌+◌, ◌-◌, ◌*◌, ◌<◌, List, [], ◌∷◌, ◌++◌, length, take, drop, ap, arith, ◌∙◌, append-nil, length-drop, get_or, map, ℤ}
+use Rattle.std.proofs.{lemmas.Grind.common_steps, lemmas.Grind.flat_map-append, lemmas.List.map_more, lemmas.List.length-take-le, lemmas.Slice.take-put_mid, Math.Nat.mul-le-mul_left}
 use Rattle.std.specs.Prelude.{flat_map}
 use borrow.Rule.Slice.PartMut.{put_mid}
 

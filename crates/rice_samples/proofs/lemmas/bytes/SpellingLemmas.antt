@@ -1,9 +1,8 @@
 -- Values, their patterns, and the bytes that spell these.
-use Rattle.std.proofs.lemmas.Grind.{common_steps}
-use Rattle.std.proofs.Common.{◌≡◌, ℕ, zero, suc, ◌+◌, ◌-◌, ◌*◌, ◌/◌, ◌%◌, ◌^◌, ◌<◌, ◌≤◌, ◌⊎◌, inl, inr, cond, mod-eq_of_lt, Bool, true, false, ap, arith, sym, ◌∙◌, subst, refl, List, length, ℤ, pos}
-use Rattle.std.proofs.Common.{negsuc, neg_ℤ, ◌≤ℤ◌, ◌<ℤ◌, ◌-ℤ◌}
-use Rattle.std.{proofs.Math.Nat.mul-add-mod_self_left, proofs.Math.Nat.pow-suc, specs.Simd.Lanes.digits_l, specs.Simd.Lanes.number_l, proofs.lemmas.Bool.cases_lt, proofs.lemmas.Nat.pow_pos}
-use Rattle.std.{proofs.Math.Pow.pow_mono, proofs.lemmas.Int.ints, specs.Int.int_gap}
+use Rattle.std.proofs.Common.{◌≡◌, ℕ, zero, suc, ◌+◌, ◌-◌, ◌*◌, ◌/◌, ◌%◌, ◌^◌, ◌<◌, ◌≤◌, ◌⊎◌, inl, inr, cond, mod-eq_of_lt, Bool, true, false, ap, arith, sym, ◌∙◌, subst, List, length, ℤ, pos, negsuc}
+use Rattle.std.proofs.Common.{neg_ℤ, ◌≤ℤ◌, ◌<ℤ◌, ◌-ℤ◌}
+use Rattle.std.{proofs.Math.Nat.mul-add-mod_self_left, proofs.Math.Nat.pow-suc, specs.Simd.Lanes.digits_l, specs.Simd.Lanes.number_l, proofs.lemmas.Grind.common_steps, proofs.lemmas.Bool.cases_lt}
+use Rattle.std.{proofs.lemmas.Nat.pow_pos, proofs.Math.Pow.pow_mono, proofs.lemmas.Int.ints, specs.Int.int_gap}
 use Rattle.rice_bits.proofs.lemmas.bits.EightBytes.{pow_bytes}
 use Rattle.rice_samples.proofs.lemmas.{bytes.BytesOfWords.bytes_are_digits, bytes.BytesOfWords.in_order-twice, setting.LevelsOfSamples.half_pow, setting.LevelsOfSamples.pattern_fits}
 use Rattle.rice_samples.specs.{Parameters.level, Parameters.Parameters, Parameters.IsLegal, Parameters.IsSample, Parameters.width, bytes.Spelling.spelling, bytes.Spelling.ordered_bytes}
@@ -23,10 +22,7 @@ signed_digits bits d h lt = halves (2 ^ (bits - 1)) (half_pow bits h) (pow_pos (
     halves zero e some = absurd (omega arith)
     halves (suc half) e some =
         elim (cases_lt d (suc half)) [
-          | inl low ↦
-              let m : (d + suc half) % (2 * suc half) ≡ d + suc half = mod-eq_of_lt (omega arith) in
-              let v : pos ((d + suc half) % (2 * suc half)) -ℤ pos (suc half) ≡ pos d = ap (λ k. pos k -ℤ pos (suc half)) m ∙ not_below (d + suc half) (suc half) d refl in
-              rw v refl
+          | inl low ↦ grind (arith, common_steps, mod-eq_of_lt, not_below)
           | inr high ↦
               let n : d + suc half ≡ 2 * suc half * 1 + (d - suc half) = omega arith in
               let l : (d - suc half) % (2 * suc half) ≡ d - suc half = mod-eq_of_lt (omega (arith, lt, e)) in
@@ -157,9 +153,4 @@ level_spelled {s} {bytes} {msb} {k} word {o} y legal spells to hy e =
     let wide : Parameters = record s { bits = 8 * k } in
     let vy : IsValue (8 * k) s.signed y = wider_value s.bits (8 * k) s.signed y legal.bits_from spells.enough hy in
     let below : twos_complement (8 * k) y < 2 ^ (8 * k) = pattern_fits wide y (omega arith) vy in
-    let spelled : ordered_bytes s.msb k word ≡ ordered_bytes s.msb k (twos_complement (8 * k) y) =
-    ap (λ v. ordered_bytes v k word) (sym spells.order) ∙ (ap (λ v. ordered_bytes msb v word) (sym len)
-    ∙ (sym spells.ordered ∙ (e ∙ ap (λ v. ordered_bytes s.msb v (twos_complement (8 * v) y)) (sym spells.width_is))))
-    in
-    let same = same_word s.msb k word (twos_complement (8 * k) y) fits below spelled in
-    ap (λ v. (v + o) % 2 ^ (8 * k)) same ∙ (ap (λ v. (twos_complement (8 * k) y + v) % 2 ^ (8 * k)) spells.offset_is ∙ level_from_pattern s (8 * k) y legal.bits_from spells.enough hy)
+    grind (arith, common_steps, same_word, level_from_pattern)

@@ -1,9 +1,9 @@
 -- Words that become the spellings of samples, one after another.
 use Rattle.std.proofs.Common.{◌≡◌, ℕ, ◌+◌, ◌*◌, ◌%◌, ◌^◌, ◌<◌, ◌≤◌, List, [], ◌∷◌, ◌++◌, length, take, drop, map, refl, ap, arith, sym, ◌∙◌, append_assoc, append-nil, length-append, length-drop, ℤ}
-use Rattle.std.proofs.lemmas.{List.drop-drop, List.drop_at, List.map-append, List.take_at, List.Elements.All-nil, List.Elements.All-push, Grind.flat_map-append}
+use Rattle.std.proofs.lemmas.{List.drop-drop, List.drop_at, List.map-append, List.take_at, Grind.common_steps, Grind.flat_map-append, List.Elements.All-nil, List.Elements.All-push}
 use Rattle.std.{proofs.Math.Seq.take-add, specs.Prelude.All}
-use Rattle.rice_samples.specs.{Parameters.Parameters, Parameters.IsSample, Parameters.value_count, Parameters.width, bytes.Spelling.spelling, bytes.Spelling.spellings, bytes.Spelling.ordered_bytes}
-use Rattle.rice_samples.specs.{bytes.UnusedBits.SpellsOne, bytes.UnusedBits.bytes_of_words, predict.Residuals.pattern}
+use Rattle.rice_samples.specs.{Parameters.Parameters, Parameters.IsSample, Parameters.value_count, Parameters.width, bytes.UnusedBits.SpellsOne, bytes.UnusedBits.bytes_of_words}
+use Rattle.rice_samples.specs.{bytes.Spelling.spellings, bytes.Spelling.ordered_bytes, predict.Residuals.pattern}
 
 -- the words in the first `at` bytes have become spellings
 pub record SpelledSoFar (s : Parameters) (old now : List ℕ) (at : ℕ) : Type 0 where
@@ -31,8 +31,7 @@ none_so_far s old w =
 
 -- one sample more was spelled
 pub one_more : {s : Parameters} {old now new one one_new : List ℕ} (w : ℕ) {at : ℕ} → (h : SpelledSoFar s old now at) → at + w ≤ length old → length now ≡ length old
-    → one ≡ take w (drop at now) → SpellsOne s one one_new
-    → new ≡ take at now ++ (one_new ++ drop (at + w) now) → SpelledSoFar s old new (at + w)
+    → one ≡ take w (drop at now) → SpellsOne s one one_new → new ≡ take at now ++ (one_new ++ drop (at + w) now) → SpelledSoFar s old new (at + w)
 one_more {s} {old} {now} w {at} h within len one_is d wrote =
     let front = spellings s h.samples in
     let size : length front ≡ at = omega (arith, ap length h.spelled, length-append front (drop at old), length-drop at old) in
@@ -49,6 +48,5 @@ one_more {s} {old} {now} w {at} h within len one_is d wrote =
       fit = All-push (λ w. w < 2 ^ (8 * width s)) h.words d.word h.fit d.fits;
       legal = All-push (IsSample s) h.samples d.sample h.legal d.legal;
       patterns = map-append (pattern s) h.samples (d.sample ∷ []) ∙ (λ i. h.patterns i ++ d.pattern_is i ∷ []) ∙ sym (map-append (λ w. w % value_count s) h.words (d.word ∷ []));
-      spelled = wrote ∙ (λ i. first i ++ (d.spelled i ++ rest i)) ∙ sym (append_assoc front (spelling s d.sample) (drop (at + w) old))
-          ∙ ap (λ l. l ++ drop (at + w) old) (ap (λ l. front ++ l) (sym (append-nil (spelling s d.sample))) ∙ sym (flat_map-append (spelling s) h.samples (d.sample ∷ [])));
+      spelled = grind (arith, common_steps, append_assoc, append-nil, flat_map-append);
     }

@@ -1,12 +1,10 @@
 -- A sample has its own pattern, and after each other sample its own residual.
-use Rattle.std.proofs.lemmas.Grind.{common_steps}
-use Rattle.std.proofs.Common.{◌≡◌, ℕ, zero, suc, ◌+◌, ◌-◌, ◌*◌, ◌/◌, ◌%◌, ◌^◌, ◌<◌, ◌≤◌, ◌==◌, Bool, true, false, cond, ◌&&◌, List, [], ◌∷◌, length, refl, ap, arith, sym, ◌∙◌, ℤ, pos, negsuc, neg_ℤ}
-use Rattle.std.proofs.Common.{◌≤ℤ◌, ◌<ℤ◌, w64}
-use Rattle.std.proofs.{Math.Nat.mul-add-mod_self_left, Math.Nat.mod-eq_of_lt, Math.Nat.mul-div_cancel_left, lemmas.Nat.mod-mul-add, lemmas.Nat.pow-add, lemmas.Nat.pow_pos, lemmas.Int.ints}
-use Rattle.std.{proofs.lemmas.Bool.Decides.nat_tests, specs.Int.cast_unsigned, specs.Int.int_gap, specs.List.AllByRecursion}
-use Rattle.rice_samples.specs.predict.Residuals.{twos_complement, pattern, rank, residual, residuals}
+use Rattle.std.proofs.Common.{◌≡◌, ℕ, zero, suc, ◌+◌, ◌-◌, ◌*◌, ◌%◌, ◌^◌, ◌<◌, ◌≤◌, false, List, [], ◌∷◌, length, refl, ap, arith, sym, ◌∙◌, ℤ, pos, negsuc, neg_ℤ, ◌≤ℤ◌, ◌<ℤ◌, w64}
+use Rattle.std.proofs.{Math.Nat.mul-add-mod_self_left, Math.Nat.mod-eq_of_lt, Math.Nat.mul-div_cancel_left, lemmas.Nat.mod-mul-add, lemmas.Nat.pow-add, lemmas.Nat.pow_pos, lemmas.Grind.common_steps}
+use Rattle.std.{specs.Int.cast_unsigned, specs.Int.int_gap, specs.List.AllByRecursion, proofs.lemmas.Int.ints}
+use Rattle.rice_samples.specs.{predict.Residuals.twos_complement, predict.Residuals.pattern, predict.Residuals.residual, predict.Residuals.residuals, Places.is_reference_sample, Places.is_reference}
 use Rattle.rice_samples.proofs.lemmas.{setting.LevelsOfSamples.half_pow, setting.LevelsOfSamples.same_level, predict.Ranks.rank_injective}
-use Rattle.rice_samples.specs.{Parameters.Parameters, Parameters.IsSample, Parameters.level, Parameters.value_count, Places.is_reference_sample, Places.is_reference}
+use Rattle.rice_samples.specs.Parameters.{Parameters, IsSample}
 
 -- the lowest digits of a small number in 64 bits
 pub low_digits : (bits : ℕ) (x : ℤ) → bits ≤ 32 → neg_ℤ (pos (2 ^ bits)) ≤ℤ x → x <ℤ pos (2 ^ bits) → cast_unsigned w64 x % 2 ^ bits ≡ twos_complement bits x
@@ -19,8 +17,7 @@ low_digits bits (negsuc v) few from below = negative (2 ^ (64 - bits)) (2 ^ bits
     negative (suc parts) p v e some lt = let f : 2 ^ 64 - suc v ≡ parts * p + (p - 1 - v) = omega arith in rw f (mod-mul-add parts p (p - 1 - v) (omega arith))
 
 same_signed : (n : ℕ) {half : ℕ} {x y : ℤ} → 2 ^ n ≡ half + half → 0 < half → neg_ℤ (pos half) ≤ℤ x → int_gap (neg_ℤ (pos half)) x < 2 ^ n → neg_ℤ (pos half) ≤ℤ y
-    → int_gap (neg_ℤ (pos half)) y < 2 ^ n →
-    twos_complement n x ≡ twos_complement n y → x ≡ y
+    → int_gap (neg_ℤ (pos half)) y < 2 ^ n → twos_complement n x ≡ twos_complement n y → x ≡ y
 same_signed n {half = zero} e lt h k l m f = absurd (omega arith)
 same_signed n {half = suc half} {x = pos v} {y = pos w} e lt h k l m f = ap (λ d. pos d) f
 same_signed n {half = suc half} {x = pos v} {y = negsuc w} e lt h k l m f = absurd (omega (arith, ints))

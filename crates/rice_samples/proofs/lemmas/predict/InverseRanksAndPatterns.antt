@@ -1,10 +1,9 @@
 -- Each number below the count of values is the pattern of a sample, its level, and its rank from each other sample.
-use Rattle.std.proofs.lemmas.Grind.{common_steps}
-use Rattle.std.proofs.Common.{◌≡◌, ℕ, zero, suc, ◌+◌, ◌-◌, ◌^◌, ◌<◌, ◌≤◌, Bool, true, false, cond, refl, ap, arith, ◌∙◌, inl, inr, ℤ, pos, negsuc, neg_ℤ, ◌≤ℤ◌}
-use Rattle.std.{proofs.lemmas.Bool.Decides.nat_tests, proofs.lemmas.Bool.cases_lt, proofs.lemmas.Nat.pow_pos, proofs.lemmas.Int.ints, specs.Int.int_gap}
-use Rattle.rice_samples.specs.predict.Residuals.{twos_complement, pattern, rank, rank_below}
+use Rattle.std.proofs.Common.{◌≡◌, ℕ, zero, suc, ◌+◌, ◌-◌, ◌^◌, ◌<◌, ◌≤◌, Bool, true, false, cond, refl, arith, inl, inr, ℤ, pos, negsuc, neg_ℤ, ◌≤ℤ◌}
+use Rattle.std.{proofs.lemmas.Bool.Decides.nat_tests, proofs.lemmas.Grind.common_steps, proofs.lemmas.Bool.cases_lt, proofs.lemmas.Nat.pow_pos, proofs.lemmas.Int.ints, specs.Int.int_gap}
 use Rattle.rice_samples.specs.Parameters.{Parameters, IsSample, level, value_count}
 use Rattle.rice_samples.proofs.lemmas.{predict.Ranks.number_with, predict.Ranks.rank_of_number, setting.LevelsOfSamples.half_pow}
+use Rattle.rice_samples.specs.predict.Residuals.{twos_complement, pattern, rank}
 
 -- a value from the least one on
 abbrev Value : ℤ → ℕ → ℤ → Type 0

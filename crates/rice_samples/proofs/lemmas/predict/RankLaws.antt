@@ -1,8 +1,7 @@
 -- The rank of a sample, which goes by levels, as a count over all samples and as the standard's fold.
-use Rattle.std.proofs.lemmas.Grind.{common_steps}
-use Rattle.std.proofs.Common.{◌≡◌, ℕ, zero, suc, ◌+◌, ◌-◌, ◌*◌, ◌<◌, ◌≤◌, cond, nat_lt, map, refl, ap, subst, sym, arith, ◌∙◌, ◌⊎◌, inl, inr, ℤ, pos, negsuc, ◌≤ℤ◌, ◌+ℤ◌, ◌-ℤ◌}
-use Rattle.std.{proofs.lemmas.Bool.Decides.nat_tests, proofs.lemmas.List.Sums.sum_by-cons, specs.Int.int_gap, specs.Int.abs_diff, proofs.lemmas.Bool.cases_lt, specs.List.range_with_len}
-use Rattle.std.{specs.Prelude.count_by, proofs.lemmas.Int.ints}
+use Rattle.std.proofs.Common.{◌≡◌, ℕ, zero, suc, ◌+◌, ◌*◌, ◌<◌, ◌≤◌, nat_lt, map, refl, ap, arith, ◌∙◌, ◌⊎◌, inl, inr, ℤ, pos, negsuc, ◌≤ℤ◌, ◌+ℤ◌}
+use Rattle.std.{proofs.lemmas.Bool.Decides.nat_tests, proofs.lemmas.Grind.common_steps, specs.Int.int_gap, specs.Int.abs_diff, specs.List.range_with_len, specs.Prelude.count_by}
+use Rattle.std.proofs.lemmas.Int.{ints}
 use Rattle.rice_samples.specs.{Parameters.Parameters, Parameters.IsSample, Parameters.least, Parameters.level, Parameters.value_count, Laws.distance, Laws.nearer_count, Laws.IsSecondOfTwo}
 use Rattle.rice_samples.{specs.predict.Residuals.nearer, specs.predict.Residuals.rank, specs.predict.Residuals.rank_below, proofs.lemmas.predict.Ranks.nearer_is_count}
 

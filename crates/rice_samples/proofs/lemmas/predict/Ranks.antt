@@ -1,7 +1,6 @@
 -- Each number below count has one rank from p, and each rank is that of one number.
-use Rattle.std.proofs.lemmas.Grind.{common_steps}
-use Rattle.std.proofs.Common.{◌≡◌, ℕ, zero, suc, ◌+◌, ◌-◌, ◌*◌, ◌/◌, ◌%◌, ◌<◌, min, max, cond, nat_lt, nat_le, ap, arith, ◌∙◌, if◌then◌else◌, ◌==◌}
-use Rattle.std.{proofs.lemmas.Bool.Decides.nat_tests, proofs.lemmas.List.Sums.sum_by-cons, specs.List.range_with_len, specs.Prelude.count_by, specs.Int.abs_diff}
+use Rattle.std.proofs.Common.{◌≡◌, ℕ, zero, suc, ◌+◌, ◌-◌, ◌*◌, ◌/◌, ◌%◌, ◌<◌, min, max, nat_lt, nat_le, arith, ◌∙◌, if◌then◌else◌, ◌==◌}
+use Rattle.std.{proofs.lemmas.Bool.Decides.nat_tests, proofs.lemmas.Grind.common_steps, specs.List.range_with_len, specs.Prelude.count_by, specs.Int.abs_diff}
 use Rattle.rice_samples.specs.predict.Residuals.{nearer, rank_below}
 
 -- a rank is below the count too

@@ -1,7 +1,6 @@
 -- Identifiers, splits and widths of samples of so many bits.
-use Rattle.std.proofs.lemmas.Grind.{common_steps}
 use Rattle.std.proofs.Common.{◌≡◌, ◌-◌, ◌*◌, ◌^◌, ◌<◌, ◌≤◌, ap, arith}
-use Rattle.std.proofs.{lemmas.Bool.Decides.nat_tests, Math.Nat.pow-le-pow_right}
+use Rattle.std.proofs.{lemmas.Bool.Decides.nat_tests, lemmas.Grind.common_steps, Math.Nat.pow-le-pow_right}
 use Rattle.rice_samples.specs.Parameters.{Parameters, id_len, k_max, width}
 
 -- at most 8 bits

@@ -1,6 +1,6 @@
 -- Values by their levels.
 use Rattle.std.proofs.Common.{◌≡◌, ℕ, suc, ◌-◌, ◌<◌, List, [], ◌∷◌, length, All, refl, sym, ap, arith, ◌∙◌, ℤ, pos, slice_index_or}
-use Rattle.std.proofs.lemmas.List.{get_or-map, length-map, Elements.All-map}
+use Rattle.std.proofs.lemmas.{List.get_or-map, List.length-map, List.Elements.All-map, Grind.common_steps}
 use Rattle.rice_samples.specs.Parameters.{Parameters, IsSample, least, level, value_at, value_count, values_at}
 use Rattle.rice_samples.specs.predict.Residuals.{rank_below, ranks, ranks_below, last_number, last_of}
 use Rattle.rice_samples.proofs.lemmas.setting.{ValuesAboveLeast.gap_above, ValuesAboveLeast.sample_at, LevelsOfSamples.same_level}
@@ -38,8 +38,7 @@ last_at p d (x ∷ y ∷ ys) h =
 pub last_value : (s : Parameters) (p : ℤ) (ls : List ℕ) → 0 < length ls → value_at s (slice_index_or ls (length ls - 1) 0) ≡ last_of p (values_at s ls)
 last_value s p ls h =
     let len = length-values s ls in
-    let last : slice_index_or (values_at s ls) (length (values_at s ls) - 1) (pos 0) ≡ value_at s (slice_index_or ls (length ls - 1) 0) = ap
-    (λ n. slice_index_or (values_at s ls) (n - 1) (pos 0)) len ∙ get_or-map (value_at s) ls (length ls - 1) 0 (pos 0) (omega arith) in
+    let last : slice_index_or (values_at s ls) (length (values_at s ls) - 1) (pos 0) ≡ value_at s (slice_index_or ls (length ls - 1) 0) = grind (arith, common_steps, slice_index_or, get_or-map) in
     sym (last_at p (pos 0) (values_at s ls) (omega (arith, len)) ∙ last)
 
 -- the value at the last of some levels, or at the one before them, is the last of the values

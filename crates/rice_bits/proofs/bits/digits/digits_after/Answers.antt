@@ -15,8 +15,7 @@ none-low v n width h few some =
     ap (λ k. k % 2 ^ width) (up ∙ split) ∙ mod-mul-add (x * 2 ^ (n - width)) (2 ^ width) 0 (pow_pos width)
 
 -- the digits that a rotation brings to the end
-turned : (v n width : ℕ) → width ≤ n → n < 64
-    → bit_or (v * 2 ^ (n % 64) % 2 ^ 64) (v / 2 ^ ((64 - n % 64) % 64)) % 2 ^ width ≡ v / 2 ^ (64 - n) % 2 ^ width
+turned : (v n width : ℕ) → width ≤ n → n < 64 → bit_or (v * 2 ^ (n % 64) % 2 ^ 64) (v / 2 ^ ((64 - n % 64) % 64)) % 2 ^ width ≡ v / 2 ^ (64 - n) % 2 ^ width
 turned v zero width h few =
     let none : width ≡ 0 = omega arith in
     rw none (mod-one _ ∙ sym (mod-one (v / 2 ^ 64)))

@@ -8,12 +8,7 @@ pub loop-count-init : goal.loop-count-init
 loop-count-init g c =
     let none : c.args.self.now.refusal ≡ None = ap (λ r. r.refusal) (sym c.self.view_is) ∙ no_refusal c.self.inside.refusal (sym c.is_some.ensures ∙ c.if-is_some.false) in
     let window = c.self.invariant.window in let taken = ap (λ r. r.taken) c.self.view_is in
-    record {
-      takes = takes-none _ none;
-      idle = λ _. refl;
-      limit = omega (arith, taken, window.limit);
-      steps = refl;
-    }
+    record { takes = takes-none _ none; idle = λ _. refl; limit = omega (arith, taken, window.limit); steps = refl }
 
 pub returns-in-Ok-default-true-clause-ok : goal.returns-in-Ok-default-true-clause-ok
 returns-in-Ok-default-true-clause-ok g c _ =

@@ -22,8 +22,7 @@ returns-then-after_zero-eq0-clause-none c =
     ∙ (ap (take few) (sym c.first_bits_ahead-after_zero.ensures) ∙ front))
 
 -- a fundamental sequence stands at the front of a word that is not 0, and has as many bits as zeros stand there after one zero more
-begins : (r : ℕ) → 0 < r / 2 → r < 2 ^ 64
-    → (count_leading_zeros 64 (r / 2) ≡ count_leading_zeros 64 r + 1) × (count_leading_zeros 64 r < 64)
+begins : (r : ℕ) → 0 < r / 2 → r < 2 ^ 64 → (count_leading_zeros 64 (r / 2) ≡ count_leading_zeros 64 r + 1) × (count_leading_zeros 64 r < 64)
     × (word 64 r ≡ fundamental_sequence (count_leading_zeros 64 r) ++ word (64 - (count_leading_zeros 64 r + 1)) r)
 begins r some fits =
     let z = count_leading_zeros 64 r in
