@@ -2,8 +2,7 @@
 ghost use Rattle.std.specs.Prelude.{[], ◌∷◌, ◌++◌, replicate, pos, true, None, Some};
 ghost use Rattle.rice_bits.specs.Bits.{bits_of};
 ghost use Rattle.rice_samples.specs.Examples.{defaults, unprocessed_defaults, one_bit_defaults};
-ghost use Rattle.rice_code.specs.code.Decoded.{Decoded, Reached, Ended, CutOff, Past, Large};
-ghost use Rattle.rice_code.specs.Examples.{numbers_from};
+ghost use Rattle.rice_code.specs.{code.Decoded.Decoded, code.Decoded.Reached, code.Decoded.Ended, code.Decoded.CutOff, code.Decoded.Past, code.Decoded.Large, Examples.numbers_from};
 
 /// No bytes decode to no samples, with a clean end.
 pub fn decodes_no_bytes()

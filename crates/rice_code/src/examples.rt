@@ -4,11 +4,9 @@
 ghost use Rattle.std.specs.Prelude.{◌≡◌, [], ◌∷◌, ◌++◌, length, replicate, pos, negsuc, true, false, None};
 ghost use Rattle.rice_bits.specs.Bits.{fundamental_sequence};
 ghost use Rattle.rice_samples.specs.Examples.{defaults, signed_defaults, unprocessed_defaults, one_bit_defaults};
-ghost use Rattle.rice_code.specs.code.Blocks.{block_data};
-ghost use Rattle.rice_code.specs.Bounds.{bit_bound, padded_bound, step_bound};
-ghost use Rattle.rice_code.specs.code.Code.{code, code_bits, early_output};
-ghost use Rattle.rice_code.specs.code.CodedDataSets.{bits_of_set, run_number, RemainderOfSegment};
 ghost use Rattle.rice_code.specs.Examples.{CodesTo, costs_of, identifiers_of, numbers_from, repetition_of};
+ghost use Rattle.rice_code.specs.{code.CodedDataSets.bits_of_set, code.CodedDataSets.run_number, code.CodedDataSets.RemainderOfSegment, Bounds.bit_bound, Bounds.padded_bound, Bounds.step_bound};
+ghost use Rattle.rice_code.specs.code.{Code.code, Code.code_bits, Code.early_output, Blocks.block_data};
 
 /// No samples have no code.
 pub fn no_samples()

@@ -1,7 +1,6 @@
 //! Reads one coded data set.
 ghost use Rattle.std.specs.Prelude.{◌≡◌, ◌-◌, ◌<◌, length, None, IfOk, IfErr};
-ghost use Rattle.rice_code.specs.decode.RowsOfFields.{HasRoom, AreCounted};
-ghost use Rattle.rice_code.specs.decode.ReadSets.{LowEntropyRead, LowEntropyCut, SetRead, SetCut};
+ghost use Rattle.rice_code.specs.decode.{ReadSets.LowEntropyRead, ReadSets.LowEntropyCut, ReadSets.SetRead, ReadSets.SetCut, RowsOfFields.HasRoom, RowsOfFields.AreCounted};
 
 use crate::decode::options::{
     SetSummary, read_no_compression, read_run, read_second_extension, read_split,

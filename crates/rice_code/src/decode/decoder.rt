@@ -1,11 +1,9 @@
 //! Decodes coded data sets, one block per call.
 ghost use Rattle.std.specs.Prelude.{◌≡◌, ◌≢◌, ℕ, ◌+◌, ◌-◌, ◌*◌, ◌<◌, ◌≤◌, [], length, None, Option, Some, IfSome, IfNone, Ok, pos, true};
 ghost use Rattle.rice_bits.specs.Limits.{step_limit, most_bits_read};
-ghost use Rattle.rice_samples.specs.Parameters.{IsSample};
-ghost use Rattle.rice_samples.specs.Places.{blocks_left};
-ghost use Rattle.rice_code.specs.{Limits.most_samples_of_bit, code.CodedDataSets.run_with_zeros, code.Layout.padding, decode.RowsOfFields.AreCounted, decode.Decoder.Skips, decode.Decoder.answer_to};
-ghost use Rattle.rice_code.specs.decode.DecoderState.{next_block_place, place_after};
-ghost use Rattle.rice_code.specs.code.Forms.{RunIsSound, blocks_in, zero_blocks};
+ghost use Rattle.rice_samples.specs.{Parameters.IsSample, Places.blocks_left};
+ghost use Rattle.rice_code.specs.{decode.DecoderState.next_block_place, decode.DecoderState.place_after, code.Forms.RunIsSound, code.Forms.blocks_in, code.Forms.zero_blocks, code.Layout.padding};
+ghost use Rattle.rice_code.specs.{code.CodedDataSets.run_with_zeros, decode.Decoder.Skips, decode.Decoder.answer_to, decode.RowsOfFields.AreCounted, Limits.most_samples_of_bit};
 
 use crate::decode::call_results::{CodeFault, Step};
 use crate::decode::coded_data_set::read_set;

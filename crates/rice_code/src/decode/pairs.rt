@@ -1,7 +1,6 @@
 //! Reads the pairs of second extension.
 ghost use Rattle.std.specs.Prelude.{◌≡◌, ◌+◌, ◌/◌, ◌<◌, ◌≤◌, Bool, List, length, None, IfErr, OnOk};
-ghost use Rattle.rice_bits.specs.Limits.{most_bits_read, step_limit};
-ghost use Rattle.rice_bits.specs.read.Reader.{Stops};
+ghost use Rattle.rice_bits.specs.{Limits.most_bits_read, Limits.step_limit, read.Reader.Stops};
 ghost use Rattle.rice_samples.specs.blocks.Pairs.{pair_code};
 ghost use Rattle.rice_code.specs.decode.RowsOfFields.{HasRoom, AreCounted, PairRow, ones};
 

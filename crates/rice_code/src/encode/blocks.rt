@@ -1,10 +1,9 @@
 //! Codes the blocks of a segment, one by one.
 ghost use Rattle.std.specs.Prelude.{◌≡◌, ◌+◌, ◌-◌, ◌*◌, ◌<◌, ◌≤◌, ◌++◌, true, false, length, IfSome};
 ghost use Rattle.rice_bits.specs.Limits.{step_limit};
-ghost use Rattle.rice_samples.specs.Parameters.{k_max, value_count};
-ghost use Rattle.rice_samples.specs.Places.{begins_segment, blocks_left, place};
-ghost use Rattle.rice_code.specs.{code.Blocks.is_zero_block, code.CodedDataSets.cost, code.Choice.shortest, encode.BitBuffer.HasRoomFor, code.SoundBlocks.IsSoundData, code.SoundBlocks.AreSoundBlocks};
+ghost use Rattle.rice_samples.specs.{Places.begins_segment, Places.blocks_left, Places.place, Parameters.k_max, Parameters.value_count};
 ghost use Rattle.rice_code.specs.encode.HeldBlocks.{held_blocks, reference_at, pending_bits, JoinsRun, EndsRun, HasRoomForBlocks, PutsBlocks, HasRoomForShortest, PutsShortest};
+ghost use Rattle.rice_code.specs.{code.SoundBlocks.IsSoundData, code.SoundBlocks.AreSoundBlocks, encode.BitBuffer.HasRoomFor, code.Blocks.is_zero_block, code.CodedDataSets.cost, code.Choice.shortest};
 
 use crate::encode::SegmentSink;
 use crate::encode::choice::{Choice, choose};

@@ -1,8 +1,7 @@
 //! The coder, from samples to code.
 ghost use Rattle.std.specs.Prelude.{◌≡◌, ℕ, ◌+◌, ◌*◌, ◌<◌, ◌≤◌, [], ◌∷◌, length, List, ℤ};
 ghost use Rattle.rice_bits.specs.Limits.{step_limit};
-ghost use Rattle.rice_samples.specs.Parameters.{IsSample};
-ghost use Rattle.rice_samples.specs.Places.{cut};
+ghost use Rattle.rice_samples.specs.{Parameters.IsSample, Places.cut};
 ghost use Rattle.rice_code.specs.CoderSteps.{segment_steps};
 
 use crate::encode::SegmentSink;

@@ -1,13 +1,9 @@
 //! The segment that a coder fills.
 ghost use Rattle.std.specs.Prelude.{◌≡◌, ◌+◌, ◌-◌, ◌*◌, ◌<◌, ◌≤◌, ◌↔◌, ◌++◌, length, replicate, if◌then◌else◌, ◌==◌, ◌&&◌, Some, false, IsTrue};
-ghost use Rattle.rice_bits.specs.Bits.{bits_to_byte};
-ghost use Rattle.rice_bits.specs.Limits.{step_limit};
-ghost use Rattle.rice_samples.specs.Limits.{longest_interval, longest_segment};
-ghost use Rattle.rice_samples.specs.Parameters.{IsLegal, IsSample};
-ghost use Rattle.rice_samples.specs.Places.{blocks_left};
-ghost use Rattle.rice_samples.specs.predict.Residuals.{pattern, rank};
-ghost use Rattle.rice_code.specs.{CoderSteps.coding_steps, code.Blocks.fill_count};
-ghost use Rattle.rice_code.specs.encode.OpenSegment.{IsOpen, IsWhole, HasRoomForSegment, empty_state, state_between, state_after, state_with_fill, state_after_segment, HoldsSoundBlocks, CodesHeld, is_first};
+ghost use Rattle.rice_bits.specs.{Bits.bits_to_byte, Limits.step_limit};
+ghost use Rattle.rice_samples.specs.{Limits.longest_interval, Limits.longest_segment, predict.Residuals.pattern, predict.Residuals.rank, Parameters.IsLegal, Parameters.IsSample, Places.blocks_left};
+ghost use Rattle.rice_code.specs.encode.OpenSegment.{IsOpen, IsWhole, HasRoomForSegment, empty_state, state_between, state_after, state_with_fill, state_after_segment, HoldsSoundBlocks, CodesHeld};
+ghost use Rattle.rice_code.specs.{encode.OpenSegment.is_first, CoderSteps.coding_steps, code.Blocks.fill_count};
 
 use crate::encode::SegmentSink;
 use crate::encode::blocks::code_blocks;

@@ -17,7 +17,7 @@ same_all_below m (x ∷ xs) (y ∷ ys) h k e =
     cc
 same_all_below m _ _ h k e = absurd e
 
--- and so are the numbers of a list
+-- numbers of a list are their high and their low parts
 pub same_all_parts : (m : ℕ) (xs ys : List ℕ) → AllZip (λ a b. a / m ≡ b / m) xs ys → AllZip (λ a b. a % m ≡ b % m) xs ys → xs ≡ ys
 same_all_parts m [] [] e f = refl
 same_all_parts m (x ∷ xs) (y ∷ ys) e f = grind (arith, common_steps, same_all_parts m xs ys e.1 f.1)

@@ -1,4 +1,4 @@
-use Rattle.std.proofs.{Common.arith, lemmas.Result.err_from_is_err_and}
+use Rattle.std.proofs.{lemmas.Result.err_from_is_err_and, lemmas.Grind.common_steps, Common.arith}
 use Rattle.rice_code.proofs.lemmas.decode.SetsRead.{low_bit_cut, second_low_cut, run_low_cut, second_low, run_low}
 use Rattle.rice_code.proofs.decode.coded_data_set.read_low_entropy.Goals as goal
 
@@ -21,12 +21,7 @@ returns-in_err-reference-clause-err g c =
     (rw c.if-bit-eq0.true at c.in_ok-bit.ensures.ok.1) c.in_ok-bit.ensures.steps e.1 c.in_err-reference.ensures.steps e.2)
 
 pub returns-clause-ok : goal.returns-clause-ok
-returns-clause-ok g c =
-    second_low c.in_ok-head.head
-    c.in_ok-bit.ensures.ok.0 (omega arith) c.in_ok-bit.ensures.ok.1 c.in_ok-bit.ensures.steps c.in_ok-head.ensures.ok
+returns-clause-ok g c = grind (arith, common_steps, second_low)
 
 pub returns-in_err-head-clause-err : goal.returns-in_err-head-clause-err
-returns-in_err-head-clause-err g c =
-    let p = err_from_is_err_and c.from_residual-in_err-head.result c.from_residual-in_err-head.ensures.1 in
-    rw (p.1, p.2) (second_low_cut c.args.meter.now c.read_second_extension.new.meter
-    c.in_ok-bit.ensures.ok.0 (omega arith) c.in_ok-bit.ensures.ok.1 c.in_err-head.ensures.err)
+returns-in_err-head-clause-err g c = grind (arith, common_steps, err_from_is_err_and, second_low_cut)

@@ -1,39 +1,22 @@
-use Rattle.std.proofs.Common.{arith, ◌-◌, ◌∙◌}
+use Rattle.std.proofs.Common.{arith, ◌-◌}
+use Rattle.std.proofs.lemmas.{Result.err_from_is_err_and, Grind.common_steps}
 use Rattle.rice_code.proofs.lemmas.decode.SetsRead.{cut_identifier, low_set, low_set_cut, no_compression_set, no_compression_set_cut, split_set, split_set_cut, ones_id}
-use Rattle.std.proofs.lemmas.Result.{err_from_is_err_and}
 use Rattle.rice_code.proofs.decode.coded_data_set.read_set.Goals as goal
 
 pub returns-in_err-id-clause-err : goal.returns-in_err-id-clause-err
-returns-in_err-id-clause-err g c =
-    let e = rw c.id_len-width.ensures.value at (c.in_err-id.ensures.err c.requires.going) in
-    let p = err_from_is_err_and c.from_residual.result c.from_residual.ensures.1 in
-    rw (p.1, p.2) (record { bits = e.0; stops = e.2; none = cut_identifier c.args.setting.now c.args.block e.0 e.1; steps = λ blank. c.in_err-id.ensures.steps })
+returns-in_err-id-clause-err g c = grind (arith, common_steps, err_from_is_err_and, cut_identifier)
 
 pub returns-then-id-eq0-clause-ok : goal.returns-then-id-eq0-clause-ok
-returns-then-id-eq0-clause-ok g c =
-    let t = rw c.id_len-width.ensures.value at c.in_ok-id.ensures.ok in
-    low_set c.if-id-eq0.true t.1 c.in_ok-id.ensures.steps c.in_ok-taken.ensures.ok
+returns-then-id-eq0-clause-ok g c = grind (arith, common_steps, low_set)
 
 pub returns-in_err-taken-clause-err : goal.returns-in_err-taken-clause-err
-returns-in_err-taken-clause-err g c =
-    let t = rw c.id_len-width.ensures.value at c.in_ok-id.ensures.ok in
-    let p = err_from_is_err_and c.from_residual-in_err-taken.result c.from_residual-in_err-taken.ensures.1 in
-    rw (p.1, p.2) (low_set_cut c.args.meter.now t.0 c.if-id-eq0.true t.1 c.in_ok-id.ensures.steps c.in_err-taken.ensures.err)
+returns-in_err-taken-clause-err g c = grind (arith, common_steps, err_from_is_err_and, low_set_cut)
 
 pub returns-then-id-width-clause-ok : goal.returns-then-id-width-clause-ok
-returns-then-id-width-clause-ok g c =
-    let t = rw c.id_len-width.ensures.value at c.in_ok-id.ensures.ok in
-    let e = rw c.id_len-width.ensures.value at c.if-id-width.true in
-    no_compression_set c.in_ok-head.head
-    (e ∙ ones_id c.args.setting.now) t.1 c.in_ok-id.ensures.steps c.in_ok-head.ensures.ok
+returns-then-id-width-clause-ok g c = grind (arith, common_steps, no_compression_set, ones_id)
 
 pub returns-in_err-head-clause-err : goal.returns-in_err-head-clause-err
-returns-in_err-head-clause-err g c =
-    let t = rw c.id_len-width.ensures.value at c.in_ok-id.ensures.ok in
-    let e = rw c.id_len-width.ensures.value at c.if-id-width.true in
-    let p = err_from_is_err_and c.from_residual-in_err-head.result c.from_residual-in_err-head.ensures.1 in
-    rw (p.1, p.2) (no_compression_set_cut c.args.meter.now c.read_no_compression.new.meter
-    t.0 (e ∙ ones_id c.args.setting.now) t.1 c.in_err-head.ensures.err)
+returns-in_err-head-clause-err g c = grind (arith, common_steps, err_from_is_err_and, no_compression_set_cut, ones_id)
 
 pub returns-clause-ok : goal.returns-clause-ok
 returns-clause-ok g c =

@@ -1,5 +1,5 @@
 use Rattle.std.proofs.Common.{arith, ◌^◌, ◌<◌, ◌∙◌, refl}
-use Rattle.rice_code.proofs.Words.{reference_place, flat_map, pow_pos, err_from_is_err_and, word, NoCompression, sent_residuals}
+use Rattle.rice_code.proofs.Words.{reference_place, flat_map, pow_pos, err_from_is_err_and, word, NoCompression, sent_residuals, common_steps}
 use Rattle.rice_code.proofs.lemmas.decode.OptionsRead.{no_compression_read, residuals_after_reference, row_after_others, coded_part, no_compression_cut, cut_at_reference}
 use Rattle.rice_code.proofs.decode.options.read_no_compression.Goals as goal
 
@@ -23,10 +23,4 @@ returns-clause-ok g c =
     (omega (arith, c.in_ok-reference.ensures.steps, c.in_ok-read_words.ensures.steps))
 
 pub returns-in_err-read_words-clause-err : goal.returns-in_err-read_words-clause-err
-returns-in_err-read_words-clause-err g c =
-    let s = c.args.setting.now in
-    let first = c.write_zero_for_reference-first in
-    let part = coded_part s c.in_ok-reference.reference first.result first.new.residuals c.bits-width.ensures.legal first.ensures.first (first.auto.residuals ∙ c.requires.size) in
-    let e = rw c.bits-width.ensures.value at c.in_err-read_words.ensures.err in
-    let p = err_from_is_err_and c.from_residual-in_err-read_words.result c.from_residual-in_err-read_words.ensures.1 in
-    rw (p.1, p.2) (no_compression_cut _ c.in_ok-reference.ensures.reference part.1 c.in_ok-reference.ensures.ok e.1 e.2)
+returns-in_err-read_words-clause-err g c = grind (arith, common_steps, coded_part, err_from_is_err_and, no_compression_cut)

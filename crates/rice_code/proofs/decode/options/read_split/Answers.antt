@@ -1,5 +1,5 @@
 use Rattle.std.proofs.Common.{arith, ◌≡◌, ◌≤◌, ◌∙◌, ap, ◌-◌, ◌/◌, ◌^◌, ◌++◌, drop, refl, subst, sym}
-use Rattle.rice_code.proofs.Words.{All, flat_map, iff_false, value_count, err_from_is_err_and, word, fundamental_sequence, Split, sent_residuals}
+use Rattle.rice_code.proofs.Words.{All, flat_map, iff_false, value_count, err_from_is_err_and, word, fundamental_sequence, Split, sent_residuals, common_steps}
 use Rattle.rice_code.proofs.lemmas.decode.OptionsRead.{sent_part, sent_placed, up_to_end, split_large, split_joined, split_cut, parts_small, cut_at_reference}
 use Rattle.rice_code.proofs.decode.options.read_split.Goals as goal
 
@@ -28,15 +28,7 @@ returns-then-not-small-clause-ok g c =
     (rw (c.number_of_values-values.ensures.value, c.if-not-small.true) at c.in_ok-small.ensures.ok) refl (omega (arith, c.in_ok-reference.ensures.steps, c.in_ok-small.ensures.steps))
 
 pub are_below_as_high_parts-sound-requires-clause-highs : goal.are_below_as_high_parts-sound-requires-clause-highs
-are_below_as_high_parts-sound-requires-clause-highs g c =
-    let k = c.args.k in
-    let many = value_count c.args.setting.now in
-    let sent = drop c.write_zero_for_reference-first.result c.read_sent.new.residuals in
-    let same : many ≡ 2 ^ c.bits.result = ap (λ n. 2 ^ n) (sym c.bits.ensures.value) in
-    let read = rw c.number_of_values-values.ensures.value at c.in_ok-small.ensures.ok in
-    subst (λ ds. All (λ d. d / 2 ^ k ≤ (2 ^ c.bits.result - 1) / 2 ^ k) ds) (sym (up_to_end c.write_zero_for_reference-first.result c.read_sent.new.residuals))
-    (subst (λ n. All (λ d. d / 2 ^ k ≤ (n - 1) / 2 ^ k) sent) same
-    (parts_small c.read_reference.new.reader c.read_sent.new.reader _ k c.in_ok-small.small _ sent read c.if-not-small.false))
+are_below_as_high_parts-sound-requires-clause-highs g c = grind (arith, common_steps, up_to_end, parts_small)
 
 pub returns-clause-ok : goal.returns-clause-ok
 returns-clause-ok g c =

@@ -1,4 +1,4 @@
-use Rattle.std.proofs.Common.{arith, rules, ◌≡◌, ap, ◌∙◌, w64, to_z, length, take}
+use Rattle.std.proofs.{Common.arith, Common.rules, Common.w64, Common.to_z, lemmas.Grind.common_steps}
 use Rattle.rice_code.proofs.{lemmas.decode.SamplesRestored.restored-none, lemmas.decode.SamplesRestored.restored-more, lemmas.decode.RestoredBlocks.contents_are, Words.to_z-of_z, Words.take-length}
 use mir.Val.{SFits}
 use Rattle.rice_code.proofs.decode.restoring.restore_block.Goals as goal
@@ -19,9 +19,4 @@ pub push-requires : goal.push-requires
 push-requires c = omega (arith, c.loop-i.invariant.len)
 
 pub returns-clause-contents : goal.returns-clause-contents
-returns-clause-contents c =
-    let inv = rw (to_z-of_z w64 c.args.p c.ranges.p) at c.loop-i.invariant in
-    let n : c.loop-i.i ≡ length c.args.residuals.now = omega (arith, c.loop-i-test.false, c.loop-i.auto.i-end, c.requires.form.len, c.block-i-end.ensures.value) in
-    let whole : take c.loop-i.i c.args.residuals.now ≡ c.args.residuals.now = ap (λ k. take k c.args.residuals.now) n ∙ take-length c.args.residuals.now in
-    contents_are c.args.setting.now c.args.block c.args.p c.args.reference c.args.residuals.now c.loop-i.samples.items c.requires.form.reference (inv.same ∙ whole)
-    (inv.first (omega (arith, c.loop-i-test.false, c.block-i-end.ensures.range)))
+returns-clause-contents c = grind (arith, common_steps, to_z-of_z, take-length, contents_are)

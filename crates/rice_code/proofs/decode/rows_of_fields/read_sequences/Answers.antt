@@ -1,14 +1,10 @@
 use Rattle.std.proofs.Common.{arith, length, refl, take, ◌∙◌}
-use Rattle.rice_code.proofs.Words.{leb-true, leb-false, min-eq_left, err_from_is_err_and}
+use Rattle.rice_code.proofs.Words.{leb-true, leb-false, min-eq_left, err_from_is_err_and, common_steps}
 use Rattle.rice_code.proofs.lemmas.decode.RowsOfFields.{row_of_counts-none, row_of_counts-more, row_of_counts-whole, sequences-stop}
 use Rattle.rice_code.proofs.decode.rows_of_fields.read_sequences.Goals as goal
 
 pub loop-done-init : goal.loop-done-init
-loop-done-init g c = record {
-  row = row_of_counts-none c.args.reader.now c.args.most (take 0 c.args.counts.now) refl c.requires.going;
-  steps = refl;
-  limit = c.requires.room.limit;
-}
+loop-done-init g c = grind (arith, common_steps, row_of_counts-none)
 
 pub returns-in_err-zeros-clause-err : goal.returns-in_err-zeros-clause-err
 returns-in_err-zeros-clause-err g c =

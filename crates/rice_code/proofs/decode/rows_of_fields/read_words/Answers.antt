@@ -1,14 +1,10 @@
 use Rattle.std.proofs.Common.{arith, ◌^◌, ◌<◌, [], length, refl}
-use Rattle.rice_code.proofs.Words.{word, err_from_is_err_and}
+use Rattle.rice_code.proofs.Words.{word, err_from_is_err_and, common_steps}
 use Rattle.rice_code.proofs.lemmas.decode.RowsOfFields.{row-none, row-word, row-whole, words-stop}
 use Rattle.rice_code.proofs.decode.rows_of_fields.read_words.Goals as goal
 
 pub loop-done-init : goal.loop-done-init
-loop-done-init g c = record {
-  row = row-none (word c.args.width) (λ v. v < 2 ^ c.args.width) c.args.reader.now [] c.requires.going;
-  steps = refl;
-  limit = c.requires.room.limit;
-}
+loop-done-init g c = grind (arith, common_steps, row-none)
 
 pub returns-in_err-words-clause-err : goal.returns-in_err-words-clause-err
 returns-in_err-words-clause-err g c =

@@ -1,11 +1,10 @@
+use Rattle.std.proofs.lemmas.Grind.{common_steps}
 use Rattle.std.proofs.Common.{◌≡◌, ◌<◌, arith, take, subst}
 use Rattle.rice_code.proofs.{lemmas.decode.JoinedResiduals.below-more, Words.All, Words.true_from_ne_false, Words.take_all}
 use Rattle.rice_code.proofs.decode.sound_residuals.are_below.Goals as goal
 
 pub loop-i-preserved : goal.loop-i-preserved
-loop-i-preserved c =
-    let more = below-more c.args.count c.args.residuals.now c.loop-i.i c.loop-i.all c.loop-i-test.true c.requires.0 c.loop-i.invariant.below c.loop-i.invariant.not_below in
-    record { below = more.0; not_below = more.1 }
+loop-i-preserved c = grind (arith, common_steps, below-more)
 
 pub returns : goal.returns
 returns c =

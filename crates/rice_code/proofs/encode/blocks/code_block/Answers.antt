@@ -1,5 +1,5 @@
 use Rattle.std.proofs.Common.{◌≡◌, ℕ, ◌+◌, ◌*◌, ◌≤◌, Bool, List, ◌++◌, ◌∙◌, arith, ap, sym}
-use Rattle.rice_code.proofs.Words.{Parameters, k_max, BlockData, CodedDataSet, bits_of_set, cost, shortest, best_split, PutsSet, PutsShortest, chosen_set}
+use Rattle.rice_code.proofs.Words.{Parameters, k_max, BlockData, CodedDataSet, bits_of_set, cost, shortest, best_split, PutsSet, PutsShortest, chosen_set, common_steps}
 use Rattle.rice_code.proofs.lemmas.encode.SegmentBlocksInTurn.{steps_least}
 use Rattle.rice_code.proofs.encode.blocks.code_block.Goals as goal
 
@@ -20,12 +20,7 @@ shortest_put {s} {b} {set} {old} {m0} {m1} {m2} is searched few many put =
       by_limit = omega (arith, searched.limit);
       more = omega (arith, price, put.steps_to, many);
     }) in
-    record {
-      bits = put.bits ∙ ap (λ d. old ++ bits_of_set s d) is;
-      len = omega (arith, price, put.len);
-      steps_from = omega (arith, price, put.steps_from, searched.from, few);
-      steps_to = omega (arith, own);
-    }
+    grind (arith, common_steps)
 
 pub returns-in-NoCompression : goal.returns-in-NoCompression
 returns-in-NoCompression c =

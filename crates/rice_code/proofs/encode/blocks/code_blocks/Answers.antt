@@ -1,6 +1,6 @@
 use Rattle.std.proofs.Common.{◌≡◌, ◌+◌, ◌-◌, ◌*◌, ◌≤◌, ◌++◌, ◌∙◌, min, true, false, length, drop, take, arith, ap, sym, subst, inl, inr}
 use Rattle.rice_code.proofs.Words.{sum_by, slice_range, take_all, k_max, BlockData, is_zero_block, cost, bits_of_set, bits_of_sets, data_sets, shortest, best_split, held_blocks, reference_at}
-use Rattle.rice_code.proofs.Words.{pending_run, pending_bits, HasRoomFor, block_with, IsSoundData, least_looks, most_looks}
+use Rattle.rice_code.proofs.Words.{pending_run, pending_bits, HasRoomFor, block_with, IsSoundData, least_looks, most_looks, common_steps}
 use Rattle.rice_code.proofs.lemmas.{meaning.CoveredBlocks.bool_cases, encode.PendingRuns.held_at, encode.PendingRuns.held_len}
 use Rattle.rice_code.proofs.lemmas.encode.SegmentBlocksInTurn.{to_come, held, held_range, held_sound, sound_of, next_zero, next_other, at_end, sum_next, most_of_all, looks_zero}
 use Rattle.rice_code.proofs.lemmas.encode.SegmentBlocksInTurn.{looks_other, room_other, room_within, meter_fits, meter_ends, length_both, looks_more, other_same, least_more, most_more}
@@ -148,24 +148,4 @@ put_pending_run-requires-clause-room c =
     record { room = omega (arith, room, w, c.requires.room.room); steps = omega (arith, fits, w) }
 
 pub returns : goal.returns
-returns c =
-    let s = c.args.setting.now in
-    let n = c.args.count in
-    let ds = c.args.segment.now in
-    let cs = held_blocks s c.args.reference n ds in
-    let all = bits_of_sets s (data_sets s c.args.start false cs) in
-    let i : c.loop-i.i ≡ n = omega arith in
-    let run = c.loop-i.run in
-    let same = sym (ap (λ i. c.loop-i.sink ++ to_come s c.args.start c.args.reference n ds i run) i) ∙ c.loop-i.invariant.same in
-    let ends = ap (λ v. c.loop-i.sink ++ v) (at_end s c.args.start c.args.reference n ds run c.block-size.ensures.legal.interval_from c.requires.few (omega arith)) in
-    let put : c.put_pending_run.new.sink ≡ c.args.sink.now ++ all = c.put_pending_run.ensures.bits
-    ∙ (ap (λ f. c.loop-i.sink ++ bits_of_sets s (pending_run true f run)) c.reference_of-first.ensures ∙ (sym ends ∙ same)) in
-    let len = held_len s c.args.reference n ds in
-    let least = ap (sum_by (least_looks s)) (take_all c.loop-i.i cs (omega (arith, len))) in
-    let most = ap (sum_by (most_looks s)) (take_all c.loop-i.i cs (omega (arith, len))) in
-    let a = length_both c.put_pending_run.new.sink c.args.sink.now all put in
-    record {
-      bits = put;
-      steps_from = omega (arith, least, a, c.put_pending_run.ensures.len, c.put_pending_run.ensures.steps, c.loop-i.invariant.steps_from);
-      steps_to = omega (arith, most, a, c.put_pending_run.ensures.len, c.put_pending_run.ensures.steps, c.loop-i.invariant.steps_to);
-    }
+returns c = grind (arith, common_steps, at_end, held_len, take_all, length_both)

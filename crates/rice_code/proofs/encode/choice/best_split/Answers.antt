@@ -1,11 +1,9 @@
-use Rattle.std.proofs.Common.{arith}
+use Rattle.std.proofs.{lemmas.Grind.common_steps, Common.arith}
 use Rattle.rice_code.proofs.lemmas.{cost.SplitSavings.best_where_it_stops, cost.SplitSavings.best_where_it_ends, encode.ChoiceLemmas.best_split_is}
 use Rattle.rice_code.proofs.encode.choice.best_split.Goals as goal
 
 pub returns-then-next-least-clause-best : goal.returns-then-next-least-clause-best
-returns-then-next-least-clause-best c =
-    best_where_it_stops c.args.setting.now c.args.block.now c.loop-best.best c.loop-best.invariant.at_most c.loop-best.invariant.first
-    (omega (arith, c.loop-best.invariant.value, c.split_cost-next.ensures.value, c.if-next-least.true))
+returns-then-next-least-clause-best c = grind (arith, common_steps, best_where_it_stops)
 
 pub returns-then-next-least-clause-named : goal.returns-then-next-least-clause-named
 returns-then-next-least-clause-named c = best_split_is c.args.setting.now c.args.block.now c.loop-best.best (returns-then-next-least-clause-best c)

@@ -1,3 +1,4 @@
+use Rattle.std.proofs.lemmas.Grind.{common_steps}
 use Rattle.std.proofs.Common.{arith, ℕ, ◌≡◌, ◌+◌, ◌*◌, ◌/◌, ◌≤◌, ◌∙◌, ap, min}
 use Rattle.rice_code.proofs.{encode.choice.choose.Goals.then-k-gt0+then-k-k_max, encode.choice.choose.Goals.else-k-gt0, lemmas.cost.PairsAreLonger.pairs_are_longer, Words.mul-le-mul_left, Words.k_max}
 use Rattle.rice_code.proofs.encode.choice.choose.Goals as goal
@@ -19,11 +20,4 @@ shortest_of-requires-clause-second_extension_from c =
     ]
 
 pub returns-clause-steps_to : goal.returns-clause-steps_to
-returns-clause-steps_to c =
-    let s = c.args.setting.now in
-    let few = looks_within s.block c.best_split-k.result.0 (k_max s) in
-    let named = ap (λ k. s.block * (k + 3)) c.best_split-k.ensures.named in
-    elim c.if-k-gt0.branch [
-      | then-k-gt0+then-k-k_max w ↦ omega (arith, few, named, c.best_split-k.ensures.steps, w.meter-is)
-      | else-k-gt0 w ↦ omega (arith, few, named, c.best_split-k.ensures.steps, w.meter-is, w.second_extension_cost-second_extension.ensures.steps)
-    ]
+returns-clause-steps_to c = grind (arith, common_steps, looks_within)

@@ -1,24 +1,6 @@
-use Rattle.std.proofs.Common.{ℕ, List, ◌+◌, ◌++◌, ◌∙◌, ap, arith, length, true}
-use Rattle.rice_code.proofs.Words.{flat_map, id_len, pair_codes, word, fundamental_sequence, reference_bits, reference_len, pairs_len}
-use Rattle.rice_code.proofs.lemmas.encode.OptionTexts.{word_flag, append_flagged}
+use Rattle.std.proofs.Common.{arith}
+use Rattle.rice_code.proofs.{lemmas.encode.OptionTexts.word_flag, lemmas.encode.OptionTexts.append_flagged, Words.common_steps}
 use Rattle.rice_code.proofs.encode.options.put_second_extension.Goals as goal
 
 pub returns : goal.returns
-returns c =
-    let s = c.args.setting.now in
-    let ref = reference_bits s c.args.block.now.reference in
-    let codes = λ (ds : List ℕ). flat_map fundamental_sequence (pair_codes ds) in
-    let head = ap (λ n. word (n + 1) 1) c.id_len-id.ensures.value ∙ word_flag (id_len s) in
-    let one = ap (λ z. c.args.sink.now ++ z) head in
-    let two = c.put_head.ensures.bits ∙ (λ i. one i ++ reference_bits s (c.reference.ensures i)) in
-    let three = c.put_pairs.ensures.bits ∙ (λ i. two i ++ codes (c.residuals-residuals.ensures i)) in
-    let all = three ∙ append_flagged c.args.sink.now (word (id_len s) 0) ref (codes c.args.block.now.residuals) true in
-    let len = ap length c.residuals-residuals.ensures in
-    let pairs = ap pairs_len c.residuals-residuals.ensures in
-    let len_ref = ap (reference_len s) c.reference.ensures in
-    record {
-      bits = all;
-      len = omega (arith, len, pairs, len_ref, c.requires.sound.len);
-      steps_from = omega (arith, len, pairs, len_ref, c.requires.sound.len);
-      steps_to = omega (arith, len, pairs, len_ref, c.requires.sound.len);
-    }
+returns c = grind (arith, common_steps, word_flag, append_flagged)

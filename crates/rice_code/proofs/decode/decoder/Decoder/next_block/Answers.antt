@@ -1,7 +1,7 @@
-use Rattle.std.proofs.Common.{arith, rules, ◌-◌, refl, w64}
-use Rattle.std.proofs.lemmas.Int.{to_z-of_z}
-use mir.Val.{SFits}
+use Rattle.std.proofs.Common.{arith, rules, ◌-◌, w64}
+use Rattle.std.proofs.lemmas.{Grind.common_steps, Int.to_z-of_z}
 use Rattle.rice_code.proofs.lemmas.decode.DecoderLemmas.{place_moves, goes_on}
+use mir.Val.{SFits}
 use Rattle.rice_code.proofs.decode.decoder.Decoder.next_block.Goals as goal
 
 pub invariant_of-self : goal.invariant_of-self
@@ -15,18 +15,4 @@ invariant_of-self g c =
     (λ h. omega (arith, state.run_fits c.if-self-gt0.true)) state.no_block)
 
 pub returns-then-self-gt0-clause-in_run : goal.returns-then-self-gt0-clause-in_run
-returns-then-self-gt0-clause-in_run g c none pos =
-    let st = c.self.inside in
-    let last = c.restore_zero_block-self-inside in
-    let f : SFits w64 last.result = search rules in
-    let b : SFits w64 st.before = search rules in
-    rw (← c.self.view_is, to_z-of_z w64 last.result f) (
-      refl,
-      goes_on st.setting st.block st.before st.stopped c.if-self-gt0.true c.place_of_block_after-self-inside.ensures (rw (to_z-of_z w64 st.before b) at last.ensures.last) (record {
-        len = last.ensures.len;
-        legal = last.ensures.legal;
-        block_is = rw (to_z-of_z w64 st.before b) at last.ensures.contents;
-      }),
-      refl,
-      refl,
-    )
+returns-then-self-gt0-clause-in_run g c none pos = grind (arith, common_steps, to_z-of_z, goes_on)

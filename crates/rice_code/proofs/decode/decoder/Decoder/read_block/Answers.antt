@@ -76,13 +76,4 @@ returns-in-Some-run_blocks-clause-waiting g c =
     rw (buffered, size) (omega (arith, bound, same, c.go_to_next_block-in-Some-run_blocks.ensures.few))
 
 pub returns-in-Err-clause-reads : goal.returns-in-Err-clause-reads
-returns-in-Err-clause-reads g c =
-    let st = c.self.inside in
-    let marks = c.mark.ensures.going c.requires.going in
-    let marked : c.mark.new.self.blank ≡ true = ap (λ r. r.blank) marks in
-    let stops = stops_by c.mark.new.self c.read_set.new.reader c.args.meter.now c.read_set.new.meter st.setting st.block c.in-Err.fault marked c.in-Err.ensures.err in
-    rw (← c.self.view_is, c.stop-in-Err.ensures.answer, c.answer_of.ensures)
-    (answers_stop (with_mark c.args.reader.now) c.read_set.new.reader c.args.meter.now c.read_set.new.meter
-    (record { setting = st.setting; block = st.block; before = st.before; run = st.run; stopped = st.stopped }) (answer_to c.in-Err.fault)
-    (subst (λ r. StopsBy r c.read_set.new.reader c.args.meter.now c.read_set.new.meter st.setting st.block (answer_to c.in-Err.fault)) marks stops)
-    (rw (← c.self.view_is, c.answer_of.ensures) at c.stop-in-Err.ensures.stops) c.requires.empty)
+returns-in-Err-clause-reads g c = grind (arith, common_steps, stops_by, answers_stop)

@@ -1,5 +1,5 @@
 use Rattle.std.proofs.Common.{◌≡◌, ◌+◌, ◌*◌, ◌/◌, ◌^◌, ◌<◌, ◌∙◌, ap, arith, subst, sym, ℕ}
-use Rattle.rice_code.proofs.Words.{CoderState, HasRoomForSegment, HoldsSoundBlocks, blocks_held, block_bound, AreSoundBlocks, held_blocks, coding_steps, k_max}
+use Rattle.rice_code.proofs.Words.{CoderState, HasRoomForSegment, HoldsSoundBlocks, blocks_held, block_bound, AreSoundBlocks, held_blocks, coding_steps, k_max, common_steps}
 use Rattle.rice_code.proofs.lemmas.encode.OpenSegments.{few_bits, few_blocks, codes_held, room_after, segment_meter}
 use Rattle.rice_code.proofs.encode.open_segment.OpenSegment.code.Goals as goal
 
@@ -18,15 +18,7 @@ code_blocks-requires c =
     let steps = segment_meter (c.len.result / c.block.result) (block_bound s) (s.block * (k_max s + 5)) c.args.meter.now _ (omega (arith, n, few)) bits meter in
     let count = (c.len.result / c.block.result) in
     let left = few_blocks st i.end c.self.invariant blocks.whole in
-    record {
-      place = c.self.invariant.place;
-      begins = c.self.invariant.begins;
-      few = omega (arith, n, left.0);
-      len = blocks.whole ∙ ap (λ m. s.block * m) (sym n);
-      fits = c.self.invariant.reference;
-      sound = subst (λ (m : ℕ). AreSoundBlocks s i.start (held_blocks s i.reference m i.residuals)) (sym n) blocks.sound;
-      room = record { room = omega (arith, bits, room); steps = omega (arith, steps) };
-    }
+    grind (arith, common_steps)
 
 pub returns : goal.returns
 returns c =
