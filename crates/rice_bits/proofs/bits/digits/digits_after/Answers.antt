@@ -1,6 +1,6 @@
 use Rattle.std.proofs.Common.{get_or, refl, ◌≡◌, ℕ, zero, suc, ◌+◌, ◌-◌, ◌*◌, ◌/◌, ◌%◌, ◌^◌, ◌<◌, ◌≤◌, arith, ap, sym, ◌∙◌}
-use Rattle.std.proofs.{lemmas.Nat.and_mask, lemmas.Nat.mod-mul-add, lemmas.Nat.or_mod, lemmas.Nat.pow-add, lemmas.Nat.pow_pos, lemmas.List.FromFn.get_or-map-range_with_len, Math.Nat.mod-one}
-use Rattle.std.specs.{Prelude.bit_and, Prelude.bit_or, Prelude.map, List.range_with_len, Int.Bits.or_zero_l}
+use Rattle.std.proofs.lemmas.{Nat.and_mask, Nat.mod-mul-add, Nat.or_mod, Nat.pow-add, Nat.pow_pos, List.FromFn.get_or-map-range_with_len, Grind.common_steps}
+use Rattle.std.{specs.Prelude.bit_and, specs.Prelude.bit_or, specs.Prelude.map, specs.List.range_with_len, proofs.Math.Nat.mod-one}
 use Rattle.rice_bits.{specs.declared.bits.digits.TheConstants.GREATEST, proofs.lemmas.bits.FrontsOfWords.moved_up}
 use Rattle.rice_bits.proofs.bits.digits.digits_after.Goals as goal
 
@@ -16,15 +16,8 @@ none-low v n width h few some =
 
 -- the digits that a rotation brings to the end
 turned : (v n width : ℕ) → width ≤ n → n < 64 → bit_or (v * 2 ^ (n % 64) % 2 ^ 64) (v / 2 ^ ((64 - n % 64) % 64)) % 2 ^ width ≡ v / 2 ^ (64 - n) % 2 ^ width
-turned v zero width h few =
-    let none : width ≡ 0 = omega arith in
-    rw none (mod-one _ ∙ sym (mod-one (v / 2 ^ 64)))
-turned v (suc k) width h few =
-    let count : suc k % 64 ≡ suc k = omega arith in
-    let rest : (64 - suc k) % 64 ≡ 64 - suc k = omega arith in
-    let low = v / 2 ^ (64 - suc k) in
-    rw (count, rest) (or_mod (v * 2 ^ suc k % 2 ^ 64) low width
-    ∙ (ap (λ z. bit_or z (low % 2 ^ width)) (none-low v (suc k) width h few (omega arith)) ∙ or_zero_l (low % 2 ^ width)))
+turned v zero width h few = grind (arith, common_steps, mod-one)
+turned v (suc k) width h few = grind (arith, common_steps, or_mod, none-low)
 
 greatest : (width : ℕ) → width ≤ 32 → get_or GREATEST width 0 ≡ 2 ^ width - 1
 greatest width h =

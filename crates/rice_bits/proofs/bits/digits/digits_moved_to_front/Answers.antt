@@ -1,13 +1,11 @@
-use Rattle.std.proofs.Common.{◌≡◌, ℕ, zero, suc, ◌+◌, ◌-◌, ◌*◌, ◌/◌, ◌%◌, ◌^◌, ◌<◌, refl, arith, ◌∙◌, mod-eq_of_lt}
-use Rattle.std.{proofs.Math.Nat.div-eq_of_lt, proofs.lemmas.Nat.or_shifted, specs.Prelude.bit_or}
+use Rattle.std.proofs.Common.{◌≡◌, ℕ, zero, suc, ◌+◌, ◌-◌, ◌*◌, ◌/◌, ◌%◌, ◌^◌, ◌<◌, arith, ◌∙◌, mod-eq_of_lt}
+use Rattle.std.{proofs.lemmas.Grind.common_steps, proofs.Math.Nat.div-eq_of_lt, proofs.lemmas.Nat.or_shifted, specs.Prelude.bit_or}
 use Rattle.rice_bits.proofs.lemmas.bits.WordsAndNumbers.{shift_fits}
 use Rattle.rice_bits.proofs.bits.digits.digits_moved_to_front.Goals as goal
 
 -- a rotation of digits that stand alone
 turned : (v c : ℕ) → c < 64 → v < 2 ^ c → bit_or (v / 2 ^ (c % 64)) (v * 2 ^ ((64 - c % 64) % 64) % 2 ^ 64) ≡ v * 2 ^ (64 - c)
-turned v zero h f =
-    let none : v ≡ 0 = omega (arith, f) in
-    rw none refl
+turned v zero h f = grind (arith, common_steps)
 turned v (suc n) h f =
     let count : suc n % 64 ≡ suc n = omega arith in
     let rest : (64 - suc n) % 64 ≡ 64 - suc n = omega arith in

@@ -1,27 +1,19 @@
-use Rattle.std.proofs.Common.{◌≡◌, ℕ, zero, suc, ◌+◌, ◌-◌, ◌<◌, ◌≤◌, ◌∙◌, List, [], ◌∷◌, ◌++◌, inl, inr, refl, ap, sym, arith, length, drop, take, replicate, length-append, min, set, false}
+use Rattle.std.proofs.Common.{◌≡◌, ℕ, zero, suc, ◌+◌, ◌-◌, ◌<◌, ◌≤◌, ◌∙◌, List, ◌∷◌, ◌++◌, inl, inr, refl, ap, sym, arith, length, drop, take, replicate, length-append, min, set, false}
 use Rattle.std.specs.Prelude.{◌==◌}
-use Rattle.std.proofs.lemmas.{List.append-nil, List.drop_all, List.get_or_past, List.length-drop, List.length-replicate, List.take-append-le, List.take-replicate, List.take_all, Bool.cases_lt}
-use Rattle.std.specs.List.{slice_index}
-use Rattle.rice_bits.proofs.bits.eight_bytes.move_byte_to_front.Goals.{then-at-bytes, else-at-bytes}
+use Rattle.std.proofs.lemmas.{List.append-nil, List.drop_all, List.get_or_past, List.length-drop, List.length-replicate, List.take-append-le, List.take-replicate, List.take_all, Grind.common_steps}
+use Rattle.std.{proofs.lemmas.Bool.cases_lt, specs.List.slice_index}
 use Rattle.rice_bits.proofs.bits.eight_bytes.move_byte_to_front.Goals as goal
 
 -- zeros, of which the first becomes a byte
 zeros_after : (bytes zeros : List ℕ) (some count k : ℕ) → some ≡ suc count → some ≤ length bytes → zeros ≡ replicate some 0 ++ drop some bytes
     → set zeros 0 k ≡ take (length bytes) (k ∷ replicate count 0 ++ drop (count + 1) bytes)
-zeros_after bytes zeros some count k more most e =
-    let next : count + 1 ≡ suc count = omega arith in
-    let size : length (k ∷ replicate count 0 ++ drop (suc count) bytes) ≤ length bytes =
-    omega (arith, length-append (replicate count 0) (drop (suc count) bytes), length-replicate {A = ℕ} count 0, length-drop (suc count) bytes) in
-    rw (e, more, next) (sym (take_all (length bytes) _ size))
+zeros_after bytes zeros some count k more most e = grind (arith, common_steps, length-append, length-replicate, length-drop, take_all)
 
 -- the same where all are zeros
 zeros_alone : (bytes zeros : List ℕ) (at size : ℕ) → size ≡ length bytes → 0 < size → size ≤ at → zeros ≡ replicate size 0 ++ drop size bytes
     → set zeros 0 0 ≡ take size (0 ∷ replicate at 0 ++ drop (at + 1) bytes)
 zeros_alone bytes zeros at zero same some past e = absurd (omega arith)
-zeros_alone bytes zeros at (suc n) same some past e =
-    let after : drop (suc n) bytes ≡ [] = drop_all (suc n) bytes (omega (arith, same)) in
-    let long : n ≤ length (replicate {A = ℕ} at 0) = omega (arith, length-replicate {A = ℕ} at 0) in
-    rw (e, after, append-nil {A = ℕ} (replicate n 0), take-append-le n (replicate {A = ℕ} at 0) (drop (at + 1) bytes) long, take-replicate {X = ℕ} n at 0 (omega arith)) refl
+zeros_alone bytes zeros at (suc n) same some past e = grind (arith, common_steps, drop_all, length-replicate, append-nil, take-append-le, take-replicate)
 
 front_kept : (bytes zeros : List ℕ) (at some k : ℕ) → 0 < length bytes → min (at + 1) (length bytes) ≤ some → some ≤ length bytes
     → zeros ≡ replicate some 0 ++ drop some bytes → k ≡ slice_index bytes at
@@ -40,10 +32,7 @@ not_none (suc n) e = omega arith
 
 -- the byte that is kept
 byte_kept : (c : goal.Then-not-is_empty) → c.if-at-bytes.kept ≡ slice_index c.args.bytes.now c.args.at
-byte_kept c = elim c.if-at-bytes.branch [
-  | then-at-bytes w ↦ w.kept-is
-  | else-at-bytes w ↦ w.kept-is ∙ sym (get_or_past c.args.bytes.now c.args.at 0 (omega (arith, w.if-at-bytes)))
-]
+byte_kept c = grind (arith, common_steps, get_or_past)
 
 pub returns-then-not-is_empty : goal.returns-then-not-is_empty
 returns-then-not-is_empty c =

@@ -1,5 +1,5 @@
-use Rattle.std.proofs.Common.{◌≡◌, ◌+◌, ◌-◌, ◌*◌, ◌/◌, ◌<◌, ◌%◌, ◌∙◌, ap, sym, arith, length, replicate, false, rules}
-use Rattle.std.{proofs.Math.Nat.pow-le-pow_right, specs.List.slice_index}
+use Rattle.std.proofs.Common.{◌≡◌, ◌+◌, ◌-◌, ◌/◌, ◌<◌, ◌%◌, arith, length, rules}
+use Rattle.std.{proofs.lemmas.Grind.common_steps, proofs.Math.Nat.pow-le-pow_right, specs.List.slice_index}
 use Rattle.rice_bits.proofs.lemmas.bits.SinkBytes.{gathered-put, joined_below, last_zeros}
 use Rattle.rice_bits.proofs.bits.sink.join_digits_in_memory.Goals as goal
 
@@ -18,13 +18,4 @@ returns c =
     let put = gathered-put c.args.bytes.now c.args.bits c.args.width c.args.value c.requires.room (omega (arith, c.requires.width)) c.requires.value c.requires.bits.zeros
     (rw c.digits_moved_to_front.ensures at c.join_bytes.ensures) in
     let len : length c.join_bytes.new.bytes ≡ length c.args.bytes.now = omega arith in
-    record {
-      all_bits = omega arith;
-      same_len = len;
-      gathered = record {
-        room = omega (arith, len, c.requires.room);
-        zeros = put.1 ∙ ap (λ n. replicate (8 * n - (c.args.bits + c.args.width)) false) (sym len);
-        small = omega (arith, len, c.requires.bits.small);
-      };
-      joined = put.0;
-    }
+    grind (arith, common_steps)

@@ -1,5 +1,5 @@
-use Rattle.std.proofs.Common.{◌++◌, drop, take, ◌≡◌, ◌+◌, ◌-◌, ◌*◌, ◌/◌, ◌<◌, ◌∙◌, ap, arith, length, replicate, false, rules, sym}
-use Rattle.std.specs.List.{slice_index}
+use Rattle.std.proofs.Common.{◌++◌, drop, take, ◌≡◌, ◌+◌, ◌-◌, ◌/◌, ◌<◌, ◌∙◌, ap, arith, length, rules}
+use Rattle.std.{proofs.lemmas.Grind.common_steps, specs.List.slice_index}
 use Rattle.rice_bits.proofs.lemmas.bits.{EightBytes.eight-swapped, WholeWords.whole-put}
 use Rattle.rice_bits.proofs.bits.whole_words.join_64_digits_to_whole_bytes.Goals as goal
 
@@ -10,13 +10,4 @@ returns-clause-joins c =
     (c.store_least_byte_first.ensures ∙ ap (λ eight. take (c.args.bits / 8) c.args.bytes.now ++ (eight ++ drop (c.args.bits / 8 + 8) c.args.bytes.now))
     (eight-swapped c.args.digits c.swap_bytes.result c.swap_bytes.ensures)) in
     let len : length c.store_least_byte_first.new.bytes ≡ length c.args.bytes.now = omega arith in
-    record {
-      all_bits = omega arith;
-      same_len = len;
-      gathered = record {
-        room = omega (arith, len, c.requires.room);
-        zeros = put.1 ∙ ap (λ n. replicate (8 * n - (c.args.bits + 64)) false) (sym len);
-        small = omega (arith, len, c.requires.bits.small);
-      };
-      joined = put.0;
-    }
+    grind (arith, common_steps)

@@ -1,5 +1,5 @@
-use Rattle.std.proofs.Common.{◌≡◌, ◌+◌, ◌-◌, ◌*◌, ◌/◌, ◌<◌, ◌%◌, ◌∙◌, ap, arith, length, replicate, false, refl, rules, sym}
-use Rattle.std.specs.List.{slice_index}
+use Rattle.std.proofs.Common.{◌≡◌, ◌+◌, ◌-◌, ◌/◌, ◌<◌, ◌%◌, arith, length, rules}
+use Rattle.std.{proofs.lemmas.Grind.common_steps, specs.List.slice_index}
 use Rattle.rice_bits.proofs.lemmas.bits.{WholeWords.first-put, WholeWords.first_below, WholeWords.front_fits, WholeWords.value_fits, SinkBytes.last_zeros}
 use Rattle.rice_bits.proofs.bits.whole_words.join_up_to_whole_byte.Goals as goal
 
@@ -22,13 +22,4 @@ returns-clause-joins c =
     c.requires.room c.requires.bits.zeros c.join.ensures c.join_bytes.ensures in
     let len : length c.join_bytes.new.bytes ≡ length c.args.bytes.now = omega arith in
     let all : c.args.bits - c.args.bits % 8 + 64 ≡ c.args.bits + (64 - c.args.bits % 8) = omega arith in
-    rw all (record {
-      all_bits = refl;
-      same_len = len;
-      gathered = record {
-        room = omega (arith, len, c.requires.room);
-        zeros = put.1 ∙ ap (λ n. replicate (8 * n - (c.args.bits + (64 - c.args.bits % 8))) false) (sym len);
-        small = omega (arith, len, c.requires.bits.small);
-      };
-      joined = put.0;
-    })
+    grind (arith, common_steps)

@@ -9,11 +9,5 @@ reference_fits r (suc n) P h = tt
 pub put_pending_run-requires-clause-fits : goal.put_pending_run-requires-clause-fits
 put_pending_run-requires-clause-fits c = grind (arith, common_steps, reference_fits)
 
-pub put_pending_run-requires-clause-room : goal.put_pending_run-requires-clause-room
-put_pending_run-requires-clause-room c = grind (arith, common_steps)
-
-pub returns-then-run-gt0 : goal.returns-then-run-gt0
-returns-then-run-gt0 c = grind (arith, common_steps)
-
 pub returns-else-run-gt0 : goal.returns-else-run-gt0
 returns-else-run-gt0 c = grind (arith, common_steps, append-nil)

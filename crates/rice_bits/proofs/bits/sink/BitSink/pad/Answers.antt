@@ -1,5 +1,5 @@
-use Rattle.std.proofs.Common.{◌≡◌, ◌+◌, ◌-◌, ◌*◌, ◌%◌, ◌∙◌, ◌++◌, false, ap, arith, length, length-append, replicate, take}
-use Rattle.std.proofs.lemmas.List.{length-replicate}
+use Rattle.std.proofs.Common.{◌+◌, ◌-◌, ◌*◌, ◌%◌, ◌∙◌, false, ap, arith, length, length-append, replicate}
+use Rattle.std.proofs.lemmas.{List.length-replicate, Grind.common_steps}
 use Rattle.rice_bits.proofs.lemmas.bits.{SinkBytes.length_viewed, SinkBytes.fewer_zeros_after, BytesAndBits.length-bits_of}
 use Rattle.rice_bits.specs.Bits.{bits_of, bits_to_byte}
 use Rattle.rice_bits.proofs.bits.sink.BitSink.pad.Goals as goal
@@ -17,14 +17,7 @@ invariant_of-self g c =
     }
 
 pub returns-clause-bits : goal.returns-clause-bits
-returns-clause-bits g c =
-    let before : length c.args.self.now ≡ c.self.inside.bits = length_viewed _ _ _ _ c.self.invariant c.self.told c.self.view_is in
-    let n = c.self.inside.bits in
-    let gap : n + (8 - n % 8) % 8 - n ≡ bits_to_byte (length c.args.self.now) = omega (arith, before) in
-    (fewer_zeros_after (bits_of c.self.inside.bytes) n (n + (8 - n % 8) % 8) (8 * g.row.N) (omega (arith, c.self.told, length-bits_of c.self.inside.bytes))
-    (omega arith) (omega (arith, c.self.invariant.room))
-    c.self.invariant.zeros).0
-    ∙ (ap (λ k. take n (bits_of c.self.inside.bytes) ++ replicate k false) gap ∙ ap (λ d. d ++ replicate (bits_to_byte (length c.args.self.now)) false) c.self.view_is)
+returns-clause-bits g c = grind (arith, common_steps, length_viewed, fewer_zeros_after, length-bits_of)
 
 pub returns-clause-len : goal.returns-clause-len
 returns-clause-len g c =

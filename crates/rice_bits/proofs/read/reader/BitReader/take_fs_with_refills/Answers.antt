@@ -1,19 +1,14 @@
-use Rattle.std.proofs.Common.{arith, ◌≡◌, ap, sym, ◌∙◌, subst, refl, None, false, replicate}
-use Rattle.std.proofs.lemmas.List.{replicate-append-replicate, append-nil}
-use Rattle.rice_bits.specs.read.Reader.{Stops}
+use Rattle.std.proofs.Common.{arith, ◌∙◌, subst, false, replicate}
+use Rattle.std.proofs.lemmas.{List.replicate-append-replicate, List.append-nil, Grind.common_steps}
 use Rattle.rice_bits.proofs.lemmas.read.ReaderLemmas.{no_refusal, refusal_is, takes-none, takes-append, stops-append, zeros-fs, one_buffered}
+use Rattle.rice_bits.specs.read.Reader.{Stops}
 use Rattle.rice_bits.proofs.read.reader.BitReader.take_fs_with_refills.Goals as goal
 
 pub loop-count-init : goal.loop-count-init
-loop-count-init g c =
-    let none : c.args.self.now.refusal ≡ None = ap (λ r. r.refusal) (sym c.self.view_is) ∙ no_refusal c.self.inside.refusal (sym c.is_some.ensures ∙ c.if-is_some.false) in
-    let window = c.self.invariant.window in let taken = ap (λ r. r.taken) c.self.view_is in
-    record { takes = takes-none _ none; idle = λ _. refl; limit = omega (arith, taken, window.limit); steps = refl }
+loop-count-init g c = grind (arith, common_steps, no_refusal, takes-none)
 
 pub returns-in-Ok-default-true-clause-ok : goal.returns-in-Ok-default-true-clause-ok
-returns-in-Ok-default-true-clause-ok g c _ =
-    rw (← zeros-fs c.loop-count.zeros c.in-Ok-default-true.count)
-    (takes-append c.args.self.now c.loop-count.self c.take_some_of_sequence.new.self _ _ c.loop-count.invariant.takes (c.in-Ok-default-true.ensures.one c.in-Ok-default-true.field-0-1-test))
+returns-in-Ok-default-true-clause-ok g c _ = grind (arith, common_steps, zeros-fs, takes-append)
 
 pub loop-count-preserved : goal.loop-count-preserved
 loop-count-preserved g c =

@@ -1,6 +1,6 @@
-use Rattle.std.proofs.Common.{◌<◌, length, arith, ◌≡◌, ap, sym, ◌∙◌, refl, None}
+use Rattle.std.proofs.Common.{arith, sym, ◌∙◌, refl}
+use Rattle.std.proofs.lemmas.Grind.{common_steps}
 use Rattle.rice_bits.proofs.lemmas.{read.RefilledBytes.refills_nothing, read.RefilledBytes.refills-supplied, bits.WordsAndNumbers.length-word, read.ReaderLemmas.takes_passed, read.BlankBits.and-true}
-use Rattle.rice_bits.specs.Bits.{word}
 use Rattle.rice_bits.proofs.read.reader.BitReader.take_some_digits.Goals as goal
 
 pub returns-in-Err-clause-err : goal.returns-in-Err-clause-err
@@ -15,16 +15,7 @@ returns-in-Err-clause-err g c = rw (← c.self.view_is) record {
 }
 
 pub returns-clause-ok : goal.returns-clause-ok
-returns-clause-ok g c =
-    let none : c.self.inside.refusal ≡ None = ap (λ r. r.refusal) c.self.view_is ∙ c.requires.going in
-    let passes = c.take_first_bits-digits.ensures.passes in
-    let some : 0 < length (word c.min-count.result c.take_first_bits-digits.result) = omega
-    (arith, length-word c.min-count.result c.take_first_bits-digits.result, c.min-count.ensures, c.buffered.ensures.value, c.in_default.ensures.some, c.requires.some) in
-    rw (← c.self.view_is) (takes_passed _ _ (refills-supplied _ _ _ _ _ _ some c.in_default.ensures.ok passes.split)
-    c.in_default.ensures.taken c.in_default.ensures.blank none
-    c.in_default.ensures.failures passes)
+returns-clause-ok g c = grind (arith, common_steps, length-word, takes_passed, refills-supplied)
 
 pub returns-clause-steps : goal.returns-clause-steps
-returns-clause-steps g c =
-    let digits = c.take_first_bits-digits in
-    omega (arith, digits.ensures.passes.taken, length-word c.min-count.result digits.result, c.in_default.ensures.taken, ap (λ r. r.taken) c.self.view_is)
+returns-clause-steps g c = grind (arith, common_steps, length-word)

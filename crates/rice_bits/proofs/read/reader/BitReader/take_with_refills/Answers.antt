@@ -1,22 +1,15 @@
-use Rattle.std.proofs.Common.{arith, ◌≡◌, ◌+◌, ◌-◌, ◌++◌, [], ap, sym, ◌∙◌, refl, None, length-append}
-use Rattle.std.proofs.lemmas.Nat.{pow_pos}
-use Rattle.rice_bits.specs.Bits.{word}
-use Rattle.rice_bits.proofs.lemmas.bits.WordsAndNumbers.{join_below, length-word, word-nil, word-cat}
+use Rattle.std.proofs.Common.{arith, ◌≡◌, ◌+◌, ◌-◌, ◌++◌, [], ap, sym, ◌∙◌, None, length-append}
+use Rattle.std.proofs.lemmas.{Grind.common_steps, Nat.pow_pos}
 use Rattle.rice_bits.proofs.lemmas.read.ReaderLemmas.{no_refusal, refusal_is, takes-none, takes-append, stops-append, still_buffered}
+use Rattle.rice_bits.proofs.lemmas.bits.WordsAndNumbers.{join_below, length-word, word-nil, word-cat}
+use Rattle.rice_bits.specs.Bits.{word}
 use Rattle.rice_bits.proofs.read.reader.BitReader.take_with_refills.Goals as goal
 
 pub loop-left-init : goal.loop-left-init
 loop-left-init g c =
     let e : c.args.width - c.args.width ≡ 0 = omega arith in
     let none : c.args.self.now.refusal ≡ None = ap (λ r. r.refusal) (sym c.self.view_is) ∙ no_refusal c.self.inside.refusal (sym c.is_some.ensures ∙ c.if-is_some.false) in
-    record {
-      within = omega arith;
-      below = pow_pos _;
-      takes = rw (e, word-nil 0) (takes-none _ none);
-      idle = λ _. refl;
-      limit = (let window = c.self.invariant.window in let taken = ap (λ r. r.taken) c.self.view_is in omega (arith, taken, window.limit));
-      steps = refl;
-    }
+    grind (arith, common_steps, pow_pos, word-nil, takes-none)
 
 pub take_some_digits-requires-clause-meter : goal.take_some_digits-requires-clause-meter
 take_some_digits-requires-clause-meter g c =
@@ -28,17 +21,7 @@ loop-left-preserved g c =
     let w = word-cat (c.args.width - c.loop-left.left) c.in-Ok.count c.loop-left.value c.in-Ok.digits c.in-Ok.ensures.count.2 in
     let b = join_below (c.args.width - c.loop-left.left) c.in-Ok.count c.loop-left.value c.in-Ok.digits c.loop-left.invariant.below c.in-Ok.ensures.count.2 in
     let t = takes-append c.args.self.now c.loop-left.self c.take_some_digits.new.self _ _ c.loop-left.invariant.takes c.in-Ok.ensures.ok in
-    record {
-      within = omega arith;
-      below = rw (← k, c.join-value.ensures) b;
-      takes = rw (← k, c.join-value.ensures, w) t;
-      idle = λ h.
-          (let n = still_buffered c.args.self.now c.loop-left.self _ c.loop-left.invariant.takes in
-          let m = length-word (c.args.width - c.loop-left.left) c.loop-left.value in
-          c.in-Ok.ensures.idle (omega (arith, h, n, m, c.loop-left-test.true)) ∙ c.loop-left.invariant.idle h);
-      limit = c.take_some_digits.ensures.limit;
-      steps = omega (arith, c.in-Ok.ensures.steps, c.loop-left.invariant.steps);
-    }
+    grind (arith, common_steps, still_buffered, length-word)
 
 pub returns-in-Err-clause-err : goal.returns-in-Err-clause-err
 returns-in-Err-clause-err g c none = refusal_is _ _ _ c.in-Err.ensures.err.refusal (
@@ -54,10 +37,7 @@ returns-in-Err-clause-err g c none = refusal_is _ _ _ c.in-Err.ensures.err.refus
 )
 
 pub returns-in-Err-clause-idle : goal.returns-in-Err-clause-idle
-returns-in-Err-clause-idle g c h =
-    let n = still_buffered c.args.self.now c.loop-left.self _ c.loop-left.invariant.takes in
-    let m = length-word (c.args.width - c.loop-left.left) c.loop-left.value in
-    c.in-Err.ensures.idle (omega (arith, h, n, m, c.loop-left-test.true)) ∙ c.loop-left.invariant.idle h
+returns-in-Err-clause-idle g c h = grind (arith, common_steps, still_buffered, length-word)
 
 pub returns-in-Err-clause-most : goal.returns-in-Err-clause-most
 returns-in-Err-clause-most g c =

@@ -1,3 +1,4 @@
+use Rattle.std.proofs.lemmas.Grind.{common_steps}
 use Rattle.std.proofs.Common.{◌≡◌, ◌*◌, ◌/◌, ◌∙◌, ap, arith, refl, drop, take}
 use Rattle.rice_bits.{proofs.lemmas.read.WindowLemmas.passed_none, proofs.lemmas.read.WindowLemmas.window_filled, proofs.lemmas.read.WindowLemmas.zeros-after, specs.Bits.bits_of}
 use Rattle.rice_bits.proofs.read.window.Window.hold_new_bytes.Goals as goal
@@ -7,16 +8,7 @@ returns-clause-window c =
     let new = c.store_zeros.new.bytes in
     let zeros = zeros-after c.args.self.now.buffer new c.args.count 8 (omega (arith, c.requires.size, c.requires.count)) c.store_zeros.ensures in
     let place : 8 * c.args.count / 8 ≡ c.args.count = omega arith in
-    record {
-      size = omega (arith, c.store_zeros.auto.bytes, c.requires.size);
-      marked = omega arith;
-      ordered = omega arith;
-      fits = omega (arith, c.requires.count);
-      whole = omega arith;
-      held = omega arith;
-      limit = c.requires.limit;
-      after = ap (λ n. take 8 (drop n new)) place ∙ zeros.1;
-    }
+    grind (arith, common_steps)
 
 pub returns-clause-bits : goal.returns-clause-bits
 returns-clause-bits c =

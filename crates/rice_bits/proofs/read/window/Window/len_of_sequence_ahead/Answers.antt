@@ -1,5 +1,5 @@
 use Rattle.std.proofs.Common.{◌≡◌, ℕ, ◌+◌, ◌-◌, ◌/◌, ◌^◌, ◌<◌, ◌++◌, arith, sym, ◌∙◌, ap, false, length, min, replicate, take, take-take}
-use Rattle.std.{proofs.lemmas.List.length-take-le, proofs.lemmas.List.take-append-le, proofs.lemmas.List.take-replicate, proofs.lemmas.List.take_at, specs.Int.Count.leading_unique}
+use Rattle.std.{proofs.lemmas.List.length-take-le, proofs.lemmas.List.take-replicate, proofs.lemmas.List.take_at, proofs.lemmas.Grind.common_steps, specs.Int.Count.leading_unique}
 use Rattle.std.proofs.{lemmas.Nat.leading_top, Math.Nat.pow-suc}
 use Rattle.rice_bits.proofs.lemmas.read.WindowLemmas.{length-window, run-within, near-there, window-front}
 use Rattle.rice_bits.proofs.lemmas.bits.{WordsAndNumbers.length-fundamental_sequence, WordsAndNumbers.word-zero, FrontsOfWords.first_run, FrontsOfWords.take-front, FrontsOfWords.word-parts}
@@ -18,8 +18,7 @@ returns-then-after_zero-eq0-clause-none c =
     let zeros : take 63 (word 64 r) ≡ replicate 63 false = take-front 64 63 r (omega arith) ∙ (ap (word 63) c.if-after_zero-eq0.true ∙ word-zero 63) in
     let front : take few (word 64 r) ≡ replicate few false =
     sym (take-take few 63 (word 64 r) (omega arith)) ∙ (ap (take few) zeros ∙ take-replicate few 63 false (omega arith)) in
-    sym (take-take few n (window_bits w) (omega arith)) ∙ (sym (take-append-le few near (replicate (64 - n) false) (omega (arith, len)))
-    ∙ (ap (take few) (sym c.first_bits_ahead-after_zero.ensures) ∙ front))
+    grind (arith, common_steps, take-take)
 
 -- a fundamental sequence stands at the front of a word that is not 0, and has as many bits as zeros stand there after one zero more
 begins : (r : ℕ) → 0 < r / 2 → r < 2 ^ 64 → (count_leading_zeros 64 (r / 2) ≡ count_leading_zeros 64 r + 1) × (count_leading_zeros 64 r < 64)

@@ -9,6 +9,3 @@ invariant_of-self g c =
     let sample = rw (← c.self.view_is) at c.requires.last in
     rw (to_z-of_z w64 c.args.last c.ranges.last) (place_moves c.args.run c.args.last st.stopped
     state.legal state.within c.place_of_block_after-self-inside.ensures sample (rw (← c.self.view_is) at c.requires.run) state.no_block)
-
-pub returns-clause-block : goal.returns-clause-block
-returns-clause-block g c = grind (arith, common_steps)

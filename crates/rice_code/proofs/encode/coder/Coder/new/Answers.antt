@@ -7,6 +7,3 @@ invariant_of-result c = subst IsCoder (sym c.new.ensures) (record { samples = []
 
 pub returns-clause-taken : goal.returns-clause-taken
 returns-clause-taken c = subst (λ (v : CoderState). HasTaken v []) (sym c.new.ensures) (none_taken c.args.setting c.block-block.ensures.legal)
-
-pub returns-clause-setting : goal.returns-clause-setting
-returns-clause-setting c = grind (arith, common_steps)
