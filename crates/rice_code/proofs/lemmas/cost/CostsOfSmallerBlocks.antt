@@ -41,12 +41,6 @@ sums_at_most f rises [] [] h = omega arith
 sums_at_most f rises (x ∷ xs) (y ∷ ys) h = omega (arith, sum_by-cons f x xs, sum_by-cons f y ys, rises x y h.0, sums_at_most f rises xs ys h.1)
 sums_at_most f rises _ _ h = absurd h
 
-sent_at_most : (r : Option ℕ) (xs ys : List ℕ) → AreAtMost xs ys → AreAtMost (sent_from r xs) (sent_from r ys)
-sent_at_most None xs ys h = h
-sent_at_most (Some v) [] [] h = tt
-sent_at_most (Some v) (x ∷ xs) (y ∷ ys) h = h.1
-sent_at_most (Some v) _ _ h = absurd h
-
 pair_rises : (a b c d : ℕ) → a ≤ c → b ≤ d → pair_code a b ≤ pair_code c d
 pair_rises a b c d h k =
     let sums : (a + b) * (a + b + 1) ≤ (c + d) * (c + d + 1) = mul-le-mul (let le : a + b ≤ c + d = omega arith in le) (let le : a + b + 1 ≤ c + d + 1 = omega arith in le) in

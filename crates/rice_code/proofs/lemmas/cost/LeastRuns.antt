@@ -31,9 +31,6 @@ both_to_end len n z' left' len' e f g h = grind (arith, nat_tests)
 fills_segment : (z left len : ℕ) → z ≡ left → (z == left || z == len) ≡ true
 fills_segment z left len e = grind (arith, nat_tests)
 
-fills_list : (z left len : ℕ) → z ≡ len → (z == left || z == len) ≡ true
-fills_list z left len e = grind (arith, nat_tests)
-
 -- the run reaches the end of its segment, or the last block
 abbrev to_end : Parameters → ℕ → List BlockData → Bool
 to_end s b cs = let z = run_len s b cs in z == blocks_left s b || z == length cs
@@ -161,7 +158,7 @@ run_and_more {s} {fill} b {end} {p} {q} {w} number r rest is run e begins more =
 -- the last zero blocks, by a run of more
 last_run : {s : Parameters} {fill : ℕ → ℕ → ℕ} (b : ℕ) {end p q j n : ℕ} (number : ℕ) (r : Option ℕ) → IsFill s fill → LeastRun s b n number → suc j < n → end ≡ b + suc j → p ≤ q →
     code_end s fill end b p (data_sets s b false (zeros_and s r j [])) ≤ q + run_bits s r number
-last_run {s} {fill} b {end} {p} {j} {n} number r is run some e begins = grind (arith, common_steps, front_count, skipped_nil, fills_list, front_len, to_the_end, front_laid, run_size)
+last_run {s} {fill} b {end} {p} {j} {n} number r is run some e begins = grind (arith, common_steps, front_count, skipped_nil, front_len, to_the_end, front_laid, run_size)
 
 -- the first zero blocks are all there, or the list ends among them
 run_splits : (s : Parameters) (w : ℕ) (cs ys : List BlockData) → BeginAtMost cs (replicate w (zero_block s None) ++ ys) →

@@ -5,15 +5,9 @@ use Rattle.rice_code.proofs.Words.{All, IfSome, IfNone, OnSome, is_some, slice_i
 use Rattle.rice_code.proofs.Words.{same_level, rank_injective, is_reference_sample, residual, residuals, rank, ranks, pattern, block_data, zero_block, IsReference, residual_at}
 use Rattle.rice_code.proofs.lemmas.{code.RepeatedSamples.Repeats, code.RepeatedSamples.repeated_all, code.RepeatedSamples.same_rank, meaning.CoveredBlocks.bool_cases}
 
-and-swap : (a b : Bool) → (a && b) ≡ (b && a)
-and-swap true true = refl
-and-swap true false = refl
-and-swap false true = refl
-and-swap false false = refl
-
 -- so a residual inside a block follows from whether it is the first, and whether the block has a reference
 pub residual_within : (s : Parameters) (b j : ℕ) (r : Option ℕ) (p x : ℤ) → j < s.block → IsReference s b r → residual s (s.block * b + j) p x ≡ residual_at s r (j == 0) p x
-residual_within s b j r p x h k = grind (arith, common_steps, mul_comm, div-mul-add, mod-mul-add, and-swap)
+residual_within s b j r p x h k = grind (arith, common_steps, mul_comm, div-mul-add, mod-mul-add)
 
 -- the residuals of samples that no reference is among
 ranks_within : {s : Parameters} {b : ℕ} (j : ℕ) {r : Option ℕ} (p : ℤ) (xs : List ℤ) → IsReference s b r → s.preprocess ≡ true → ((j == 0) && is_some r) ≡ false

@@ -1,9 +1,8 @@
 -- Zero blocks that are pending until their run ends.
-use Rattle.std.proofs.Common.{◌≡◌, ℕ, zero, suc, ◌+◌, ◌*◌, ◌<◌, ◌≤◌, ◌==◌, Bool, true, false, cond, not, ◌&&◌, ◌||◌, nat_le, List, []}
-use Rattle.std.proofs.Common.{◌∷◌, ◌++◌, length, take, drop, replicate, refl, ap, arith, sym, ◌∙◌, inl, inr, subst, append-nil, length-append, Option, None}
+use Rattle.std.proofs.Common.{◌≡◌, ℕ, zero, suc, ◌+◌, ◌*◌, ◌<◌, ◌≤◌, ◌==◌, true, false, not, ◌&&◌, List, [], ◌∷◌, ◌++◌, length, take, drop, replicate, refl, ap, arith, sym, ◌∙◌, inl, inr, subst}
+use Rattle.std.proofs.Common.{append-nil, length-append, Option, None}
 use Rattle.rice_code.proofs.Words.{list_all, nat_tests, length-replicate, drop-drop, Parameters, begins_segment, blocks_left, one_less_left, last_of_segment, BlockData, is_zero_block, zero_block}
-use Rattle.rice_code.proofs.Words.{CodedDataSet, ZeroBlocks, RemainderOfSegment, data_sets, zero_run, run_len, shortest, run_of_blocks, pending_zeros, pending_run, held_blocks, reference_at}
-use Rattle.rice_code.proofs.Words.{block_with, AreSoundBlocks, common_steps}
+use Rattle.rice_code.proofs.Words.{data_sets, zero_run, run_len, shortest, run_of_blocks, pending_zeros, pending_run, held_blocks, reference_at, block_with, AreSoundBlocks, common_steps}
 use Rattle.rice_code.proofs.lemmas.meaning.CoveredBlocks.{bool_cases, skipped, run_cons, skipped_go, skipped_plain, skipped_nil, data_sets_inside, data_sets_start, data_sets_plain}
 
 -- zeros alone are zero
@@ -44,9 +43,6 @@ count_zeros s b (suc w) rest h k =
           (zero_block s None) ahead h (is_zero_zeros s None) (ap (λ v. true && not v) e) in
           omega (arith, more, count_zeros s (b + 1) w rest h (omega arith), ap (λ n. skipped s n true rest) n)
     ]
-
-abbrev run_with : Option ℕ → ℕ → Bool → CodedDataSet
-run_with r z v = cond (nat_le 5 z && v) (RemainderOfSegment r) (ZeroBlocks r z)
 
 -- a run that ends before the segment and the list do
 run_before : (s : Parameters) (b w : ℕ) (r : Option ℕ) (cs : List BlockData) → run_len s b cs ≡ suc w → suc w < blocks_left s b → suc w < length cs → zero_run s b r cs ≡ run_of_blocks false r (suc w)

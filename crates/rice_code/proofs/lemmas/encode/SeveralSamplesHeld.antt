@@ -26,10 +26,6 @@ length-next coder (x ∷ xs) = ap (λ n. suc n) (length-later coder.setting x xs
 pub length-state_after_all : (coder : CoderState) (xs : List ℤ) → length (state_after_all coder xs).residuals ≡ length coder.residuals + length xs
 length-state_after_all coder xs = length-append coder.residuals (next_residuals coder xs) ∙ ap (λ n. length coder.residuals + n) (length-next coder xs)
 
-next_none : (coder : CoderState) (xs : List ℤ) → (coder.setting.preprocess && is_first coder) ≡ false → next_references coder xs ≡ coder.reference
-next_none coder [] e = refl
-next_none coder (x ∷ xs) e = ap (λ v. cond v (Some (pattern coder.setting x)) coder.reference) e
-
 -- no sample,
 pub state_after_all-none : (coder : CoderState) (xs : List ℤ) → length xs ≡ 0 → state_after_all coder xs ≡ coder
 state_after_all-none coder [] e = λ i. record { setting = coder.setting; residuals = append-nil coder.residuals i; reference = coder.reference; previous = coder.previous; start = coder.start }
@@ -41,7 +37,7 @@ not_first coder x = grind (arith, common_steps, and-false)
 
 -- one first,
 pub state_after_all-cons : (coder : CoderState) (x : ℤ) (xs : List ℤ) → state_after_all (state_after coder x) xs ≡ state_after_all coder (x ∷ xs)
-state_after_all-cons coder x xs = grind (arith, common_steps, append_assoc, not_first, next_none)
+state_after_all-cons coder x xs = grind (arith, common_steps, append_assoc, not_first)
 
 -- and one last
 pub state_after_all-snoc : (coder : CoderState) (xs : List ℤ) (x : ℤ) → state_after_all coder (xs ++ x ∷ []) ≡ state_after (state_after_all coder xs) x

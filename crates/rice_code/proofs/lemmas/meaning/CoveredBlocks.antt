@@ -44,10 +44,6 @@ skipped s b after_zero cs = cond (after_zero && not (begins_segment s b)) (run_l
 run_of : (n : ℕ) (c : BlockData) (cs : List BlockData) → is_zero_block c ≡ true → prefix_len is_zero_block (take (suc n) (c ∷ cs)) ≡ suc (prefix_len is_zero_block (take n cs))
 run_of n c cs z = ap (λ v. cond v (1 + prefix_len is_zero_block (take n cs)) 0) z ∙ (omega arith)
 
-no_run_of : (n : ℕ) (c : BlockData) (cs : List BlockData) → is_zero_block c ≡ false → prefix_len is_zero_block (take n (c ∷ cs)) ≡ 0
-no_run_of zero c cs z = refl
-no_run_of (suc n) c cs z = ap (λ v. cond v (1 + prefix_len is_zero_block (take n cs)) 0) z
-
 -- a zero block begins a run of one more than would be skipped after it
 pub run_cons : (s : Parameters) (b : ℕ) (c : BlockData) (cs : List BlockData) → 1 ≤ s.interval → is_zero_block c ≡ true → run_len s b (c ∷ cs) ≡ suc (skipped s (b + 1) true cs)
 run_cons s b c cs h z = grind (arith, common_steps, bool_cases, last_of_segment, run_of, one_less_left)

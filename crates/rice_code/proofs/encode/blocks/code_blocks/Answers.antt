@@ -97,30 +97,7 @@ loop-i-preserved c =
             steps_from = omega (arith, low, looks.0, len, joins.steps, inv.steps_from);
             steps_to = omega (arith, high, looks.1, len, joins.steps, inv.steps_to);
           }
-      | inr z ↦
-          let zh = sym (ap is_zero_block e) ∙ z in
-          let looks = looks_other s (held s r ds i) zh in
-          let ends = after.ends z in
-          let len = ends.len in
-          let k = ap (best_split s) e in
-          let put = length (bits_of_sets s (pending_run false (reference_at c.args.reference (c.loop-i.i - c.loop-i.run)) run)) + cost s (shortest s raw) in
-          let more = next_other s start r ds legal.interval_from c.requires.few inv.inside c.loop-i-test.true zh in
-          let more' : to_come s start r n ds i run ≡ bits_of_sets s (pending_run false (reference_at c.args.reference (c.loop-i.i - c.loop-i.run)) run)
-          ++ (bits_of_set s (shortest s raw) ++ to_come s start r n ds (i + 1) 0) =
-          more ∙ (λ j. bits_of_sets s (pending_run false (reference_at r (i - run)) run) ++ (bits_of_set s (shortest s (sym e j)) ++ to_come s start r n ds (i + 1) 0)) in
-          record {
-            inside = omega (arith, ends.run_is);
-            same = ap (λ v. c.code_next-run.new.sink ++ to_come s start r n ds (i + 1) v) ends.run_is
-                ∙ other_same c.loop-i.sink c.code_next-run.new.sink
-                (bits_of_sets s (pending_run false (reference_at c.args.reference (c.loop-i.i - c.loop-i.run)) run)) (bits_of_set s (shortest s raw))
-                (to_come s start r n ds (i + 1) 0) (c.args.sink.now ++ all) ends.bits
-                (sym (ap (λ v. c.loop-i.sink ++ v) more') ∙ inv.same);
-            steps_from = rw low (least_more (length c.args.sink.now) put (sum_by (least_looks s) (take i cs))
-                one (record { before = inv.steps_from; more = omega (arith, ends.steps_from); put_is = omega (arith, len) }) (looks.0 ∙ ap (λ k. s.block * (k + 3) - 1) (sym k)));
-            steps_to = rw high (most_more c.args.meter.now c.loop-i.meter c.code_next-run.new.meter (length c.loop-i.sink) (length c.args.sink.now) put (sum_by (most_looks s)
-                (take i cs))
-                (record { before = inv.steps_to; more = omega (arith, ends.steps_to); put_is = omega (arith, len) }) (looks.1 ∙ ap (λ k. s.block * (min (k + 1) (k_max s) + 5)) (sym k)));
-          }
+      | inr z ↦ grind (arith, common_steps, looks_other, next_other, other_same, least_more, most_more)
     ]
 
 -- the invariant at the end
