@@ -1,15 +1,10 @@
 -- Buffered blocks that are decoded in one pass from their bits to the bytes of their samples.
 use Rattle.std.specs.Prelude.{◌≡◌, ℕ, ◌+◌, ◌-◌, ◌*◌, ◌<◌, ◌≤◌, Bool, List, All, length, take, Ok, ℤ}
 use Rattle.rice_bits.specs.read.Reader.{Reader}
-use Rattle.rice_samples.specs.Parameters.{Parameters, value_count, values_at, width}
-use Rattle.rice_samples.specs.bytes.Spelling.{spellings}
-use Rattle.rice_samples.specs.predict.Residuals.{last_number}
-use Rattle.rice_code.specs.Limits.{most_samples_of_bit}
-use Rattle.rice_code.specs.code.CodedDataSets.{CodedDataSet, bits_of_set, turns}
+use Rattle.rice_samples.specs.{Parameters.Parameters, Parameters.value_count, Parameters.values_at, Parameters.width, bytes.Spelling.spellings, predict.Residuals.last_number}
 use Rattle.rice_code.specs.code.Forms.{IsForm, RunIsSound, ResidualsAreSound, blocks_in}
-use Rattle.rice_code.specs.decode.Decoder.{Answers, GivesBlock, with_mark}
-use Rattle.rice_code.specs.decode.DecoderState.{DecoderState}
-use Rattle.rice_code.specs.declared.decode.call_results.Step.TheVariants.{Block}
+use Rattle.rice_code.specs.{Limits.most_samples_of_bit, code.CodedDataSets.CodedDataSet, code.CodedDataSets.bits_of_set, code.CodedDataSets.turns, decode.Decoder.Answers, decode.Decoder.GivesBlock}
+use Rattle.rice_code.specs.{decode.Decoder.with_mark, decode.DecoderState.DecoderState, declared.decode.call_results.Step.TheVariants.Block}
 
 -- Samples of more than `below` and at most `bits` bits.
 pub record HasBits (below bits : ℕ) (s : Parameters) : Type 0 where

@@ -2,15 +2,9 @@
 -- low parts.
 use Rattle.std.specs.Prelude.{◌≡◌, ℕ, ◌+◌, ◌-◌, ◌*◌, ◌^◌, ◌<◌, ◌≤◌, Bool, List, All, drop, flat_map, length, replicate, sum, take, Option, IfSome, IfNone}
 use Rattle.rice_bits.specs.Bits.{fundamental_sequence, word}
-use Rattle.rice_samples.specs.Parameters.{Parameters, value_at, value_count}
-use Rattle.rice_samples.specs.blocks.Pairs.{pair_codes}
-use Rattle.rice_samples.specs.predict.Residuals.{pattern}
-use Rattle.rice_code.specs.code.CodedDataSets.{reference_bits}
-use Rattle.rice_code.specs.code.Forms.{IsReference}
-use Rattle.rice_code.specs.decode.ReadSets.{reference_place}
-use Rattle.rice_fast.specs.BlocksAhead.{BlockAhead}
-use Rattle.rice_fast.specs.PartsOfResiduals.{HaveParts}
-use Rattle.rice_fast.specs.declared.fields.Fields.{Fields}
+use Rattle.rice_samples.specs.{Parameters.Parameters, Parameters.value_at, Parameters.value_count, blocks.Pairs.pair_codes, predict.Residuals.pattern}
+use Rattle.rice_code.specs.{code.CodedDataSets.reference_bits, code.Forms.IsReference, decode.ReadSets.reference_place}
+use Rattle.rice_fast.specs.{BlocksAhead.BlockAhead, PartsOfResiduals.HaveParts, declared.fields.Fields.Fields}
 
 -- After the first `skip` bits, up to bit `len`, stands the reference sample of block b, if it has one. Its first sample is restored after
 -- level `from`, or, without a reference, after the sample at level `before`. The first residuals, `omitted` of them, have no bits.

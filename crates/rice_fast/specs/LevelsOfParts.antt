@@ -1,8 +1,7 @@
 -- Levels of samples whose residuals have these high and low parts.
 use Rattle.std.specs.Prelude.{◌≡◌, ℕ, ◌<◌, List, All, length}
 use Rattle.rice_bits.specs.read.JoinedParts.{joined_parts}
-use Rattle.rice_samples.specs.Parameters.{Parameters, value_count}
-use Rattle.rice_samples.specs.predict.Residuals.{ranks_below}
+use Rattle.rice_samples.specs.{Parameters.Parameters, Parameters.value_count, predict.Residuals.ranks_below}
 
 -- Levels of samples, the first after one at level p, have residuals with these high parts and these low parts of `width` bits.
 pub record AreLevelsOfParts (s : Parameters) (p width : ℕ) (highs lows levels : List ℕ) : Type 0 where

@@ -1,8 +1,7 @@
 -- Levels of samples whose residuals have these high and low parts, where samples are predicted or not.
 use Rattle.std.specs.Prelude.{◌≡◌, ℕ, ◌<◌, List, All, cond, length, map}
 use Rattle.rice_bits.specs.read.JoinedParts.{joined_parts}
-use Rattle.rice_samples.specs.Parameters.{Parameters, value_count, values_at}
-use Rattle.rice_samples.specs.predict.Residuals.{pattern, ranks_below}
+use Rattle.rice_samples.specs.{Parameters.Parameters, Parameters.value_count, Parameters.values_at, predict.Residuals.pattern, predict.Residuals.ranks_below}
 
 -- the residuals of samples at these levels, the first after one at level p: their ranks, or, where samples are not predicted, their patterns
 abbrev pub residuals_at : Parameters → ℕ → List ℕ → List ℕ

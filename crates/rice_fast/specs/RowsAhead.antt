@@ -1,11 +1,7 @@
 -- Rows of the samples of a buffered block, restored and spelled one after another.
 use Rattle.std.specs.Prelude.{◌≡◌, ℕ, ◌-◌, ◌*◌, ◌<◌, Bool, List, length, slice_index_or, take}
-use Rattle.rice_samples.specs.Parameters.{Parameters, value_count, values_at, width}
-use Rattle.rice_samples.specs.bytes.Spelling.{spellings}
-use Rattle.rice_samples.specs.predict.Residuals.{last_number}
-use Rattle.rice_fast.specs.FieldsAhead.{LowsAhead}
-use Rattle.rice_fast.specs.PartsOfResiduals.{HaveParts}
-use Rattle.rice_fast.specs.declared.fields.Fields.{Fields}
+use Rattle.rice_samples.specs.{Parameters.Parameters, Parameters.value_count, Parameters.values_at, Parameters.width, bytes.Spelling.spellings, predict.Residuals.last_number}
+use Rattle.rice_fast.specs.{FieldsAhead.LowsAhead, PartsOfResiduals.HaveParts, declared.fields.Fields.Fields}
 
 -- The bytes begin with the spellings of `count` samples, the first after one at level p, whose residuals have these parts. The last of them
 -- has level `last`.

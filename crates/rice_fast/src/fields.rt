@@ -1,10 +1,8 @@
 //! The fields of a buffered block, looked at before they are taken.
 ghost use Rattle.std.specs.Prelude.{◌≡◌, ◌+◌, ◌-◌, ◌^◌, ◌<◌, ◌≤◌, IfSome, length, take};
 ghost use Rattle.rice_bits.specs.Bits.{word};
-ghost use Rattle.rice_samples.specs.Parameters.{id_len, value_count};
-ghost use Rattle.rice_samples.specs.Places.{is_reference};
-ghost use Rattle.rice_fast.specs.BlocksAhead.{HasBits};
-ghost use Rattle.rice_fast.specs.FieldsAhead.{AreFields, HeadAhead};
+ghost use Rattle.rice_samples.specs.{Parameters.id_len, Parameters.value_count, Places.is_reference};
+ghost use Rattle.rice_fast.specs.{BlocksAhead.HasBits, FieldsAhead.AreFields, FieldsAhead.HeadAhead};
 
 use crate::ahead::{first_number_ahead, number_ahead};
 use crate::high_parts::high_parts_ahead;

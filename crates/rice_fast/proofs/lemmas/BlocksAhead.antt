@@ -1,30 +1,11 @@
 -- A buffered block by each option, from its fields.
-use Rattle.std.proofs.Common.{◌≡◌, ℕ, zero, suc, ◌+◌, ◌-◌, ◌*◌, ◌/◌, ◌^◌, ◌<◌, ◌≤◌, ◌==◌, Bool, true, false, inl, inr, List, [], ◌∷◌, ◌++◌}
-use Rattle.std.proofs.Common.{length, take, drop, refl, sym, ◌∙◌, ap, subst, arith, replicate, Option, None, Some}
-use Rattle.std.specs.Prelude.{All, flat_map, slice_index_or, sum, ◌&&◌}
-use Rattle.std.proofs.Math.Seq.{take-add}
-use Rattle.std.proofs.lemmas.List.{drop-drop, length-drop, take-append-drop, take-replicate}
-use Rattle.std.proofs.lemmas.List.Elements.{All-drop}
-use Rattle.rice_bits.specs.Bits.{word, fundamental_sequence}
-use Rattle.rice_bits.specs.read.JoinedParts.{joined_parts}
-use Rattle.rice_samples.specs.blocks.Pairs.{pair_codes}
-use Rattle.rice_samples.specs.Places.{place}
-use Rattle.rice_samples.specs.Parameters.{Parameters, id_len, k_max, value_at, value_count, values_at}
-use Rattle.rice_samples.proofs.lemmas.setting.ValuesAboveLeast.{sample_at}
-use Rattle.rice_samples.proofs.lemmas.setting.ValuesAtLevels.{legal_values, length-values, ranks_of_values}
-use Rattle.rice_code.specs.code.Blocks.{BlockData, block_data}
-use Rattle.rice_code.specs.code.CodedDataSets.{NoCompression, SecondExtension, Split, reference_bits, sent_from}
-use Rattle.rice_code.specs.code.Forms.{IsBlock, IsReference, IsZeroAtReference, AllFit}
-use Rattle.rice_code.specs.decode.Decoder.{GivesBlock}
-use Rattle.rice_code.specs.decode.ReadSets.{reference_place}
-use Rattle.rice_code.proofs.lemmas.decode.JoinedResiduals.{high_pieces, low_pieces}
-use Rattle.rice_code.proofs.lemmas.decode.OptionsRead.{coded-placed, zero-placed}
-use Rattle.rice_code.proofs.lemmas.decode.RestoredBlocks.{contents_of_patterns, contents_restored}
-use Rattle.rice_code.proofs.lemmas.decode.SetsRead.{one_bit}
-use Rattle.rice_code.proofs.lemmas.meaning.CoveredBlocks.{bool_cases}
-use Rattle.rice_fast.specs.BlocksAhead.{BlockAhead}
-use Rattle.rice_fast.specs.FieldsAhead.{HeadAhead, HighsAhead, LowsAhead, PairsAhead}
-use Rattle.rice_fast.specs.PartsOfResiduals.{HaveParts, residuals_at}
+use Rattle.rice_fast.proofs.Words.{◌≡◌, ℕ, zero, suc, ◌+◌, ◌-◌, ◌*◌, ◌/◌, ◌^◌, ◌<◌, ◌≤◌, ◌==◌, Bool, true, false, inl, inr, List, [], ◌∷◌, ◌++◌, length, take, drop, refl, sym, ◌∙◌, ap, subst, arith}
+use Rattle.rice_fast.proofs.Words.{replicate, Option, None, Some, All, flat_map, slice_index_or, take-add, drop-drop, length-drop, take-append-drop, take-replicate, All-drop, word}
+use Rattle.rice_fast.proofs.Words.{fundamental_sequence, joined_parts, pair_codes, place, Parameters, id_len, k_max, value_at, value_count, values_at, sample_at, legal_values, length-values}
+use Rattle.rice_fast.proofs.Words.{ranks_of_values, BlockData, block_data, NoCompression, SecondExtension, Split, reference_bits, sent_from, IsBlock, IsReference, IsZeroAtReference, AllFit}
+use Rattle.rice_fast.proofs.Words.{GivesBlock, reference_place, high_pieces, low_pieces, coded-placed, zero-placed, contents_of_patterns, contents_restored, one_bit, bool_cases, BlockAhead, HeadAhead}
+use Rattle.rice_fast.proofs.Words.{HighsAhead, LowsAhead, PairsAhead, HaveParts, residuals_at}
+use Rattle.std.specs.Prelude.{sum, ◌&&◌}
 use Rattle.rice_fast.proofs.lemmas.Residuals.{length-residuals, patterns_alone, ranks_alone, residuals_fit}
 
 -- three and four parts that follow one another

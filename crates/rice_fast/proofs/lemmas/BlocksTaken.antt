@@ -1,17 +1,8 @@
 -- A block that was looked at, taken and spelled.
-use Rattle.std.proofs.Common.{◌≡◌, ℕ, ℤ, suc, ◌+◌, ◌-◌, ◌*◌, ◌≤◌, Bool, List, length, take, sym, ◌∙◌, ap, subst, arith}
-use Rattle.std.proofs.lemmas.List.{length-take-le}
-use Rattle.rice_bits.specs.read.Reader.{Reader, Takes}
-use Rattle.rice_samples.specs.Parameters.{Parameters, IsLegal, value_at, values_at, width}
-use Rattle.rice_samples.specs.predict.Residuals.{last_of}
-use Rattle.rice_samples.proofs.lemmas.setting.ValuesAtLevels.{last_value, length-values}
+use Rattle.rice_fast.proofs.Words.{◌≡◌, ℕ, ℤ, suc, ◌+◌, ◌-◌, ◌*◌, ◌≤◌, Bool, List, length, take, sym, ◌∙◌, ap, subst, arith, length-take-le, Reader, Takes, Parameters, IsLegal, value_at, values_at}
+use Rattle.rice_fast.proofs.Words.{width, last_of, last_value, length-values, bits_of_set, padding, Skips, TakesSet, with_mark, DecoderState, next_block_place, answers_block, samples_by_bits}
+use Rattle.rice_fast.proofs.Words.{GivesBytes, SpelledAhead}
 use Rattle.rice_fast.proofs.lemmas.vectors.HalfLanes.{last_is as last_at}
-use Rattle.rice_code.specs.code.CodedDataSets.{bits_of_set}
-use Rattle.rice_code.specs.code.Layout.{padding}
-use Rattle.rice_code.specs.decode.Decoder.{Skips, TakesSet, with_mark}
-use Rattle.rice_code.specs.decode.DecoderState.{DecoderState, next_block_place}
-use Rattle.rice_code.proofs.lemmas.decode.DecoderLemmas.{answers_block, samples_by_bits}
-use Rattle.rice_fast.specs.BlocksAhead.{GivesBytes, SpelledAhead}
 
 -- the bits of a block that waited are taken, at a step for each and for each turn of a search, and what fills the data set is skipped
 pub record TakesBlock {I : Type 0} (start marked middle new : Reader I) (first steps last len searched : ℕ) (p : DecoderState) : Type 0 where

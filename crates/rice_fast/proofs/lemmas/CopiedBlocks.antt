@@ -1,35 +1,13 @@
 -- Blocks without compression, copied as the bytes that they are.
-use Rattle.std.proofs.Common.{◌≡◌, ℕ, zero, suc, ◌+◌, ◌-◌, ◌*◌, ◌/◌, ◌^◌, ◌<◌, ◌≤◌, ◌==◌, Bool, true, false, cond, List, [], ◌∷◌, ◌++◌}
-use Rattle.std.proofs.Common.{length, take, drop, map, refl, sym, ◌∙◌, ap, subst, arith, take-take, take-append-drop, length-append, None, ℤ, pos, inl, inr, ◌⊎◌}
-use Rattle.std.specs.Prelude.{All, flat_map, nat_le, slice_index_or, ◌&&◌}
-use Rattle.std.specs.Simd.Lanes.{put_chunk}
-use Rattle.std.proofs.Math.Nat.{mul-div_cancel_left, mul-le-mul_right}
-use Rattle.std.proofs.Math.Seq.{take-add}
-use Rattle.std.proofs.lemmas.Bool.{cases_lt}
-use Rattle.std.proofs.lemmas.Bool.Decides.{nat_tests}
-use Rattle.std.proofs.lemmas.Grind.{flat_map-append}
-use Rattle.std.proofs.lemmas.List.{drop-drop, drop-take, drop_at, get_or-map, length-map, length-take-le, take_at}
-use Rattle.std.proofs.lemmas.List.Elements.{All-append, All-cons, All-nil, All-take}
-use Rattle.std.proofs.lemmas.Simd.{take_more_put_chunk}
-use Rattle.rice_bits.specs.Bits.{number_of, word}
-use Rattle.rice_bits.proofs.lemmas.bits.WordsAndNumbers.{length-word, number_of-word}
-use Rattle.rice_samples.specs.Parameters.{Parameters, IsLegal, IsSample, id_len, level, value_at, value_count, values_at, width}
-use Rattle.rice_samples.specs.Places.{place}
-use Rattle.rice_samples.specs.predict.Residuals.{last_number, last_of, pattern}
-use Rattle.rice_samples.specs.bytes.PatternLanes.{OrdersWords}
-use Rattle.rice_samples.specs.bytes.Spelling.{ordered_bytes, spellings}
+use Rattle.rice_fast.proofs.Words.{◌≡◌, ℕ, zero, suc, ◌+◌, ◌-◌, ◌*◌, ◌/◌, ◌^◌, ◌<◌, ◌≤◌, ◌==◌, Bool, true, false, cond, List, [], ◌∷◌, ◌++◌, length, take, drop, map, refl, sym, ◌∙◌, ap, subst, arith}
+use Rattle.rice_fast.proofs.Words.{take-take, length-append, None, ℤ, pos, inl, inr, ◌⊎◌, All, flat_map, nat_le, slice_index_or, put_chunk, mul-div_cancel_left, mul-le-mul_right, take-add, cases_lt}
+use Rattle.rice_fast.proofs.Words.{nat_tests, flat_map-append, drop-drop, drop-take, drop_at, get_or-map, length-map, length-take-le, take_at, All-append, All-cons, All-nil, All-take}
+use Rattle.rice_fast.proofs.Words.{take_more_put_chunk, number_of, word, length-word, number_of-word, Parameters, IsLegal, IsSample, id_len, level, value_at, value_count, values_at, width, place}
+use Rattle.rice_fast.proofs.Words.{last_number, last_of, pattern, OrdersWords, ordered_bytes, spellings, same_pattern, sample_at, pattern_fits, last_at, level_of_value, value_of_level, BlockData}
+use Rattle.rice_fast.proofs.Words.{NoCompression, IsReference, GivesBlock, SpelledAhead, IsCopied, CopiedBlock, WordsAhead, copied_bits, contents_of_patterns}
+use Rattle.std.proofs.Common.{take-append-drop}
+use Rattle.std.specs.Prelude.{◌&&◌}
 use Rattle.rice_fast.proofs.lemmas.vectors.LanesOfWholeBytes.{SamplesOfWords, samples_of_words}
-use Rattle.rice_samples.proofs.lemmas.predict.DistinctPatternsAndResiduals.{same_pattern}
-use Rattle.rice_samples.proofs.lemmas.setting.ValuesAboveLeast.{sample_at}
-use Rattle.rice_samples.proofs.lemmas.setting.LevelsOfSamples.{pattern_fits}
-use Rattle.rice_samples.proofs.lemmas.setting.ValuesAtLevels.{last_at, level_of_value, value_of_level}
-use Rattle.rice_code.specs.code.Blocks.{BlockData}
-use Rattle.rice_code.specs.code.CodedDataSets.{NoCompression}
-use Rattle.rice_code.specs.code.Forms.{IsReference}
-use Rattle.rice_code.specs.decode.Decoder.{GivesBlock}
-use Rattle.rice_fast.specs.BlocksAhead.{SpelledAhead}
-use Rattle.rice_fast.specs.CopiedBlocks.{IsCopied, CopiedBlock, WordsAhead, copied_bits}
-use Rattle.rice_code.proofs.lemmas.decode.RestoredBlocks.{contents_of_patterns}
 
 -- the width of copied words is that in which their samples are spelled
 pub copied_width : (s : Parameters) (w : ℕ) → IsCopied s w → w ≡ width s

@@ -1,11 +1,6 @@
 -- The first lanes of a vector, with zeros after them.
-use Rattle.std.proofs.Common.{◌≡◌, ℕ, zero, suc, ◌+◌, ◌-◌, ◌%◌, ◌^◌, ◌<◌, ◌≤◌, List, [], ◌∷◌, ◌++◌, get_or, length, take, drop, take-take, replicate, refl, sym, ◌∙◌, ap, arith}
-use Rattle.std.specs.Prelude.{bit_and}
-use Rattle.std.specs.Simd.Lanes.{zip2}
-use Rattle.std.proofs.Math.Nat.{mod-eq_of_lt}
-use Rattle.std.proofs.Math.Seq.{take-append-add}
-use Rattle.std.proofs.lemmas.Nat.{and_mask}
-use Rattle.std.proofs.lemmas.List.{drop-append-le, drop-replicate, length-replicate, take-replicate}
+use Rattle.rice_fast.proofs.Words.{◌≡◌, ℕ, zero, suc, ◌+◌, ◌-◌, ◌%◌, ◌^◌, ◌<◌, ◌≤◌, List, [], ◌∷◌, ◌++◌, get_or, length, take, drop, take-take, replicate, refl, sym, ◌∙◌, ap, arith, bit_and, zip2}
+use Rattle.rice_fast.proofs.Words.{mod-eq_of_lt, take-append-add, and_mask, drop-append-le, drop-replicate, length-replicate, take-replicate}
 
 -- `many` equal numbers, of which `count` are left, and as many zeros: the first `many` of them
 mask_is : (many count v : ℕ) → count ≤ many →

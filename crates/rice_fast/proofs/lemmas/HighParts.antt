@@ -1,15 +1,8 @@
 -- The head of a buffered block, and its high parts in rows of sixteen.
-use Rattle.std.proofs.Common.{◌≡◌, ℕ, zero, suc, ◌+◌, ◌-◌, ◌*◌, ◌/◌, ◌%◌, ◌^◌, ◌<◌, ◌≤◌, Bool, true, List, ◌++◌, length, take, drop, take-take, replicate, refl, sym, ◌∙◌, ap, subst, arith, Some}
-use Rattle.std.specs.Prelude.{flat_map, min}
-use Rattle.std.proofs.Math.Seq.{take-add, take-append-add}
-use Rattle.std.proofs.lemmas.Grind.{flat_map-append}
-use Rattle.std.proofs.lemmas.List.{drop-append-le, drop-drop, length-take-le, take-append-le}
-use Rattle.rice_bits.specs.Bits.{word, fundamental_sequence}
-use Rattle.rice_fast.specs.ahead.Sequences.{BeginWithSequences}
-use Rattle.rice_samples.specs.Parameters.{Parameters, value_at, value_count}
-use Rattle.rice_samples.specs.Places.{is_reference}
-use Rattle.rice_samples.specs.predict.Residuals.{pattern}
-use Rattle.rice_fast.specs.FieldsAhead.{HeadAhead, HighsAhead, rows_len}
+use Rattle.rice_fast.proofs.Words.{◌≡◌, ℕ, zero, suc, ◌+◌, ◌-◌, ◌*◌, ◌/◌, ◌%◌, ◌^◌, ◌<◌, ◌≤◌, Bool, true, List, ◌++◌, length, take, drop, take-take, replicate, refl, sym, ◌∙◌, ap, subst, arith, Some}
+use Rattle.rice_fast.proofs.Words.{flat_map, take-add, take-append-add, flat_map-append, drop-append-le, drop-drop, length-take-le, take-append-le, word, fundamental_sequence, BeginWithSequences}
+use Rattle.rice_fast.proofs.Words.{Parameters, value_at, value_count, is_reference, pattern, HeadAhead, HighsAhead, rows_len}
+use Rattle.std.specs.Prelude.{min}
 
 -- a reference sample
 pub head_after_reference : {buffered : List Bool} {s : Parameters} {b before skip from v bits : ℕ} → is_reference s b ≡ true

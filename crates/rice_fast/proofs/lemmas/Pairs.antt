@@ -1,13 +1,8 @@
 -- The pairs of second extension, from their numbers.
-use Rattle.std.proofs.Common.{◌≡◌, ◌⊎◌, ℕ, zero, suc, ◌+◌, ◌*◌, ◌/◌, ◌<◌, ◌≤◌, List, [], ◌∷◌, length, length-append, get_or, map, take, replicate, refl, sym, ◌∙◌, ap, arith, inl, inr}
-use Rattle.std.specs.Prelude.{flat_map, sum}
-use Rattle.std.specs.List.{range_with_len}
-use Rattle.std.proofs.lemmas.List.Sums.{sum_by-append}
-use Rattle.std.proofs.lemmas.List.FromFn.{get_or-map-range_with_len, get_or-range_with_len}
-use Rattle.rice_bits.specs.Bits.{fundamental_sequence}
-use Rattle.rice_bits.proofs.lemmas.bits.WordsAndNumbers.{length-fundamental_sequence}
-use Rattle.rice_samples.specs.blocks.Pairs.{pair_code, pair_codes}
-use Rattle.rice_fast.specs.declared.pairs.TheConstants.{FIRSTS, SECONDS}
+use Rattle.rice_fast.proofs.Words.{◌≡◌, ◌⊎◌, ℕ, zero, suc, ◌+◌, ◌*◌, ◌/◌, ◌<◌, ◌≤◌, List, [], ◌∷◌, length, length-append, get_or, map, take, replicate, refl, sym, ◌∙◌, ap, arith, inl, inr, flat_map}
+use Rattle.rice_fast.proofs.Words.{range_with_len, sum_by-append, get_or-map-range_with_len, get_or-range_with_len, fundamental_sequence, length-fundamental_sequence, pair_code, pair_codes, FIRSTS}
+use Rattle.rice_fast.proofs.Words.{SECONDS}
+use Rattle.std.specs.Prelude.{sum}
 
 -- the tables have the pair of each number
 pub stands_for : (g : ℕ) → g < 64 → pair_code (get_or FIRSTS g 0) (get_or SECONDS g 0) ≡ g

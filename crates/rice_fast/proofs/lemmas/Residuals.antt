@@ -1,26 +1,9 @@
 -- Residuals of samples that are predicted, or not.
-use Rattle.std.proofs.Common.{◌≡◌, ℕ, zero, suc, ◌+◌, ◌-◌, ◌%◌, ◌^◌, ◌<◌, ◌≤◌, Bool, true, false, cond, List, [], ◌∷◌, ◌++◌, length, map, take, drop, replicate}
-use Rattle.std.proofs.Common.{refl, sym, ◌∙◌, ap, subst, arith}
-use Rattle.std.specs.Prelude.{All, bit_and}
-use Rattle.std.specs.Simd.Lanes.{zip2}
-use Rattle.std.proofs.Math.Nat.{mod-add-mod}
-use Rattle.std.proofs.Math.Seq.{take-append_seam}
-use Rattle.std.proofs.Math.Pow.{mod-mod-pow}
-use Rattle.std.proofs.lemmas.Nat.{and_mask, mod_below, pow_pos}
-use Rattle.std.proofs.lemmas.List.{length-take-le, take-append-drop}
-use Rattle.std.proofs.lemmas.List.Elements.{All-cons, All-nil}
-use Rattle.rice_samples.specs.Parameters.{Parameters, least, value_at, value_count, values_at}
-use Rattle.rice_samples.specs.bytes.ValueRange.{offset}
-use Rattle.rice_fast.specs.LevelsOfParts.{AreLevelsOfParts}
-use Rattle.rice_samples.specs.predict.Residuals.{last_number, pattern, rank_below, ranks_below}
-use Rattle.rice_samples.proofs.lemmas.bytes.LevelPatterns.{level_of_pattern}
-use Rattle.rice_samples.proofs.lemmas.bytes.SpellingLemmas.{level_from_pattern}
-use Rattle.rice_fast.proofs.lemmas.vectors.LaneRanks.{length-ranks_below}
-use Rattle.rice_samples.proofs.lemmas.predict.Ranks.{rank_fits}
-use Rattle.rice_fast.proofs.lemmas.vectors.RestoredLevels.{ranks_below-append}
-use Rattle.rice_samples.proofs.lemmas.setting.LevelsOfSamples.{pattern_fits}
-use Rattle.rice_samples.proofs.lemmas.setting.ValuesAboveLeast.{gap_above, sample_at}
-use Rattle.rice_fast.specs.PartsOfResiduals.{HaveParts, residuals_at}
+use Rattle.rice_fast.proofs.Words.{◌≡◌, ℕ, zero, suc, ◌+◌, ◌-◌, ◌%◌, ◌^◌, ◌<◌, ◌≤◌, Bool, true, false, cond, List, [], ◌∷◌, ◌++◌, length, map, take, drop, replicate, refl, sym, ◌∙◌, ap, subst, arith}
+use Rattle.rice_fast.proofs.Words.{All, bit_and, zip2, mod-add-mod, take-append_seam, mod-mod-pow, and_mask, mod_below, pow_pos, length-take-le, take-append-drop, All-cons, All-nil, Parameters, least}
+use Rattle.rice_fast.proofs.Words.{value_at, value_count, values_at, offset, AreLevelsOfParts, last_number, pattern, rank_below, ranks_below, level_of_pattern, level_from_pattern, rank_fits}
+use Rattle.rice_fast.proofs.Words.{pattern_fits, gap_above, sample_at, HaveParts, residuals_at}
+use Rattle.rice_fast.proofs.lemmas.{vectors.LaneRanks.length-ranks_below, vectors.RestoredLevels.ranks_below-append}
 
 -- residuals by the predictor of their setting
 pub ranks_alone : (s : Parameters) (p : ℕ) (xs : List ℕ) → s.preprocess ≡ true → residuals_at s p xs ≡ ranks_below (value_count s) p xs

@@ -1,28 +1,15 @@
 -- Rows of samples of a block, restored and spelled one after another.
-use Rattle.std.proofs.Common.{◌≡◌, ℕ, zero, suc, ◌+◌, ◌-◌, ◌*◌, ◌^◌, ◌<◌, ◌≤◌, Bool, true, false, cond, List, [], ◌∷◌, ◌++◌, length, map}
-use Rattle.std.proofs.Common.{take, drop, take-take, take-append-drop, replicate, refl, sym, ◌∙◌, ap, subst, arith, append_assoc, length-append, Option, None, Some}
-use Rattle.std.specs.Prelude.{All, IfSome, flat_map, slice_index_or}
-use Rattle.std.proofs.Math.Seq.{take-add, take-append_seam}
-use Rattle.std.proofs.Math.Nat.{add-mul, mul-add, mul-le-mul_left, mul-le-mul_right, pow-le-pow_right}
-use Rattle.std.proofs.lemmas.Grind.{flat_map-append}
-use Rattle.std.proofs.lemmas.Nat.{pow_pos}
-use Rattle.std.proofs.lemmas.List.{drop-append-le, drop-replicate, get_or-take, length-drop, length-take-le, take-append-le, take-replicate, take_all}
-use Rattle.std.proofs.lemmas.List.Elements.{All-append, All-cons, All-nil, All-replicate, All-take}
-use Rattle.rice_bits.specs.Bits.{word}
-use Rattle.rice_bits.specs.read.JoinedParts.{joined_parts}
+use Rattle.rice_fast.proofs.Words.{◌≡◌, ℕ, zero, suc, ◌+◌, ◌-◌, ◌*◌, ◌^◌, ◌<◌, ◌≤◌, Bool, true, false, cond, List, [], ◌∷◌, ◌++◌, length, map, take, drop, take-take, replicate, refl, sym, ◌∙◌, ap}
+use Rattle.rice_fast.proofs.Words.{subst, arith, append_assoc, length-append, Option, None, Some, All, IfSome, flat_map, slice_index_or, take-add, take-append_seam, add-mul, mul-add, mul-le-mul_left}
+use Rattle.rice_fast.proofs.Words.{mul-le-mul_right, pow-le-pow_right, flat_map-append, pow_pos, drop-append-le, drop-replicate, get_or-take, length-drop, length-take-le, take-append-le}
+use Rattle.rice_fast.proofs.Words.{take-replicate, take_all, All-append, All-cons, All-nil, All-replicate, All-take, word, joined_parts, Parameters, value_at, value_count, values_at, width, spelling}
+use Rattle.rice_fast.proofs.Words.{spellings, last_number, pattern, ranks_below, length-spellings, length-values, LowsAhead, HaveParts, residuals_at, RowsAhead, SpellsParts, Fields}
+use Rattle.std.proofs.Common.{take-append-drop}
 use Rattle.rice_fast.proofs.lemmas.ahead.WordsInTurn.{words-front}
-use Rattle.rice_samples.specs.Parameters.{Parameters, value_at, value_count, values_at, width}
-use Rattle.rice_samples.specs.bytes.Spelling.{spelling, spellings}
-use Rattle.rice_samples.specs.predict.Residuals.{last_number, pattern, ranks_below}
-use Rattle.rice_samples.proofs.lemmas.bytes.SpellingLengths.{length-spellings}
 use Rattle.rice_fast.proofs.lemmas.vectors.HalfLanes.{last_is as last_at}
-use Rattle.rice_samples.proofs.lemmas.setting.ValuesAtLevels.{length-values}
-use Rattle.rice_fast.specs.FieldsAhead.{LowsAhead}
-use Rattle.rice_fast.specs.PartsOfResiduals.{HaveParts, residuals_at}
-use Rattle.rice_fast.specs.RowsAhead.{RowsAhead, SpellsParts}
-use Rattle.rice_fast.specs.declared.fields.Fields.{Fields}
 use Rattle.rice_fast.proofs.lemmas.HighParts.{after-both, first_of}
 use Rattle.rice_fast.proofs.lemmas.Residuals.{first_residuals, residuals-append}
+use Rattle.rice_fast.proofs.lemmas.vectors.LaneRanks.{last-append}
 
 -- a row of words: those of the first lanes, after the numbers that are omitted
 pub lanes_lows : {buffered : List Bool} {skip k many : ℕ} (o count : ℕ) (words : List ℕ) {row : List ℕ} → o ≤ 1 → 1 ≤ count → count ≤ many → length words ≡ many
@@ -91,11 +78,6 @@ joined-append k [] [] more_highs more_lows e = refl
 joined-append k [] (l ∷ ls) more_highs more_lows e = absurd (omega (arith, e))
 joined-append k (h ∷ hs) [] more_highs more_lows e = absurd (omega (arith, e))
 joined-append k (h ∷ hs) (l ∷ ls) more_highs more_lows e = ap (λ ds. (h * 2 ^ k + l) ∷ ds) (joined-append k hs ls more_highs more_lows (omega (arith, e)))
-
--- the last of two rows of numbers is the last of the second, or if it has none the last of the first
-last-append : (p : ℕ) (xs ys : List ℕ) → last_number p (xs ++ ys) ≡ last_number (last_number p xs) ys
-last-append p [] ys = refl
-last-append p (x ∷ xs) ys = last-append x xs ys
 
 -- the spellings of two lists, and of the first of some levels
 spelled_both : (s : Parameters) (xs ys : List ℕ) → spellings s (values_at s xs) ++ spellings s (values_at s ys) ≡ spellings s (values_at s (xs ++ ys))

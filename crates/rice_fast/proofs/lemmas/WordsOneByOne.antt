@@ -1,12 +1,7 @@
 -- Words that are read one by one.
-use Rattle.std.proofs.Common.{◌≡◌, ℕ, ◌+◌, ◌*◌, ◌^◌, ◌<◌, Bool, List, [], ◌∷◌, ◌++◌, length, take, drop, set, sym, ◌∙◌, ap, subst, arith}
-use Rattle.std.specs.Prelude.{All, flat_map}
-use Rattle.std.proofs.Math.Seq.{take-add}
-use Rattle.std.proofs.Math.Nat.{add-mul}
-use Rattle.std.proofs.lemmas.Grind.{flat_map-append}
-use Rattle.std.proofs.lemmas.List.{append-nil, take_more_set}
-use Rattle.std.proofs.lemmas.List.Elements.{All-append, All-cons, All-nil}
-use Rattle.rice_bits.specs.Bits.{word}
+use Rattle.rice_fast.proofs.Words.{◌≡◌, ℕ, ◌+◌, ◌*◌, ◌^◌, ◌<◌, Bool, List, [], ◌∷◌, ◌++◌, length, take, drop, set, sym, ◌∙◌, ap, subst, arith, All, flat_map, take-add, add-mul, flat_map-append}
+use Rattle.rice_fast.proofs.Words.{take_more_set, All-append, All-cons, All-nil, word}
+use Rattle.std.proofs.lemmas.List.{append-nil}
 
 -- The first `count` numbers are those of words of `width` bits.
 pub record AreWords (bits : List Bool) (width count : ℕ) (numbers : List ℕ) : Type 0 where

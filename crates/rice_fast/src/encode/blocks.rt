@@ -2,12 +2,8 @@
 ghost use Rattle.std.specs.Prelude.{◌≡◌, ◌+◌, ◌*◌, ◌/◌, ◌^◌, ◌<◌, ◌≤◌, true, false, length, Some, None, IfSome, if◌then◌else◌, sum_by};
 ghost use Rattle.rice_bits.specs.Limits.{step_limit};
 ghost use Rattle.rice_samples.specs.Parameters.{k_max, value_count};
-ghost use Rattle.rice_code.specs.code.Blocks.{is_zero_block};
-ghost use Rattle.rice_code.specs.code.CodedDataSets.{cost};
-ghost use Rattle.rice_code.specs.code.Choice.{shortest};
-ghost use Rattle.rice_code.specs.encode.BitBuffer.{HasRoomFor};
 ghost use Rattle.rice_code.specs.encode.HeldBlocks.{reference_at, pending_bits, JoinsRun, EndsRun, HasRoomForShortest, PutsShortest};
-ghost use Rattle.rice_code.specs.code.SoundBlocks.{block_with, IsSoundData};
+ghost use Rattle.rice_code.specs.{code.Blocks.is_zero_block, code.CodedDataSets.cost, code.Choice.shortest, encode.BitBuffer.HasRoomFor, code.SoundBlocks.block_with, code.SoundBlocks.IsSoundData};
 
 use crate::encode::choice::choose;
 use crate::encode::options::{put_no_compression, put_second_extension, put_split};

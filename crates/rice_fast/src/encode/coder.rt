@@ -2,14 +2,10 @@
 ghost use Rattle.std.specs.Prelude.{◌≡◌, ℕ, ◌+◌, ◌-◌, ◌*◌, ◌/◌, ◌<◌, ◌≤◌, ◌++◌, ◌∷◌, [], min, Bool, true, false, length, replicate, List, ℤ, IfSome, IfNone};
 ghost use Rattle.rice_bits.specs.Limits.{step_limit};
 ghost use Rattle.rice_samples.specs.Parameters.{IsSample, value_at, value_count, width as width_of};
-ghost use Rattle.rice_samples.specs.Places.{blocks_left};
-ghost use Rattle.rice_samples.specs.bytes.Spelling.{IsNoSpelling, Reads};
+ghost use Rattle.rice_samples.specs.{Places.blocks_left, bytes.Spelling.IsNoSpelling, bytes.Spelling.Reads};
 ghost use Rattle.rice_code.specs.code.Blocks.{fill_count, fill_count_of};
-ghost use Rattle.rice_code.specs.code.Code.{complete_samples};
-ghost use Rattle.rice_code.specs.code.SoundBlocks.{block_with};
-ghost use Rattle.rice_code.specs.encode.Coder.{AddsCode, HasTaken};
-ghost use Rattle.rice_code.specs.encode.HeldBlocks.{reference_at};
 ghost use Rattle.rice_code.specs.encode.OpenSegment.{CodesHeld, IsOpen, empty_state, next_start, state_after_all, state_between};
+ghost use Rattle.rice_code.specs.{code.Code.complete_samples, code.SoundBlocks.block_with, encode.Coder.AddsCode, encode.Coder.HasTaken, encode.HeldBlocks.reference_at};
 ghost use Rattle.rice_fast.specs.encode.OpenBlocks.{GoesOn, HasRoomForBlock, IsAhead, IsBefore, PushesOpen, StandsAfter, StandsFor, coder_between, coder_with, is_at_first, whole_part};
 ghost use Rattle.rice_fast.specs.encode.Standing.{HasRoomAt, Standing, TakesSpelled};
 

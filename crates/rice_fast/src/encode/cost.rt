@@ -2,8 +2,7 @@
 ghost use Rattle.std.specs.Prelude.{◌≡◌, All, ◌+◌, ◌/◌, ◌^◌, ◌<◌, ◌≤◌, length, sum_by};
 ghost use Rattle.rice_samples.specs.Parameters.{k_max};
 ghost use Rattle.rice_code.specs.code.CodedDataSets.{NoCompression, SecondExtension, Split, sent_residuals, cost};
-ghost use Rattle.rice_code.specs.code.SoundBlocks.{IsSoundData};
-ghost use Rattle.rice_code.specs.encode.SetOfChoice.{head_len};
+ghost use Rattle.rice_code.specs.{code.SoundBlocks.IsSoundData, encode.SetOfChoice.head_len};
 
 use crate::encode::pairs::pairs_bits;
 use rice_code::encode::held_block::HeldBlock;

@@ -1,10 +1,8 @@
 //! The pairs of second extension.
 ghost use Rattle.std.specs.Prelude.{◌≡◌, ◌+◌, ◌-◌, ◌%◌, ◌^◌, ◌<◌, ◌≤◌, All, length, flat_map};
 ghost use Rattle.rice_bits.specs.Bits.{fundamental_sequence};
-ghost use Rattle.rice_samples.specs.Parameters.{IsBlockSize};
-ghost use Rattle.rice_samples.specs.blocks.Pairs.{pair_code, pair_codes};
-ghost use Rattle.rice_code.specs.encode.BitBuffer.{sink_bits, HasRoomFor, AddsFields};
-ghost use Rattle.rice_code.specs.encode.SentParts.{pairs_len};
+ghost use Rattle.rice_samples.specs.{Parameters.IsBlockSize, blocks.Pairs.pair_code, blocks.Pairs.pair_codes};
+ghost use Rattle.rice_code.specs.{encode.BitBuffer.sink_bits, encode.BitBuffer.HasRoomFor, encode.BitBuffer.AddsFields, encode.SentParts.pairs_len};
 
 use crate::encode::bit_buffer::BitBuffer;
 use rice_bits::Meter;

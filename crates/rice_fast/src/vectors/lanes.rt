@@ -1,7 +1,6 @@
 //! Vectors of numbers, with lanes of 8, 16 and 32 bits.
 ghost use Rattle.std.specs.Prelude.{◌≡◌, ℕ, List, ◌+◌, ◌-◌, ◌*◌, ◌/◌, ◌%◌, ◌^◌, ◌<◌, ◌≤◌, ◌∷◌, ◌++◌, All, true, bit_and, bit_or, get_or, length, min, replicate, take, map, nat_lt, if◌then◌else◌};
-ghost use Rattle.std.specs.Int.Bits.{bit_xor};
-ghost use Rattle.std.specs.Simd.Lanes.{zip2, put_chunk};
+ghost use Rattle.std.specs.{Int.Bits.bit_xor, Simd.Lanes.zip2, Simd.Lanes.put_chunk};
 
 pub mod bytes;
 pub mod halves;

@@ -1,8 +1,4 @@
-use Rattle.std.proofs.Common.{◌-◌, ◌%◌, ◌≤◌, ◌∙◌, ap, arith, drop}
-use Rattle.std.proofs.Math.Nat.{pow-le-pow_right}
-use Rattle.rice_bits.specs.Bits.{bits_of, word}
-use Rattle.rice_bits.proofs.lemmas.bits.FrontsOfWords.{front_below}
-use Rattle.rice_bits.proofs.lemmas.read.WindowLemmas.{first-ahead}
+use Rattle.rice_fast.proofs.Words.{◌-◌, ◌%◌, ◌≤◌, ◌∙◌, ap, arith, drop, pow-le-pow_right, bits_of, word, front_below, first-ahead}
 use Rattle.rice_fast.proofs.lemmas.ahead.BitsAhead.{first-from}
 use Rattle.rice_fast.proofs.ahead.first_number_ahead.Goals as goal
 

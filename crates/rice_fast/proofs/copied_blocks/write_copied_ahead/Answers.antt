@@ -1,5 +1,4 @@
-use Rattle.std.proofs.Common.{◌≡◌, ◌+◌, ◌*◌, ◌≤◌, ◌∙◌, arith, ap, drop, length, take}
-use Rattle.rice_samples.specs.Parameters.{id_len}
+use Rattle.rice_fast.proofs.Words.{◌≡◌, ◌+◌, ◌*◌, ◌≤◌, ◌∙◌, arith, ap, drop, length, take, id_len}
 use Rattle.rice_fast.proofs.lemmas.CopiedBlocks.{block_words, no_words, words_more}
 use Rattle.rice_fast.proofs.copied_blocks.write_copied_ahead.Goals as goal
 

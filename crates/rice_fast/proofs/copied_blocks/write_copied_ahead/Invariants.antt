@@ -1,5 +1,4 @@
-use Rattle.std.proofs.Common.{◌*◌}
-use Rattle.rice_fast.specs.CopiedBlocks.{WordsAhead}
+use Rattle.rice_fast.proofs.Words.{◌*◌, WordsAhead}
 use Rattle.rice_fast.proofs.copied_blocks.write_copied_ahead.Given as goal
 
 abbrev pub invariant-loop-i : goal.invariant-loop-i

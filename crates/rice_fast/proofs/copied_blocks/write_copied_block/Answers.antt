@@ -1,6 +1,4 @@
-use Rattle.std.proofs.Common.{arith, refl, subst, sym}
-use Rattle.rice_fast.specs.BlocksAhead.{SpelledAhead}
-use Rattle.rice_fast.specs.CopiedBlocks.{CopiedBlock}
+use Rattle.rice_fast.proofs.Words.{arith, refl, subst, sym, SpelledAhead, CopiedBlock}
 use Rattle.rice_fast.proofs.lemmas.CopiedBlocks.{copied_ahead}
 use Rattle.rice_fast.proofs.copied_blocks.write_copied_block.Goals as goal
 

@@ -1,5 +1,4 @@
-use Rattle.std.proofs.Common.{◌≡◌, true, refl, sym, ◌∙◌}
-use Rattle.std.proofs.Math.Nat.{mod-eq_of_lt}
+use Rattle.rice_fast.proofs.Words.{◌≡◌, true, refl, sym, ◌∙◌, mod-eq_of_lt}
 use Rattle.rice_fast.proofs.fields.has_reference.Goals as goal
 
 pub returns-then-preprocess : goal.returns-then-preprocess

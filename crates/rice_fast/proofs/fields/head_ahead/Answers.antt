@@ -1,5 +1,4 @@
-use Rattle.std.proofs.Common.{arith}
-use Rattle.std.proofs.lemmas.Bool.Decides.{nat_tests}
+use Rattle.rice_fast.proofs.Words.{arith, nat_tests}
 use Rattle.rice_fast.proofs.lemmas.HighParts.{head_after_reference}
 use Rattle.rice_fast.proofs.fields.head_ahead.Goals as goal
 

@@ -1,7 +1,4 @@
-use Rattle.std.proofs.Common.{◌≡◌, ◌+◌, ◌∙◌, ap, arith, drop, subst, sym, take}
-use Rattle.std.proofs.lemmas.List.{length-take-le}
-use Rattle.rice_samples.specs.Parameters.{id_len}
-use Rattle.rice_fast.specs.FieldsAhead.{HeadAhead}
+use Rattle.rice_fast.proofs.Words.{◌≡◌, ◌+◌, ◌∙◌, ap, arith, drop, subst, sym, take, length-take-le, id_len, HeadAhead}
 use Rattle.rice_fast.proofs.lemmas.BlocksAhead.{pairs_block_ahead}
 use Rattle.rice_fast.proofs.fields.pair_fields_ahead.Goals as goal
 

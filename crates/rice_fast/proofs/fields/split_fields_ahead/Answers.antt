@@ -1,7 +1,4 @@
-use Rattle.std.proofs.Common.{◌≡◌, ◌^◌, ◌≤◌, ◌∙◌, ap, arith, subst, sym}
-use Rattle.std.proofs.lemmas.List.{length-take-le}
-use Rattle.rice_samples.specs.Parameters.{id_len, k_max}
-use Rattle.rice_fast.specs.FieldsAhead.{HeadAhead}
+use Rattle.rice_fast.proofs.Words.{◌≡◌, ◌^◌, ◌≤◌, ◌∙◌, ap, arith, subst, sym, length-take-le, id_len, k_max, HeadAhead}
 use Rattle.rice_fast.proofs.lemmas.BlocksAhead.{split_ahead}
 use Rattle.rice_fast.proofs.fields.split_fields_ahead.Goals as goal
 

@@ -1,8 +1,4 @@
-use Rattle.std.proofs.Common.{◌≡◌, ◌≤◌, ◌∙◌, arith, refl, replicate, subst, sym}
-use Rattle.std.proofs.lemmas.Bool.Decides.{nat_tests}
-use Rattle.std.proofs.lemmas.List.{length-take-le}
-use Rattle.rice_samples.specs.Parameters.{id_len}
-use Rattle.rice_fast.specs.FieldsAhead.{AreFields, HeadAhead}
+use Rattle.rice_fast.proofs.Words.{◌≡◌, ◌≤◌, ◌∙◌, arith, refl, replicate, subst, sym, nat_tests, length-take-le, id_len, AreFields, HeadAhead}
 use Rattle.rice_fast.proofs.lemmas.BlocksAhead.{uncompressed_ahead}
 use Rattle.rice_fast.proofs.fields.uncompressed_fields_ahead.Goals as goal
 

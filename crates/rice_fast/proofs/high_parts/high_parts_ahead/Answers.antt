@@ -1,6 +1,4 @@
-use Rattle.std.proofs.Common.{◌≡◌, ◌+◌, ◌*◌, ◌≤◌, ◌∙◌, ap, arith, length, take, subst, sym}
-use Rattle.std.proofs.lemmas.List.{length-take-le}
-use Rattle.rice_fast.specs.FieldsAhead.{HighsAhead, rows_len}
+use Rattle.rice_fast.proofs.Words.{◌≡◌, ◌+◌, ◌*◌, ◌≤◌, ◌∙◌, ap, arith, length, take, subst, sym, length-take-le, HighsAhead, rows_len}
 use Rattle.rice_fast.proofs.lemmas.HighParts.{highs-row, row_inside, rows_before, rows_end, stored_row}
 use Rattle.rice_fast.proofs.high_parts.high_parts_ahead.Goals as goal
 

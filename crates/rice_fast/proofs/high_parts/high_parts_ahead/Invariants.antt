@@ -1,5 +1,4 @@
-use Rattle.std.proofs.Common.{◌≡◌, length, take}
-use Rattle.rice_fast.specs.FieldsAhead.{HighsAhead, rows_len}
+use Rattle.rice_fast.proofs.Words.{◌≡◌, length, take, HighsAhead, rows_len}
 use Rattle.rice_fast.proofs.high_parts.high_parts_ahead.Given as goal
 
 abbrev pub invariant-loop-row : goal.invariant-loop-row

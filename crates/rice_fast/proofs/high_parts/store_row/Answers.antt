@@ -1,5 +1,4 @@
-use Rattle.std.proofs.Common.{◌+◌, ◌*◌, arith}
-use Rattle.std.proofs.lemmas.Simd.{take_more_put_chunk}
+use Rattle.rice_fast.proofs.Words.{◌+◌, ◌*◌, arith, take_more_put_chunk}
 use Rattle.rice_fast.proofs.high_parts.store_row.Goals as goal
 
 pub returns-clause-value : goal.returns-clause-value

@@ -1,8 +1,5 @@
 -- Buffered bits that stand among bytes.
-use Rattle.std.proofs.Common.{◌≡◌, ℕ, ◌+◌, ◌≤◌, Bool, List, length, take, drop, sym, ◌∙◌, ap, arith, take-take}
-use Rattle.std.proofs.lemmas.List.{length-drop}
-use Rattle.rice_bits.specs.Bits.{bits_of}
-use Rattle.rice_bits.specs.read.Ahead.{AreBitsFrom}
+use Rattle.rice_fast.proofs.Words.{◌≡◌, ℕ, ◌+◌, ◌≤◌, Bool, List, length, take, drop, sym, ◌∙◌, ap, arith, take-take, length-drop, bits_of, AreBitsFrom}
 
 -- the first of them
 pub first-from : {buffer : List ℕ} {at : ℕ} {bits : List Bool} (n : ℕ) → AreBitsFrom buffer at bits → n ≤ length bits → take n (drop at (bits_of buffer)) ≡ take n bits

@@ -1,13 +1,6 @@
 -- The places of the ones among bits.
-use Rattle.std.proofs.Common.{◌≡◌, ℕ, zero, suc, ◌+◌, ◌-◌, ◌%◌, ◌<◌, ◌≤◌, Bool, true, false, cond, nat_lt, List, [], ◌∷◌}
-use Rattle.std.proofs.Common.{◌++◌, length, take, get_or, replicate, refl, sym, ◌∙◌, ap, arith, append_assoc, Fits, w8}
-use Rattle.std.specs.Prelude.{flat_map}
-use Rattle.std.specs.Simd.Lanes.{zip2, sel_l, Each1}
-use Rattle.std.proofs.lemmas.Bool.Decides.{nat_tests}
-use Rattle.std.proofs.Math.Seq.{take-append-add}
-use Rattle.rice_bits.specs.Bits.{fundamental_sequence}
-use Rattle.rice_fast.specs.ahead.EndsAndGaps.{ends_after, gaps}
-use Rattle.rice_bits.proofs.lemmas.bits.WordsAndNumbers.{length-fundamental_sequence}
+use Rattle.rice_fast.proofs.Words.{◌≡◌, ℕ, zero, suc, ◌+◌, ◌-◌, ◌%◌, ◌<◌, ◌≤◌, Bool, true, false, cond, nat_lt, List, [], ◌∷◌, ◌++◌, length, take, get_or, replicate, refl, sym, ◌∙◌, ap, arith}
+use Rattle.rice_fast.proofs.Words.{append_assoc, Fits, w8, flat_map, zip2, sel_l, Each1, nat_tests, take-append-add, fundamental_sequence, ends_after, gaps, length-fundamental_sequence}
 
 -- how many ends there are does not depend on the bits before all
 pub ends-count : (p q : ℕ) (bits : List Bool) → length (ends_after p bits) ≡ length (ends_after q bits)

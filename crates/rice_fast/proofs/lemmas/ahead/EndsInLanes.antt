@@ -1,33 +1,12 @@
 -- The ends of the ones of a word, joined in lanes.
-use Rattle.std.proofs.Common.{◌≡◌, ℕ, zero, suc, ◌+◌, ◌-◌, ◌*◌, ◌/◌, ◌%◌, ◌^◌, ◌<◌, ◌≤◌, Bool, cond, ◌||◌, List, [], ◌∷◌}
-use Rattle.std.proofs.Common.{◌++◌, length, take, drop, get_or, replicate, map, length-append, refl, sym, ◌∙◌, ap, arith, append_assoc, subst, take-take, w8}
-use Rattle.std.specs.Prelude.{bit_or}
-use Rattle.std.specs.List.{range_with_len}
-use Rattle.std.specs.Simd.Lanes.{zip2, Each1, pick_l}
-use Rattle.std.specs.Int.Count.{ones}
-use lib.Bits.{or_zero_l, or_zero_r}
-use lib.Count.{ones-le, ones-ones, ones_cat}
-use lib.Dec.{T, leb, ltb}
-use lib.LanesLaws.{map-replicate}
-use mir.Val.{zeroes}
+use Rattle.rice_fast.proofs.Words.{◌≡◌, ℕ, zero, suc, ◌+◌, ◌-◌, ◌*◌, ◌/◌, ◌%◌, ◌^◌, ◌<◌, ◌≤◌, Bool, cond, ◌||◌, List, [], ◌∷◌, ◌++◌, length, take, drop, get_or, replicate, map, length-append, refl}
+use Rattle.rice_fast.proofs.Words.{take-map, sym, ◌∙◌, ap, arith, append_assoc, subst, take-take, w8, bit_or, range_with_len, zip2, Each1, pick_l, ones, or_zero_l, or_zero_r, ones-le, ones-ones}
+use Rattle.rice_fast.proofs.Words.{ones_cat, T, leb, ltb, map-replicate, zeroes, take-add, length-replicate, length-take-le, map-append, replicate-append-replicate, take-replicate}
+use Rattle.rice_fast.proofs.Words.{get_or-map-range_with_len, add-mul, div-mul-add, mod_below, pow-add, pow_pos, shr_below, shr_split, Each1-chunk, SwzOk, SwzOk-from_Each1, swz_l, pick_l_whole}
+use Rattle.rice_fast.proofs.Words.{to_be_bytes, bits_of, word, ends_after, bits_of-eight, word-mod, front_below, take-front, length-word, in_lanes, places_after, row_of_place, SLIDE, ROWS}
+use Rattle.std.specs.Int.{w64}
+use Rattle.rice_fast.proofs.lemmas.{ahead.WordsInBytes.byte_at, ahead.WordsInBytes.table_row, ahead.EndsAndGapsLemmas.ends-append, ahead.EndsAndGapsLemmas.ends-count, ahead.EndsAndGapsLemmas.few-ends}
 use Rattle.std.specs.Prelude.{◌==◌}
-use Rattle.std.proofs.Math.Seq.{take-add}
-use Rattle.std.proofs.lemmas.List.{length-replicate, length-take-le, map-append, replicate-append-replicate, take-replicate}
-use Rattle.std.proofs.lemmas.List.FromFn.{get_or-map-range_with_len}
-use Rattle.std.proofs.Math.Nat.{add-mul}
-use Rattle.std.proofs.lemmas.Nat.{div-mul-add, mod_below, pow-add, pow_pos, shr_below, shr_split}
-use Rattle.std.proofs.lemmas.Simd.{Each1-chunk, SwzOk, SwzOk-from_Each1, swz_l, pick_l_whole}
-use Rattle.std.specs.Int.{to_be_bytes, w64}
-use Rattle.rice_bits.specs.Bits.{bits_of, word}
-use Rattle.rice_fast.specs.ahead.EndsAndGaps.{ends_after}
-use Rattle.rice_bits.proofs.lemmas.bits.EightBytes.{bits_of-eight, word-mod}
-use Rattle.rice_bits.proofs.lemmas.bits.FrontsOfWords.{front_below, take-front}
-use Rattle.rice_bits.proofs.lemmas.bits.WordsAndNumbers.{length-word}
-use Rattle.rice_fast.proofs.lemmas.ahead.WordsInBytes.{byte_at, table_row}
-use Rattle.rice_fast.proofs.lemmas.ahead.EndsAndGapsLemmas.{ends-append, ends-count, few-ends}
-use Rattle.rice_fast.specs.ahead.Ends.{in_lanes, places_after, row_of_place}
-use Rattle.rice_fast.specs.declared.ahead.ends.TheConstants.{SLIDE}
-use Rattle.rice_fast.specs.declared.ahead.tables_of_ends.TheConstants.{ROWS}
 
 -- the tables
 
@@ -109,11 +88,6 @@ swizzle_picks xs i (j ∷ js) h =
     let none : 16 * (i / 16) + j ≡ j = omega (arith, h) in
     let rest = swizzle_picks xs (suc i) js (omega (arith, h)) in
     λ k. cond (leb 128 j) 0 (get_or xs (none k) 0) ∷ rest k
-
-take-map : (f : ℕ → ℕ) (n : ℕ) (xs : List ℕ) → take n (map f xs) ≡ map f (take n xs)
-take-map f zero xs = refl
-take-map f (suc n) [] = refl
-take-map f (suc n) (x ∷ xs) = ap (λ z. f x ∷ z) (take-map f n xs)
 
 -- a swizzle by these places moves sixteen lanes after so many zeros
 pub lanes-moved : (xs : List ℕ) (count : ℕ) → length xs ≡ 16 → swz_l w8 16 xs 0 (places_after count) ≡ take 16 (replicate count 0 ++ xs)

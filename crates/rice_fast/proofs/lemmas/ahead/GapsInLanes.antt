@@ -1,12 +1,7 @@
 -- Fundamental sequences from their ends, in lanes.
-use Rattle.std.proofs.Common.{◌≡◌, ℕ, zero, suc, ◌+◌, ◌-◌, ◌*◌, ◌≤◌, Bool, true, false, List, [], ◌∷◌, ◌++◌, length, take, get_or, replicate, sym, ◌∙◌, ap, arith, take-take}
-use Rattle.std.specs.Prelude.{flat_map}
-use Rattle.std.proofs.lemmas.List.{get_or-take, length-take-le, take-append-le}
-use Rattle.rice_bits.specs.Bits.{fundamental_sequence, word}
-use Rattle.rice_fast.specs.ahead.EndsAndGaps.{ends_after, gaps}
-use Rattle.rice_bits.proofs.lemmas.bits.WordsAndNumbers.{length-word}
+use Rattle.rice_fast.proofs.Words.{◌≡◌, ℕ, zero, suc, ◌+◌, ◌-◌, ◌*◌, ◌≤◌, Bool, true, false, List, [], ◌∷◌, ◌++◌, length, take, get_or, replicate, sym, ◌∙◌, ap, arith, take-take, flat_map}
+use Rattle.rice_fast.proofs.Words.{get_or-take, length-take-le, take-append-le, fundamental_sequence, word, ends_after, gaps, length-word, in_lanes}
 use Rattle.rice_fast.proofs.lemmas.ahead.EndsAndGapsLemmas.{gaps-spell, take-gaps}
-use Rattle.rice_fast.specs.ahead.Ends.{in_lanes}
 
 -- the first lanes are the first numbers
 lanes-first : (t : ℕ) (es : List ℕ) → t ≤ 16 → t ≤ length es → take t (in_lanes es) ≡ take t es

@@ -1,11 +1,6 @@
 -- Fundamental sequences that stand among bytes.
-use Rattle.std.proofs.Common.{◌≡◌, ℕ, ◌-◌, ◌%◌, ◌≤◌, Bool, false, List, ◌++◌, length, take, drop, replicate, ◌∙◌, arith, Option, Some, None}
-use Rattle.std.specs.Prelude.{IfSome}
-use Rattle.rice_bits.specs.Bits.{bits_of, word}
-use Rattle.rice_bits.specs.read.Ahead.{AreBitsFrom}
-use Rattle.rice_bits.proofs.lemmas.read.WindowLemmas.{front-ahead}
-use Rattle.rice_fast.specs.ahead.Sequences.{BeginWithSequences}
-use Rattle.rice_fast.specs.declared.ahead.sequences.Sequences.{Sequences}
+use Rattle.rice_fast.proofs.Words.{◌≡◌, ℕ, ◌-◌, ◌%◌, ◌≤◌, Bool, false, List, ◌++◌, length, take, drop, replicate, ◌∙◌, arith, Option, Some, None, IfSome, bits_of, word, AreBitsFrom, front-ahead}
+use Rattle.rice_fast.proofs.Words.{BeginWithSequences, Sequences}
 use Rattle.rice_fast.proofs.lemmas.ahead.BitsAhead.{first-from}
 
 -- those at the front of a word that was loaded from there

@@ -1,22 +1,9 @@
 -- Words of a few digits, found in the bytes that hold each.
-use Rattle.std.proofs.Common.{◌≡◌, ℕ, zero, suc, ◌+◌, ◌-◌, ◌*◌, ◌/◌, ◌%◌, ◌^◌, ◌<◌, ◌≤◌, List, [], ◌∷◌}
-use Rattle.std.proofs.Common.{◌++◌, length, take, drop, get_or, map, replicate, false, refl, sym, ◌∙◌, ap, arith, subst, take-take, Fits, w8}
-use Rattle.std.specs.Prelude.{All, flat_map, slice_index}
-use Rattle.std.specs.List.{range_with_len}
-use Rattle.std.specs.Simd.Lanes.{Each1, digits_l, number_l, zip2}
-use Rattle.std.proofs.Math.Nat.{div-div-eq-div-mul, mod-lt}
-use Rattle.std.proofs.Math.Seq.{take-add}
-use Rattle.std.proofs.lemmas.Nat.{pow-add, pow_pos}
-use Rattle.std.proofs.lemmas.List.{drop-drop, drop-take, length-drop, length-take-le, take-append-le}
-use Rattle.std.proofs.lemmas.List.Elements.{All-append, All-cons, All-nil}
-use Rattle.std.proofs.lemmas.List.FromFn.{get_or-map-range_with_len}
-use Rattle.std.proofs.lemmas.Simd.{chunk-fits}
-use Rattle.rice_bits.specs.Bits.{bits_of, word}
-use Rattle.rice_fast.specs.declared.ahead.words.TheConstants.{FACTORS, PLACES}
+use Rattle.rice_fast.proofs.Words.{◌≡◌, ℕ, zero, suc, ◌+◌, ◌-◌, ◌*◌, ◌/◌, ◌%◌, ◌^◌, ◌<◌, ◌≤◌, List, [], ◌∷◌, ◌++◌, length, take, drop, get_or, map, replicate, false, refl, sym, ◌∙◌, ap, arith, subst}
+use Rattle.rice_fast.proofs.Words.{take-take, Fits, w8, All, flat_map, slice_index, range_with_len, Each1, digits_l, number_l, zip2, div-div-eq-div-mul, mod-lt, take-add, pow-add, pow_pos, drop-drop}
+use Rattle.rice_fast.proofs.Words.{drop-take, length-drop, length-take-le, take-append-le, All-append, All-cons, All-nil, get_or-map-range_with_len, chunk-fits, bits_of, word, FACTORS, PLACES}
+use Rattle.rice_fast.proofs.Words.{front_below, take-front, word-moved, word-parts, length-word, word-cat, word-nil, drop-bits_of, drop-seam, take-bits_of}
 use Rattle.rice_fast.specs.declared.ahead.wide_words.TheConstants.{FACTORS as WIDE_FACTORS, PLACES as WIDE_PLACES}
-use Rattle.rice_bits.proofs.lemmas.bits.FrontsOfWords.{front_below, take-front, word-moved, word-parts}
-use Rattle.rice_bits.proofs.lemmas.bits.WordsAndNumbers.{length-word, word-cat, word-nil}
-use Rattle.rice_bits.proofs.lemmas.read.WindowLemmas.{drop-bits_of, drop-seam, take-bits_of}
 use Rattle.rice_fast.proofs.lemmas.vectors.NumbersInLanes.{lane-more, number-append, number_below}
 
 -- the tables

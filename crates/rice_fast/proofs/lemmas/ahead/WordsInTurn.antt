@@ -1,11 +1,6 @@
 -- Words one after another, and the bits that they are.
-use Rattle.std.proofs.Common.{◌≡◌, ℕ, ◌+◌, ◌*◌, ◌≤◌, Bool, List, ◌++◌, length, take, drop, sym, ◌∙◌, ap, arith}
-use Rattle.std.specs.Prelude.{flat_map}
-use Rattle.std.proofs.Math.Seq.{take-add}
-use Rattle.std.proofs.lemmas.Grind.{flat_map-append}
-use Rattle.std.proofs.lemmas.List.{drop-drop, length-take-le, take-append-drop, take_at}
-use Rattle.rice_bits.specs.Bits.{word}
-use Rattle.rice_bits.proofs.lemmas.read.WindowLemmas.{length-words}
+use Rattle.rice_fast.proofs.Words.{◌≡◌, ℕ, ◌+◌, ◌*◌, ◌≤◌, Bool, List, ◌++◌, length, take, drop, sym, ◌∙◌, ap, arith, flat_map, take-add, flat_map-append, drop-drop, length-take-le, take-append-drop}
+use Rattle.rice_fast.proofs.Words.{take_at, word, length-words}
 
 -- words that were read from a place on, and words after them
 pub record WordsInTurn (width : ℕ) (bits : List Bool) (from at m k : ℕ) (xs ys : List ℕ) : Type 0 where

@@ -1,12 +1,7 @@
 -- Bits that are added to a sink, part after part.
-use Rattle.std.proofs.Common.{◌≡◌, ℕ, ◌+◌, ◌-◌, ◌<◌, ◌≤◌, Bool, List, [], ◌∷◌, ◌++◌, length, drop, take, get_or, ap, arith, sym, subst, ◌∙◌, append_assoc, append-nil, length-append}
-use Rattle.std.specs.Prelude.{flat_map, slice_range}
-use Rattle.std.proofs.Math.Seq.{take-add, take-suc}
-use Rattle.std.proofs.lemmas.Grind.{flat_map-append}
-use Rattle.std.proofs.lemmas.List.{drop-drop, drop-take, get_or-drop, length-drop, take_rest}
-use Rattle.rice_bits.specs.Bits.{word, fundamental_sequence}
-use Rattle.rice_bits.proofs.lemmas.bits.WordsAndNumbers.{length-word, length-fundamental_sequence}
-use Rattle.rice_code.specs.encode.BitBuffer.{HasRoomFor, HasRoomForBits, AddsBits, AddsFields}
+use Rattle.rice_fast.proofs.Words.{◌≡◌, ℕ, ◌+◌, ◌-◌, ◌<◌, ◌≤◌, Bool, List, [], ◌∷◌, ◌++◌, length, drop, take, get_or, ap, arith, sym, subst, ◌∙◌, append_assoc, append-nil, length-append, flat_map}
+use Rattle.rice_fast.proofs.Words.{slice_range, take-add, take-suc, flat_map-append, drop-drop, drop-take, get_or-drop, length-drop, take_rest, word, fundamental_sequence, length-word}
+use Rattle.rice_fast.proofs.Words.{length-fundamental_sequence, HasRoomFor, HasRoomForBits, AddsBits, AddsFields}
 
 -- no bits
 pub none_added : {sink fields : List Bool} {meter : ℕ} → AddsBits [] sink fields sink fields meter meter

@@ -1,31 +1,11 @@
 -- The code of the first blocks of a segment, but for the zero blocks that are pending, and one block more.
-use Rattle.std.proofs.Common.{◌≡◌, ℕ, zero, suc, ◌+◌, ◌-◌, ◌*◌, ◌^◌, ◌<◌, ◌≤◌, Bool, true, false, List, [], ◌∷◌, ◌++◌, length, drop}
-use Rattle.std.proofs.Common.{refl, ap, arith, sym, ◌∙◌, subst, append_assoc, append-nil, length-append, Option, None}
+use Rattle.rice_fast.proofs.Words.{◌≡◌, ℕ, zero, suc, ◌+◌, ◌-◌, ◌*◌, ◌^◌, ◌<◌, ◌≤◌, Bool, true, false, List, [], ◌∷◌, ◌++◌, length, drop, refl, ap, arith, sym, ◌∙◌, subst, append_assoc, append-nil}
+use Rattle.rice_fast.proofs.Words.{length_push, sum_by_push, other_same, length-append, Option, None, flat_map-append, drop_at, length-flat_map, mul-le-mul_right, mul-le-mul_left, take-length}
+use Rattle.rice_fast.proofs.Words.{Parameters, IsLegal, k_max, blocks_left, some_left, block_bound, least_looks, most_looks, coding_steps, BlockData, is_zero_block, shortest, best_split, data_sets}
+use Rattle.rice_fast.proofs.Words.{bits_of_set, bits_of_sets, cost, AreSoundBlocks, IsSoundBlock, HasRoomFor, pending_zeros, pending_run, pending_bits, reference_at, code_of_blocks, JoinsRun, EndsRun}
+use Rattle.rice_fast.proofs.Words.{PutsBlocks, zero_block_is, blocks_are_bounded, segment_room, run_then_block, run_ends, zero_block_joins_run, left_inside, shortest_len, most_of_all, looks_zero}
+use Rattle.rice_fast.proofs.Words.{looks_other, IsAhead, to_follow}
 use Rattle.std.specs.Prelude.{sum_by}
-use Rattle.std.proofs.lemmas.Grind.{flat_map-append}
-use Rattle.std.proofs.lemmas.List.{drop_at}
-use Rattle.std.proofs.lemmas.List.Concat.{length-flat_map}
-use Rattle.std.proofs.lemmas.List.Sums.{sum_by-append, sum_by-cons}
-use Rattle.std.proofs.Math.Nat.{mul-le-mul_right, mul-le-mul_left}
-use Rattle.std.proofs.Math.Seq.{take-length}
-use Rattle.rice_samples.specs.Parameters.{Parameters, IsLegal, k_max}
-use Rattle.rice_samples.specs.Places.{blocks_left}
-use Rattle.rice_samples.proofs.lemmas.setting.PlaceLemmas.{some_left}
-use Rattle.rice_code.specs.Bounds.{block_bound}
-use Rattle.rice_code.specs.CoderSteps.{least_looks, most_looks, coding_steps}
-use Rattle.rice_code.specs.code.Blocks.{BlockData, is_zero_block}
-use Rattle.rice_code.specs.code.Choice.{shortest, best_split}
-use Rattle.rice_code.specs.code.Code.{data_sets}
-use Rattle.rice_code.specs.code.CodedDataSets.{bits_of_set, bits_of_sets, cost}
-use Rattle.rice_code.specs.code.SoundBlocks.{AreSoundBlocks, IsSoundBlock}
-use Rattle.rice_code.specs.encode.BitBuffer.{HasRoomFor}
-use Rattle.rice_code.specs.encode.HeldBlocks.{pending_zeros, pending_run, pending_bits, reference_at, code_of_blocks, JoinsRun, EndsRun, PutsBlocks}
-use Rattle.rice_code.proofs.lemmas.meaning.CoveredBlocks.{zero_block_is}
-use Rattle.rice_code.proofs.lemmas.cost.BlockBounds.{blocks_are_bounded}
-use Rattle.rice_code.proofs.lemmas.encode.OpenSegments.{segment_room}
-use Rattle.rice_code.proofs.lemmas.encode.PendingRuns.{run_then_block, run_ends, zero_block_joins_run}
-use Rattle.rice_code.proofs.lemmas.encode.SegmentBlocksInTurn.{left_inside, shortest_len, most_of_all, looks_zero, looks_other}
-use Rattle.rice_fast.specs.encode.OpenBlocks.{IsAhead, to_follow}
 
 -- before the first block nothing is ahead
 pub none_ahead : (s : Parameters) (start : ℕ) (r : Option ℕ) (sink : List Bool) → IsAhead s start r 0 0 0 [] sink sink
@@ -75,17 +55,8 @@ pub last_sound : (s : Parameters) (b : ℕ) (cs : List BlockData) (c : BlockData
 last_sound s b [] c h = let e : b ≡ b + 0 = omega arith in subst (λ n. IsSoundBlock s n c) e h.0
 last_sound s b (d ∷ cs) c h = let e : b + 1 + length cs ≡ b + suc (length cs) = omega arith in subst (λ n. IsSoundBlock s n c) e (last_sound s (b + 1) cs c h.1)
 
-one_more : {X : Type 0} (xs : List X) (x : X) → length (xs ++ x ∷ []) ≡ length xs + 1
-one_more xs x = omega (arith, length-append xs (x ∷ []))
-
-summed : (f : BlockData → ℕ) (cs : List BlockData) (c : BlockData) → sum_by f (cs ++ c ∷ []) ≡ sum_by f cs + f c
-summed f cs c = sum_by-append f cs (c ∷ []) ∙ ap (λ n. sum_by f cs + n) (let e = sum_by-cons f c [] in omega (arith, e))
-
 run_is_inside : (s : Parameters) (start n run : ℕ) → 1 ≤ s.interval → run ≤ n → n < blocks_left s start → run < blocks_left s (start + (n - run))
 run_is_inside s start n run h k l = let e = left_inside s start (n - run) h (omega arith) in omega (arith, e)
-
-reference_first : (r : Option ℕ) (n run : ℕ) → run ≡ 0 → reference_at r n ≡ reference_at r (n - run)
-reference_first r n run e = let f : n ≡ n - run = omega arith in ap (reference_at r) f
 
 reference_later : (r : Option ℕ) (n run : ℕ) → run ≤ n → 0 < run → reference_at r n ≡ None
 reference_later r zero run h k = absurd (omega arith)
@@ -107,7 +78,7 @@ pub zero_joins : (s : Parameters) (start : ℕ) (r : Option ℕ) (n run : ℕ) (
     → c.reference ≡ reference_at r n → is_zero_block c ≡ true → to_follow s start r n run (c ∷ more) ≡ to_follow s start r (n + 1) (run + 1) more
 zero_joins s start r n run c more h sound e z =
     let zeros = zero_block_is s (start + n) c sound.block z in
-    let f = zero_block_joins_run s run (reference_at r (n - run)) c.reference c more zeros (λ k. e ∙ reference_first r n run k) (λ k. e ∙ reference_later r n run h k) in
+    let f = zero_block_joins_run s run (reference_at r (n - run)) c.reference c more zeros (λ none. e ∙ ap (reference_at r) (omega arith)) (λ k. e ∙ reference_later r n run h k) in
     let g : n - run ≡ n + 1 - (run + 1) = omega arith in
     ap (λ cs. bits_of_sets s (data_sets s (start + (n - run)) false cs)) f
     ∙ ap (λ m. bits_of_sets s (data_sets s (start + m) false (pending_zeros s (reference_at r m) (run + 1) ++ more))) g
@@ -125,7 +96,7 @@ pub ahead_of_zero : {s : Parameters} {start : ℕ} {r : Option ℕ} {run bits st
     → length sink_new ≡ length from + bits_new → meter_new + steps ≡ meter + steps_new → IsAhead s start r run_new bits_new steps_new (blocks ++ c ∷ []) sink_new from
 ahead_of_zero {s} {start} {r} {run} {bits} {steps} {blocks} {c} {sink} {from} {run_new} {bits_new} {steps_new} {meter} {meter_new} {sink_new} h next z joins len step =
     let n = length blocks in
-    let count = one_more blocks c in
+    let count = length_push blocks c in
     let looks = looks_zero s c z in
     let put = ap length joins.bits in
     record {
@@ -138,12 +109,9 @@ ahead_of_zero {s} {start} {r} {run} {bits} {steps} {blocks} {c} {sink} {from} {r
           (λ i. joins.bits i ++ (placed ∙ sym follow) i)
           ∙ (h.same (c ∷ more) (omega (arith, count, fits)) ∙ ap (λ v. from ++ code_of_blocks s start v) (sym (append_assoc blocks (c ∷ []) more)));
       len = len;
-      least = omega (arith, summed (least_looks s) blocks c, looks.0, h.least, h.len, len, put, step, joins.steps);
-      most = omega (arith, summed (most_looks s) blocks c, looks.1, h.most, h.len, len, put, step, joins.steps);
+      least = omega (arith, sum_by_push (least_looks s) blocks c, looks.0, h.least, h.len, len, put, step, joins.steps);
+      most = omega (arith, sum_by_push (most_looks s) blocks c, looks.1, h.most, h.len, len, put, step, joins.steps);
     }
-
-other_same : (sink new w x y total : List Bool) → new ≡ sink ++ w ++ x → sink ++ (w ++ (x ++ y)) ≡ total → new ++ y ≡ total
-other_same sink new w x y total e f = ap (λ v. v ++ y) e ∙ (append_assoc (sink ++ w) x y ∙ (append_assoc sink w (x ++ y) ∙ f))
 
 -- and after another block, which ends the run
 pub ahead_of_other : {s : Parameters} {start : ℕ} {r : Option ℕ} {run bits steps : ℕ} {blocks : List BlockData} {c : BlockData} {sink from : List Bool} {run_new bits_new steps_new meter meter_new : ℕ}
@@ -152,7 +120,7 @@ pub ahead_of_other : {s : Parameters} {start : ℕ} {r : Option ℕ} {run bits s
     → length sink_new ≡ length from + bits_new → meter_new + steps ≡ meter + steps_new → IsAhead s start r run_new bits_new steps_new (blocks ++ c ∷ []) sink_new from
 ahead_of_other {s} {start} {r} {run} {bits} {steps} {blocks} {c} {sink} {from} {run_new} {bits_new} {steps_new} {meter} {meter_new} {sink_new} h next z ends len step =
     let n = length blocks in
-    let count = one_more blocks c in
+    let count = length_push blocks c in
     let looks = looks_other s c z in
     let one : 1 ≤ s.block = grind (arith, next.legal.block) in
     let w = pending_bits s false (reference_at r (n - run)) run in
@@ -168,8 +136,8 @@ ahead_of_other {s} {start} {r} {run} {bits} {steps} {blocks} {c} {sink} {from} {
           (ap (λ v. sink ++ v) (sym follow)
           ∙ (h.same (c ∷ more) (omega (arith, count, fits)) ∙ ap (λ v. from ++ code_of_blocks s start v) (sym (append_assoc blocks (c ∷ []) more))));
       len = len;
-      least = rw (summed (least_looks s) blocks c, looks.0) (fewest _ _ _ s.block (best_split s c) one (omega (arith, h.least, h.len, len, ends.len, step, ends.steps_from)));
-      most = omega (arith, summed (most_looks s) blocks c, looks.1, h.most, h.len, len, ends.len, step, ends.steps_to);
+      least = rw (sum_by_push (least_looks s) blocks c, looks.0) (fewest _ _ _ s.block (best_split s c) one (omega (arith, h.least, h.len, len, ends.len, step, ends.steps_from)));
+      most = omega (arith, sum_by_push (most_looks s) blocks c, looks.1, h.most, h.len, len, ends.len, step, ends.steps_to);
     }
   where
     fewest : (bits total steps j k : ℕ) → 1 ≤ j → bits + total + j * (k + 4) ≤ steps + 1 → bits + (total + (j * (k + 3) - 1)) ≤ steps
@@ -194,17 +162,11 @@ segment_is_short s start cs legal sound few =
 pub looks_are_few : (s : Parameters) (cs : List BlockData) → sum_by (most_looks s) cs ≤ length cs * (s.block * (k_max s + 5))
 looks_are_few s cs = let all = ap (sum_by (most_looks s)) (take-length cs) in omega (arith, all, most_of_all s (length cs) cs)
 
--- steps that are ahead, and those of what is put next
-record StepsAhead (n bound looks steps bits total put : ℕ) : Type 0 where
-  few : n ≤ 64
-  grown : steps ≤ bits + total
-  by_blocks : total + looks ≤ n * looks
-  short : bits + put ≤ n * bound
-
-fits_meter : {n bound looks steps bits total put : ℕ} (m : ℕ) → StepsAhead n bound looks steps bits total put → m + 64 * (bound + looks) < 2 ^ 62 → m + steps + (put + looks) < 2 ^ 62
-fits_meter {n} {bound} {looks} m ahead h =
-    let e : n * (bound + looks) ≤ 64 * (bound + looks) = mul-le-mul_right (bound + looks) ahead.few in
-    omega (arith, e, ahead.grown, ahead.by_blocks, ahead.short, h)
+-- steps that are ahead, and those of what is put next, are at most those of 64 blocks
+of_64_blocks : {steps : ℕ} (bits total n bound looks put more : ℕ) → n ≤ 64 → steps ≤ bits + total → total + more ≤ n * looks → bits + put ≤ n * bound → steps + put + more ≤ 64 * (bound + looks)
+of_64_blocks bits total n bound looks put more few grown by_blocks short =
+    let all : n * (bound + looks) ≤ 64 * (bound + looks) = mul-le-mul_right (bound + looks) few in
+    omega (arith, all, grown, by_blocks, short)
 
 -- The bits that are ahead are those of whole blocks, or fewer,
 bits_are_few : {s : Parameters} {start : ℕ} {r : Option ℕ} {run bits steps : ℕ} {blocks : List BlockData} {sink from : List Bool} → IsAhead s start r run bits steps blocks sink from
@@ -225,13 +187,9 @@ pub steps_are_few : {s : Parameters} {start : ℕ} {r : Option ℕ} {run bits st
     → steps ≤ coding_steps s
 steps_are_few {s} {start} {r} {run} {bits} {steps} {blocks} {sink} {from} h legal =
     let left = some_left s start legal.interval_from in
-    within (length blocks) (block_bound s) (s.block * (k_max s + 5)) (omega (arith, left.1, h.few)) h.most (looks_are_few s blocks)
-    (omega (arith, bits_are_few h, code_is_short s start blocks legal h.sound))
-  where
-    within : {steps bits total : ℕ} (n bound looks : ℕ) → n ≤ 64 → steps ≤ bits + total → total ≤ n * looks → bits ≤ n * bound → steps ≤ 64 * (bound + looks)
-    within n bound looks few grown by_blocks short =
-        let e : n * (bound + looks) ≤ 64 * (bound + looks) = mul-le-mul_right (bound + looks) few in
-        omega (arith, e, grown, by_blocks, short)
+    let all = of_64_blocks _ _ (length blocks) (block_bound s) (s.block * (k_max s + 5)) 0 0 (omega (arith, left.1, h.few)) h.most (omega (arith, looks_are_few s blocks))
+    (omega (arith, bits_are_few h, code_is_short s start blocks legal h.sound)) in
+    omega (arith, all)
 
 -- There is room for the look at a block, and for what a block that is not zero puts.
 pub room_to_look : {s : Parameters} {start : ℕ} {r : Option ℕ} {run bits steps : ℕ} {blocks : List BlockData} {sink from : List Bool} (m : ℕ) → IsAhead s start r run bits steps blocks sink from
@@ -242,9 +200,8 @@ room_to_look {s} {start} {r} {run} {bits} {steps} {blocks} {sink} {from} m h leg
     let some : s.block * 1 ≤ s.block * (k_max s + 5) = mul-le-mul_left s.block (omega arith) in
     let n = length blocks in
     let looks = s.block * (k_max s + 5) in
-    let all = fits_meter {n = n + 1} {bound = block_bound s} {looks = looks} {steps = steps} {bits = bits} {total = sum_by (most_looks s) blocks} {put = 0} m
-    (record { few = omega (arith, left.1, below); grown = h.most; by_blocks = omega (arith, looks_are_few s blocks); short = omega (arith, bits_are_few h, short) }) fits in
-    omega (arith, all, some)
+    let all = of_64_blocks _ _ (n + 1) (block_bound s) looks 0 looks (omega (arith, left.1, below)) h.most (omega (arith, looks_are_few s blocks)) (omega (arith, bits_are_few h, short)) in
+    omega (arith, all, some, fits)
 
 -- and for what a block that is not zero puts
 pub room_for_other : {s : Parameters} {start : ℕ} {r : Option ℕ} {run bits steps : ℕ} {blocks : List BlockData} {c : BlockData} {sink from : List Bool} (m : ℕ)
@@ -257,7 +214,7 @@ room_for_other {s} {start} {r} {run} {bits} {steps} {blocks} {c} {sink} {from} m
     let left = some_left s start legal.interval_from in
     let n = length blocks in
     let one : 1 ≤ s.block = grind (arith, legal.block) in
-    let count = one_more blocks c in
+    let count = length_push blocks c in
     let w = pending_bits s false (reference_at r (n - run)) run in
     let x = bits_of_set s (shortest s c) in
     let y = to_follow s start r (n + 1) 0 [] in
@@ -278,9 +235,8 @@ room_for_other {s} {start} {r} {run} {bits} {steps} {blocks} {c} {sink} {from} m
     let small = segment_is_short s start cs legal next.sound (omega (arith, count, next.below)) in
     let looks = s.block * (k_max s + 5) in
     let shorter : bits + (length w + cost s (shortest s c)) ≤ (n + 1) * block_bound s = within (length cs) (n + 1) (block_bound s) count short (omega (arith, put, h.len)) in
-    let all = fits_meter {n = n + 1} {bound = block_bound s} {looks = looks} {steps = steps} {bits = bits} {total = sum_by (most_looks s) blocks} {put = length w + cost s (shortest s c)} m
-    (record { few = omega (arith, left.1, next.below); grown = h.most; by_blocks = omega (arith, looks_are_few s blocks); short = shorter }) fits in
-    record { room = omega (arith, put, small, little); steps = omega (arith, all) }
+    let all = of_64_blocks _ _ (n + 1) (block_bound s) looks (length w + cost s (shortest s c)) looks (omega (arith, left.1, next.below)) h.most (omega (arith, looks_are_few s blocks)) shorter in
+    record { room = omega (arith, put, small, little); steps = omega (arith, all, fits) }
   where
     within : {a x : ℕ} (k n bound : ℕ) → k ≡ n → x ≤ k * bound → a ≤ x → a ≤ n * bound
     within {a} {x} k n bound e h g = subst (λ v. a ≤ v * bound) e (omega (arith, h, g))
@@ -313,16 +269,9 @@ room_for_end {s} {start} {r} {run} {bits} {steps} {blocks} {sink} {from} m h leg
     let put : length sink + length w ≡ length from + length (code_of_blocks s start blocks) = omega (arith, whole, length-append sink w, length-append from (code_of_blocks s start blocks)) in
     let small = segment_is_short s start blocks legal h.sound h.few in
     let looks = s.block * (k_max s + 5) in
-    let total = looks_are_few s blocks in
     let short = code_is_short s start blocks legal h.sound in
-    let all = ends_within n (block_bound s) looks steps bits (sum_by (most_looks s) blocks) (length w) m (omega (arith, left.1, h.few)) h.most total (omega (arith, put, h.len, short)) fits in
-    record { room = omega (arith, put, small, little); steps = omega (arith, all) }
-  where
-    ends_within : (n bound looks steps bits total put m : ℕ) → n ≤ 64 → steps ≤ bits + total → total ≤ n * looks → bits + put ≤ n * bound → m + 64 * (bound + looks) < 2 ^ 62
-        → m + steps + put < 2 ^ 62
-    ends_within n bound looks steps bits total put m few grown by_blocks short h =
-        let e : n * (bound + looks) ≤ 64 * (bound + looks) = mul-le-mul_right (bound + looks) few in
-        omega (arith, e, grown, by_blocks, short, h)
+    let all = of_64_blocks _ _ n (block_bound s) looks (length w) 0 (omega (arith, left.1, h.few)) h.most (omega (arith, looks_are_few s blocks)) (omega (arith, put, h.len, short)) in
+    record { room = omega (arith, put, small, little); steps = omega (arith, all, fits) }
 
 -- and with which the code of all blocks is put.
 pub end_puts : {s : Parameters} {start : ℕ} {r : Option ℕ} {run bits steps : ℕ} {blocks : List BlockData} {sink from sink_new : List Bool} {meter meter_new : ℕ} (m : ℕ)

@@ -1,41 +1,16 @@
 -- What the fast coder stands for when a segment ends.
-use Rattle.std.proofs.Common.{◌≡◌, ℕ, zero, suc, ◌+◌, ◌-◌, ◌*◌, ◌/◌, ◌%◌, ◌^◌, ◌<◌, ◌≤◌, ◌==◌, Bool, true, false, cond, not, ◌&&◌, List, [], ◌∷◌, ◌++◌, length, take, drop, replicate}
-use Rattle.std.proofs.Common.{refl, ap, arith, sym, ◌∙◌, subst, length-append, ℤ}
+use Rattle.rice_fast.proofs.Words.{◌≡◌, ℕ, zero, suc, ◌+◌, ◌-◌, ◌*◌, ◌/◌, ◌%◌, ◌^◌, ◌<◌, ◌≤◌, ◌==◌, Bool, true, false, cond, not, ◌&&◌, List, [], ◌∷◌, ◌++◌, length, take, drop, replicate, refl, ap}
+use Rattle.rice_fast.proofs.Words.{arith, sym, ◌∙◌, subst, length-append, ℤ, nat_tests, sum_by-cons, length-replicate, length-take-le, mul-div_cancel_left, mul-add-mod_self_left, mod-eq_of_lt, mod-lt}
+use Rattle.rice_fast.proofs.Words.{bits_to_byte, word, length-word, Parameters, IsSample, id_len, value_at, width, begins_segment, blocks_left, Reads, some_left, BlockData, fill_count, fill_count_of}
+use Rattle.rice_fast.proofs.Words.{is_zero_block, shortest, complete_samples, data_sets, CodedDataSet, NoCompression, RemainderOfSegment, SecondExtension, Split, ZeroBlocks, bits_of_set}
+use Rattle.rice_fast.proofs.Words.{no_compression_tail, run_number, run_tail, second_extension_tail, split_tail, zero_run, AreSoundBlocks, HasRoomFor, AddsCode, CompletesNone, HasTaken, IsCoder}
+use Rattle.rice_fast.proofs.Words.{PushesSamples, held_blocks, pending_bits, reference_at, CodesHeld, CoderState, HoldsSoundBlocks, IsOpen, IsWhole, bits_held, blocks_held, contents_held, is_empty}
+use Rattle.rice_fast.proofs.Words.{state_after_all, state_after_segment, state_between, next_start, all_take, codes_held, next_is_open, held_len, finish_adds, HoldsMore, is_coder_after}
+use Rattle.rice_fast.proofs.Words.{several_stay_open, whole_pushes, length-state_after_all, HoldsOpen, PushesOpen, StandsAfter, StandsFor, StandsWith, coder_between, coder_with, HasRoomAt, Standing}
+use Rattle.rice_fast.proofs.Words.{TakesSpelled, BlockCoder}
 use Rattle.std.specs.Prelude.{sum_by}
-use Rattle.std.proofs.lemmas.Bool.Decides.{nat_tests}
-use Rattle.std.proofs.lemmas.List.Sums.{sum_by-cons}
-use Rattle.std.proofs.lemmas.List.{length-replicate, length-take-le}
-use Rattle.std.proofs.Math.Nat.{mul-div_cancel_left, mul-add-mod_self_left, mod-eq_of_lt, mod-lt}
-use Rattle.rice_bits.specs.Bits.{bits_to_byte, word}
-use Rattle.rice_bits.proofs.lemmas.bits.WordsAndNumbers.{length-word}
-use Rattle.rice_samples.specs.Parameters.{Parameters, IsSample, id_len, value_at, width}
-use Rattle.rice_samples.specs.Places.{begins_segment, blocks_left}
-use Rattle.rice_samples.specs.bytes.Spelling.{Reads}
-use Rattle.rice_samples.proofs.lemmas.setting.PlaceLemmas.{some_left}
-use Rattle.rice_code.specs.code.Blocks.{BlockData, fill_count, fill_count_of, is_zero_block}
-use Rattle.rice_code.specs.code.Choice.{shortest}
-use Rattle.rice_code.specs.code.Code.{complete_samples, data_sets}
-use Rattle.rice_code.specs.code.CodedDataSets.{CodedDataSet, NoCompression, RemainderOfSegment, SecondExtension, Split, ZeroBlocks}
-use Rattle.rice_code.specs.code.CodedDataSets.{bits_of_set, no_compression_tail, run_number, run_tail, second_extension_tail, split_tail}
-use Rattle.rice_code.specs.code.Runs.{zero_run}
-use Rattle.rice_code.specs.code.SoundBlocks.{AreSoundBlocks}
-use Rattle.rice_code.specs.encode.BitBuffer.{HasRoomFor}
-use Rattle.rice_code.specs.encode.Coder.{AddsCode, CompletesNone, HasTaken, IsCoder, PushesSamples}
-use Rattle.rice_code.specs.encode.HeldBlocks.{held_blocks, pending_bits, reference_at}
-use Rattle.rice_code.specs.encode.OpenSegment.{CodesHeld, CoderState, HoldsSoundBlocks, IsOpen, IsWhole, bits_held}
-use Rattle.rice_code.specs.encode.OpenSegment.{blocks_held, contents_held, is_empty, state_after_all, state_after_segment, state_between, next_start}
-use Rattle.rice_code.proofs.lemmas.code.SoundBlocks.{all_take}
-use Rattle.rice_code.proofs.lemmas.encode.OpenSegments.{codes_held, next_is_open}
-use Rattle.rice_code.proofs.lemmas.encode.PendingRuns.{held_len}
-use Rattle.rice_code.proofs.lemmas.encode.PushedCode.{finish_adds}
-use Rattle.rice_code.proofs.lemmas.encode.PushedSamples.{HoldsMore, is_coder_after, several_stay_open, whole_pushes}
-use Rattle.rice_code.proofs.lemmas.encode.SeveralSamplesHeld.{length-state_after_all}
-use Rattle.rice_fast.specs.encode.OpenBlocks.{HoldsOpen, PushesOpen, StandsAfter, StandsFor, StandsWith, coder_between, coder_with}
-use Rattle.rice_fast.specs.encode.Standing.{HasRoomAt, Standing, TakesSpelled}
-use Rattle.rice_fast.specs.declared.encode.coder.BlockCoder.{BlockCoder}
-use Rattle.rice_fast.proofs.lemmas.encode.CodeAhead.{end_puts, room_for_end}
-use Rattle.rice_fast.proofs.lemmas.encode.HeldResiduals.{fill_is_taken, fill_none}
 use Rattle.rice_fast.proofs.lemmas.encode.StandingCoders.{after_none, between_stands, blocks_few, blocks_inside, part_counted, meter_after, residuals_counted}
+use Rattle.rice_fast.proofs.lemmas.{encode.CodeAhead.end_puts, encode.CodeAhead.room_for_end, encode.HeldResiduals.fill_is_taken, encode.HeldResiduals.fill_none}
 
 after_id : (s : Parameters) (n : ℕ) (rest : List Bool) → 0 < length (word (id_len s) n ++ rest)
 after_id s n rest = let some : 3 ≤ id_len s = grind (arith, nat_tests) in omega (arith, some, length-append (word (id_len s) n) rest, length-word (id_len s) n)

@@ -1,40 +1,18 @@
 -- The blocks of residuals that a coder holds, and what it holds after several samples.
-use Rattle.std.proofs.Common.{◌≡◌, ℕ, zero, suc, ◌+◌, ◌-◌, ◌*◌, ◌/◌, ◌%◌, ◌<◌, ◌≤◌, ◌==◌, Bool, true, false, cond, ◌&&◌, List, [], ◌∷◌, ◌++◌, length, take, drop, replicate}
-use Rattle.std.proofs.Common.{refl, ap, arith, sym, ◌∙◌, subst, inl, inr, append-nil, length-drop, Option, Some, None, ℤ}
-use Rattle.std.specs.List.{AllByRecursion}
-use Rattle.std.proofs.lemmas.Bool.{cases_lt}
-use Rattle.std.proofs.lemmas.Bool.Decides.{nat_tests}
-use Rattle.std.proofs.lemmas.List.{take-append-le, take_all}
-use Rattle.std.proofs.Math.Nat.{mod_self, mul-mod_right, mul-div_cancel_left, mul-le-mul_left}
-use Rattle.rice_samples.specs.Parameters.{Parameters, IsSample}
-use Rattle.rice_samples.specs.Places.{blocks_left}
-use Rattle.rice_samples.specs.predict.Residuals.{pattern, rank}
-use Rattle.rice_code.specs.code.Blocks.{fill_count}
-use Rattle.rice_code.specs.code.SoundBlocks.{AreSoundBlocks, block_with}
-use Rattle.rice_code.specs.encode.Coder.{IsCoder}
-use Rattle.rice_code.specs.encode.HeldBlocks.{held_blocks, reference_at}
-use Rattle.rice_code.specs.encode.OpenSegment.{CoderState, HoldsSoundBlocks, is_empty, later_residuals, next_residual, next_reference, state_after, state_after_all, state_with_fill}
-use Rattle.rice_code.proofs.lemmas.code.RepeatedSamples.{last_replicate}
-use Rattle.rice_code.proofs.lemmas.encode.PushedCode.{filled_sound}
-use Rattle.rice_code.proofs.lemmas.encode.PushedSamples.{several_stay_open, whole_is_sound}
-use Rattle.rice_code.proofs.lemmas.encode.SeveralSamplesHeld.{length-state_after_all, state_after_all-cons, state_after_all-none}
-
--- a list of no length has nothing
-pub no_items : {X : Type 0} (xs : List X) → length xs ≡ 0 → xs ≡ []
-no_items [] e = refl
-no_items (x ∷ xs) e = absurd (omega arith)
-
-drop_front : {X : Type 0} (n : ℕ) (xs ys : List X) → n ≤ length xs → drop n (xs ++ ys) ≡ drop n xs ++ ys
-drop_front zero xs ys h = refl
-drop_front (suc n) [] ys h = absurd (omega arith)
-drop_front (suc n) (x ∷ xs) ys h = drop_front n xs ys (omega arith)
+use Rattle.rice_fast.proofs.Words.{◌≡◌, ℕ, zero, suc, ◌+◌, ◌-◌, ◌*◌, ◌/◌, ◌%◌, ◌<◌, ◌≤◌, ◌==◌, Bool, true, false, cond, ◌&&◌, List, [], ◌∷◌, ◌++◌, length, take, drop, replicate, refl, ap, arith, sym}
+use Rattle.rice_fast.proofs.Words.{nil_from_length, drop-append-le}
+use Rattle.rice_fast.proofs.Words.{◌∙◌, subst, inl, inr, append-nil, Option, Some, None, ℤ, AllByRecursion, cases_lt, nat_tests, take-append-le, take_all, mod_self, mul-mod_right, mul-div_cancel_left}
+use Rattle.rice_fast.proofs.Words.{mul-le-mul_left, Parameters, IsSample, blocks_left, pattern, rank, fill_count, AreSoundBlocks, block_with, IsCoder, held_blocks, reference_at, CoderState}
+use Rattle.rice_fast.proofs.Words.{HoldsSoundBlocks, is_empty, later_residuals, next_residual, next_reference, state_after, state_after_all, state_with_fill, last_replicate, filled_sound}
+use Rattle.rice_fast.proofs.Words.{several_stay_open, whole_is_sound, length-state_after_all, state_after_all-cons, state_after_all-none}
+use Rattle.std.proofs.Common.{length-drop}
 
 -- after whole blocks more residuals make no difference
 pub held_more : (s : Parameters) (r : Option ℕ) (n : ℕ) (ds es : List ℕ) → s.block * n ≤ length ds → held_blocks s r n (ds ++ es) ≡ held_blocks s r n ds
 held_more s r zero ds es h = refl
 held_more s r (suc n) ds es h =
     let first : take s.block (ds ++ es) ≡ take s.block ds = take-append-le s.block ds es (omega arith) in
-    let rest = ap (held_blocks s None n) (drop_front s.block ds es (omega arith)) ∙ held_more s None n (drop s.block ds) es (omega (arith, length-drop s.block ds)) in
+    let rest = ap (held_blocks s None n) (drop-append-le s.block ds es (omega arith)) ∙ held_more s None n (drop s.block ds) es (omega (arith, length-drop s.block ds)) in
     λ i. block_with r (first i) ∷ rest i
 
 reference_none : (n : ℕ) → reference_at None n ≡ None
@@ -45,13 +23,13 @@ reference_none (suc n) = refl
 pub held_next : (s : Parameters) (r : Option ℕ) (n : ℕ) (ds es : List ℕ) → length ds ≡ s.block * n → length es ≡ s.block
     → held_blocks s r (n + 1) (ds ++ es) ≡ held_blocks s r n ds ++ block_with (reference_at r n) es ∷ []
 held_next s r zero ds es h k =
-    let none = no_items ds (omega arith) in
+    let none = nil_from_length ds (omega arith) in
     let first : take s.block (ds ++ es) ≡ es = ap (λ v. take s.block (v ++ es)) none ∙ take_all s.block es (omega (arith, k)) in
     ap (λ v. block_with r v ∷ []) first
 held_next s r (suc n) ds es h k =
     let e : suc n + 1 ≡ suc (n + 1) = omega arith in
     let first : take s.block (ds ++ es) ≡ take s.block ds = take-append-le s.block ds es (omega arith) in
-    let rest = ap (held_blocks s None (n + 1)) (drop_front s.block ds es (omega arith)) ∙ held_next s None n (drop s.block ds) es (omega (arith, length-drop s.block ds)) k in
+    let rest = ap (held_blocks s None (n + 1)) (drop-append-le s.block ds es (omega arith)) ∙ held_next s None n (drop s.block ds) es (omega (arith, length-drop s.block ds)) k in
     let last = ap (λ q. held_blocks s None n (drop s.block ds) ++ block_with q es ∷ []) (reference_none n) in
     ap (λ m. held_blocks s r m (ds ++ es)) e ∙ λ i. block_with r (first i) ∷ (rest ∙ last) i
 

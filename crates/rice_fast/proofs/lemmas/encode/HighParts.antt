@@ -1,25 +1,10 @@
 -- The high parts of residuals, in rows of sixteen numbers.
-use Rattle.std.proofs.Common.{◌≡◌, ℕ, zero, suc, ◌+◌, ◌-◌, ◌*◌, ◌/◌, ◌^◌, ◌<◌, ◌≤◌, List, [], ◌∷◌, ◌++◌, length, drop}
-use Rattle.std.proofs.Common.{take, map, min, replicate, refl, ap, arith, sym, ◌∙◌, length-append, append_assoc, sum_by, subst, All, Fits, w8, w32}
-use Rattle.std.specs.Prelude.{flat_map, slice_range}
-use Rattle.std.specs.Simd.Lanes.{put_chunk, zip2, Each1, Steps, fold_l, sum_l}
-use Rattle.std.proofs.lemmas.Simd.{zip2_splat, fold-sum, sum_fits, take_more_put_chunk}
-use Rattle.std.proofs.lemmas.List.Elements.{All-drop, All-head, All-tail, All-take}
-use Rattle.std.proofs.Math.Seq.{take-append_seam, take-add}
-use Rattle.std.proofs.lemmas.List.{drop-append-le, drop-drop, drop-map, drop-take, length-map, length-drop, length-replicate, length-take-le, map-append, take-replicate, take-take, take_all}
-use Rattle.std.proofs.lemmas.List.Folds.{flat_map-map}
-use Rattle.std.proofs.lemmas.List.Sums.{sum_by-append, sum_by-cons}
-use Rattle.rice_samples.proofs.lemmas.blocks.EightsInLanes.{sum_map}
-use Rattle.rice_bits.specs.Bits.{fundamental_sequence}
-use Rattle.rice_bits.proofs.lemmas.bits.WordsAndNumbers.{length-fundamental_sequence}
-use Rattle.rice_fast.specs.encode.HighParts.{with_zeros}
-
--- the sequences of high parts are as long as these parts add up to, and a one for each
-pub length-high : (k : ℕ) (ds : List ℕ) → length (flat_map (λ d. fundamental_sequence (d / 2 ^ k)) ds) ≡ length ds + sum_by (λ d. d / 2 ^ k) ds
-length-high k [] = refl
-length-high k (d ∷ ds) =
-    let one = length-append (fundamental_sequence (d / 2 ^ k)) (flat_map (λ d. fundamental_sequence (d / 2 ^ k)) ds) in
-    omega (arith, one, length-fundamental_sequence (d / 2 ^ k), length-high k ds, sum_by-cons (λ d. d / 2 ^ k) d ds)
+use Rattle.rice_fast.proofs.Words.{◌≡◌, ℕ, zero, suc, ◌+◌, ◌-◌, ◌*◌, ◌/◌, ◌^◌, ◌<◌, ◌≤◌, List, [], ◌∷◌, ◌++◌, length, drop, take, map, min, replicate, refl, ap, arith, sym, ◌∙◌, length-append}
+use Rattle.rice_fast.proofs.Words.{append_assoc, sum_by, subst, Fits, w8, w32, flat_map, slice_range, put_chunk, zip2, Each1, Steps, fold_l, sum_l, zip2_splat, fold-sum, sum_fits, take_more_put_chunk}
+use Rattle.rice_fast.proofs.Words.{All-drop, All-head, All-tail, All-take, take-append_seam, take-add, drop-append-le, drop-drop, drop-map, drop-take, length-map, length-drop, length-replicate}
+use Rattle.rice_fast.proofs.Words.{length-take-le, map-append, take-replicate, take_all, flat_map-map, sum_by-append, sum_map, fundamental_sequence, with_zeros}
+use Rattle.std.proofs.Common.{All}
+use Rattle.std.proofs.lemmas.List.{take-take}
 
 -- numbers that are written after others, over zeros
 pub put_after : (xs ys : List ℕ) (z : ℕ) → length ys ≤ z → put_chunk (length xs) (xs ++ replicate z 0) ys ≡ xs ++ (ys ++ replicate (z - length ys) 0)

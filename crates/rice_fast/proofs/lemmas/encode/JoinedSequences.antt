@@ -1,24 +1,12 @@
 -- Fundamental sequences that are joined by products, in lanes. What joins 16 rests on `sixteen_joined`: by `value_kept` each of three steps keeps the number of the whole.
-use Rattle.std.proofs.Common.{◌≡◌, ℕ, zero, suc, ◌+◌, ◌-◌, ◌*◌, ◌/◌, ◌%◌, ◌^◌, ◌<◌, ◌≤◌, ◌==◌, Bool, true, ◌&&◌, cond, List, [], ◌∷◌, ◌++◌}
-use Rattle.std.proofs.Common.{length, take, get_or, map, replicate, refl, ap, arith, sym, subst, ◌∙◌, length-append, mod-eq_of_lt, eq-eqb, w8}
-use Rattle.std.specs.Prelude.{All, flat_map, bit_or, slice_range}
-use Rattle.std.specs.List.{list_all}
-use Rattle.std.specs.Simd.Lanes.{zip2, Each1, fold_l, pick_l}
-use Rattle.std.proofs.Math.Nat.{mul-le-mul_left, mul-le-mul_right, pow-le-pow_right}
-use Rattle.std.proofs.lemmas.Nat.{div-mul-add, mod-mul-add, one_shl, pow-add}
-use Rattle.std.proofs.lemmas.Grind.{flat_map-append}
-use Rattle.std.proofs.lemmas.List.{length-map}
-use Rattle.std.proofs.lemmas.Simd.{Each1-get_or, Each1-from_get_or, SwzOk, SwzOk-from_below, swz_l}
-use Rattle.std.proofs.lemmas.Bool.Decides.{nat_tests}
-use lib.Dec.{leb}
-use Rattle.rice_samples.proofs.lemmas.blocks.EightsInLanes.{lanes_below_digits, no_digits}
-use Rattle.rice_bits.specs.Bits.{word, number_of, fundamental_sequence}
-use Rattle.rice_bits.proofs.lemmas.bits.WordsAndNumbers.{word-cat, word-fs, word-number_of, number_of-word, number_of-lt, join_below, length-fundamental_sequence}
-use Rattle.rice_fast.specs.declared.encode.sequences_by_products.TheConstants.{WEIGHTS}
-use Rattle.rice_fast.specs.encode.Sequences.{HasDigits}
-use Rattle.rice_fast.specs.encode.Sequences.{joined_values, joined_weights}
-use Rattle.rice_fast.proofs.lemmas.encode.AddedBits.{bits_of_one, bits_of_parts}
-use Rattle.rice_fast.proofs.lemmas.encode.JoinedWords.{one_fits}
+use Rattle.rice_fast.proofs.Words.{◌≡◌, ℕ, zero, suc, ◌+◌, ◌-◌, ◌*◌, ◌/◌, ◌%◌, ◌^◌, ◌<◌, ◌≤◌, ◌==◌, Bool, true, ◌&&◌, cond, List, [], ◌∷◌, ◌++◌, length, take, get_or, map, replicate, refl, ap, arith}
+use Rattle.rice_fast.proofs.Words.{mul-le, sym, subst, ◌∙◌, length-append, eq-eqb, w8, All, flat_map, bit_or, slice_range, list_all, zip2, Each1, fold_l, pick_l, pow-le-pow_right, div-mul-add}
+use Rattle.rice_fast.proofs.Words.{mod-mul-add, one_shl, pow-add, flat_map-append, length-map, Each1-get_or, SwzOk, SwzOk-from_below, swz_l, nat_tests, leb, lanes_below_digits, no_digits, word}
+use Rattle.rice_fast.proofs.Words.{number_of, fundamental_sequence, word-cat, word-fs, word-number_of, number_of-word, number_of-lt, join_below, length-fundamental_sequence, WEIGHTS, HasDigits}
+use Rattle.rice_fast.proofs.Words.{joined_values, joined_weights}
+use Rattle.std.proofs.Common.{mod-eq_of_lt}
+use Rattle.rice_fast.proofs.lemmas.{encode.AddedBits.bits_of_one, encode.AddedBits.bits_of_parts, encode.JoinedWords.one_fits}
+use Rattle.rice_fast.proofs.lemmas.vectors.NumbersInLanes.{all_of, each_of}
 
 -- each second number of a row, from the first on
 abbrev firsts : List ℕ → List ℕ
@@ -47,14 +35,10 @@ pub parted_four : (xs : List ℕ) → length xs ≡ 4 → (pick_l 0 (xs ++ xs) (
 parted_four (a ∷ b ∷ c ∷ d ∷ []) len = (refl, refl)
 parted_four _ len = absurd (omega arith)
 
--- a product of two numbers that are bounded
-product_bounded : (v z a b : ℕ) → v ≤ a → z ≤ b → v * z ≤ a * b
-product_bounded v z a b h k = let one = mul-le-mul_right z h in let two = mul-le-mul_left a k in omega (arith, one, two)
-
 -- two numbers joined, in a lane that has room for them
 joined_lane : {m : ℕ} (v z u a b : ℕ) → v ≤ a → z ≤ b → u ≤ a → a * b + a < m → (v * z % m + u) % m ≡ v * z + u
 joined_lane {m} v z u a b h k l room =
-    let few = product_bounded v z a b h k in
+    let few = mul-le v z a b h k in
     ap (λ n. (n + u) % m) (mod-eq_of_lt (omega (arith, few, room))) ∙ mod-eq_of_lt (omega (arith, few, room, l))
 
 -- all numbers of two vectors joined, in lanes that have room for them
@@ -74,7 +58,7 @@ pub weights_joined : (m b : ℕ) (ws : List ℕ) → b * b < m → Each1 (λ w. 
 weights_joined m b [] room k = refl
 weights_joined m b (w ∷ []) room k = refl
 weights_joined m b (w ∷ z ∷ ws) room k =
-    let few = product_bounded w z b b k.0 k.1.0 in
+    let few = mul-le w z b b k.0 k.1.0 in
     let one : w * z % m ≡ w * z = mod-eq_of_lt (omega (arith, few, room)) in
     let rest = weights_joined m b ws room k.1.1 in
     λ i. one i ∷ rest i
@@ -103,14 +87,14 @@ values_bounded a b (v ∷ []) ws h k = tt
 values_bounded a b (v ∷ u ∷ vs) [] h k = tt
 values_bounded a b (v ∷ u ∷ vs) (w ∷ []) h k = tt
 values_bounded a b (v ∷ u ∷ vs) (w ∷ z ∷ ws) h k =
-    let few = product_bounded v z a b h.0 k.1.0 in
+    let few = mul-le v z a b h.0 k.1.0 in
     (omega (arith, few, h.1.0), values_bounded a b vs ws h.1.1 k.1.1)
 
 -- and joined weights
 pub weights_bounded : (b : ℕ) (ws : List ℕ) → Each1 (λ w. w ≤ b) ws → Each1 (λ w. w ≤ b * b) (joined_weights ws)
 weights_bounded b [] k = tt
 weights_bounded b (w ∷ []) k = tt
-weights_bounded b (w ∷ z ∷ ws) k = (product_bounded w z b b k.0 k.1.0, weights_bounded b ws k.1.1)
+weights_bounded b (w ∷ z ∷ ws) k = (mul-le w z b b k.0 k.1.0, weights_bounded b ws k.1.1)
 
 -- the weight of a whole row of parts, and the number that has their digits
 abbrev whole_weight : List ℕ → ℕ
@@ -264,14 +248,6 @@ places_are_ok ms len small = SwzOk-from_below w8 16 1 16 0 ms (omega arith) (ome
 pub weights_few : (ms : List ℕ) → Each1 (λ m. m ≤ 6) ms → Each1 (λ w. w ≤ 2 ^ 7) (map weight ms)
 weights_few [] h = tt
 weights_few (m ∷ ms) h = (pow-le-pow_right {n = 2} (omega arith) {i = m + 1} {j = 7} (omega (arith, h.0)), weights_few ms h.1)
-
--- a fact of all lanes as a fact of each
-pub each_of : (P : ℕ → Type 0) (xs : List ℕ) → All P xs → Each1 P xs
-each_of P xs h = Each1-from_get_or P xs 0 (λ i lt. h i 0 lt)
-
--- and back
-pub all_of : (P : ℕ → Type 0) (xs : List ℕ) → Each1 P xs → All P xs
-all_of P xs h = λ i d lt. Each1-get_or P xs i d lt h
 
 -- where nothing exceeds `most`, all numbers are at most that
 pub none_above : (most : ℕ) (ms over : List ℕ) → over ≡ zip2 (λ d b. d - b) ms (replicate 16 most) → length ms ≡ 16 → (fold_l bit_or 0 over == 0) ≡ true → Each1 (λ m. m ≤ most) ms

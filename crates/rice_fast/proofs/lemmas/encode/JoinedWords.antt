@@ -1,10 +1,6 @@
 -- Words that are joined.
-use Rattle.std.proofs.Common.{◌≡◌, ℕ, ◌+◌, ◌*◌, ◌^◌, ◌<◌, ◌≤◌, Bool, List, ◌++◌, length, ap, arith, sym, ◌∙◌, append_assoc}
-use Rattle.std.proofs.Math.Nat.{pow-le-pow_right}
-use Rattle.std.proofs.lemmas.Nat.{pow-add, pow_pos}
-use Rattle.rice_bits.specs.Bits.{word}
-use Rattle.rice_bits.proofs.lemmas.bits.WordsAndNumbers.{length-word, word-cat, join_below}
-use Rattle.rice_code.specs.encode.BitBuffer.{IsShort}
+use Rattle.rice_fast.proofs.Words.{◌≡◌, ℕ, ◌+◌, ◌*◌, ◌^◌, ◌<◌, ◌≤◌, Bool, List, ◌++◌, length, ap, arith, sym, ◌∙◌, append_assoc, pow-le-pow_right, pow-add, pow_pos, word, length-word, word-cat}
+use Rattle.rice_fast.proofs.Words.{join_below, IsShort}
 
 -- the bits that a word of `width` digits spells are as many
 pub length-word_is : (width value : ℕ) (bits : List Bool) → word width value ≡ bits → length bits ≡ width

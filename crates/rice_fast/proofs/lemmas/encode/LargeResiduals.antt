@@ -1,16 +1,7 @@
 -- Residuals so large that the last split is the best one, and no compression is not longer.
-use Rattle.std.proofs.Common.{◌≡◌, ℕ, ◌+◌, ◌*◌, ◌^◌, ◌<◌, ◌≤◌, length, arith}
-use Rattle.std.proofs.Math.Nat.{mul-le-mul_left, pow-le-pow_right}
-use Rattle.rice_samples.specs.Parameters.{Parameters, k_max}
-use Rattle.rice_samples.proofs.lemmas.blocks.FallingSums.{cut_sum}
-use Rattle.rice_fast.proofs.lemmas.encode.LargeSums.{large_falls, large_leaves}
-use Rattle.rice_code.specs.code.Blocks.{BlockData}
-use Rattle.rice_code.specs.code.Choice.{IsBestSplit}
-use Rattle.rice_code.specs.code.CodedDataSets.{NoCompression, Split, cost, sent_residuals}
-use Rattle.rice_code.specs.code.SoundBlocks.{IsSoundData}
-use Rattle.rice_code.proofs.lemmas.cost.SplitSavings.{coded_sum, sum_stop_is_best}
-use Rattle.rice_code.proofs.lemmas.encode.ChoiceLemmas.{all_sent}
-use Rattle.rice_fast.proofs.lemmas.encode.Stops.{bits_of_last_split}
+use Rattle.rice_fast.proofs.Words.{◌≡◌, ℕ, ◌+◌, ◌*◌, ◌^◌, ◌<◌, ◌≤◌, length, arith, mul-le-mul_left, pow-le-pow_right, Parameters, k_max, cut_sum, BlockData, IsBestSplit, NoCompression, Split, cost}
+use Rattle.rice_fast.proofs.Words.{sent_residuals, IsSoundData, coded_sum, sum_stop_is_best, all_sent}
+use Rattle.rice_fast.proofs.lemmas.{encode.LargeSums.large_falls, encode.LargeSums.large_leaves, encode.Stops.last_split}
 
 -- the sum is as large, in these words
 pub so_large : (s : Parameters) (c : BlockData) {size coded k whole : ℕ} → size ≡ length c.residuals → coded ≡ length (sent_residuals c) → k ≡ k_max s → whole ≡ cut_sum c.residuals 0
@@ -36,7 +27,7 @@ pub split_is_not_shorter : (s : Parameters) (c : BlockData) → IsSoundData s c 
     → (length c.residuals + 2 * length (sent_residuals c)) * 2 ^ k_max s ≤ cut_sum c.residuals 0 → cost s (NoCompression c) ≤ cost s (Split (k_max s) c)
 split_is_not_shorter s c sound most some large =
     let n = length (sent_residuals c) in
-    let few : n * s.bits ≤ n * (k_max s + 3) = mul-le-mul_left n (bits_of_last_split s most) in
+    let few : n * s.bits ≤ n * (k_max s + 3) = mul-le-mul_left n ((last_split s).1 most) in
     omega (
       arith,
       few,

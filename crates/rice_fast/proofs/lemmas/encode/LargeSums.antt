@@ -1,13 +1,7 @@
 -- Large sums of numbers, which fall as the numbers lose their lowest digits, and small ones.
-use Rattle.std.proofs.Common.{◌≡◌, ℕ, suc, ◌+◌, ◌-◌, ◌*◌, ◌/◌, ◌^◌, ◌<◌, ◌≤◌, List, [], ◌∷◌, length, ap, All, arith, inl, inr}
-use Rattle.std.proofs.lemmas.Bool.{cases_lt}
-use Rattle.std.proofs.lemmas.List.Elements.{All-head, All-tail}
-use Rattle.std.proofs.lemmas.List.Sums.{sum_by-cons, sum_by-le-sum_by}
-use Rattle.std.specs.Prelude.{bit_or}
-use Rattle.std.proofs.lemmas.Nat.{le_or_r, leading_length, or_lt, pow-add, pow_pos}
-use Rattle.std.proofs.Math.Nat.{div-le_self, mod-add-div, mod-lt, mul-le-mul_right, pow-le-pow_right}
-use lib.Count.{count_leading_zeros}
-use Rattle.rice_samples.proofs.lemmas.blocks.FallingSums.{cut_sum, sum_halves}
+use Rattle.rice_fast.proofs.Words.{◌≡◌, ℕ, suc, ◌+◌, ◌-◌, ◌*◌, ◌/◌, ◌^◌, ◌<◌, ◌≤◌, List, [], ◌∷◌, length, ap, arith, inl, inr, cases_lt, All-head, All-tail, sum_by-cons, sum_by-le-sum_by, bit_or}
+use Rattle.rice_fast.proofs.Words.{le_or_r, leading_length, or_lt, pow-add, pow_pos, div-le_self, mod-add-div, mod-lt, mul-le-mul_right, pow-le-pow_right, count_leading_zeros, cut_sum, sum_halves}
+use Rattle.std.proofs.Common.{All}
 
 -- no sum is above the whole
 sum_within : (ds : List ℕ) (k : ℕ) → cut_sum ds k ≤ cut_sum ds 0

@@ -1,17 +1,9 @@
 -- The lowest digits of several residuals in one word.
-use Rattle.std.proofs.Common.{◌≡◌, ℕ, zero, suc, take, ◌+◌, ◌-◌, ◌*◌, ◌/◌, ◌%◌, ◌^◌, ◌<◌, ◌≤◌, List}
-use Rattle.std.proofs.Common.{[], ◌∷◌, ◌++◌, length, drop, get_or, map, refl, ap, arith, sym, subst, ◌∙◌, append_assoc, mod-eq_of_lt}
-use Rattle.std.specs.Prelude.{flat_map, slice_range, bit_and, bit_or}
-use Rattle.std.specs.Simd.Lanes.{Each1}
-use Rattle.std.proofs.Math.Seq.{drop-append_seam}
-use Rattle.std.proofs.lemmas.List.{drop-append-le, length-map, take_all}
-use Rattle.std.proofs.Math.Nat.{pow-le-pow_right}
-use Rattle.std.proofs.lemmas.Nat.{and_mask, mod_below, one_shl, pow_pos, or_shifted}
-use Rattle.rice_bits.specs.Bits.{word}
-use Rattle.rice_bits.proofs.lemmas.bits.WordsAndNumbers.{length-word, word-split, word-cat, join_below}
-use Rattle.rice_bits.proofs.lemmas.bits.JoinedBits.{low_word}
+use Rattle.rice_fast.proofs.Words.{◌≡◌, ℕ, zero, suc, take, ◌+◌, ◌-◌, ◌*◌, ◌/◌, ◌%◌, ◌^◌, ◌<◌, ◌≤◌, List, [], ◌∷◌, ◌++◌, length, drop, get_or, map, refl, ap, arith, sym, subst, ◌∙◌, append_assoc}
+use Rattle.rice_fast.proofs.Words.{flat_map, slice_range, bit_and, bit_or, Each1, drop-append_seam, drop-append-le, length-map, take_all, pow-le-pow_right, and_mask, mod_below, one_shl, pow_pos}
+use Rattle.rice_fast.proofs.Words.{or_shifted, word, length-word, word-split, word-cat, join_below, low_word, low_digits_of_each, joined_in_pairs}
+use Rattle.std.proofs.Common.{mod-eq_of_lt}
 use Rattle.rice_fast.proofs.lemmas.encode.AddedBits.{slice_to_end}
-use Rattle.rice_fast.specs.encode.LowParts.{low_digits_of_each, joined_in_pairs}
 
 -- the last digits of a word
 pub tail_of_word : (n m v : ℕ) → word m (v % 2 ^ m) ≡ drop n (word (n + m) v)
@@ -89,12 +81,13 @@ all_spelled (a ∷ b ∷ []) {width} twice len two h e = pairs_spell 1 width (a 
 all_spelled _ twice len two h e = absurd (omega arith)
 
 -- the pairs of eight residuals
-pub pairs_of_eight : (w : ℕ) (xs low : List ℕ) {pairs : List ℕ} → length xs ≡ 8 → low ≡ low_digits_of_each w (take 8 xs) → length low ≡ 8 → pairs ≡ joined_in_pairs w low → Spells (2 * w) pairs w xs
-pairs_of_eight w xs low len is lanes joined = pairs_spell 4 w low lanes refl (low_spell w xs len is) joined
+pub pairs_of_eight : (w : ℕ) (xs : List ℕ) {low pairs : List ℕ} → length xs ≡ 8 → low ≡ low_digits_of_each w (take 8 xs) → length low ≡ 8 → pairs ≡ joined_in_pairs w low → Spells (2 * w) pairs w xs
+pairs_of_eight w xs {low} len is lanes joined = pairs_spell 4 w low lanes refl (low_spell w xs len is) joined
 
 -- the fours
-pub fours_of_eight : (w : ℕ) (xs : List ℕ) {pairs fours : List ℕ} → Spells (2 * w) pairs w xs → length pairs ≡ 4 → fours ≡ joined_in_pairs (2 * w) pairs → Spells (4 * w) fours w xs
-fours_of_eight w xs {pairs} h lanes joined = pairs_spell 2 (2 * w) pairs lanes (omega arith) h joined
+pub fours_of_eight : (w : ℕ) (xs : List ℕ) {low pairs fours : List ℕ} → length xs ≡ 8 → low ≡ low_digits_of_each w (take 8 xs) → length low ≡ 8 → pairs ≡ joined_in_pairs w low
+    → length pairs ≡ 4 → fours ≡ joined_in_pairs (2 * w) pairs → Spells (4 * w) fours w xs
+fours_of_eight w xs {pairs = pairs} len is lanes joined four = pairs_spell 2 (2 * w) pairs four (omega arith) (pairs_of_eight w xs len is lanes joined)
 
 -- the digits that are spelled, without those of the first residual
 pub spelled_from : {width w : ℕ} {numbers xs : List ℕ} (from : ℕ) {skipped : ℕ} → Spells width numbers w xs → skipped ≡ from * w → from ≤ 1 → 1 ≤ length xs

@@ -1,17 +1,7 @@
 -- One sample that bytes spell again and again.
-use Rattle.std.proofs.Common.{◌≡◌, ℕ, zero, suc, ◌+◌, ◌*◌, ◌≤◌, List, [], ◌∷◌, ◌++◌, length, take, drop, ap, refl, sym, subst, arith, ◌∙◌, length-append, replicate}
-use Rattle.std.specs.Prelude.{bit_or}
-use Rattle.std.specs.Int.Bits.{bit_xor, xor_add_and}
-use Rattle.std.specs.Simd.Lanes.{Each1, zip2}
-use Rattle.std.proofs.lemmas.Nat.{and_le_l, and_le_r}
-use Rattle.std.proofs.Math.Seq.{take-add}
-use Rattle.std.proofs.lemmas.Simd.{Each1-replicate}
-use Rattle.std.proofs.lemmas.List.{map-append, take_all}
-use Rattle.rice_samples.specs.Parameters.{Parameters, value_at, values_at, width}
-use Rattle.rice_samples.specs.bytes.Spelling.{spellings}
-use Rattle.rice_fast.proofs.lemmas.vectors.NearLanes.{parts_below}
-use Rattle.rice_fast.proofs.lemmas.vectors.LevelsInLanes.{Each1-append}
-use Rattle.rice_samples.proofs.lemmas.bytes.SpellingLengths.{spellings-append}
+use Rattle.rice_fast.proofs.Words.{◌≡◌, ℕ, zero, suc, ◌+◌, ◌*◌, ◌≤◌, List, [], ◌∷◌, ◌++◌, length, take, drop, ap, refl, sym, subst, arith, ◌∙◌, length-append, replicate, bit_or, bit_xor, xor_add_and}
+use Rattle.rice_fast.proofs.Words.{Each1, zip2, and_le_l, and_le_r, take-add, Each1-replicate, map-append, take_all, Parameters, value_at, values_at, width, spellings, spellings-append}
+use Rattle.rice_fast.proofs.lemmas.{vectors.NearLanes.parts_below, vectors.LevelsInLanes.Each1-append}
 
 -- What a loop that compares levels with one level has read: where no digit differs, all levels are that one.
 pub record RowsCompared (s : Parameters) (level at : ℕ) (bytes other : List ℕ) : Type 0 where

@@ -1,25 +1,12 @@
 -- Samples that are read from bytes, and their residuals.
-use Rattle.std.proofs.Common.{◌≡◌, ℕ, ◌+◌, ◌-◌, ◌*◌, ◌<◌, ◌≤◌, true, List, [], ◌∷◌, ◌++◌, length, take, drop, get_or, All, ap, refl, sym, subst, arith, ◌∙◌, append-nil, length-append, ℤ}
-use Rattle.std.specs.Prelude.{bit_or, replicate, slice_range}
-use Rattle.std.specs.Simd.Lanes.{Each1, put_chunk, zip2}
-use Rattle.std.proofs.Math.Nat.{mul-le-mul_left}
-use Rattle.std.proofs.Math.Seq.{take-add}
-use Rattle.std.proofs.lemmas.List.{get_or-replicate, map-append, take_all}
-use Rattle.std.proofs.lemmas.Simd.{Each1-get_or, Each1-weaker, take_more_put_chunk}
-use Rattle.rice_samples.specs.Parameters.{Parameters, value_at, value_count, values_at, width}
-use Rattle.rice_samples.specs.predict.Residuals.{last_number, last_of, rank_below, ranks_below}
-use Rattle.rice_samples.specs.bytes.Spelling.{spellings}
-use Rattle.rice_fast.proofs.lemmas.vectors.NearLanes.{parts_below}
-use Rattle.rice_fast.proofs.lemmas.vectors.LevelsInLanes.{Each1-append}
-use Rattle.rice_samples.proofs.lemmas.bytes.SpellingLengths.{spellings-append}
-use Rattle.rice_fast.proofs.lemmas.vectors.RankedLanes.{each_taken, ranked_taken}
-use Rattle.rice_fast.proofs.lemmas.vectors.LaneRanks.{last_of_row, row_long}
-use Rattle.rice_fast.proofs.lemmas.vectors.NearVectors.{none_above}
-use Rattle.rice_fast.proofs.lemmas.ahead.EightWordsLemmas.{each-of}
-use Rattle.rice_samples.proofs.lemmas.setting.ValuesAtLevels.{legal_values, ranks_of_values, value_at_last}
-use Rattle.rice_code.specs.encode.OpenSegment.{later_residuals}
-use Rattle.rice_code.proofs.lemmas.encode.SeveralSamplesHeld.{later_ranks}
-use Rattle.rice_fast.specs.encode.Standing.{HasResidualsOf}
+use Rattle.rice_fast.proofs.Words.{◌≡◌, ℕ, ◌+◌, ◌-◌, ◌*◌, ◌<◌, ◌≤◌, true, List, [], ◌∷◌, ◌++◌, length, take, drop, get_or, ap, refl, sym, subst, arith, ◌∙◌, append-nil, length-append, ℤ, bit_or}
+use Rattle.rice_fast.proofs.Words.{slice_range, Each1, put_chunk, zip2, mul-le-mul_left, take-add, get_or-replicate, map-append, take_all, Each1-get_or, Each1-weaker, take_more_put_chunk, Parameters}
+use Rattle.rice_fast.proofs.Words.{value_at, value_count, values_at, width, last_number, last_of, rank_below, ranks_below, spellings, spellings-append, legal_values, ranks_of_values, value_at_last}
+use Rattle.rice_fast.proofs.Words.{later_residuals, later_ranks, HasResidualsOf}
+use Rattle.std.proofs.Common.{All}
+use Rattle.std.specs.Prelude.{replicate}
+use Rattle.rice_fast.proofs.lemmas.{vectors.NearLanes.parts_below, vectors.LevelsInLanes.Each1-append, vectors.RankedLanes.each_taken, vectors.RankedLanes.ranked_taken, vectors.LaneRanks.last_of_row}
+use Rattle.rice_fast.proofs.lemmas.{vectors.LaneRanks.row_long, vectors.NearVectors.none_above, vectors.NumbersInLanes.each_of}
 
 -- bytes of which each spells a sample at its level, with the residuals of these
 pub residuals_spelled : (s : Parameters) (before last : ℕ) (bytes levels residuals : List ℕ) → All (λ l. l < value_count s) levels → bytes ≡ spellings s (values_at s levels)
@@ -144,7 +131,7 @@ rows_read {s} {n} {before} {at} {bytes} {earlier} {seen} {residuals} g last {fir
     residuals_spelled s before last bytes rows.levels residuals all spelled (sym (take_all at residuals whole) ∙ rows.coded each) below (ap (value_at s) end ∙ value_at_last s before rows.levels)
   where
     fit : Each1 (λ x. x ≤ g) rows.levels
-    fit = rows.all_seen g (each-of (λ x. x ≤ g) seen (none_above n g seen over (overs ∙ ap (zip2 (λ a b. a - b) seen) firsts) many none))
+    fit = rows.all_seen g (each_of (λ x. x ≤ g) seen (none_above n g seen over (overs ∙ ap (zip2 (λ a b. a - b) seen) firsts) many none))
 
     each : Each1 (λ l. l < value_count s) rows.levels
     each = Each1-weaker (λ l. l ≤ g) (λ l. l < value_count s) (λ l h. omega (arith, h, above)) rows.levels fit

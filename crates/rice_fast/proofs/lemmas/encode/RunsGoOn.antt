@@ -1,20 +1,9 @@
 -- A block of the sample before, again and again, which goes on a run of zero blocks.
-use Rattle.std.proofs.Common.{◌≡◌, ℕ, ◌+◌, ◌*◌, ◌<◌, ◌≤◌, ◌^◌, ◌==◌, Bool, true, false, ◌&&◌, cond, List, [], ◌++◌, length, ap, refl, sym, arith, ◌∙◌, append-nil, replicate, ℤ}
-use Rattle.std.proofs.lemmas.Bool.Decides.{nat_tests}
-use Rattle.std.proofs.lemmas.List.Elements.{All-replicate}
-use Rattle.rice_samples.specs.Parameters.{Parameters, IsSample, value_at, value_count, width}
-use Rattle.rice_samples.specs.bytes.Spelling.{Reads, spellings}
-use Rattle.rice_samples.specs.predict.Residuals.{pattern, rank}
-use Rattle.rice_samples.proofs.lemmas.setting.ValuesAboveLeast.{sample_at}
-use Rattle.rice_code.specs.encode.OpenSegment.{later_residuals}
-use Rattle.rice_code.proofs.lemmas.code.RepeatedSamples.{last_replicate, same_rank}
-use Rattle.rice_code.proofs.lemmas.encode.PendingRuns.{held_len, zeros_are_zero}
-use Rattle.rice_fast.specs.encode.OpenBlocks.{GoesOn, IsBefore, StandsAfter, StandsWith, is_at_first}
-use Rattle.rice_fast.specs.encode.Standing.{HasResidualsOf, HasRoomAt, Standing}
-use Rattle.rice_fast.specs.declared.encode.coder.BlockCoder.{BlockCoder}
-use Rattle.rice_fast.proofs.lemmas.encode.HeldResiduals.{later_copies}
+use Rattle.rice_fast.proofs.Words.{◌≡◌, ℕ, ◌+◌, ◌*◌, ◌<◌, ◌≤◌, ◌^◌, ◌==◌, Bool, true, false, ◌&&◌, cond, List, [], ◌++◌, length, ap, refl, sym, arith, ◌∙◌, append-nil, replicate, ℤ, nat_tests}
+use Rattle.rice_fast.proofs.Words.{All-replicate, Parameters, IsSample, value_at, value_count, width, Reads, spellings, pattern, rank, sample_at, later_residuals, last_replicate, same_rank, held_len}
+use Rattle.rice_fast.proofs.Words.{zeros_are_zero, GoesOn, IsBefore, StandsAfter, StandsWith, is_at_first, HasResidualsOf, HasRoomAt, Standing, BlockCoder}
 use Rattle.rice_fast.proofs.lemmas.encode.StandingCoders.{room_for_look, with_block, zeros_are_put}
-use Rattle.rice_fast.proofs.lemmas.encode.TakenSamples.{block_held}
+use Rattle.rice_fast.proofs.lemmas.{encode.HeldResiduals.later_copies, encode.TakenSamples.block_held}
 
 -- after a whole block no interval begins
 not_first : (p : Bool) (held blocks start : ℕ) → 1 ≤ blocks → (p && ((held == 0 && blocks == 0) && start == 0)) ≡ false

@@ -1,26 +1,10 @@
 -- What the fast coder stands for, from call to call.
-use Rattle.std.proofs.Common.{◌≡◌, ℕ, zero, suc, ◌+◌, ◌*◌, ◌^◌, ◌<◌, ◌≤◌, Bool, List, [], ◌∷◌, ◌++◌, length, take, drop}
-use Rattle.std.proofs.Common.{refl, ap, arith, sym, ◌∙◌, subst, inl, inr, append-nil, Option, None, ℤ}
+use Rattle.rice_fast.proofs.Words.{◌≡◌, ℕ, zero, suc, ◌+◌, ◌*◌, ◌^◌, ◌<◌, ◌≤◌, Bool, List, [], ◌∷◌, ◌++◌, length, take, drop, refl, ap, arith, sym, ◌∙◌, subst, inl, inr, append-nil, Option, None, ℤ}
+use Rattle.rice_fast.proofs.Words.{list_all, cases_lt, length-take-le, take-append-drop, drop_at, mul-le-mul_left, Parameters, IsLegal, value_at, value_count, blocks_left, some_left, coding_steps}
+use Rattle.rice_fast.proofs.Words.{segment_steps, AreSoundBlocks, block_with, HasTaken, IsCoder, JoinsRun, held_blocks, reference_at, CoderState, IsOpen, HoldsSoundBlocks, IsWhole, state_after_all}
+use Rattle.rice_fast.proofs.Words.{state_between, held_len, open_between, short_of, steps_of_segment, HoldsMore, open_pushes, is_coder_after, length-state_after_all, state_after_all-none}
+use Rattle.rice_fast.proofs.Words.{HasRoomForBlock, HoldsOpen, IsAhead, PushesOpen, StandsAfter, StandsFor, StandsWith, coder_between, coder_with, whole_part, HasRoomAt, Standing, BlockCoder}
 use Rattle.std.specs.Prelude.{◌⊎◌, ◌==◌, true}
-use Rattle.std.specs.List.{list_all}
-use Rattle.std.proofs.lemmas.Bool.{cases_lt}
-use Rattle.std.proofs.lemmas.List.{length-take-le, take-append-drop, drop_at}
-use Rattle.std.proofs.Math.Nat.{mul-le-mul_left}
-use Rattle.rice_samples.specs.Parameters.{Parameters, IsLegal, value_at, value_count}
-use Rattle.rice_samples.specs.Places.{blocks_left}
-use Rattle.rice_samples.proofs.lemmas.setting.PlaceLemmas.{some_left}
-use Rattle.rice_code.specs.CoderSteps.{coding_steps, segment_steps}
-use Rattle.rice_code.specs.code.SoundBlocks.{AreSoundBlocks, block_with}
-use Rattle.rice_code.specs.encode.Coder.{HasTaken, IsCoder}
-use Rattle.rice_code.specs.encode.HeldBlocks.{JoinsRun, held_blocks, reference_at}
-use Rattle.rice_code.specs.encode.OpenSegment.{CoderState, IsOpen, HoldsSoundBlocks, IsWhole, state_after_all, state_between}
-use Rattle.rice_code.proofs.lemmas.encode.PendingRuns.{held_len}
-use Rattle.rice_code.proofs.lemmas.encode.PushedCode.{open_between, short_of, steps_of_segment}
-use Rattle.rice_code.proofs.lemmas.encode.PushedSamples.{HoldsMore, open_pushes, is_coder_after}
-use Rattle.rice_code.proofs.lemmas.encode.SeveralSamplesHeld.{length-state_after_all, state_after_all-none}
-use Rattle.rice_fast.specs.encode.OpenBlocks.{HasRoomForBlock, HoldsOpen, IsAhead, PushesOpen, StandsAfter, StandsFor, StandsWith, coder_between, coder_with, whole_part}
-use Rattle.rice_fast.specs.encode.Standing.{HasRoomAt, Standing}
-use Rattle.rice_fast.specs.declared.encode.coder.BlockCoder.{BlockCoder}
 use Rattle.rice_fast.proofs.lemmas.encode.CodeAhead.{IsNext, ahead_of_zero, ahead_with, none_ahead, nothing_ahead, other_reference, room_to_look, steps_are_few}
 use Rattle.rice_fast.proofs.lemmas.encode.HeldResiduals.{held_more, held_next, sound_after, blocks_are_sound}
 
@@ -321,6 +305,10 @@ stands_between {c} {sink} {meter} {m} h none =
 pub setting_of : {c : BlockCoder} {sink : List Bool} {meter : ℕ} {m : Standing} → StandsFor c sink meter m → m.coder.setting ≡ c.setting
 setting_of h = ap (λ (v : CoderState). v.setting) h.coder
 
+-- a block has at most 64 samples
+pub block_is_small : (s : Parameters) → IsLegal s → s.block ≤ 64
+block_is_small s legal = grind (arith, legal.block)
+
 -- Samples that leave the segment open are pushed, and nothing is put.
 pub pushes_nothing : {c : BlockCoder} {sink : List Bool} {meter : ℕ} {m : Standing} {xs : List ℤ} → StandsAfter c sink meter m xs → c.held < c.setting.block → c.blocks < c.end
     → (m_new : Standing) × StandsFor c sink meter m_new × PushesOpen m m_new xs 0
@@ -328,7 +316,7 @@ pushes_nothing {c} {sink} {meter} {m} {xs} h part less =
     let stands = h.stands in
     let holds = stands.holds in
     let s = c.setting in
-    let row : length (take c.held c.part) ≡ c.held = length-take-le c.held c.part (omega (arith, h.room, part, small s holds.opens.legal)) in
+    let row : length (take c.held c.part) ≡ c.held = length-take-le c.held c.part (omega (arith, h.room, part, block_is_small s holds.opens.legal)) in
     let short = still_open s.block c.blocks c.end c.held part less in
     let limit : m.coder.setting.block * blocks_left m.coder.setting m.coder.start ≡ s.block * c.end = ap (λ (v : CoderState). v.setting.block * blocks_left v.setting v.start) stands.coder
     ∙ ap (λ n. s.block * n) (sym holds.ends) in
@@ -354,16 +342,10 @@ pushes_nothing {c} {sink} {meter} {m} {xs} h part less =
       },
       record { pushes = pushes; whole = λ some. absurd (omega (arith, some)); buffered = λ none. refl },
     )
-  where
-    small : (s : Parameters) → IsLegal s → s.block ≤ 64
-    small s legal = grind (arith, legal.block)
 
 -- the residuals in the part
 pub part_counted : {c : BlockCoder} {sink : List Bool} {meter : ℕ} {m : Standing} {xs : List ℤ} → StandsAfter c sink meter m xs → length (take c.held c.part) ≡ c.held
 part_counted {c} h = let few = block_is_small c.setting h.stands.holds.opens.legal in length-take-le c.held c.part (omega (arith, h.room, h.held, few))
-  where
-    block_is_small : (s : Parameters) → IsLegal s → s.block ≤ 64
-    block_is_small s legal = grind (arith, legal.block)
 
 -- there is a step for the next sample
 pub step_for_one : {c : BlockCoder} {sink : List Bool} {meter : ℕ} {m : Standing} {xs : List ℤ} → StandsAfter c sink meter m xs → HasRoomAt m → c.held < c.setting.block → c.blocks < c.end

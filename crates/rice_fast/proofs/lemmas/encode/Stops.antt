@@ -1,23 +1,10 @@
 -- The search for the best split, from the first place on at which the sum of the residuals is small.
-use Rattle.std.proofs.Common.{◌≡◌, ℕ, zero, suc, ◌+◌, ◌-◌, ◌*◌, ◌/◌, ◌^◌, ◌<◌, ◌≤◌, ◌≢◌, List, [], ◌∷◌, ◌++◌, length}
-use Rattle.std.proofs.Common.{map, replicate, refl, ap, arith, sym, ◌∙◌, sum_by, All, true, false, ◌==◌, inl, inr, min, subst, get_or}
-use Rattle.std.specs.Prelude.{bit_or}
-use Rattle.std.specs.List.{list_all}
-use Rattle.std.proofs.lemmas.Bool.{cases_lt}
-use Rattle.std.proofs.lemmas.Bool.Decides.{nat_tests}
-use Rattle.std.proofs.lemmas.List.{length-map, map-append}
-use Rattle.std.proofs.lemmas.List.Elements.{All-nil, All-cons}
-use Rattle.std.proofs.lemmas.List.Folds.{sum_by-replicate}
-use Rattle.std.proofs.lemmas.List.Sums.{sum_by-append, sum_by-cons}
-use Rattle.std.proofs.lemmas.Nat.{le_or_l, leading_length, or_lt, pow-add, pow_pos}
-use Rattle.std.proofs.Math.Nat.{div-div-eq-div-mul, div-lt_iff_lt-mul, div-mul-le_self, mul-le-mul_right, pow-le-pow_right, zero-div}
-use lib.Count.{count_leading_zeros}
-use Rattle.rice_samples.specs.Parameters.{Parameters, k_max, value_count}
-use Rattle.rice_samples.proofs.lemmas.setting.BitsOfLanes.{byte_id, half_id, word_id}
-use Rattle.rice_samples.proofs.lemmas.blocks.FallingSums.{cut_sum, sum_halves}
+use Rattle.rice_fast.proofs.Words.{◌≡◌, ℕ, zero, suc, ◌+◌, ◌-◌, ◌*◌, ◌/◌, ◌^◌, ◌<◌, ◌≤◌, ◌≢◌, List, [], ◌∷◌, ◌++◌, length, map, replicate, refl, ap, arith, sym, ◌∙◌, sum_by, true, false, ◌==◌, inl}
+use Rattle.rice_fast.proofs.Words.{shr-shr, inr, min, subst, get_or, bit_or, list_all, cases_lt, nat_tests, length-map, map-append, All-nil, All-cons, sum_by-replicate, sum_by-append, sum_by-cons}
+use Rattle.rice_fast.proofs.Words.{le_or_l, leading_length, or_lt, pow-add, pow_pos, div-lt_iff_lt-mul, div-mul-le_self, mul-le-mul_right, pow-le-pow_right, zero-div, count_leading_zeros, Parameters}
+use Rattle.rice_fast.proofs.Words.{k_max, value_count, byte_id, half_id, word_id, cut_sum, sum_halves, with_zeros, IsFirstStop}
+use Rattle.std.proofs.Common.{All}
 use Rattle.rice_fast.proofs.lemmas.encode.LargeSums.{falls_more, large_falls, zeros_joined}
-use Rattle.rice_fast.specs.encode.HighParts.{with_zeros}
-use Rattle.rice_fast.specs.encode.Stops.{IsFirstStop}
 
 -- two numbers joined have as many digits as the longer one, and so the second fits as many
 pub zeros_above : (a b : ℕ) → 1 ≤ a → a < 2 ^ 64 → b < 2 ^ 64 → b < a * 2 ^ (count_leading_zeros 64 a - count_leading_zeros 64 (bit_or b a) + 1)
@@ -38,12 +25,9 @@ zeros_above a b some fits below =
     even (suc l) a some lt h = let e : 2 ^ (l + 1) ≡ 2 ^ l * 2 = pow-add 2 l 1 in let f : 2 ^ suc l ≡ 2 ^ (l + 1) = ap (λ n. 2 ^ n) (omega arith) in omega (arith, e, f, h)
 
 -- numbers without k digits, and without j more
-one_cut : (d k j : ℕ) → d / 2 ^ k / 2 ^ j ≡ d / 2 ^ (k + j)
-one_cut d k j = div-div-eq-div-mul d (2 ^ k) (2 ^ j) ∙ ap (λ p. d / p) (sym (pow-add 2 k j))
-
 cut_again : (k j : ℕ) (ds : List ℕ) → map (λ m. m / 2 ^ j) (map (λ d. d / 2 ^ k) ds) ≡ map (λ d. d / 2 ^ (k + j)) ds
 cut_again k j [] = refl
-cut_again k j (d ∷ ds) = λ i. one_cut d k j i ∷ cut_again k j ds i
+cut_again k j (d ∷ ds) = λ i. shr-shr d k j i ∷ cut_again k j ds i
 
 -- zeros without digits are zeros
 pub zeros_cut : (j n : ℕ) → map (λ m. m / 2 ^ j) (replicate n 0) ≡ replicate n 0
@@ -69,7 +53,7 @@ high_sum k j ds =
     all : (ds : List ℕ) → sum_by (λ m. m / 2 ^ j) (map (λ d. d / 2 ^ k) ds) ≡ cut_sum ds (k + j)
     all [] = refl
     all (d ∷ ds) = sum_by-cons (λ m. m / 2 ^ j) (d / 2 ^ k) (map (λ d. d / 2 ^ k) ds)
-        ∙ ((λ i. one_cut d k j i + all ds i) ∙ sym (sum_by-cons (λ d. d / 2 ^ (k + j)) d ds))
+        ∙ ((λ i. shr-shr d k j i + all ds i) ∙ sym (sum_by-cons (λ d. d / 2 ^ (k + j)) d ds))
 
 -- the sum without k digits, times 2^k, is at most the whole
 pub sum_times : (ds : List ℕ) (k : ℕ) → cut_sum ds k * 2 ^ k ≤ cut_sum ds 0
@@ -100,14 +84,13 @@ pub record BeginsAt (ds : List ℕ) (limit price first : ℕ) : Type 0 where
   pub small : first < limit → cut_sum ds first < length ds + 2 * price
 
 -- the first place, from which the search goes on
-pub begins : (ds : List ℕ) (limit price digits : ℕ) {first least : ℕ} → 0 < length ds → first ≡ min digits limit → least ≡ length ds + 2 * price
-    → cut_sum ds 0 < least * 2 ^ digits → ((j : ℕ) → j < digits → least * 2 ^ j ≤ cut_sum ds 0) → BeginsAt ds limit price first
-begins ds limit price digits {first} {least} some e f below above = record {
+pub begins : (ds : List ℕ) {limit price digits first whole : ℕ} → 8 ≤ length ds → first ≡ min digits limit → whole ≡ cut_sum ds 0
+    → whole < (length ds + 2 * price) * 2 ^ digits → ((j : ℕ) → j < digits → (length ds + 2 * price) * 2 ^ j ≤ whole) → BeginsAt ds limit price first
+begins ds {limit} {price} {digits} {first} {whole} some e is below above = record {
   within = omega (arith, e);
-  falls = λ j h. large_falls ds price j some (subst (λ n. n * 2 ^ j ≤ cut_sum ds 0) f (above j (omega (arith, e, h))));
-  small = λ h.
-      let at : digits ≡ first = omega (arith, e, h) in
-      subst (λ n. cut_sum ds first < n) f (sum_below ds first least (subst (λ k. cut_sum ds 0 < least * 2 ^ k) at below));
+  falls = λ j h. large_falls ds price j (omega (arith, some)) (omega (arith, is, above j (omega (arith, e, h))));
+  small = λ h. let at : digits ≡ first = omega (arith, e, h) in
+      sum_below ds first (length ds + 2 * price) (subst (λ k. cut_sum ds 0 < (length ds + 2 * price) * 2 ^ k) at (omega (arith, is, below)));
 }
 
 -- there all numbers without these digits are bytes
@@ -119,17 +102,12 @@ begins_in_bytes ds {limit} {price} {first} few cheap narrow h = elim (cases_lt f
       λ i d lt. let one = narrow i d lt in let same = ap (λ k. get_or ds i d / 2 ^ k) at in omega (arith, one, same)
 ]
 
--- it stops there,
-pub stops_at_once : (ds : List ℕ) {limit price first sum : ℕ} → BeginsAt ds limit price first → sum ≡ cut_sum ds first → (first < limit → cut_sum ds first ≤ cut_sum ds (first + 1) + price)
-    → IsFirstStop ds limit price first sum
-stops_at_once ds h value stops = record { limit = h.within; value = value; falls = h.falls; stops = stops }
-
 -- where it goes on there, each digit so far takes enough off
 goes_on : (ds : List ℕ) {limit price first : ℕ} → BeginsAt ds limit price first → first < limit → cut_sum ds (first + 1) + price < cut_sum ds first
     → (j : ℕ) → j < first + 1 → cut_sum ds (j + 1) + price < cut_sum ds j
 goes_on ds {limit} {price} {first} h lt more = falls_more ds price first h.falls more
 
--- after one digit more
+-- it stops after one digit more
 pub stops_after_one : (ds : List ℕ) {limit price first sum : ℕ} → BeginsAt ds limit price first → first < limit → cut_sum ds (first + 1) + price < cut_sum ds first → sum ≡ cut_sum ds (first + 1)
     → (first + 1 < limit → cut_sum ds (first + 1) ≤ cut_sum ds (first + 2) + price) → IsFirstStop ds limit price (first + 1) sum
 stops_after_one ds {limit} {price} {first} h lt more value stops = record {
@@ -174,33 +152,23 @@ summed ds k {high} e a b c =
     let here : k + 0 ≡ k = omega arith in
     record { first = a ∙ (all 0 ∙ ap (cut_sum ds) here); next = b ∙ all 1; last = c ∙ all 2 }
 
--- samples have at most three bits more than the last split takes
-pub bits_of_last_split : (s : Parameters) → s.bits ≤ 32 → s.bits ≤ k_max s + 3
-bits_of_last_split s most = elim (cases_lt 8 s.bits) [
+-- there is a split beside that of no digits, and samples have at most three bits more than the last split takes
+pub last_split : (s : Parameters) → (1 ≤ k_max s) × (s.bits ≤ 32 → s.bits ≤ k_max s + 3)
+last_split s = elim (cases_lt 8 s.bits) [
   | inl more ↦ elim (cases_lt 16 s.bits) [
-    | inl wide ↦ let k : k_max s ≡ 29 = ap (λ n. 2 ^ n - 3) (word_id s wide) in omega (arith, k, most)
-    | inr few ↦ let k : k_max s ≡ 13 = ap (λ n. 2 ^ n - 3) (half_id s more few) in omega (arith, k, few)
+    | inl wide ↦ let k : k_max s ≡ 29 = ap (λ n. 2 ^ n - 3) (word_id s wide) in (omega (arith, k), λ most. omega (arith, k, most))
+    | inr few ↦ let k : k_max s ≡ 13 = ap (λ n. 2 ^ n - 3) (half_id s more few) in (omega (arith, k), λ most. omega (arith, k, few))
   ]
-  | inr few ↦ let k : k_max s ≡ 5 = ap (λ n. 2 ^ n - 3) (byte_id s few) in omega (arith, k, few)
+  | inr few ↦ let k : k_max s ≡ 5 = ap (λ n. 2 ^ n - 3) (byte_id s few) in (omega (arith, k), λ most. omega (arith, k, few))
 ]
 
 -- so without its digits residuals have three digits at most
 pub last_split_is_small : (s : Parameters) (ds : List ℕ) {limit : ℕ} → s.bits ≤ 32 → limit ≡ k_max s → All (λ d. d < value_count s) ds → All (λ d. d / 2 ^ limit < 2 ^ 3) ds
 last_split_is_small s ds {limit} most e h = λ i d lt.
     let all : 2 ^ (limit + 3) ≡ 2 ^ 3 * 2 ^ limit = pow-add 2 limit 3 ∙ omega arith in
-    let le : 2 ^ s.bits ≤ 2 ^ (limit + 3) = pow-le-pow_right {n = 2} (omega arith) {i = s.bits} {j = limit + 3} (omega (arith, e, bits_of_last_split s most)) in
+    let le : 2 ^ s.bits ≤ 2 ^ (limit + 3) = pow-le-pow_right {n = 2} (omega arith) {i = s.bits} {j = limit + 3} (omega (arith, e, (last_split s).1 most)) in
     let one = h i d lt in
     (div-lt_iff_lt-mul (pow_pos limit)).1 (omega (arith, one, le, all))
-
--- there is a split beside that of no digits
-pub last_split : (s : Parameters) → 1 ≤ s.bits → 1 ≤ k_max s
-last_split s some = elim (cases_lt 8 s.bits) [
-  | inl more ↦ elim (cases_lt 16 s.bits) [
-    | inl wide ↦ let k : k_max s ≡ 29 = ap (λ n. 2 ^ n - 3) (word_id s wide) in omega (arith, k)
-    | inr few ↦ let k : k_max s ≡ 13 = ap (λ n. 2 ^ n - 3) (half_id s more few) in omega (arith, k)
-  ]
-  | inr few ↦ let k : k_max s ≡ 5 = ap (λ n. 2 ^ n - 3) (byte_id s few) in omega (arith, k)
-]
 
 -- where the sum is 0, all residuals are
 pub zero_block : (ds : List ℕ) → cut_sum ds 0 ≡ 0 → list_all (λ d. d == 0) ds ≡ true

@@ -1,16 +1,7 @@
 -- Samples that bytes spell, one piece after another.
-use Rattle.std.proofs.Common.{◌≡◌, ◌≢◌, ℕ, ◌+◌, ◌-◌, ◌*◌, ◌^◌, ◌<◌, ◌≤◌, List, [], ◌∷◌, ◌++◌, length, take, drop, ℤ}
-use Rattle.std.proofs.Common.{refl, ap, arith, sym, ◌∙◌, subst, append_assoc, append-nil}
-use Rattle.std.proofs.lemmas.Bool.Decides.{nat_tests}
-use Rattle.std.proofs.lemmas.List.{take-append-drop, take_at, drop-drop}
-use Rattle.std.proofs.lemmas.List.Elements.{All-append, All-from_recursion, recursion_from_All}
-use Rattle.rice_samples.specs.Parameters.{Parameters, IsLegal, IsSample, width}
-use Rattle.rice_samples.specs.bytes.Spelling.{IsNoSpelling, Reads, ordered_bytes, spelling, spellings}
-use Rattle.rice_samples.specs.bytes.ValueRange.{IsValue}
-use Rattle.rice_samples.specs.predict.Residuals.{twos_complement}
-use Rattle.rice_samples.proofs.lemmas.bytes.SpellingLemmas.{level_spelled, wider_value}
-use Rattle.rice_samples.proofs.lemmas.bytes.SpellingLengths.{length-spelling, length-spellings, some_width, spellings-append}
-use Rattle.rice_samples.proofs.lemmas.setting.LevelsOfSamples.{pattern_fits, same_level}
+use Rattle.rice_fast.proofs.Words.{◌≡◌, ◌≢◌, ℕ, ◌+◌, ◌-◌, ◌*◌, ◌^◌, ◌<◌, ◌≤◌, List, [], ◌∷◌, ◌++◌, length, take, drop, ℤ, refl, ap, arith, sym, ◌∙◌, subst, append_assoc, append-nil, nat_tests}
+use Rattle.rice_fast.proofs.Words.{take-append-drop, take_at, drop-drop, All-append, All-from_recursion, recursion_from_All, Parameters, IsLegal, IsSample, width, IsNoSpelling, Reads, ordered_bytes}
+use Rattle.rice_fast.proofs.Words.{spelling, spellings, IsValue, twos_complement, level_spelled, wider_value, length-spelling, length-spellings, some_width, spellings-append, pattern_fits, same_level}
 
 -- one spelling is of one sample
 pub one_sample : (s : Parameters) (x y : ℤ) → IsLegal s → IsSample s x → IsSample s y → spelling s x ≡ spelling s y → x ≡ y

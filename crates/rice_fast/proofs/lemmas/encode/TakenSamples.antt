@@ -1,43 +1,13 @@
 -- What the fast coder stands for when it takes a sample, or the samples of a block.
-use Rattle.std.proofs.Common.{◌≡◌, ℕ, zero, suc, ◌+◌, ◌*◌, ◌<◌, ◌≤◌, ◌==◌, Bool, true, false, cond, ◌&&◌, List, [], ◌∷◌, ◌++◌, length, take, drop}
-use Rattle.std.proofs.Common.{refl, ap, arith, sym, ◌∙◌, subst, inl, inr, length-append, Option, Some, IfSome, ℤ}
-use Rattle.std.specs.Prelude.{◌⊎◌, slice_set}
-use Rattle.std.specs.List.{AllByRecursion}
-use Rattle.std.proofs.lemmas.Bool.Decides.{nat_tests}
-use Rattle.std.proofs.lemmas.List.{length-take-le, take_at}
-use Rattle.std.proofs.lemmas.List.Elements.{recursion_from_All}
-use Rattle.std.proofs.Math.Nat.{mul-le-mul_left}
-use Rattle.rice_samples.specs.Parameters.{Parameters, IsLegal, IsSample, value_at, value_count, width}
-use Rattle.rice_samples.specs.predict.Residuals.{pattern, rank, last_of}
-use Rattle.rice_samples.proofs.lemmas.setting.LevelsOfSamples.{pattern_fits}
-use Rattle.rice_samples.proofs.lemmas.setting.ValuesAboveLeast.{sample_at}
-use Rattle.rice_code.specs.encode.OpenSegment.{CoderState, is_first, later_residuals, next_reference, next_residual, state_after, state_after_all, state_with_later}
-use Rattle.rice_code.proofs.lemmas.code.SoundBlocks.{all_append}
-use Rattle.rice_code.proofs.lemmas.encode.SeveralSamplesHeld.{length-later, state_after_all-snoc, state_after_all-first}
-use Rattle.rice_code.proofs.lemmas.meaning.CoveredBlocks.{bool_cases, and-split}
-use Rattle.rice_fast.specs.encode.OpenBlocks.{HoldsOpen, IsBefore, StandsAfter, StandsWith, coder_with, is_at_first}
-use Rattle.rice_fast.specs.encode.Standing.{HasResidualsOf, Standing}
-use Rattle.rice_fast.specs.declared.encode.coder.BlockCoder.{BlockCoder}
-use Rattle.rice_fast.proofs.lemmas.encode.HeldResiduals.{is_empty-by_counts, state_after_all-append}
-use Rattle.rice_fast.proofs.lemmas.encode.StandingCoders.{noted_reference, other_part}
-use Rattle.rice_fast.proofs.lemmas.encode.TakenBytes.{first_of_samples, samples_counted}
-
--- a list with one element written after its front
-take_written : (n : ℕ) (xs : List ℕ) (x : ℕ) → n < length xs → take (n + 1) (slice_set xs n x) ≡ take n xs ++ x ∷ []
-take_written n [] x h = absurd (omega arith)
-take_written zero (y ∷ ys) x h = refl
-take_written (suc n) (y ∷ ys) x h = let e : suc n + 1 ≡ suc (n + 1) = omega arith in
-    ap (λ m. take m (slice_set (y ∷ ys) (suc n) x)) e ∙ ap (λ v. y ∷ v) (take_written n ys x (omega arith))
-
-length-written : (n : ℕ) (xs : List ℕ) (x : ℕ) → length (slice_set xs n x) ≡ length xs
-length-written n [] x = refl
-length-written zero (y ∷ ys) x = refl
-length-written (suc n) (y ∷ ys) x = ap (λ m. suc m) (length-written n ys x)
-
-drop_front : (n : ℕ) (xs ys : List ℕ) → n ≤ length xs → drop n (xs ++ ys) ≡ drop n xs ++ ys
-drop_front zero xs ys h = refl
-drop_front (suc n) [] ys h = absurd (omega arith)
-drop_front (suc n) (x ∷ xs) ys h = drop_front n xs ys (omega arith)
+use Rattle.rice_fast.proofs.Words.{◌≡◌, ℕ, ◌+◌, ◌*◌, ◌<◌, ◌≤◌, ◌==◌, Bool, true, false, cond, ◌&&◌, List, [], ◌∷◌, ◌++◌, length, take, drop, refl, ap, arith, sym, ◌∙◌, subst, inl, inr, drop-append-le}
+use Rattle.rice_fast.proofs.Words.{take_more_set, length-set, length-append, Option, Some, ℤ, slice_set, AllByRecursion, nat_tests, length-take-le, take_at, recursion_from_All, mul-le-mul_left}
+use Rattle.rice_fast.proofs.Words.{IsLegal, IsSample, value_at, value_count, width, pattern, rank, last_of, pattern_fits, sample_at, CoderState, is_first, later_residuals, next_reference}
+use Rattle.rice_fast.proofs.Words.{next_residual, state_after, state_after_all, state_with_later, all_append, length-later, state_after_all-snoc, state_after_all-first, bool_cases, and-split}
+use Rattle.rice_fast.proofs.Words.{HoldsOpen, IsBefore, StandsAfter, StandsWith, coder_with, is_at_first, HasResidualsOf, Standing, BlockCoder}
+use Rattle.std.proofs.Common.{IfSome}
+use Rattle.std.specs.Prelude.{◌⊎◌}
+use Rattle.rice_fast.proofs.lemmas.encode.StandingCoders.{block_is_small, noted_reference, other_part}
+use Rattle.rice_fast.proofs.lemmas.{encode.HeldResiduals.is_empty-by_counts, encode.HeldResiduals.state_after_all-append, encode.TakenBytes.first_of_samples, encode.TakenBytes.samples_counted}
 
 -- the coder after a reference, if one is noted, and the level of the last sample
 abbrev pub with_last : BlockCoder → Option ℕ → ℕ → BlockCoder
@@ -90,7 +60,7 @@ more_held {c} {row} {sink} {meter} {ds} {from} {m} reference level es h more =
       below = more.below;
       number = omega (arith, lens, rows, h.number);
       fits = omega (arith, rows, more.room);
-      part = drop_front (s.block * c.blocks) ds es (omega (arith, h.number)) ∙ ap (λ v. v ++ es) h.part;
+      part = drop-append-le (s.block * c.blocks) ds es (omega (arith, h.number)) ∙ ap (λ v. v ++ es) h.part;
       steps_ahead = omega (arith, h.steps_ahead);
       ahead = noted_reference reference c.blocks ds es (omega (arith, h.number)) more.noted h.ahead;
     }
@@ -128,9 +98,6 @@ pub record HoldsOne (c : BlockCoder) (x : ℤ) (residual : ℕ) (reference : Opt
   pub below : level < value_count c.setting
   pub level_is : value_at c.setting level ≡ x
 
-small : (s : Parameters) → IsLegal s → s.block ≤ 64
-small s legal = grind (arith, legal.block)
-
 -- a sample is held
 pub one_held : {c : BlockCoder} {sink : List Bool} {meter : ℕ} {m : Standing} {xs : List ℤ} {x : ℤ} {residual : ℕ} {reference : Option ℕ} {level : ℕ} → StandsAfter c sink meter m xs
     → HoldsOne c x residual reference level
@@ -140,9 +107,9 @@ one_held {c} {sink} {meter} {m} {xs} {x} {residual} {reference} {level} h one =
     let stands = h.stands in
     let ds = stands.residuals in
     let legal = stands.holds.opens.legal in
-    let within : c.held < length c.part = omega (arith, h.room, one.room, small s legal) in
+    let within : c.held < length c.part = omega (arith, h.room, one.room, block_is_small s legal) in
     let row : length (take c.held c.part) ≡ c.held = length-take-le c.held c.part (omega (arith, within)) in
-    let written = take_written c.held c.part residual within in
+    let written = take_more_set c.part c.held residual within in
     let noted = noted_fits c reference x legal one.sample stands.holds.opens.reference one.reference_is in
     let first = same_first stands.holds row in
     let d : residual ≡ next_residual (coder_with c ds) x = one.residual_is ∙ ap (λ v. cond s.preprocess (cond v 0 (rank s (value_at s c.previous) x)) (pattern s x)) (sym first) in
@@ -160,7 +127,7 @@ one_held {c} {sink} {meter} {m} {xs} {x} {residual} {reference} {level} h one =
     state_after_all-snoc m.coder xs x ∙ (ap (λ v. state_after v x) stands.coder
     ∙ λ i. record { setting = s; residuals = ds ++ sym d i ∷ []; reference = sym r i; previous = sym one.level_is i; start = c.start }) in
     record {
-      room = length-written c.held c.part residual ∙ h.room;
+      room = length-set c.part c.held residual ∙ h.room;
       held = omega (arith, one.room);
       stands = record {
         coded = stands.coded;

@@ -1,8 +1,5 @@
 -- The last of some numbers, and samples of two bytes.
-use Rattle.std.proofs.Common.{◌≡◌, ℕ, zero, suc, ◌<◌, ◌≤◌, List, [], ◌∷◌, get_or, length, refl, arith}
-use Rattle.std.proofs.lemmas.Bool.Decides.{nat_tests}
-use Rattle.rice_samples.specs.Parameters.{Parameters, width}
-use Rattle.rice_samples.specs.predict.Residuals.{last_number}
+use Rattle.rice_fast.proofs.Words.{◌≡◌, ℕ, zero, suc, ◌<◌, ◌≤◌, List, [], ◌∷◌, get_or, length, refl, arith, nat_tests, Parameters, width, last_number}
 
 -- the last of so many numbers
 pub last_is : (p n : ℕ) (xs : List ℕ) → length xs ≡ suc n → last_number p xs ≡ get_or xs n 0

@@ -1,7 +1,6 @@
 -- Numbers joined of high parts and low parts, in lanes of 8 bits.
-use Rattle.std.proofs.Common.{◌≡◌, ℕ, zero, suc, ◌+◌, ◌*◌, ◌/◌, ◌%◌, ◌^◌, ◌<◌, ◌≤◌, List, [], ◌∷◌, length, map, replicate, refl, ◌∙◌, ap, arith, Fits, w8}
-use Rattle.std.specs.Prelude.{All}
-use Rattle.std.specs.Simd.Lanes.{Each1, digits_l, number_l, zip2}
+use Rattle.rice_fast.proofs.Words.{◌≡◌, ℕ, zero, suc, ◌+◌, ◌*◌, ◌/◌, ◌%◌, ◌^◌, ◌<◌, ◌≤◌, List, [], ◌∷◌, length, map, replicate, refl, ◌∙◌, ap, arith, Fits, w8, All, Each1, digits_l, number_l, zip2}
+use Rattle.rice_fast.proofs.lemmas.vectors.NumbersInLanes.{each_of}
 
 -- bytes as pairs, and back
 
@@ -80,10 +79,6 @@ length-shifted w (suc n) [] e = absurd (omega arith)
 length-shifted w (suc n) (a ∷ []) e = absurd (omega arith)
 length-shifted w (suc n) (a ∷ b ∷ ms) e = omega (arith, length-shifted w n ms (omega arith))
 
-each_of : (P : ℕ → Type 0) (xs : List ℕ) → All P xs → Each1 P xs
-each_of P [] h = tt
-each_of P (x ∷ xs) h = (h 0 0 (omega arith), each_of P xs (λ k d lt. h (suc k) d (omega (arith, lt))))
-
 -- sixteen bytes, moved up in lanes of 16 bits two at a time, are each moved up, where all are so small that they stay within their bytes
 pub highs-raised : (w : ℕ) (ms : List ℕ) → w ≤ 7 → length ms ≡ 16 → Each1 (Fits w8) ms → All (λ m. m ≤ 255 / 2 ^ w) ms
     → digits_l 256 16 (number_l 65536 (zip2 (λ c s. c * 2 ^ s % 65536) (digits_l 65536 8 (number_l 256 ms)) (replicate 8 w))) ≡ map (λ m. m * 2 ^ w) ms
@@ -91,5 +86,3 @@ highs-raised w ms h e fits small =
     ap (λ cs. digits_l 256 16 (number_l 65536 (shifted w 8 cs))) (pairs_of 8 ms e fits)
     ∙ (bytes_of 8 (shifted w 8 (paired ms)) (length-shifted w 8 ms e) (shifted_below w 8 (paired ms))
     ∙ all_pairs w 8 ms h e (each_of (λ m. m ≤ 255 / 2 ^ w) ms small))
-
--- parts are joined

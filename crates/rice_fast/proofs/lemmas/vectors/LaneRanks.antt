@@ -1,13 +1,10 @@
 -- Ranks in the lanes of vectors.
-use Rattle.std.proofs.Common.{◌≡◌, ℕ, zero, suc, ◌+◌, ◌-◌, ◌≤◌, List, [], ◌∷◌, ◌++◌, get_or, take, drop, length, refl, ap, arith, sym, ◌∙◌}
-use Rattle.std.specs.Prelude.{slice_range}
-use Rattle.std.specs.List.{range_with_len}
-use Rattle.std.specs.Simd.Lanes.{pick_l}
-use Rattle.std.proofs.lemmas.List.{length-append, length-drop, length-take-le}
-use Rattle.std.proofs.lemmas.Simd.{pick_l-range_with_len}
-use Rattle.rice_samples.specs.predict.Residuals.{ranks_below, last_number}
+use Rattle.rice_fast.proofs.Words.{◌≡◌, ℕ, zero, suc, ◌+◌, ◌-◌, ◌≤◌, List, [], ◌∷◌, ◌++◌, get_or, take, drop, length, refl, ap, arith, sym, ◌∙◌, slice_range, range_with_len, pick_l, length-drop}
+use Rattle.rice_fast.proofs.Words.{length-take-le, pick_l-range_with_len, ranks_below, last_number}
+use Rattle.std.proofs.lemmas.List.{length-append}
 
-last-append : (p : ℕ) (xs ys : List ℕ) → last_number p (xs ++ ys) ≡ last_number (last_number p xs) ys
+-- the last of two rows of numbers is the last of the second, or if it has none the last of the first
+pub last-append : (p : ℕ) (xs ys : List ℕ) → last_number p (xs ++ ys) ≡ last_number (last_number p xs) ys
 last-append p [] ys = refl
 last-append p (x ∷ xs) ys = last-append x xs ys
 

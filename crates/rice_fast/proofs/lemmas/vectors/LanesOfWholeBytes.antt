@@ -1,23 +1,10 @@
 -- Words of whole bytes in lanes, and the samples that have them as patterns.
-use Rattle.std.proofs.Common.{◌≡◌, ℕ, zero, suc, ◌+◌, ◌*◌, ◌^◌, ◌<◌, ◌≤◌, ◌⊎◌, inl, inr, Bool, true, false, List}
-use Rattle.std.proofs.Common.{[], ◌∷◌, ◌++◌, length, map, take, drop, not, refl, sym, ◌∙◌, ap, arith, subst, length-append, ℤ}
-use Rattle.std.specs.Prelude.{All, flat_map}
-use Rattle.std.specs.Int.{bytes_high_first}
-use Rattle.std.specs.Simd.Lanes.{Each1, digits_l, number_l}
-use Rattle.std.proofs.Math.Seq.{take-add}
-use Rattle.std.proofs.lemmas.Grind.{flat_map-append}
-use Rattle.std.proofs.lemmas.List.{length-drop, length-take-le, take_all}
-use Rattle.std.proofs.lemmas.List.Elements.{All-append, All-cons, All-drop, All-nil, All-take}
-use Rattle.std.proofs.lemmas.Simd.{pick_l_whole}
-use Rattle.rice_bits.specs.Bits.{bits_of, word}
-use Rattle.rice_bits.proofs.lemmas.bits.EightBytes.{bits_of-high_first, pow_bytes}
-use Rattle.rice_samples.specs.Parameters.{Parameters, IsSample, value_count, width}
-use Rattle.rice_samples.specs.predict.Residuals.{pattern, twos_complement}
-use Rattle.rice_samples.specs.bytes.PatternLanes.{OrdersWords, in_order, words_in_order}
-use Rattle.rice_samples.specs.bytes.Spelling.{spelling, spellings, ordered_bytes}
+use Rattle.rice_fast.proofs.Words.{◌≡◌, ℕ, zero, suc, ◌+◌, ◌*◌, ◌^◌, ◌<◌, ◌≤◌, ◌⊎◌, inl, inr, Bool, true, false, List, [], ◌∷◌, ◌++◌, length, map, take, drop, not, refl, sym, ◌∙◌, ap, arith, subst}
+use Rattle.rice_fast.proofs.Words.{length-append, ℤ, All, flat_map, bytes_high_first, digits_l, number_l, take-add, flat_map-append, length-drop, length-take-le, take_all, All-append, All-cons}
+use Rattle.rice_fast.proofs.Words.{All-drop, All-nil, All-take, pick_l_whole, bits_of, word, bits_of-high_first, pow_bytes, Parameters, IsSample, value_count, width, pattern, twos_complement}
+use Rattle.rice_fast.proofs.Words.{OrdersWords, in_order, words_in_order, spelling, spellings, ordered_bytes, has_pattern}
 use Rattle.rice_fast.proofs.lemmas.vectors.WordsOfBytes.{fit-in_order, length-in_order, words_read}
-use Rattle.rice_fast.proofs.lemmas.vectors.LevelsSpelledInByteLanes.{length-digits}
-use Rattle.rice_samples.proofs.lemmas.predict.InverseRanksAndPatterns.{has_pattern}
+use Rattle.rice_fast.proofs.lemmas.{vectors.NumbersInLanes.all_of, vectors.LevelsSpelledInByteLanes.length-digits}
 
 -- words whose bytes stay in their order
 kept : (w n : ℕ) (bs : List ℕ) → words_in_order false w 0 n bs ≡ take (n * w) bs
@@ -47,10 +34,6 @@ unfolding bits_of
 bits_of_words w [] = refl
 bits_of_words w (v ∷ vs) =
     (λ j. sym (bits_of-high_first w v) j ++ bits_of_words w vs j) ∙ sym (flat_map-append (word 8) (bytes_high_first w v) (flat_map (bytes_high_first w) vs))
-
-all_of : (P : ℕ → Type 0) (vs : List ℕ) → Each1 P vs → All P vs
-all_of P [] h = All-nil P
-all_of P (v ∷ vs) h = All-cons P v vs h.0 (all_of P vs h.1)
 
 -- the bytes of words, the most significant first, and the bytes of these words in an order
 pub words_ordered : (msb : Bool) (w n : ℕ) (bs : List ℕ) → length bs ≡ n * w → All (λ v. v < 2 ^ 8) bs → OrdersWords msb w bs (words_in_order (not msb) w 0 n bs)

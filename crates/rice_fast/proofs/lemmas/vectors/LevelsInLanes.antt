@@ -1,22 +1,10 @@
 -- Levels in lanes: of the values that words spell, and to their patterns.
-use Rattle.std.proofs.Common.{◌≡◌, ℕ, zero, suc, ◌+◌, ◌-◌, ◌*◌, ◌%◌, ◌^◌, ◌<◌, ◌≤◌, inl, inr, mod-eq_of_lt, Bool, true, false, cond}
-use Rattle.std.proofs.Common.{List, [], ◌∷◌, ◌++◌, get_or, length, map, replicate, drop, take, refl, sym, subst, ◌∙◌, ap, arith, pos, negsuc, neg_ℤ, ◌+ℤ◌}
-use Rattle.std.specs.Prelude.{All, bit_and, flat_map}
-use Rattle.std.specs.Simd.Lanes.{Each1, digits_l, number_l, zip2}
-use Rattle.std.proofs.lemmas.Grind.{flat_map-append}
-use Rattle.std.proofs.lemmas.List.{drop-drop, length-drop, length-take-le, take-append-drop, take-take, take_all}
-use Rattle.std.proofs.lemmas.List.Elements.{All-drop, All-from_get_or, All-take}
-use Rattle.std.proofs.lemmas.Int.{ints}
-use Rattle.std.proofs.lemmas.Nat.{and_mask, pow_pos}
-use Rattle.std.proofs.Math.Pow.{mod-mod-pow, pow_mono}
-use Rattle.rice_samples.specs.Parameters.{Parameters, value_at, value_count, values_at, width}
-use Rattle.rice_samples.specs.predict.Residuals.{pattern, twos_complement}
-use Rattle.rice_samples.specs.bytes.PatternLanes.{words_in_order}
-use Rattle.rice_samples.specs.bytes.Spelling.{ordered_bytes, spelling, spellings}
-use Rattle.rice_samples.specs.bytes.ValueRange.{offset}
-use Rattle.rice_samples.proofs.lemmas.bytes.LevelPatterns.{word_in_lane}
-use Rattle.rice_samples.proofs.lemmas.bytes.SpellingLemmas.{mod_once}
-use Rattle.rice_samples.proofs.lemmas.setting.LevelsOfSamples.{half_pow}
+use Rattle.rice_fast.proofs.Words.{◌≡◌, ℕ, zero, suc, ◌+◌, ◌-◌, ◌*◌, ◌%◌, ◌^◌, ◌<◌, ◌≤◌, inl, inr, Bool, true, false, cond, List, [], ◌∷◌, ◌++◌, get_or, length, map, replicate, drop, take, refl, sym}
+use Rattle.rice_fast.proofs.Words.{subst, ◌∙◌, ap, arith, pos, negsuc, neg_ℤ, ◌+ℤ◌, All, bit_and, flat_map, Each1, digits_l, number_l, zip2, flat_map-append, drop-drop, length-drop, length-take-le}
+use Rattle.rice_fast.proofs.Words.{take-append-drop, take_all, All-drop, All-from_get_or, All-take, ints, and_mask, pow_pos, mod-mod-pow, pow_mono, Parameters, value_at, value_count, values_at, width}
+use Rattle.rice_fast.proofs.Words.{pattern, twos_complement, words_in_order, ordered_bytes, spelling, spellings, offset, word_in_lane, mod_once, half_pow}
+use Rattle.std.proofs.Common.{mod-eq_of_lt}
+use Rattle.std.proofs.lemmas.List.{take-take}
 use Rattle.rice_fast.proofs.lemmas.vectors.WordsOfBytes.{AreWords, words_read}
 
 -- the level that is read from a word tells the word, also where it is not legal

@@ -1,20 +1,9 @@
 -- Samples that are spelled in lanes, of any number of bytes.
-use Rattle.std.proofs.Common.{◌≡◌, ℕ, zero, suc, ◌+◌, ◌-◌, ◌*◌, ◌/◌, ◌%◌, ◌^◌, ◌<◌, ◌≤◌, Bool, true, false, List, [], ◌∷◌, ◌++◌, length, take, replicate, refl, sym, ◌∙◌, ap, arith, append-nil}
-use Rattle.std.specs.Prelude.{All, flat_map}
-use Rattle.std.specs.Simd.Lanes.{Each1, digits_l, number_l, pick_l, zip2}
-use Rattle.std.proofs.Math.Nat.{div-add-mod, mod-lt, pow-suc}
-use Rattle.std.proofs.lemmas.Bool.Decides.{nat_tests}
-use Rattle.std.proofs.lemmas.List.{drop_at, length-replicate, take_at}
-use Rattle.std.proofs.lemmas.Simd.{length-zip2, pick_l_whole}
-use Rattle.rice_bits.proofs.lemmas.bits.EightBytes.{pow_bytes}
-use Rattle.rice_samples.specs.Parameters.{Parameters, IsLegal, value_at, value_count, values_at, width}
-use Rattle.rice_samples.specs.predict.Residuals.{twos_complement}
-use Rattle.rice_samples.specs.bytes.PatternLanes.{in_order, words_in_order}
-use Rattle.rice_samples.specs.bytes.Spelling.{ordered_bytes, spelling, spellings}
-use Rattle.rice_samples.specs.bytes.ValueRange.{offset}
-use Rattle.rice_samples.proofs.lemmas.bytes.BytesOfWords.{bytes_are_digits}
+use Rattle.rice_fast.proofs.Words.{◌≡◌, ℕ, zero, suc, ◌+◌, ◌-◌, ◌*◌, ◌/◌, ◌%◌, ◌^◌, ◌<◌, ◌≤◌, Bool, true, false, List, [], ◌∷◌, ◌++◌, length, take, replicate, refl, sym, ◌∙◌, ap, arith, append-nil}
+use Rattle.rice_fast.proofs.Words.{All, flat_map, Each1, digits_l, number_l, pick_l, zip2, div-add-mod, mod-lt, pow-suc, nat_tests, drop_at, length-replicate, take_at, length-zip2, pick_l_whole}
+use Rattle.rice_fast.proofs.Words.{pow_bytes, Parameters, IsLegal, value_at, value_count, values_at, width, twos_complement, in_order, words_in_order, ordered_bytes, spelling, spellings, offset}
+use Rattle.rice_fast.proofs.Words.{bytes_are_digits, word_in_lane}
 use Rattle.rice_fast.proofs.lemmas.vectors.WordsOfBytes.{pow_some}
-use Rattle.rice_samples.proofs.lemmas.bytes.LevelPatterns.{word_in_lane}
 
 -- samples of at most 8 bits have a byte each
 pub one_byte : (s : Parameters) → s.bits ≤ 8 → width s ≡ 1

@@ -1,11 +1,6 @@
 -- Near numbers, eight at a time; `near_ranks` holds for any number of them.
-use Rattle.std.proofs.Common.{◌≡◌, ℕ, zero, suc, ◌+◌, ◌-◌, ◌*◌, ◌/◌, ◌%◌, ◌<◌, ◌≤◌, min, max, cond}
-use Rattle.std.proofs.Common.{List, [], ◌∷◌, map, length, take, refl, sym, ◌∙◌, ap, subst, arith, nat_lt, ◌==◌}
-use Rattle.std.specs.Simd.Lanes.{zip2, Each1, Each2, sel_l}
-use Rattle.std.proofs.lemmas.Bool.Decides.{nat_tests}
-use Rattle.std.proofs.Math.Nat.{mod-eq_of_lt, add-mod_right}
-use Rattle.rice_samples.specs.predict.Residuals.{rank_below, ranks_below}
-use Rattle.rice_samples.specs.predict.NearNumbers.{way, near_numbers, reach, bound}
+use Rattle.rice_fast.proofs.Words.{◌≡◌, ℕ, zero, suc, ◌+◌, ◌-◌, ◌*◌, ◌/◌, ◌%◌, ◌<◌, ◌≤◌, min, max, cond, List, [], ◌∷◌, map, length, take, refl, sym, ◌∙◌, ap, subst, arith, nat_lt, ◌==◌, zip2, Each1}
+use Rattle.rice_fast.proofs.Words.{Each2, sel_l, nat_tests, mod-eq_of_lt, add-mod_right, rank_below, ranks_below, way, near_numbers, reach, bound}
 
 -- there are as many near numbers as ranks
 pub length-near_numbers : (m p : ℕ) (ds : List ℕ) → length (near_numbers m p ds) ≡ length ds

@@ -1,17 +1,8 @@
 -- Near numbers in lanes.
-use Rattle.std.proofs.Common.{◌≡◌, ℕ, zero, suc, ◌+◌, ◌-◌, ◌*◌, ◌/◌, ◌%◌, ◌^◌, ◌<◌, ◌≤◌, min, List, [], ◌∷◌, map, length, get_or, take, replicate, refl, sym, ◌∙◌, ap, subst, arith}
-use Rattle.std.specs.Prelude.{All, bit_and, bit_or}
-use Rattle.std.specs.Int.Bits.{bit_xor}
-use Rattle.std.specs.Simd.Lanes.{Each1, zip2}
-use Rattle.rice_fast.proofs.lemmas.vectors.OneVector.{zeros_below, each_zero}
-use Rattle.std.proofs.lemmas.List.{get_or-replicate}
-use Rattle.rice_samples.specs.predict.Residuals.{ranks_below}
-use Rattle.std.proofs.lemmas.Nat.{le_or_l, le_or_r, pow_pos, pow-add}
-use Rattle.std.proofs.Math.Nat.{div-lt_iff_lt-mul, mod-eq_of_lt, mul-le-mul_right}
-use Rattle.rice_bits.specs.read.JoinedParts.{joined_parts}
-use Rattle.rice_samples.specs.predict.NearNumbers.{way, near_numbers, bound}
-use Rattle.rice_samples.proofs.lemmas.predict.Ways.{way_lane}
-use Rattle.rice_fast.proofs.lemmas.vectors.NearVectors.{vector_is_near}
+use Rattle.rice_fast.proofs.Words.{◌≡◌, ℕ, zero, suc, ◌+◌, ◌-◌, ◌*◌, ◌/◌, ◌%◌, ◌^◌, ◌<◌, ◌≤◌, min, List, [], ◌∷◌, map, length, get_or, take, replicate, refl, sym, ◌∙◌, ap, subst, arith, All, bit_and}
+use Rattle.rice_fast.proofs.Words.{bit_or, bit_xor, Each1, zip2, get_or-replicate, ranks_below, le_or_l, le_or_r, pow_pos, pow-add, div-lt_iff_lt-mul, mod-eq_of_lt, mul-le-mul_right, joined_parts}
+use Rattle.rice_fast.proofs.Words.{way, near_numbers, bound, way_lane}
+use Rattle.rice_fast.proofs.lemmas.{vectors.OneVector.zeros_below, vectors.OneVector.each_zero, vectors.NearVectors.vector_is_near}
 
 -- half of each rank, with its digits turned over where the rank is odd, is its way
 pub lanes_of_ways : (k n : ℕ) (ds : List ℕ) → length ds ≡ n → ((i : ℕ) → get_or ds i 0 < 2 ^ k)

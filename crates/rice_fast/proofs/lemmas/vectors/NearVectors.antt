@@ -1,35 +1,17 @@
 -- Near numbers, as many at a time as a vector has lanes.
-use Rattle.std.proofs.Common.{◌≡◌, inl, inr, ℕ, zero, suc, ◌+◌, ◌-◌, ◌%◌, ◌^◌, ◌<◌, ◌≤◌, max, cond, Bool, List}
-use Rattle.std.proofs.Common.{[], ◌∷◌, map, length, take, drop, get_or, replicate, refl, sym, ◌∙◌, ap, subst, arith, Fits, nat_lt}
-use Rattle.std.specs.Prelude.{All}
-use Rattle.std.specs.Int.{Width}
-use mir.Val.{bits, hbits}
-use Rattle.std.specs.Simd.Lanes.{zip2, Each1, Each2, sel_l, top}
-use Rattle.std.proofs.lemmas.Bool.{cases_lt}
-use Rattle.std.proofs.lemmas.List.{length-map, length-replicate, length-take-le}
-use Rattle.std.proofs.lemmas.Simd.{tops_compared, Each1-get_or}
-use Rattle.std.proofs.Math.Nat.{mod-eq_of_lt, add-mod_right}
-use Rattle.rice_samples.specs.predict.Residuals.{ranks_below}
-use Rattle.rice_fast.specs.RunningSums.{running_sums}
-use Rattle.rice_bits.specs.read.JoinedParts.{joined_parts}
-use Rattle.rice_samples.specs.Parameters.{Parameters, value_count}
-use Rattle.rice_fast.specs.LevelsOfParts.{AreLevelsOfParts}
-use Rattle.rice_samples.specs.predict.NearNumbers.{way, near_numbers, bound}
+use Rattle.rice_fast.proofs.Words.{◌≡◌, inl, inr, ℕ, zero, suc, ◌+◌, ◌-◌, ◌%◌, ◌^◌, ◌<◌, ◌≤◌, max, cond, Bool, List, [], ◌∷◌, map, length, take, drop, get_or, replicate, refl, sym, ◌∙◌, ap, subst}
+use Rattle.rice_fast.proofs.Words.{arith, Fits, nat_lt, All, Width, bits, hbits, zip2, Each1, Each2, sel_l, top, cases_lt, length-map, length-replicate, length-take-le, tops_compared, Each1-get_or}
+use Rattle.rice_fast.proofs.Words.{mod-eq_of_lt, add-mod_right, ranks_below, running_sums, joined_parts, Parameters, value_count, AreLevelsOfParts, way, near_numbers, bound}
 use Rattle.rice_fast.proofs.lemmas.vectors.NearEights.{select_max, length-near_numbers, near_ranks}
-
--- ways
 
 -- near numbers are running sums of ways
 pub sums_of_ways : (m p : ℕ) (ds : List ℕ) → running_sums m p (map (way m) ds) ≡ near_numbers m p ds
 sums_of_ways m p [] = refl
 sums_of_ways m p (d ∷ ds) = ap (λ xs. (p + way m d) % m ∷ xs) (sums_of_ways m ((p + way m d) % m) ds)
 
--- bounds
-
-abbrev masks : Width → List ℕ → List ℕ → List Bool
+-- the lanes in which one number is below another
+abbrev pub masks : Width → List ℕ → List ℕ → List Bool
 masks w xs ys = map (top (hbits w)) (zip2 (λ a b. cond (nat_lt a b) (2 ^ bits w - 1) 0) xs ys)
-
--- the tests
 
 one_excess : (m d b : ℕ) → d < m → b < m → (max d b + (m - b)) % m ≡ d - b
 one_excess m d b h k = elim (cases_lt b d) [

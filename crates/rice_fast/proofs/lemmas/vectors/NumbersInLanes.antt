@@ -1,9 +1,14 @@
 -- Numbers by their digits, in lanes.
-use Rattle.std.proofs.Common.{◌≡◌, ℕ, suc, ◌+◌, ◌*◌, ◌^◌, ◌<◌, List, [], ◌∷◌, ◌++◌, length, arith}
-use Rattle.std.specs.Prelude.{All}
-use Rattle.std.specs.Simd.Lanes.{digits_l, number_l}
-use Rattle.std.proofs.Math.Nat.{pow-suc}
-use Rattle.std.proofs.lemmas.Nat.{div-mul-add, mod-mul-add}
+use Rattle.rice_fast.proofs.Words.{◌≡◌, ℕ, suc, ◌+◌, ◌*◌, ◌^◌, ◌<◌, List, [], ◌∷◌, ◌++◌, length, arith, All, digits_l, number_l, pow-suc, div-mul-add, mod-mul-add, Each1, Each1-from_get_or}
+use Rattle.rice_fast.proofs.Words.{Each1-get_or}
+
+-- a fact of all lanes as a fact of each
+pub each_of : (P : ℕ → Type 0) (xs : List ℕ) → All P xs → Each1 P xs
+each_of P xs h = Each1-from_get_or P xs 0 (λ i lt. h i 0 lt)
+
+-- and back
+pub all_of : (P : ℕ → Type 0) (xs : List ℕ) → Each1 P xs → All P xs
+all_of P xs h = λ i d lt. Each1-get_or P xs i d lt h
 
 -- the number of some digits, and of more digits above these
 pub number-append : (g r : List ℕ) → number_l 256 (g ++ r) ≡ number_l 256 g + 256 ^ length g * number_l 256 r

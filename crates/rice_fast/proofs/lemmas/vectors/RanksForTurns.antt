@@ -1,16 +1,10 @@
 -- What is computed of ranks in lanes before their numbers are found one after another.
-use Rattle.std.proofs.Common.{◌≡◌, ℕ, zero, suc, ◌+◌, ◌-◌, ◌/◌, ◌%◌, ◌^◌, ◌<◌, ◌≤◌, if◌then◌else◌, List, [], ◌∷◌}
-use Rattle.std.proofs.Common.{◌++◌, ◌∙◌, ◌*◌, map, length, take, drop, get_or, refl, subst, sym, ap, arith, All, nat_lt}
-use Rattle.std.specs.Prelude.{replicate, bit_and}
-use Rattle.std.specs.Simd.Lanes.{zip2}
-use Rattle.std.proofs.lemmas.Bool.Decides.{nat_tests}
-use Rattle.std.proofs.lemmas.List.{length-map, get_or-map, get_or-replicate, length-replicate, take-append-drop}
-use Rattle.std.proofs.lemmas.Nat.{and_mask, pow-add}
-use Rattle.rice_samples.specs.predict.NearNumbers.{way}
-use Rattle.rice_samples.specs.predict.Residuals.{last_number, rank_below, ranks_below}
+use Rattle.rice_fast.proofs.Words.{◌≡◌, ℕ, zero, suc, ◌+◌, ◌-◌, ◌/◌, ◌%◌, ◌^◌, ◌<◌, ◌≤◌, if◌then◌else◌, List, [], ◌∷◌, ◌++◌, ◌∙◌, ◌*◌, map, length, take, drop, get_or, refl, subst, sym, ap, arith}
+use Rattle.rice_fast.proofs.Words.{nat_lt, bit_and, zip2, nat_tests, length-map, get_or-map, get_or-replicate, length-replicate, take-append-drop, and_mask, pow-add, way, last_number, rank_below}
+use Rattle.rice_fast.proofs.Words.{ranks_below, All-append, mod-eq_of_lt, pow-le-pow_right}
+use Rattle.std.proofs.Common.{All}
+use Rattle.std.specs.Prelude.{replicate}
 use Rattle.rice_fast.proofs.lemmas.vectors.RestoredLevels.{ranks_below-append}
-use Rattle.std.proofs.lemmas.List.Elements.{All-append}
-use Rattle.std.proofs.Math.Nat.{mod-eq_of_lt, pow-le-pow_right}
 
 -- half of each rank, up
 pub lanes_halved : (m n : ℕ) (ds : List ℕ) → 1 < m → length ds ≡ n → ((i : ℕ) → get_or ds i 0 < m)

@@ -1,9 +1,6 @@
 -- Levels that are restored one after the other.
-use Rattle.std.proofs.Common.{◌≡◌, ℕ, ◌+◌, ◌<◌, List, [], ◌∷◌, ◌++◌}
-use Rattle.std.proofs.Common.{length, take, refl, ap, sym, ◌∙◌, get_or, slice_set, subst, All}
-use Rattle.std.proofs.lemmas.List.{take_more, take_more_set}
-use Rattle.std.proofs.lemmas.List.Elements.{All-push}
-use Rattle.rice_samples.specs.predict.Residuals.{rank_below, ranks_below, last_number}
+use Rattle.rice_fast.proofs.Words.{◌≡◌, ℕ, ◌+◌, ◌<◌, List, [], ◌∷◌, ◌++◌, length, take, refl, ap, sym, ◌∙◌, get_or, subst, take_more, take_more_set, All-push, rank_below, ranks_below, last_number}
+use Rattle.std.proofs.Common.{slice_set, All}
 
 last_number-push : (p : ℕ) (xs : List ℕ) (x : ℕ) → last_number p (xs ++ x ∷ []) ≡ x
 last_number-push p [] x = refl

@@ -1,11 +1,8 @@
 -- Running sums of at most sixteen lanes.
-use Rattle.std.proofs.Common.{◌≡◌, inl, inr, ℕ, zero, suc, ◌+◌, ◌-◌, ◌%◌, ◌<◌, ◌≤◌, List, [], ◌∷◌, ◌++◌, get_or, length, take, replicate, refl, sym, ◌∙◌, ap, arith}
-use Rattle.std.specs.Simd.Lanes.{zip2}
-use Rattle.std.proofs.lemmas.Bool.{cases_lt}
-use Rattle.std.proofs.lemmas.List.{ext_get_or, get_or-replicate, get_or-take, get_or_append_left, get_or-append_right, length-append, length-replicate, length-take-le}
-use Rattle.std.proofs.lemmas.Simd.{get_or-zip2, length-zip2}
-use Rattle.std.proofs.Math.Nat.{mod-add-mod, add-mod-mod, mod-mod}
-use Rattle.rice_fast.specs.RunningSums.{running_sums}
+use Rattle.rice_fast.proofs.Words.{◌≡◌, inl, inr, ℕ, zero, suc, ◌+◌, ◌-◌, ◌%◌, ◌<◌, ◌≤◌, List, [], ◌∷◌, ◌++◌, get_or, length, take, replicate, refl, sym, ◌∙◌, ap, arith, zip2, cases_lt, ext_get_or}
+use Rattle.rice_fast.proofs.Words.{get_or-replicate, get_or-take, get_or_append_left, get_or-append_right, length-replicate, length-take-le, get_or-zip2, length-zip2, mod-add-mod, add-mod-mod}
+use Rattle.rice_fast.proofs.Words.{mod-mod, running_sums}
+use Rattle.std.proofs.lemmas.List.{length-append}
 
 -- the sum of the first i numbers
 abbrev before : List ℕ → ℕ → ℕ

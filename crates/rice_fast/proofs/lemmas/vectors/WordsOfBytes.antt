@@ -1,15 +1,7 @@
 -- The words of bytes in either order, in the lanes of vectors.
-use Rattle.std.proofs.Common.{◌≡◌, ℕ, zero, suc, ◌+◌, ◌*◌, ◌/◌, ◌%◌, ◌^◌, ◌<◌, ◌≤◌, Bool, true, false, List, [], ◌∷◌, ◌++◌, length, take, drop, replicate, reverse, refl, sym, ◌∙◌, ap, arith, subst}
-use Rattle.std.specs.Prelude.{All, flat_map}
-use Rattle.std.specs.Simd.Lanes.{Each1, digits_l, number_l}
-use Rattle.std.proofs.Math.Nat.{mul-le-mul_left, pow-suc}
-use Rattle.std.proofs.Math.Seq.{take-add}
-use Rattle.std.proofs.lemmas.List.{length-drop, length-reverse, length-take-le}
-use Rattle.std.proofs.lemmas.List.Elements.{All-drop, All-take}
-use Rattle.std.proofs.lemmas.List.Sorted.{All-permutation, IsPermutation-reverse}
-use Rattle.rice_samples.specs.bytes.PatternLanes.{in_order, words_in_order}
-use Rattle.rice_samples.specs.bytes.Spelling.{ordered_bytes}
-use Rattle.rice_samples.proofs.lemmas.bytes.BytesOfWords.{bytes_are_digits, in_order-twice}
+use Rattle.rice_fast.proofs.Words.{◌≡◌, ℕ, zero, suc, ◌+◌, ◌*◌, ◌/◌, ◌%◌, ◌^◌, ◌<◌, ◌≤◌, Bool, true, false, List, [], ◌∷◌, ◌++◌, length, take, drop, replicate, reverse, refl, sym, ◌∙◌, ap, arith}
+use Rattle.rice_fast.proofs.Words.{subst, All, flat_map, Each1, digits_l, number_l, mul-le-mul_left, pow-suc, take-add, length-drop, length-reverse, length-take-le, All-drop, All-take}
+use Rattle.rice_fast.proofs.Words.{All-permutation, IsPermutation-reverse, in_order, words_in_order, ordered_bytes, bytes_are_digits, in_order-twice}
 use Rattle.rice_fast.proofs.lemmas.vectors.NumbersInLanes.{lane-more, number-append, number_below}
 
 -- a power of 256 is not 0

@@ -1,8 +1,4 @@
-use Rattle.std.proofs.Common.{◌≡◌, ◌∙◌, ap, arith, rules, subst, sym, SFits, w64}
-use Rattle.std.proofs.lemmas.Int.{to_z-of_z}
-use Rattle.rice_samples.specs.Parameters.{IsSample, level, value_at}
-use Rattle.rice_samples.proofs.lemmas.setting.ValuesAtLevels.{value_of_level}
-use Rattle.rice_code.specs.decode.DecoderState.{next_block_place}
+use Rattle.rice_fast.proofs.Words.{◌≡◌, ◌∙◌, ap, arith, rules, subst, sym, SFits, w64, to_z-of_z, IsSample, level, value_at, value_of_level, next_block_place}
 use Rattle.rice_fast.proofs.lemmas.BlocksTaken.{bytes_given, spelled_at}
 use Rattle.rice_fast.proofs.one_pass.pass.Goals as goal
 

@@ -1,7 +1,4 @@
-use Rattle.std.proofs.Common.{◌≡◌, ◌-◌, ◌*◌, ◌≤◌, ◌∙◌, ap, arith, length, take}
-use Rattle.std.proofs.Math.Nat.{mul-le-mul_right}
-use Rattle.std.proofs.lemmas.List.{length-take-le}
-use Rattle.rice_samples.specs.Parameters.{width}
+use Rattle.rice_fast.proofs.Words.{◌≡◌, ◌-◌, ◌*◌, ◌≤◌, ◌∙◌, ap, arith, length, take, mul-le-mul_right, length-take-le, width}
 use Rattle.rice_fast.proofs.one_pass.write_fields_ahead.Goals as goal
 
 pub overflow_add-fields : goal.overflow_add-fields

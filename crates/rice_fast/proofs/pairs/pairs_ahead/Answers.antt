@@ -1,8 +1,5 @@
-use Rattle.std.proofs.Common.{◌≡◌, ◌⊎◌, ◌*◌, ◌/◌, ◌∙◌, ap, arith, drop, get_or, length, sum, sym, take, inl, inr}
-use Rattle.std.specs.Prelude.{flat_map}
-use Rattle.std.proofs.lemmas.List.{get_or-take, length-drop, length-take-le}
-use Rattle.rice_bits.specs.Bits.{fundamental_sequence}
-use Rattle.rice_samples.specs.blocks.Pairs.{pair_codes}
+use Rattle.rice_fast.proofs.Words.{◌≡◌, ◌⊎◌, ◌*◌, ◌/◌, ◌∙◌, ap, arith, drop, get_or, length, sum, sym, take, inl, inr, flat_map, get_or-take, length-drop, length-take-le, fundamental_sequence}
+use Rattle.rice_fast.proofs.Words.{pair_codes}
 use Rattle.rice_fast.proofs.lemmas.Pairs.{sum_of_pairs, zero_at_reference}
 use Rattle.rice_fast.proofs.pairs.pairs_ahead.Goals.{else-references-gt0-via-then-references-gt0+else-residuals-ne0, else-references-gt0-via-else-references-gt0}
 use Rattle.rice_fast.proofs.pairs.pairs_ahead.Goals as goal

@@ -1,7 +1,5 @@
-use Rattle.std.proofs.Common.{◌≡◌, ◌+◌, ◌*◌, ◌/◌, ◌<◌, ◌∷◌, ◌++◌, ◌∙◌, [], ap, arith, length, length-set, set, sum, sym, take}
-use Rattle.std.proofs.lemmas.List.{length-take-le, take_more}
-use Rattle.rice_samples.specs.blocks.Pairs.{pair_codes}
-use Rattle.rice_code.proofs.lemmas.decode.RowsOfFields.{pair_codes-push, sum-push2, two_more}
+use Rattle.rice_fast.proofs.Words.{◌≡◌, ◌+◌, ◌*◌, ◌/◌, ◌<◌, ◌∷◌, ◌++◌, ◌∙◌, [], ap, arith, length, length-set, set, sum, sym, take, length-take-le, take_more, pair_codes, pair_codes-push, sum-push2}
+use Rattle.rice_fast.proofs.Words.{two_more}
 use Rattle.rice_fast.proofs.pairs.write_pairs.Goals as goal
 
 pub loop-i-preserved : goal.loop-i-preserved

@@ -1,5 +1,4 @@
-use Rattle.std.proofs.Common.{◌+◌, ◌*◌, ◌≡◌, ◌≤◌, length, sum, take}
-use Rattle.rice_samples.specs.blocks.Pairs.{pair_codes}
+use Rattle.rice_fast.proofs.Words.{◌+◌, ◌*◌, ◌≡◌, ◌≤◌, length, sum, take, pair_codes}
 use Rattle.rice_fast.proofs.pairs.write_pairs.Given as goal
 
 abbrev pub invariant-loop-i : goal.invariant-loop-i

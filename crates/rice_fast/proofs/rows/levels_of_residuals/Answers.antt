@@ -1,11 +1,5 @@
-use Rattle.std.proofs.Common.{◌≡◌, ◌+◌, ◌-◌, ◌%◌, ◌^◌, ◌<◌, ◌∙◌, ap, arith, map, refl, replicate, subst, sym}
-use Rattle.std.specs.Prelude.{All, bit_and}
-use Rattle.std.specs.Simd.Lanes.{zip2}
-use Rattle.std.proofs.lemmas.Nat.{pow_pos}
-use Rattle.rice_samples.specs.Parameters.{value_count, values_at}
-use Rattle.rice_samples.specs.predict.Residuals.{pattern, ranks_below}
-use Rattle.rice_fast.proofs.lemmas.Residuals.{patterns_alone, patterns_turned, ranks_alone}
-use Rattle.rice_fast.proofs.lemmas.Rows.{greatest_fits}
+use Rattle.rice_fast.proofs.Words.{◌≡◌, ◌+◌, ◌-◌, ◌%◌, ◌^◌, ◌<◌, ◌∙◌, ap, arith, map, refl, replicate, subst, sym, All, bit_and, zip2, pow_pos, value_count, values_at, pattern, ranks_below}
+use Rattle.rice_fast.proofs.lemmas.{Residuals.patterns_alone, Residuals.patterns_turned, Residuals.ranks_alone, Rows.greatest_fits}
 use Rattle.rice_fast.proofs.rows.levels_of_residuals.Goals as goal
 
 pub in_turn-requires-clause-greatest : goal.in_turn-requires-clause-greatest

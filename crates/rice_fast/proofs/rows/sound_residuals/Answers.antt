@@ -1,8 +1,5 @@
-use Rattle.std.proofs.Common.{◌-◌, ◌/◌, ◌^◌, ◌∙◌, ap, arith, refl, replicate}
-use Rattle.std.specs.Simd.Lanes.{zip2}
-use Rattle.rice_fast.proofs.lemmas.vectors.NearLanes.{both_zeros}
-use Rattle.rice_fast.proofs.lemmas.vectors.NearVectors.{none_above}
-use Rattle.rice_fast.proofs.lemmas.Rows.{greatest_fits}
+use Rattle.rice_fast.proofs.Words.{◌-◌, ◌/◌, ◌^◌, ◌∙◌, ap, arith, refl, replicate, zip2}
+use Rattle.rice_fast.proofs.lemmas.{vectors.NearLanes.both_zeros, vectors.NearVectors.none_above, Rows.greatest_fits}
 use Rattle.rice_fast.proofs.rows.sound_residuals.Goals as goal
 
 pub splat-requires-2 : goal.splat-requires-2

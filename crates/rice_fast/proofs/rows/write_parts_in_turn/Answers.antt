@@ -1,6 +1,4 @@
-use Rattle.std.proofs.Common.{◌∙◌, arith, drop, sym}
-use Rattle.std.proofs.lemmas.Grind.{common_steps}
-use Rattle.rice_fast.specs.PartsOfResiduals.{HaveParts}
+use Rattle.rice_fast.proofs.Words.{◌∙◌, arith, drop, sym, common_steps, HaveParts}
 use Rattle.rice_fast.proofs.lemmas.Rows.{row_spelled}
 use Rattle.rice_fast.proofs.rows.write_parts_in_turn.Goals as goal
 

@@ -1,9 +1,5 @@
-use Rattle.std.proofs.Common.{◌∙◌, arith, drop, sym, take}
-use Rattle.std.proofs.lemmas.Grind.{common_steps}
-use Rattle.rice_fast.specs.PartsOfResiduals.{HaveParts}
-use Rattle.rice_fast.specs.RowsAhead.{SpellsParts}
-use Rattle.rice_fast.proofs.lemmas.Residuals.{predicted_parts}
-use Rattle.rice_fast.proofs.lemmas.Rows.{if_some, row_spelled, whole_row}
+use Rattle.rice_fast.proofs.Words.{◌∙◌, arith, drop, sym, take, common_steps, HaveParts, SpellsParts}
+use Rattle.rice_fast.proofs.lemmas.{Residuals.predicted_parts, Rows.if_some, Rows.row_spelled, Rows.whole_row}
 use Rattle.rice_fast.proofs.rows.write_row.Goals as goal
 
 pub returns-then-k-BITS-clause-some : goal.returns-then-k-BITS-clause-some

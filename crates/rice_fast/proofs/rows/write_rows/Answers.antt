@@ -1,6 +1,4 @@
-use Rattle.std.proofs.Common.{◌≡◌, ◌+◌, ◌-◌, ◌*◌, ◌≤◌, ◌∙◌, ap, arith, drop, subst, take, take-take}
-use Rattle.std.proofs.lemmas.List.{length-take-le}
-use Rattle.rice_fast.specs.RowsAhead.{RowsAhead, SpellsParts}
+use Rattle.rice_fast.proofs.Words.{◌≡◌, ◌+◌, ◌-◌, ◌*◌, ◌≤◌, ◌∙◌, ap, arith, drop, subst, take, take-take, length-take-le, RowsAhead, SpellsParts}
 use Rattle.rice_fast.proofs.lemmas.Rows.{first_place, next_place, no_rows, one_row_more, zeros_of_row}
 use Rattle.rice_fast.proofs.rows.write_rows.Goals as goal
 

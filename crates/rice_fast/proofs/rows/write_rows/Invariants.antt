@@ -1,5 +1,4 @@
-use Rattle.std.proofs.Common.{◌≡◌, ◌≤◌, ◌-◌, length}
-use Rattle.rice_fast.specs.RowsAhead.{RowsAhead}
+use Rattle.rice_fast.proofs.Words.{◌≡◌, ◌≤◌, ◌-◌, length, RowsAhead}
 use Rattle.rice_fast.proofs.lemmas.Rows.{RowPlace}
 use Rattle.rice_fast.proofs.rows.write_rows.Given as goal
 

@@ -1,9 +1,5 @@
-use Rattle.std.proofs.Common.{◌*◌, ◌≡◌, arith, length, take}
-use Rattle.std.proofs.lemmas.List.{length-take-le}
-use Rattle.rice_bits.specs.Bits.{word}
-use Rattle.rice_bits.proofs.lemmas.bits.WordsAndNumbers.{length-word}
-use Rattle.rice_fast.proofs.lemmas.ahead.EndsAndGapsLemmas.{few-ends}
-use Rattle.rice_fast.proofs.lemmas.ahead.EndsInLanes.{ones-of}
+use Rattle.rice_fast.proofs.Words.{◌*◌, ◌≡◌, arith, length, take, length-take-le, word, length-word}
+use Rattle.rice_fast.proofs.lemmas.{ahead.EndsAndGapsLemmas.few-ends, ahead.EndsInLanes.ones-of}
 use Rattle.rice_fast.proofs.ahead.ends.count_ones_in_first_bytes.Goals as goal
 
 pub returns-clause-value : goal.returns-clause-value

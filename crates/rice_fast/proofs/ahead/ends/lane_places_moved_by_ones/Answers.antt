@@ -1,5 +1,4 @@
-use Rattle.std.proofs.Common.{◌≡◌, ◌+◌, ◌-◌, ◌*◌, ◌∙◌, ap, arith, drop, take, take-take}
-use Rattle.rice_fast.specs.declared.ahead.ends.TheConstants.{SLIDE}
+use Rattle.rice_fast.proofs.Words.{◌≡◌, ◌+◌, ◌-◌, ◌*◌, ◌∙◌, ap, arith, drop, take, take-take, SLIDE}
 use Rattle.rice_fast.proofs.lemmas.ahead.EndsInLanes.{slide_places}
 use Rattle.rice_fast.proofs.ahead.ends.lane_places_moved_by_ones.Goals as goal
 

@@ -1,6 +1,4 @@
-use Rattle.std.proofs.Common.{nat_lt, ◌∙◌, ap, w8}
-use Rattle.std.specs.Simd.Lanes.{sel_l, zip2}
-use Rattle.std.proofs.lemmas.Simd.{tops_compared}
+use Rattle.rice_fast.proofs.Words.{nat_lt, ◌∙◌, ap, w8, sel_l, zip2, tops_compared}
 use Rattle.rice_fast.proofs.lemmas.ahead.EndsAndGapsLemmas.{lanes_above_or_zero, wrapped_sub}
 use Rattle.rice_fast.proofs.ahead.sequences.excess_over.Goals as goal
 

@@ -1,8 +1,4 @@
-use Rattle.std.proofs.Common.{◌^◌, ◌<◌, ◌++◌, ◌∙◌, ap, arith, length-append, refl, subst, sym}
-use Rattle.std.specs.Prelude.{All, flat_map}
-use Rattle.std.proofs.lemmas.List.Elements.{All-append}
-use Rattle.std.proofs.lemmas.Simd.{pick_l_whole}
-use Rattle.rice_bits.specs.Bits.{bits_of, word}
+use Rattle.rice_fast.proofs.Words.{◌^◌, ◌<◌, ◌++◌, ◌∙◌, ap, arith, length-append, refl, subst, sym, All, flat_map, All-append, pick_l_whole, bits_of, word}
 use Rattle.rice_fast.proofs.lemmas.ahead.WordsInTurn.{words-joined}
 use Rattle.rice_fast.proofs.ahead.wide_words.wide_words_from.Goals as goal
 

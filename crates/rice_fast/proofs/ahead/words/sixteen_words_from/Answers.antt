@@ -1,9 +1,5 @@
-use Rattle.std.proofs.Common.{◌^◌, ◌<◌, ◌∙◌, ap, refl, subst, sym}
-use Rattle.std.specs.Prelude.{All, flat_map}
-use Rattle.std.proofs.lemmas.List.Elements.{All-append}
-use Rattle.rice_bits.specs.Bits.{bits_of, word}
-use Rattle.rice_fast.proofs.lemmas.ahead.WordsInTwoBytes.{narrow-fits, narrow-is}
-use Rattle.rice_fast.proofs.lemmas.ahead.WordsInTurn.{words-joined}
+use Rattle.rice_fast.proofs.Words.{◌^◌, ◌<◌, ◌∙◌, ap, refl, subst, sym, All, flat_map, All-append, bits_of, word}
+use Rattle.rice_fast.proofs.lemmas.{ahead.WordsInTwoBytes.narrow-fits, ahead.WordsInTwoBytes.narrow-is, ahead.WordsInTurn.words-joined}
 use Rattle.rice_fast.proofs.ahead.words.sixteen_words_from.Goals as goal
 
 pub overflow_cast-result : goal.overflow_cast-result

@@ -1,12 +1,7 @@
-use Rattle.std.proofs.Common.{◌≡◌, ℕ, ◌+◌, ◌*◌, ◌≤◌, ◌++◌, ◌∙◌, min, arith, ap, not, nat_eq, Option, Some, None, if◌then◌else◌}
-use Rattle.std.proofs.Math.Nat.{mul-le-mul_left}
-use Rattle.rice_samples.specs.Parameters.{k_max}
-use Rattle.rice_code.specs.code.CodedDataSets.{bits_of_set, cost}
-use Rattle.rice_code.specs.code.Choice.{shortest, best_split}
-use Rattle.rice_code.specs.code.SoundBlocks.{block_with}
-use Rattle.rice_code.proofs.lemmas.encode.ChosenSets.{where_set, where_unset}
-use Rattle.rice_fast.proofs.encode.blocks.code_block_not_zero.Goals as goal
+use Rattle.rice_fast.proofs.Words.{◌≡◌, ℕ, ◌+◌, ◌*◌, ◌≤◌, ◌++◌, ◌∙◌, min, arith, ap, not, nat_eq, Option, Some, None, if◌then◌else◌, mul-le-mul_left, k_max, bits_of_set, cost, shortest, best_split}
+use Rattle.rice_fast.proofs.Words.{block_with, where_set, where_unset}
 use Rattle.rice_fast.proofs.encode.blocks.code_block_not_zero.Goals.{then-this-ne0, else-this-ne0}
+use Rattle.rice_fast.proofs.encode.blocks.code_block_not_zero.Goals as goal
 
 -- the looks of any search
 few_looks : (j k m : ℕ) → j * (min (k + 1) m + 4) ≤ j * (m + 4)

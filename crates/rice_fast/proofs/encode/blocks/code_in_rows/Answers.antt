@@ -1,14 +1,5 @@
-use Rattle.std.proofs.Common.{◌≡◌, ℕ, ◌+◌, ◌-◌, ◌*◌, ◌≤◌, ◌++◌, ◌∙◌, List, Bool, arith, ap, refl, sym}
-use Rattle.rice_samples.specs.Parameters.{Parameters, k_max}
-use Rattle.rice_code.specs.code.Blocks.{BlockData}
-use Rattle.rice_code.specs.code.CodedDataSets.{CodedDataSet, bits_of_set, cost}
-use Rattle.rice_code.specs.code.Choice.{shortest, best_split}
-use Rattle.rice_code.specs.declared.encode.choice.Choice.{Choice}
-use Rattle.rice_code.specs.encode.BitBuffer.{PutsSet}
-use Rattle.rice_code.specs.encode.HeldBlocks.{PutsShortest}
-use Rattle.rice_code.specs.encode.SetOfChoice.{chosen_set}
-use Rattle.rice_code.proofs.lemmas.encode.ChosenSets.{puts_chosen}
-use Rattle.rice_code.proofs.lemmas.encode.SegmentBlocksInTurn.{steps_least}
+use Rattle.rice_fast.proofs.Words.{◌≡◌, ℕ, ◌+◌, ◌-◌, ◌*◌, ◌≤◌, ◌++◌, ◌∙◌, List, Bool, arith, ap, refl, sym, Parameters, k_max, BlockData, CodedDataSet, bits_of_set, cost, shortest, best_split, Choice}
+use Rattle.rice_fast.proofs.Words.{PutsSet, PutsShortest, chosen_set, puts_chosen, steps_least}
 use Rattle.rice_fast.proofs.encode.blocks.code_in_rows.Goals as goal
 
 -- the shortest option is put, after the looks of the search

@@ -1,5 +1,4 @@
-use Rattle.std.proofs.Common.{◌≡◌, ℕ, ◌-◌, ◌/◌, ◌^◌, ◌++◌, ◌∙◌, ap, arith, drop, length, length-append, map, replicate, take}
-use Rattle.std.proofs.lemmas.List.{drop-replicate, length-replicate, map-append, take_all}
+use Rattle.rice_fast.proofs.Words.{◌≡◌, ℕ, ◌-◌, ◌/◌, ◌^◌, ◌++◌, ◌∙◌, ap, arith, drop, length, length-append, map, replicate, take, drop-replicate, length-replicate, map-append, take_all}
 use Rattle.rice_fast.proofs.lemmas.encode.Stops.{zeros_cut}
 use Rattle.rice_fast.proofs.encode.byte_rows.rest_cut.Goals as goal
 

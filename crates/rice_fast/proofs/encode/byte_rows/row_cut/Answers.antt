@@ -1,6 +1,4 @@
-use Rattle.std.proofs.Common.{ℕ, ◌/◌, ◌^◌, ◌∙◌}
-use Rattle.std.proofs.lemmas.List.{length-map}
-use Rattle.std.proofs.lemmas.Simd.{zip2_splat}
+use Rattle.rice_fast.proofs.Words.{ℕ, ◌/◌, ◌^◌, ◌∙◌, length-map, zip2_splat}
 use Rattle.rice_fast.proofs.encode.byte_rows.row_cut.Goals as goal
 
 pub returns-clause-value : goal.returns-clause-value

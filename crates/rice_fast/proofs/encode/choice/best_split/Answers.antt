@@ -1,7 +1,4 @@
-use Rattle.std.proofs.Common.{ℕ, ◌+◌, ◌∙◌, ap, arith}
-use Rattle.rice_samples.proofs.lemmas.blocks.FallingSums.{cut_sum, sum_halves}
-use Rattle.rice_code.proofs.lemmas.cost.SplitSavings.{sum_stop_is_best}
-use Rattle.rice_code.proofs.lemmas.encode.ChoiceLemmas.{best_split_is, small_sum}
+use Rattle.rice_fast.proofs.Words.{ℕ, ◌+◌, ◌∙◌, ap, arith, cut_sum, sum_halves, sum_stop_is_best, best_split_is, small_sum}
 use Rattle.rice_fast.proofs.lemmas.encode.Stops.{last_split_is_small}
 use Rattle.rice_fast.proofs.encode.choice.best_split.Goals as goal
 

@@ -1,5 +1,4 @@
-use Rattle.std.proofs.Common.{arith}
-use Rattle.rice_code.proofs.lemmas.encode.ChoiceLemmas.{takes_no_compression, takes_second_extension, takes_split}
+use Rattle.rice_fast.proofs.Words.{arith, takes_no_compression, takes_second_extension, takes_split}
 use Rattle.rice_fast.proofs.encode.choice.shortest_of.Goals as goal
 
 pub returns-then-split-second_extension-clause-value : goal.returns-then-split-second_extension-clause-value

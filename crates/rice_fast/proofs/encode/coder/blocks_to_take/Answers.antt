@@ -1,6 +1,4 @@
-use Rattle.std.proofs.Common.{ℕ, ◌+◌, ◌*◌, ◌/◌, ◌<◌, ◌≤◌, arith, inl, inr}
-use Rattle.std.proofs.Math.Nat.{div-add-mod, mul-le-mul_left}
-use Rattle.std.proofs.lemmas.Bool.{cases_lt}
+use Rattle.rice_fast.proofs.Words.{ℕ, ◌+◌, ◌*◌, ◌/◌, ◌<◌, ◌≤◌, arith, inl, inr, div-add-mod, mul-le-mul_left, cases_lt}
 use Rattle.rice_fast.proofs.encode.coder.blocks_to_take.Goals as goal
 
 -- as many blocks as are left are there,

@@ -1,7 +1,4 @@
-use Rattle.std.proofs.Common.{◌∙◌, ap, w64}
-use Rattle.std.proofs.lemmas.Int.{to_z-of_z}
-use Rattle.rice_samples.specs.Parameters.{level, value_at}
-use Rattle.rice_samples.proofs.lemmas.setting.ValuesAtLevels.{value_of_level}
+use Rattle.rice_fast.proofs.Words.{◌∙◌, ap, w64, to_z-of_z, level, value_at, value_of_level}
 use Rattle.rice_fast.proofs.encode.coder.level_of_sample.Goals as goal
 
 pub returns-clause-value : goal.returns-clause-value

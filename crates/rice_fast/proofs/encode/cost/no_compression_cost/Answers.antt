@@ -1,5 +1,4 @@
-use Rattle.std.proofs.Common.{◌*◌, ◌≤◌, ap, arith, length}
-use Rattle.rice_code.proofs.lemmas.encode.ChoiceLemmas.{all_sent}
+use Rattle.rice_fast.proofs.Words.{◌*◌, ◌≤◌, ap, arith, length, all_sent}
 use Rattle.rice_fast.proofs.encode.cost.no_compression_cost.Goals as goal
 
 pub returns-clause-value : goal.returns-clause-value

@@ -1,5 +1,4 @@
-use Rattle.std.proofs.Common.{ℕ, ◌≡◌, ◌+◌, ◌-◌, ◌*◌, ◌/◌, ◌^◌, ◌++◌, ◌∙◌, arith, ap, length, map, replicate, take, sym, drop, append-nil}
-use Rattle.std.proofs.lemmas.List.{length-drop, length-take-le}
+use Rattle.rice_fast.proofs.Words.{ℕ, ◌≡◌, ◌+◌, ◌-◌, ◌*◌, ◌/◌, ◌^◌, ◌++◌, ◌∙◌, arith, ap, length, map, replicate, take, sym, drop, append-nil, length-drop, length-take-le}
 use Rattle.rice_fast.proofs.lemmas.encode.HighParts.{high_all, high_more}
 use Rattle.rice_fast.proofs.encode.high_parts.high_parts.Goals as goal
 

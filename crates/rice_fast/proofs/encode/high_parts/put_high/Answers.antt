@@ -1,6 +1,4 @@
-use Rattle.std.proofs.Common.{◌≡◌, ◌+◌, ◌-◌, ◌*◌, ◌∙◌, ap, arith, min, sym}
-use Rattle.std.specs.Prelude.{flat_map, slice_range}
-use Rattle.rice_bits.specs.Bits.{fundamental_sequence}
+use Rattle.rice_fast.proofs.Words.{◌≡◌, ◌+◌, ◌-◌, ◌*◌, ◌∙◌, ap, arith, min, sym, flat_map, slice_range, fundamental_sequence}
 use Rattle.rice_fast.proofs.lemmas.encode.AddedBits.{added_up_to, range_added, room_for_first, room_for_range, same_added, same_room, bits_of_parts}
 use Rattle.rice_fast.proofs.lemmas.encode.HighParts.{row_slice, row_zeros}
 use Rattle.rice_fast.proofs.encode.high_parts.put_high.Goals as goal

@@ -1,6 +1,4 @@
-use Rattle.std.proofs.Common.{◌*◌, ◌≤◌, min}
-use Rattle.std.specs.Prelude.{slice_range}
-use Rattle.rice_code.specs.encode.SentParts.{AddsSequences}
+use Rattle.rice_fast.proofs.Words.{◌*◌, ◌≤◌, min, slice_range, AddsSequences}
 use Rattle.rice_fast.proofs.encode.high_parts.put_high.Given as goal
 
 abbrev pub invariant-loop-i : goal.invariant-loop-i

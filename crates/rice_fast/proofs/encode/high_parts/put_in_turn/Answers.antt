@@ -1,5 +1,4 @@
-use Rattle.std.proofs.Common.{arith, ◌+◌, sym}
-use Rattle.rice_bits.specs.Bits.{fundamental_sequence}
+use Rattle.rice_fast.proofs.Words.{arith, ◌+◌, sym, fundamental_sequence}
 use Rattle.rice_fast.proofs.lemmas.encode.AddedBits.{added_up_to, bits_of_one, bits_of_none, none_added, range_added, room_for_range, room_for_sequence, same_added, sequence_added}
 use Rattle.rice_fast.proofs.encode.high_parts.put_in_turn.Goals as goal
 

@@ -1,6 +1,4 @@
-use Rattle.std.proofs.Common.{◌≡◌, ◌*◌, ◌/◌, ◌^◌, ◌∙◌, ap, arith, sym, length, map, take}
-use Rattle.std.proofs.lemmas.Simd.{length-put_chunk}
-use Rattle.std.proofs.lemmas.List.{take_all}
+use Rattle.rice_fast.proofs.Words.{◌≡◌, ◌*◌, ◌/◌, ◌^◌, ◌∙◌, ap, arith, sym, length, map, take, length-put_chunk, take_all}
 use Rattle.rice_fast.proofs.lemmas.encode.HighParts.{row_made}
 use Rattle.rice_fast.proofs.encode.high_parts.shifted.Goals as goal
 

@@ -1,5 +1,4 @@
-use Rattle.std.proofs.Common.{◌*◌, ◌/◌, ◌^◌, ◌≤◌, ◌∙◌, ap, arith, sum_by}
-use Rattle.std.proofs.lemmas.List.{take_all}
+use Rattle.rice_fast.proofs.Words.{◌*◌, ◌/◌, ◌^◌, ◌≤◌, ◌∙◌, ap, arith, sum_by, take_all}
 use Rattle.rice_fast.proofs.lemmas.encode.HighParts.{row_summed}
 use Rattle.rice_fast.proofs.encode.high_parts.sum_shifted.Goals as goal
 

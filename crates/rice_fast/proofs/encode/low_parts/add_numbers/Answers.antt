@@ -1,6 +1,4 @@
-use Rattle.std.proofs.Common.{◌≡◌, ◌+◌, ◌-◌, ◌++◌, ◌∙◌, ap, arith, append_assoc, append-nil, drop, get_or, length, sym}
-use Rattle.std.specs.Prelude.{flat_map, slice_range}
-use Rattle.rice_bits.specs.Bits.{word}
+use Rattle.rice_fast.proofs.Words.{◌≡◌, ◌+◌, ◌-◌, ◌++◌, ◌∙◌, ap, arith, append_assoc, append-nil, drop, get_or, length, sym, flat_map, slice_range, word}
 use Rattle.rice_fast.proofs.lemmas.encode.AddedBits.{bits_of_none, bits_of_one, bits_of_parts, both_added, room_for_first, room_for_second, room_for_word, same_added, same_room, word_added}
 use Rattle.rice_fast.proofs.lemmas.encode.LowParts.{first_of_words}
 use Rattle.rice_fast.proofs.encode.low_parts.add_numbers.Goals as goal

@@ -1,6 +1,5 @@
-use Rattle.std.proofs.Common.{◌^◌, ◌<◌, arith}
-use Rattle.rice_fast.proofs.lemmas.encode.JoinedSequences.{each_of}
-use Rattle.rice_fast.proofs.lemmas.encode.LowParts.{four_joined}
+use Rattle.rice_fast.proofs.Words.{◌^◌, ◌<◌, arith}
+use Rattle.rice_fast.proofs.lemmas.{vectors.NumbersInLanes.each_of, encode.LowParts.four_joined}
 use Rattle.rice_fast.proofs.encode.low_parts.joined_fours.Goals as goal
 
 pub returns-clause-value : goal.returns-clause-value

@@ -1,5 +1,4 @@
-use Rattle.std.proofs.Common.{◌≡◌, ◌-◌, ◌∙◌, ap, arith, drop, sym}
-use Rattle.rice_bits.specs.Bits.{word}
+use Rattle.rice_fast.proofs.Words.{◌≡◌, ◌-◌, ◌∙◌, ap, arith, drop, sym, word}
 use Rattle.rice_fast.proofs.lemmas.encode.LowParts.{first_digits}
 use Rattle.rice_fast.proofs.encode.low_parts.last_digits.Goals as goal
 

@@ -1,7 +1,4 @@
-use Rattle.std.proofs.Common.{◌≡◌, ◌-◌, ◌*◌, ◌%◌, ◌^◌, ap, arith, ◌∙◌}
-use Rattle.std.specs.Prelude.{bit_and}
-use Rattle.std.proofs.lemmas.Nat.{one_shl}
-use Rattle.std.proofs.lemmas.Simd.{zip2_splat}
+use Rattle.rice_fast.proofs.Words.{◌≡◌, ◌-◌, ◌*◌, ◌%◌, ◌^◌, ap, arith, ◌∙◌, bit_and, one_shl, zip2_splat}
 use Rattle.rice_fast.proofs.lemmas.encode.LowParts.{length-low, masked}
 use Rattle.rice_fast.proofs.encode.low_parts.lowest_digits.Goals as goal
 

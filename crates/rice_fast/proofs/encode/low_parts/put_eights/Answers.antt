@@ -1,6 +1,4 @@
-use Rattle.std.proofs.Common.{◌≡◌, ◌+◌, ◌*◌, ◌/◌, ap, arith, length, refl, sym}
-use Rattle.std.specs.Prelude.{flat_map, slice_range}
-use Rattle.rice_bits.specs.Bits.{word}
+use Rattle.rice_fast.proofs.Words.{◌≡◌, ◌+◌, ◌*◌, ◌/◌, ap, arith, length, refl, sym, flat_map, slice_range, word}
 use Rattle.rice_fast.proofs.lemmas.encode.AddedBits.{added_to_end, added_up_to, range_added, room_for_first, room_for_range, room_to_end, same_added, same_room, bits_of_parts, head_slice}
 use Rattle.rice_fast.proofs.encode.low_parts.put_eights.Goals as goal
 

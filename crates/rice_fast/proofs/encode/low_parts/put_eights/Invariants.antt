@@ -1,7 +1,4 @@
-use Rattle.std.proofs.Common.{◌*◌, ◌≤◌}
-use Rattle.std.specs.Prelude.{flat_map, slice_range}
-use Rattle.rice_bits.specs.Bits.{word}
-use Rattle.rice_code.specs.encode.BitBuffer.{AddsBits}
+use Rattle.rice_fast.proofs.Words.{◌*◌, ◌≤◌, flat_map, slice_range, word, AddsBits}
 use Rattle.rice_fast.proofs.encode.low_parts.put_eights.Given as goal
 
 abbrev pub invariant-loop-i : goal.invariant-loop-i

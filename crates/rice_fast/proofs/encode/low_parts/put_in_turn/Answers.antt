@@ -1,6 +1,4 @@
-use Rattle.std.proofs.Common.{arith, length, refl, ◌+◌, ◌∙◌, sym}
-use Rattle.rice_bits.specs.Bits.{word}
-use Rattle.rice_bits.proofs.lemmas.bits.JoinedBits.{low_word}
+use Rattle.rice_fast.proofs.Words.{arith, length, refl, ◌+◌, ◌∙◌, sym, word, low_word}
 use Rattle.rice_fast.proofs.lemmas.encode.AddedBits.{added_to_end, bits_of_one, bits_of_none, none_added, range_added, room_for_none, room_for_range, room_to_end, same_added, word_added}
 use Rattle.rice_fast.proofs.encode.low_parts.put_in_turn.Goals as goal
 

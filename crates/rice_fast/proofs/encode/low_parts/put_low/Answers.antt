@@ -1,6 +1,4 @@
-use Rattle.std.proofs.Common.{◌∙◌, ap, drop, sym}
-use Rattle.std.specs.Prelude.{flat_map}
-use Rattle.rice_bits.specs.Bits.{word}
+use Rattle.rice_fast.proofs.Words.{◌∙◌, ap, drop, sym, flat_map, word}
 use Rattle.rice_code.proofs.lemmas.encode.OptionTexts.{no_digits}
 use Rattle.rice_fast.proofs.lemmas.encode.AddedBits.{none_added, same_added}
 use Rattle.rice_fast.proofs.encode.low_parts.put_low.Goals as goal

@@ -1,6 +1,4 @@
-use Rattle.std.proofs.Common.{◌++◌, ◌∙◌, ap, sym, append-nil}
-use Rattle.rice_bits.specs.Bits.{word}
-use Rattle.rice_code.specs.code.CodedDataSets.{reference_bits}
+use Rattle.rice_fast.proofs.Words.{◌++◌, ◌∙◌, ap, sym, append-nil, word, reference_bits}
 use Rattle.rice_fast.proofs.encode.options.begin_set.Goals as goal
 
 pub returns-clause-bits : goal.returns-clause-bits

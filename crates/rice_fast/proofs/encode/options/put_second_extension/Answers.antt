@@ -1,11 +1,5 @@
-use Rattle.std.proofs.Common.{ℕ, List, ◌+◌, ◌++◌, ◌∙◌, ap, arith, length, true}
-use Rattle.std.specs.Prelude.{flat_map}
-use Rattle.rice_bits.specs.Bits.{word, fundamental_sequence}
-use Rattle.rice_samples.specs.Parameters.{id_len}
-use Rattle.rice_samples.specs.blocks.Pairs.{pair_codes}
-use Rattle.rice_code.specs.code.CodedDataSets.{reference_bits, reference_len}
-use Rattle.rice_code.specs.encode.SentParts.{pairs_len}
-use Rattle.rice_code.proofs.lemmas.encode.OptionTexts.{word_flag, append_flagged}
+use Rattle.rice_fast.proofs.Words.{ℕ, List, ◌+◌, ◌++◌, ◌∙◌, ap, arith, length, true, flat_map, word, fundamental_sequence, id_len, pair_codes, reference_bits, reference_len, pairs_len, word_flag}
+use Rattle.rice_fast.proofs.Words.{append_flagged}
 use Rattle.rice_fast.proofs.encode.options.put_second_extension.Goals as goal
 
 pub returns : goal.returns

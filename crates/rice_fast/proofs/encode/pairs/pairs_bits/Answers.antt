@@ -1,5 +1,4 @@
-use Rattle.std.proofs.Common.{arith}
-use Rattle.rice_samples.proofs.lemmas.blocks.CodesOfPairsInTurn.{pairs_more}
+use Rattle.rice_fast.proofs.Words.{arith, pairs_more}
 use Rattle.rice_fast.proofs.encode.pairs.pairs_bits.Goals as goal
 
 pub loop-i-preserved : goal.loop-i-preserved

@@ -1,5 +1,4 @@
-use Rattle.std.proofs.Common.{◌≡◌, ◌+◌, ◌*◌, ◌^◌, ◌≤◌, take, sum_by}
-use Rattle.rice_samples.specs.blocks.Pairs.{pair_codes}
+use Rattle.rice_fast.proofs.Words.{◌≡◌, ◌+◌, ◌*◌, ◌^◌, ◌≤◌, take, sum_by, pair_codes}
 use Rattle.rice_fast.proofs.encode.pairs.pairs_bits.Given as goal
 
 abbrev pub invariant-loop-i : goal.invariant-loop-i

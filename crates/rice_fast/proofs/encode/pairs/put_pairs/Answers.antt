@@ -1,7 +1,5 @@
-use Rattle.std.proofs.lemmas.Grind.{common_steps}
-use Rattle.std.proofs.Common.{arith, ◌+◌, ap}
+use Rattle.rice_fast.proofs.Words.{common_steps, arith, ◌+◌, ap, pairs_left}
 use Rattle.std.specs.Prelude.{sum_by}
-use Rattle.rice_code.proofs.lemmas.encode.OptionTexts.{pairs_left}
 use Rattle.rice_fast.proofs.encode.pairs.put_pairs.Goals as goal
 
 pub loop-i-preserved : goal.loop-i-preserved

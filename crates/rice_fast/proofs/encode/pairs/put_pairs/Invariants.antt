@@ -1,7 +1,5 @@
-use Rattle.std.proofs.Common.{◌≡◌, ◌+◌, ◌*◌, ◌++◌, length, drop}
-use Rattle.std.specs.Prelude.{flat_map, sum_by}
-use Rattle.rice_bits.specs.Bits.{fundamental_sequence}
-use Rattle.rice_samples.specs.blocks.Pairs.{pair_codes}
+use Rattle.rice_fast.proofs.Words.{◌≡◌, ◌+◌, ◌*◌, ◌++◌, length, drop, flat_map, fundamental_sequence, pair_codes}
+use Rattle.std.specs.Prelude.{sum_by}
 use Rattle.rice_fast.proofs.encode.pairs.put_pairs.Given as goal
 
 abbrev pub invariant-loop-i : goal.invariant-loop-i

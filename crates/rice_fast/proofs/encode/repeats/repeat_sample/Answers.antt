@@ -1,7 +1,6 @@
-use Rattle.std.proofs.Common.{◌≡◌, ◌+◌, ◌*◌, ◌≤◌, ◌∙◌, ap, arith, length, sym}
-use Rattle.rice_fast.proofs.lemmas.vectors.LevelsInLanes.{level_fits}
+use Rattle.rice_fast.proofs.Words.{◌≡◌, ◌+◌, ◌*◌, ◌≤◌, ◌∙◌, ap, arith, length, sym}
 use Rattle.rice_fast.proofs.lemmas.encode.Repeats.{none_compared, row_compared, sample_repeated}
-use Rattle.rice_fast.proofs.lemmas.encode.ResidualsOfBytes.{bytes_of_row, row_bytes}
+use Rattle.rice_fast.proofs.lemmas.{vectors.LevelsInLanes.level_fits, encode.ResidualsOfBytes.bytes_of_row, encode.ResidualsOfBytes.row_bytes}
 use Rattle.rice_fast.proofs.encode.repeats.repeat_sample.Goals as goal
 
 pub splat-same-requires : goal.splat-same-requires

@@ -1,6 +1,4 @@
-use Rattle.std.proofs.Common.{◌≡◌, ◌+◌, ◌-◌, ◌*◌, ◌≤◌, ◌∙◌, ap, arith, length, refl, sym}
-use Rattle.std.proofs.lemmas.Simd.{length-put_chunk}
-use Rattle.rice_samples.specs.Parameters.{value_count, width}
+use Rattle.rice_fast.proofs.Words.{◌≡◌, ◌+◌, ◌-◌, ◌*◌, ◌≤◌, ◌∙◌, ap, arith, length, refl, sym, length-put_chunk, value_count, width}
 use Rattle.rice_fast.proofs.lemmas.vectors.LevelsInLanes.{greatest_fits, level_fits}
 use Rattle.rice_fast.proofs.lemmas.encode.ResidualsOfBytes.{bytes_of_row, no_row, row_bytes, row_more, rows_read}
 use Rattle.rice_fast.proofs.encode.residuals_of_bytes.residuals_in_lanes.Goals as goal

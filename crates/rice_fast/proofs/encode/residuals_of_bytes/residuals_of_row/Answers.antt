@@ -1,10 +1,5 @@
-use Rattle.std.proofs.Common.{◌≡◌, ◌+◌, ◌-◌, ◌∙◌, true, false, arith, get_or, map, rules, sym}
-use Rattle.rice_samples.specs.Parameters.{value_at, value_count, values_at}
-use Rattle.rice_samples.specs.predict.Residuals.{pattern}
-use Rattle.rice_fast.proofs.lemmas.vectors.LevelsInLanes.{greatest_fits}
-use Rattle.rice_code.specs.encode.OpenSegment.{later_residuals}
-use Rattle.rice_code.proofs.lemmas.encode.SeveralSamplesHeld.{later_patterns}
-use Rattle.rice_fast.proofs.lemmas.encode.ResidualsOfBytes.{row_ranked}
+use Rattle.rice_fast.proofs.Words.{◌≡◌, ◌+◌, ◌-◌, ◌∙◌, true, false, arith, get_or, map, rules, sym, value_at, value_count, values_at, pattern, later_residuals, later_patterns}
+use Rattle.rice_fast.proofs.lemmas.{vectors.LevelsInLanes.greatest_fits, encode.ResidualsOfBytes.row_ranked}
 use Rattle.rice_fast.proofs.encode.residuals_of_bytes.residuals_of_row.Goals as goal
 
 pub returns-then-not-preprocess : goal.returns-then-not-preprocess

@@ -1,6 +1,4 @@
-use Rattle.std.proofs.Common.{arith, ◌^◌, replicate}
-use Rattle.std.specs.Prelude.{flat_map}
-use Rattle.rice_bits.specs.Bits.{fundamental_sequence}
+use Rattle.rice_fast.proofs.Words.{arith, ◌^◌, replicate, flat_map, fundamental_sequence}
 use Rattle.rice_fast.proofs.lemmas.encode.JoinedSequences.{first_bounded, joined_weights_bounded, joined_values_bounded, ones_bounded, row_fits, sixteen_joined}
 use Rattle.rice_fast.proofs.encode.sequences_by_products.all_sequences_joined.Goals as goal
 

@@ -1,6 +1,6 @@
 use Rattle.std.proofs.Common.{◌≤◌, arith, replicate, w8}
-use Rattle.rice_fast.proofs.lemmas.vectors.NearVectors.{excess_of_each, splat-fits}
-use Rattle.rice_fast.proofs.lemmas.encode.JoinedSequences.{all_of, each_of, none_above, none_found_above}
+use Rattle.rice_fast.proofs.lemmas.encode.JoinedSequences.{none_above, none_found_above}
+use Rattle.rice_fast.proofs.lemmas.{vectors.NearVectors.excess_of_each, vectors.NearVectors.splat-fits, vectors.NumbersInLanes.all_of, vectors.NumbersInLanes.each_of}
 use Rattle.rice_fast.proofs.encode.sequences_by_products.are_at_most_six.Goals as goal
 
 pub returns : goal.returns

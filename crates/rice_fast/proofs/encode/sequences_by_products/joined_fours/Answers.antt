@@ -1,6 +1,5 @@
-use Rattle.std.proofs.Common.{◌+◌, ◌*◌, ◌%◌, ◌^◌, ◌≤◌, ◌∙◌, arith}
-use Rattle.std.specs.Simd.Lanes.{zip2}
-use Rattle.rice_fast.proofs.lemmas.encode.JoinedSequences.{each_of, parted_eight, values_joined, weights_joined}
+use Rattle.rice_fast.proofs.Words.{◌+◌, ◌*◌, ◌%◌, ◌^◌, ◌≤◌, ◌∙◌, arith, zip2}
+use Rattle.rice_fast.proofs.lemmas.{vectors.NumbersInLanes.each_of, encode.JoinedSequences.parted_eight, encode.JoinedSequences.values_joined, encode.JoinedSequences.weights_joined}
 use Rattle.rice_fast.proofs.encode.sequences_by_products.joined_fours.Goals as goal
 
 pub returns-clause-values : goal.returns-clause-values

@@ -1,6 +1,5 @@
-use Rattle.std.proofs.Common.{◌+◌, ◌*◌, ◌%◌, ◌^◌, ◌≤◌, ◌∙◌, ap, arith, replicate}
-use Rattle.std.specs.Simd.Lanes.{zip2}
-use Rattle.rice_fast.proofs.lemmas.encode.JoinedSequences.{each_of, pairs_joined, parted_sixteen, weights_joined}
+use Rattle.rice_fast.proofs.Words.{◌+◌, ◌*◌, ◌%◌, ◌^◌, ◌≤◌, ◌∙◌, ap, arith, replicate, zip2}
+use Rattle.rice_fast.proofs.lemmas.{vectors.NumbersInLanes.each_of, encode.JoinedSequences.pairs_joined, encode.JoinedSequences.parted_sixteen, encode.JoinedSequences.weights_joined}
 use Rattle.rice_fast.proofs.encode.sequences_by_products.joined_pairs.Goals as goal
 
 pub returns-clause-values : goal.returns-clause-values

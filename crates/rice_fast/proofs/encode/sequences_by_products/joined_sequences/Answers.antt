@@ -1,5 +1,5 @@
 use Rattle.std.proofs.Common.{◌≤◌, arith}
-use Rattle.rice_fast.proofs.lemmas.encode.JoinedSequences.{digits_of_front, digits_of_row, each_of, row_is_short}
+use Rattle.rice_fast.proofs.lemmas.{encode.JoinedSequences.digits_of_front, encode.JoinedSequences.digits_of_row, encode.JoinedSequences.row_is_short, vectors.NumbersInLanes.each_of}
 use Rattle.rice_fast.proofs.encode.sequences_by_products.joined_sequences.Goals as goal
 
 pub all_sequences_joined-requires-clause-few : goal.all_sequences_joined-requires-clause-few

@@ -1,5 +1,5 @@
 use Rattle.std.proofs.Common.{◌≤◌, arith}
-use Rattle.rice_fast.proofs.lemmas.encode.JoinedSequences.{each_of, len_of_row, length-none_before, length-one_before}
+use Rattle.rice_fast.proofs.lemmas.{vectors.NumbersInLanes.each_of, encode.JoinedSequences.len_of_row, encode.JoinedSequences.length-none_before, encode.JoinedSequences.length-one_before}
 use Rattle.rice_fast.proofs.encode.sequences_by_products.len_of_sequences.Goals as goal
 
 pub returns-then-from-eq0 : goal.returns-then-from-eq0

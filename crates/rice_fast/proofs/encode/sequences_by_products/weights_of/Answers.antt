@@ -1,5 +1,5 @@
 use Rattle.std.proofs.Common.{◌≤◌}
-use Rattle.rice_fast.proofs.lemmas.encode.JoinedSequences.{each_of, places_are_ok, weights_swizzled}
+use Rattle.rice_fast.proofs.lemmas.{vectors.NumbersInLanes.each_of, encode.JoinedSequences.places_are_ok, encode.JoinedSequences.weights_swizzled}
 use Rattle.rice_fast.proofs.encode.sequences_by_products.weights_of.Goals as goal
 
 pub swizzle : goal.swizzle

@@ -1,10 +1,6 @@
-use Rattle.std.proofs.Common.{◌≡◌, ℕ, zero, suc, ◌+◌, ◌-◌, ◌*◌, ◌%◌, ◌^◌, ◌<◌, ◌≤◌, ◌∙◌, ap, arith, inl, inr, mod-eq_of_lt}
-use Rattle.std.specs.Prelude.{bit_or}
-use Rattle.std.proofs.lemmas.Bool.{cases_lt}
-use Rattle.std.proofs.lemmas.Nat.{pow-add}
-use lib.Count.{count_leading_zeros}
-use Rattle.rice_fast.proofs.lemmas.encode.LargeSums.{zeros_below, zeros_joined}
-use Rattle.rice_fast.proofs.lemmas.encode.Stops.{zeros_above}
+use Rattle.rice_fast.proofs.Words.{◌≡◌, ℕ, zero, suc, ◌+◌, ◌-◌, ◌*◌, ◌%◌, ◌^◌, ◌<◌, ◌≤◌, ◌∙◌, ap, arith, inl, inr, bit_or, cases_lt, pow-add, count_leading_zeros}
+use Rattle.std.proofs.Common.{mod-eq_of_lt}
+use Rattle.rice_fast.proofs.lemmas.{encode.LargeSums.zeros_below, encode.LargeSums.zeros_joined, encode.Stops.zeros_above}
 use Rattle.rice_fast.proofs.encode.stops.digits_above.Goals as goal
 
 -- a number that is moved up by as many digits does not wrap

@@ -1,6 +1,4 @@
-use Rattle.std.proofs.Common.{◌^◌, arith, sym, w32}
-use Rattle.std.proofs.lemmas.Simd.{adds_fit, sum_fits}
-use Rattle.rice_samples.proofs.lemmas.blocks.EightsInLanes.{sums_below, sum_added, lanes_added, whole_sum, total_below}
+use Rattle.rice_fast.proofs.Words.{◌^◌, arith, sym, w32, adds_fit, sum_fits, sums_below, sum_added, lanes_added, whole_sum, total_below}
 use Rattle.rice_fast.proofs.lemmas.encode.HighParts.{chunk_uncut}
 use Rattle.rice_fast.proofs.encode.sums.small_sum.Goals as goal
 

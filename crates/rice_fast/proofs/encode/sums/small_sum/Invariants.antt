@@ -1,5 +1,4 @@
-use Rattle.std.proofs.Common.{◌≡◌, ◌*◌, ◌/◌, ◌^◌, take, length, sum_by}
-use Rattle.std.specs.Simd.Lanes.{sum_l}
+use Rattle.rice_fast.proofs.Words.{◌≡◌, ◌*◌, ◌/◌, ◌^◌, take, length, sum_by, sum_l}
 use Rattle.rice_fast.proofs.encode.sums.small_sum.Given as goal
 
 abbrev pub invariant-loop-i : goal.invariant-loop-i

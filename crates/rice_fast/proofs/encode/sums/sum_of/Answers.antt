@@ -1,6 +1,5 @@
-use Rattle.std.proofs.Common.{arith}
+use Rattle.rice_fast.proofs.Words.{arith, few_bits}
 use Rattle.rice_fast.proofs.lemmas.encode.LargeSums.{small_sums}
-use Rattle.rice_code.proofs.lemmas.encode.ChoiceLemmas.{few_bits}
 use Rattle.rice_fast.proofs.encode.sums.sum_of.Goals as goal
 
 pub small_sum-requires-clause-small : goal.small_sum-requires-clause-small

@@ -1,7 +1,4 @@
-use Rattle.std.proofs.Common.{◌≡◌, ◌*◌, ◌^◌, ◌<◌, ◌∙◌, ap, arith, length-set, drop, take, refl, replicate, subst, sym}
-use Rattle.std.specs.Prelude.{All, flat_map}
-use Rattle.std.proofs.lemmas.List.{drop-drop, take_all}
-use Rattle.rice_bits.specs.Bits.{word}
+use Rattle.rice_fast.proofs.Words.{◌≡◌, ◌*◌, ◌^◌, ◌<◌, ◌∙◌, ap, arith, length-set, drop, take, refl, replicate, subst, sym, All, flat_map, drop-drop, take_all, word}
 use Rattle.rice_fast.proofs.lemmas.WordsOneByOne.{no_words, one_more}
 use Rattle.rice_fast.proofs.lanes.words.words_one_by_one.Goals as goal
 

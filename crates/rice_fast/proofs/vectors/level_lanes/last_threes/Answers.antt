@@ -1,5 +1,4 @@
-use Rattle.std.proofs.Common.{refl}
-use Rattle.std.proofs.lemmas.Simd.{pick_l_whole}
+use Rattle.rice_fast.proofs.Words.{refl, pick_l_whole}
 use Rattle.rice_fast.proofs.vectors.level_lanes.last_threes.Goals as goal
 
 pub returns-then-msb : goal.returns-then-msb

@@ -1,6 +1,4 @@
-use Rattle.std.proofs.Common.{◌∙◌, ap, arith, sym}
-use Rattle.std.proofs.lemmas.List.{length-take-le}
-use Rattle.std.specs.Simd.Lanes.{digits_l, number_l}
+use Rattle.rice_fast.proofs.Words.{◌∙◌, ap, arith, sym, length-take-le, digits_l, number_l}
 use Rattle.rice_fast.proofs.lemmas.vectors.LevelsInLanes.{words_of_lanes}
 use Rattle.rice_fast.proofs.vectors.level_lanes.levels_in_words.Goals as goal
 

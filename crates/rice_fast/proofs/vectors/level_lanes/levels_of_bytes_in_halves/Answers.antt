@@ -1,5 +1,4 @@
-use Rattle.std.proofs.Common.{◌∙◌, ◌<◌, ◌^◌, ℕ, List, arith, get_or, map-id, subst, sym}
-use Rattle.std.proofs.lemmas.List.{take_all}
+use Rattle.rice_fast.proofs.Words.{◌∙◌, ◌<◌, ◌^◌, ℕ, List, arith, get_or, map-id, subst, sym, take_all}
 use Rattle.rice_fast.proofs.lemmas.vectors.LevelsInLanes.{single_bytes}
 use Rattle.rice_fast.proofs.vectors.level_lanes.levels_of_bytes_in_halves.Goals as goal
 

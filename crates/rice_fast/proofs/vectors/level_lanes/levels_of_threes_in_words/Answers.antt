@@ -1,5 +1,4 @@
-use Rattle.std.proofs.Common.{◌∙◌, arith, drop, sym}
-use Rattle.std.proofs.lemmas.List.{length-drop, length-take-le}
+use Rattle.rice_fast.proofs.Words.{◌∙◌, arith, drop, sym, length-drop, length-take-le}
 use Rattle.rice_fast.proofs.lemmas.vectors.LevelsInLanes.{halves_fit, halves_read}
 use Rattle.rice_fast.proofs.vectors.level_lanes.levels_of_threes_in_words.Goals as goal
 

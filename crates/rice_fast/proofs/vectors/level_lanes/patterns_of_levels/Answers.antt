@@ -1,5 +1,4 @@
-use Rattle.std.proofs.Common.{◌≡◌, ◌+◌, ◌-◌, arith}
-use Rattle.rice_samples.specs.Parameters.{value_count}
+use Rattle.rice_fast.proofs.Words.{◌≡◌, ◌+◌, ◌-◌, arith, value_count}
 use Rattle.rice_fast.proofs.lemmas.vectors.LevelsInLanes.{greatest_fits, offset_fits, patterns_in_lanes}
 use Rattle.rice_fast.proofs.vectors.level_lanes.patterns_of_levels.Goals as goal
 

@@ -1,5 +1,4 @@
-use Rattle.std.proofs.Common.{refl}
-use Rattle.std.proofs.lemmas.Simd.{pick_l_whole}
+use Rattle.rice_fast.proofs.Words.{refl, pick_l_whole}
 use Rattle.rice_fast.proofs.vectors.spelling_lanes.byte_fours.Goals as goal
 
 pub returns-then-turned : goal.returns-then-turned

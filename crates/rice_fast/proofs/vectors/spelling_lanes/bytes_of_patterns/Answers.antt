@@ -1,5 +1,4 @@
-use Rattle.std.proofs.Common.{◌≡◌, sym, ◌∙◌, inl, inr, refl}
-use Rattle.std.proofs.lemmas.Simd.{pick_l_whole}
+use Rattle.rice_fast.proofs.Words.{◌≡◌, sym, ◌∙◌, inl, inr, refl, pick_l_whole}
 use Rattle.rice_fast.proofs.lemmas.vectors.LanesOfWholeBytes.{kept_words, single_words, turned_words}
 use Rattle.rice_fast.proofs.vectors.spelling_lanes.bytes_of_patterns.Goals as goal
 

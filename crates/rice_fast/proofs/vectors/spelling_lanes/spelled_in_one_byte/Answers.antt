@@ -1,5 +1,4 @@
-use Rattle.std.proofs.Common.{◌+◌, ◌-◌, ◌%◌, ◌∙◌, replicate}
-use Rattle.std.proofs.lemmas.Simd.{length-zip2}
+use Rattle.rice_fast.proofs.Words.{◌+◌, ◌-◌, ◌%◌, ◌∙◌, replicate, length-zip2}
 use Rattle.rice_fast.proofs.lemmas.vectors.LevelsSpelledInByteLanes.{bytes-spelled, one_byte}
 use Rattle.rice_fast.proofs.vectors.spelling_lanes.spelled_in_one_byte.Goals as goal
 

@@ -1,6 +1,5 @@
-use Rattle.std.proofs.Common.{◌∙◌}
-use Rattle.rice_fast.proofs.lemmas.vectors.LevelsSpelledInByteLanes.{lanes-spelled}
-use Rattle.rice_fast.proofs.lemmas.vectors.HalfLanes.{two_bytes}
+use Rattle.rice_fast.proofs.Words.{◌∙◌}
+use Rattle.rice_fast.proofs.lemmas.{vectors.LevelsSpelledInByteLanes.lanes-spelled, vectors.HalfLanes.two_bytes}
 use Rattle.rice_fast.proofs.vectors.spelling_lanes.spelled_in_two_bytes.Goals as goal
 
 pub returns-clause-value : goal.returns-clause-value

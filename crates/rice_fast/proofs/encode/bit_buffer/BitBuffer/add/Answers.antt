@@ -1,6 +1,4 @@
-use Rattle.std.proofs.Common.{arith, refl, ap, ◌+◌, ◌++◌, ◌∙◌}
-use Rattle.rice_bits.specs.Bits.{word}
-use Rattle.rice_bits.proofs.lemmas.bits.WordsAndNumbers.{length-word}
+use Rattle.rice_fast.proofs.Words.{arith, refl, ap, ◌+◌, ◌++◌, ◌∙◌, word, length-word}
 use Rattle.rice_fast.proofs.lemmas.encode.JoinedWords.{length-word_is, more_fields, high_small, joined_bits}
 use Rattle.rice_fast.proofs.encode.bit_buffer.BitBuffer.add.Goals as goal
 

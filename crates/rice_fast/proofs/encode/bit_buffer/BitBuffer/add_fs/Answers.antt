@@ -1,5 +1,4 @@
-use Rattle.std.proofs.Common.{◌++◌, ◌∙◌, ap}
-use Rattle.rice_bits.proofs.lemmas.bits.WordsAndNumbers.{word-fs}
+use Rattle.rice_fast.proofs.Words.{◌++◌, ◌∙◌, ap, word-fs}
 use Rattle.rice_fast.proofs.lemmas.encode.JoinedWords.{one_fits}
 use Rattle.rice_fast.proofs.encode.bit_buffer.BitBuffer.add_fs.Goals as goal
 

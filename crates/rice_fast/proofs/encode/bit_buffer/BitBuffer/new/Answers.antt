@@ -1,5 +1,4 @@
-use Rattle.std.proofs.Common.{ap, length}
-use Rattle.rice_bits.proofs.lemmas.bits.WordsAndNumbers.{word-nil}
+use Rattle.rice_fast.proofs.Words.{ap, length, word-nil}
 use Rattle.rice_fast.proofs.encode.bit_buffer.BitBuffer.new.Goals as goal
 
 pub returns-clause-bits : goal.returns-clause-bits

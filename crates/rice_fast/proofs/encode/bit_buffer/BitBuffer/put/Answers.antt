@@ -1,5 +1,4 @@
-use Rattle.std.proofs.Common.{rules, arith}
-use Rattle.rice_bits.proofs.lemmas.bits.WordsAndNumbers.{word-nil}
+use Rattle.rice_fast.proofs.Words.{rules, arith, word-nil}
 use Rattle.rice_fast.proofs.lemmas.encode.JoinedWords.{length-word_is}
 use Rattle.rice_fast.proofs.encode.bit_buffer.BitBuffer.put.Goals as goal
 

@@ -1,8 +1,4 @@
-use Rattle.std.proofs.Common.{◌++◌, ◌∙◌, ap, append-nil, append_assoc, arith, length, sym}
-use Rattle.std.specs.Prelude.{flat_map}
-use Rattle.rice_bits.specs.Bits.{word}
-use Rattle.rice_bits.proofs.lemmas.bits.WordsAndNumbers.{length-word}
-use Rattle.rice_code.proofs.lemmas.cost.CostIsLength.{length_words}
+use Rattle.rice_fast.proofs.Words.{◌++◌, ◌∙◌, ap, append-nil, append_assoc, arith, length, sym, flat_map, word, length-word, length_words}
 use Rattle.rice_fast.proofs.encode.bit_buffer.BitBuffer.put_then_whole_words.Goals as goal
 
 pub put_number_and_whole_words-requires : goal.put_number_and_whole_words-requires

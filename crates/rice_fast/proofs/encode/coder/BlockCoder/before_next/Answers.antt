@@ -1,5 +1,4 @@
-use Rattle.std.proofs.Common.{refl, rules, true, false, ◌≡◌, ◌∙◌, ◌&&◌, sym}
-use Rattle.rice_fast.specs.encode.OpenBlocks.{is_at_first}
+use Rattle.rice_fast.proofs.Words.{refl, rules, true, false, ◌≡◌, ◌∙◌, ◌&&◌, sym, is_at_first}
 use Rattle.rice_fast.proofs.encode.coder.BlockCoder.before_next.Goals as goal
 
 pub returns-then-not-is_at_first-clause-some : goal.returns-then-not-is_at_first-clause-some

@@ -1,8 +1,5 @@
-use Rattle.std.proofs.Common.{ℕ, ◌≤◌, arith, rules, subst, sym}
-use Rattle.rice_fast.specs.encode.OpenBlocks.{StandsFor, coder_between}
-use Rattle.rice_fast.specs.declared.encode.coder.BlockCoder.{BlockCoder}
-use Rattle.rice_fast.proofs.lemmas.encode.EndedSegments.{pushes_segment}
-use Rattle.rice_fast.proofs.lemmas.encode.StandingCoders.{pushes_nothing}
+use Rattle.rice_fast.proofs.Words.{ℕ, ◌≤◌, arith, rules, subst, sym, StandsFor, coder_between, BlockCoder}
+use Rattle.rice_fast.proofs.lemmas.{encode.EndedSegments.pushes_segment, encode.StandingCoders.pushes_nothing}
 use Rattle.rice_fast.proofs.encode.coder.BlockCoder.end_if_whole.Goals as goal
 
 pub returns-then-self-clause-stands : goal.returns-then-self-clause-stands

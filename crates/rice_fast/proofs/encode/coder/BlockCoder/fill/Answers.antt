@@ -1,13 +1,6 @@
-use Rattle.std.proofs.Common.{ℕ, ℤ, ◌≡◌, ◌+◌, ◌-◌, ◌∙◌, ◌++◌, ◌∷◌, [], zero, suc, ap, arith, refl, replicate, rules, subst, sym, w64, FitsSigned}
-use Rattle.std.proofs.lemmas.Int.{to_z-of_z}
-use Rattle.rice_fast.specs.encode.OpenBlocks.{StandsAfter}
-use Rattle.rice_fast.proofs.lemmas.encode.EndedSegments.{fill_for, fill_for_none}
-use Rattle.rice_fast.proofs.lemmas.encode.StandingCoders.{after_none, step_for_one}
+use Rattle.rice_fast.proofs.Words.{◌≡◌, ◌+◌, ◌-◌, ◌∙◌, ◌++◌, ◌∷◌, [], ap, arith, refl, replicate, rules, subst, sym, w64, FitsSigned, to_z-of_z, StandsAfter, replicate_more}
+use Rattle.rice_fast.proofs.lemmas.{encode.EndedSegments.fill_for, encode.EndedSegments.fill_for_none, encode.StandingCoders.after_none, encode.StandingCoders.step_for_one}
 use Rattle.rice_fast.proofs.encode.coder.BlockCoder.fill.Goals as goal
-
-one_copy_more : (n : ℕ) (x : ℤ) → replicate n x ++ x ∷ [] ≡ replicate (n + 1) x
-one_copy_more zero x = refl
-one_copy_more (suc n) x = let e : suc (n + 1) ≡ suc n + 1 = omega arith in ap (λ v. x ∷ v) (one_copy_more n x) ∙ ap (λ k. replicate k x) e
 
 pub returns-then-self-eq0-clause-stands : goal.returns-then-self-eq0-clause-stands
 returns-then-self-eq0-clause-stands c m h room =
@@ -32,7 +25,7 @@ loop-i-preserved c =
       stands = λ m h.
           let held = c.hold.ensures.stands c.args.sink.now m (replicate c.loop-i.i m.coder.previous) (inv.stands m h) in
           let same = to_z-of_z w64 x fits ∙ c.previous-x.ensures.value c.args.sink.now c.args.meter.now m h in
-          let all = ap (λ v. replicate c.loop-i.i m.coder.previous ++ v ∷ []) same ∙ one_copy_more c.loop-i.i m.coder.previous in
+          let all = ap (λ v. replicate c.loop-i.i m.coder.previous ++ v ∷ []) same ∙ replicate_more c.loop-i.i m.coder.previous in
           subst (StandsAfter c.hold.new.self c.args.sink.now c.hold.new.meter m) all held;
       setting = c.hold.ensures.setting ∙ inv.setting;
       end = c.hold.ensures.end ∙ inv.end;

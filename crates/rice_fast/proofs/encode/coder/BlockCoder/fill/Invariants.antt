@@ -1,6 +1,4 @@
-use Rattle.std.proofs.Common.{◌≡◌, ◌+◌, replicate}
-use Rattle.rice_fast.specs.encode.OpenBlocks.{StandsAfter, StandsFor}
-use Rattle.rice_fast.specs.encode.Standing.{Standing}
+use Rattle.rice_fast.proofs.Words.{◌≡◌, ◌+◌, replicate, StandsAfter, StandsFor, Standing}
 use Rattle.rice_fast.proofs.encode.coder.BlockCoder.fill.Given as goal
 
 abbrev pub invariant-loop-i : goal.invariant-loop-i

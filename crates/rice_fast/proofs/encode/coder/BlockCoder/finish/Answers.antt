@@ -1,12 +1,5 @@
-use Rattle.std.proofs.Common.{ℕ, ◌≤◌, arith, pos, refl, subst, sym, []}
-use Rattle.rice_samples.specs.Parameters.{IsLegal, IsSample, Parameters}
-use Rattle.rice_samples.proofs.lemmas.setting.LevelsOfSamples.{zero_is_sample}
-use Rattle.rice_code.specs.encode.OpenSegment.{empty_state}
-use Rattle.rice_code.proofs.lemmas.encode.PushedCode.{none_taken}
-use Rattle.rice_fast.specs.encode.OpenBlocks.{StandsFor, coder_between}
-use Rattle.rice_fast.specs.declared.encode.coder.BlockCoder.{BlockCoder}
-use Rattle.rice_fast.proofs.lemmas.encode.EndedSegments.{finish_adds_all}
-use Rattle.rice_fast.proofs.lemmas.encode.StandingCoders.{begun_stands, setting_of}
+use Rattle.rice_fast.proofs.Words.{ℕ, ◌≤◌, arith, pos, refl, subst, sym, [], IsLegal, IsSample, Parameters, zero_is_sample, empty_state, none_taken, StandsFor, coder_between, BlockCoder}
+use Rattle.rice_fast.proofs.lemmas.{encode.EndedSegments.finish_adds_all, encode.StandingCoders.begun_stands, encode.StandingCoders.setting_of}
 use Rattle.rice_fast.proofs.encode.coder.BlockCoder.finish.Goals as goal
 
 pub level_of_sample-self-requires : goal.level_of_sample-self-requires

@@ -1,8 +1,4 @@
-use Rattle.std.specs.Prelude.{slice_set}
-use Rattle.std.proofs.Common.{◌∙◌, cond, ◌&&◌, subst, sym, rules, w64, FitsSigned, Some, ◌++◌, ◌∷◌, []}
-use Rattle.std.proofs.lemmas.Int.{to_z-of_z}
-use Rattle.rice_samples.specs.predict.Residuals.{pattern, rank}
-use Rattle.rice_fast.specs.encode.OpenBlocks.{StandsAfter}
+use Rattle.rice_fast.proofs.Words.{slice_set, ◌∙◌, cond, ◌&&◌, subst, sym, rules, w64, FitsSigned, Some, ◌++◌, ◌∷◌, [], to_z-of_z, pattern, rank, StandsAfter}
 use Rattle.rice_fast.proofs.lemmas.encode.TakenSamples.{one_held, with_held}
 use Rattle.rice_fast.proofs.encode.coder.BlockCoder.hold.Goals as goal
 

@@ -1,11 +1,7 @@
-use Rattle.std.proofs.Common.{◌≡◌, ◌+◌, ◌-◌, ◌*◌, ◌<◌, ◌∙◌, ◌++◌, ◌∷◌, [], drop, take, ap, arith, refl, rules, subst, sym, length-append, w64, FitsSigned}
-use Rattle.std.proofs.lemmas.Int.{to_z-of_z}
-use Rattle.rice_samples.specs.Parameters.{Parameters, IsSample, width}
-use Rattle.rice_samples.specs.bytes.Spelling.{Reads, spelling}
-use Rattle.rice_fast.specs.encode.OpenBlocks.{StandsAfter}
-use Rattle.rice_fast.proofs.lemmas.encode.EndedSegments.{spelled_are_taken}
+use Rattle.rice_fast.proofs.Words.{◌≡◌, ◌+◌, ◌-◌, ◌*◌, ◌<◌, ◌∙◌, ◌++◌, ◌∷◌, [], drop, take, ap, arith, refl, rules, subst, sym, length-append, w64, FitsSigned, to_z-of_z, Parameters, IsSample, width}
+use Rattle.rice_fast.proofs.Words.{Reads, spelling, StandsAfter}
 use Rattle.rice_fast.proofs.lemmas.encode.StandingCoders.{after_none, for_open, pushes_nothing, step_for_one}
-use Rattle.rice_fast.proofs.lemmas.encode.TakenBytes.{no_spelling, reads_more, reads_none, reads_one}
+use Rattle.rice_fast.proofs.lemmas.{encode.EndedSegments.spelled_are_taken, encode.TakenBytes.no_spelling, encode.TakenBytes.reads_more, encode.TakenBytes.reads_none, encode.TakenBytes.reads_one}
 use Rattle.rice_fast.proofs.encode.coder.BlockCoder.hold_some.Goals as goal
 
 pub loop-i-init : goal.loop-i-init

@@ -1,6 +1,4 @@
-use Rattle.std.proofs.Common.{arith, sym, []}
-use Rattle.rice_code.proofs.lemmas.encode.OpenSegments.{next_of_whole}
-use Rattle.rice_fast.specs.encode.OpenBlocks.{coder_with}
+use Rattle.rice_fast.proofs.Words.{arith, sym, [], next_of_whole, coder_with}
 use Rattle.rice_fast.proofs.encode.coder.BlockCoder.next_place.Goals as goal
 
 pub returns-then-interval-le64-clause-start : goal.returns-then-interval-le64-clause-start

@@ -1,10 +1,7 @@
-use Rattle.std.proofs.Common.{ℕ, zero, suc, ◌≡◌, ◌+◌, ◌-◌, ◌*◌, ◌/◌, ◌≤◌, ◌<◌, ◌∙◌, ◌++◌, [], ◌∷◌, List, length, drop, take, ap, arith, false, refl, rules, subst, true, sym, length-append}
-use Rattle.std.proofs.Math.Nat.{div-add-mod, mul-le-mul_left}
-use Rattle.rice_samples.specs.Parameters.{Parameters, width}
-use Rattle.rice_samples.specs.bytes.Spelling.{Reads}
-use Rattle.rice_fast.proofs.lemmas.encode.EndedSegments.{spelled_are_taken}
+use Rattle.rice_fast.proofs.Words.{ℕ, zero, suc, ◌≡◌, ◌+◌, ◌-◌, ◌*◌, ◌/◌, ◌≤◌, ◌<◌, ◌∙◌, ◌++◌, [], length, drop, take, ap, arith, false, refl, rules, subst, true, sym, length-append, nil_from_length}
+use Rattle.rice_fast.proofs.Words.{div-add-mod, mul-le-mul_left, Parameters, width, Reads}
 use Rattle.rice_fast.proofs.lemmas.encode.StandingCoders.{after_none, for_again, for_open, pushes_nothing}
-use Rattle.rice_fast.proofs.lemmas.encode.TakenBytes.{reads_more, reads_none}
+use Rattle.rice_fast.proofs.lemmas.{encode.EndedSegments.spelled_are_taken, encode.TakenBytes.reads_more, encode.TakenBytes.reads_none}
 use Rattle.rice_fast.proofs.encode.coder.BlockCoder.push_blocks_of_size.Goals as goal
 
 -- whole blocks of bytes are among all bytes
@@ -15,10 +12,6 @@ inside len n i most few less =
 
 all_inside : (len n most : ℕ) → most ≤ n / len → len * most ≤ n
 all_inside len n most few = let all : len * most ≤ len * (n / len) = mul-le-mul_left len few in omega (arith, all, div-add-mod n len)
-
-no_samples : {X : Type 0} (xs : List X) → length xs ≡ 0 → xs ≡ []
-no_samples [] e = refl
-no_samples (x ∷ xs) e = absurd (omega arith)
 
 pub loop-i-init : goal.loop-i-init
 loop-i-init g c = record {
@@ -118,7 +111,7 @@ returns-then-not-take_block-clause-kept g c none m h room =
     let taken = inv.stands m h room in
     let kept = did.kept failed m taken.0 taken.3 in
     let one : 1 ≤ c.take_block.new.self.setting.block = grind (arith, kept.stands.holds.opens.legal.block) in
-    for_again kept (no_samples taken.0 (taken.1 ∙ none)) (omega (arith, did.held, one))
+    for_again kept (nil_from_length taken.0 (taken.1 ∙ none)) (omega (arith, did.held, one))
 
 pub returns-clause-takes : goal.returns-clause-takes
 returns-clause-takes g c m h room =

@@ -1,7 +1,4 @@
-use Rattle.std.proofs.Common.{◌≡◌, ◌+◌, ◌*◌, List, length, drop, ℤ}
-use Rattle.rice_samples.specs.bytes.Spelling.{Reads}
-use Rattle.rice_fast.specs.encode.OpenBlocks.{StandsAfter, StandsFor}
-use Rattle.rice_fast.specs.encode.Standing.{HasRoomAt, Standing}
+use Rattle.rice_fast.proofs.Words.{◌≡◌, ◌+◌, ◌*◌, List, length, drop, ℤ, Reads, StandsAfter, StandsFor, HasRoomAt, Standing}
 use Rattle.rice_fast.proofs.encode.coder.BlockCoder.push_blocks_of_size.Given as goal
 
 abbrev pub invariant-loop-i : goal.invariant-loop-i

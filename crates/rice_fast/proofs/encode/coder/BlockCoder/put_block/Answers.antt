@@ -1,16 +1,6 @@
-use Rattle.std.proofs.Common.{arith, ◌≡◌, ◌+◌, ◌-◌, ◌*◌, ◌≤◌, ℕ, Bool, List, true, false, length, take, refl, ap, sym, ◌∙◌, subst, inl, inr}
-use Rattle.std.proofs.Math.Nat.{mul-le-mul_left}
-use Rattle.rice_samples.specs.Parameters.{Parameters, IsBlockSize, k_max}
-use Rattle.rice_code.specs.code.Blocks.{BlockData, is_zero_block}
-use Rattle.rice_code.specs.code.Choice.{best_split, shortest}
-use Rattle.rice_code.specs.code.CodedDataSets.{cost}
-use Rattle.rice_code.specs.code.SoundBlocks.{IsSoundData, block_with}
-use Rattle.rice_code.specs.encode.BitBuffer.{HasRoomFor}
-use Rattle.rice_code.specs.encode.HeldBlocks.{EndsRun, JoinsRun, pending_bits, reference_at}
-use Rattle.rice_code.proofs.lemmas.encode.SegmentBlocksInTurn.{sound_of}
-use Rattle.rice_code.proofs.lemmas.meaning.CoveredBlocks.{bool_cases}
-use Rattle.rice_fast.specs.declared.encode.coder.BlockCoder.{BlockCoder}
-use Rattle.rice_fast.specs.encode.OpenBlocks.{HasRoomForBlock, whole_part}
+use Rattle.rice_fast.proofs.Words.{arith, ◌≡◌, ◌+◌, ◌-◌, ◌*◌, ◌≤◌, ℕ, Bool, List, true, false, length, take, refl, ap, sym, ◌∙◌, subst, inl, inr, mul-le-mul_left, Parameters, IsBlockSize, k_max}
+use Rattle.rice_fast.proofs.Words.{BlockData, is_zero_block, best_split, shortest, cost, IsSoundData, block_with, HasRoomFor, EndsRun, JoinsRun, pending_bits, reference_at, sound_of, bool_cases}
+use Rattle.rice_fast.proofs.Words.{BlockCoder, HasRoomForBlock, whole_part}
 use Rattle.rice_fast.proofs.lemmas.encode.CodeAhead.{IsNext, ahead_of_other, ahead_of_zero, last_sound, room_for_other, room_to_look}
 use Rattle.rice_fast.proofs.encode.coder.BlockCoder.put_block.Goals as goal
 

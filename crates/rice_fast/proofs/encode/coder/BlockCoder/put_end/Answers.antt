@@ -1,6 +1,4 @@
-use Rattle.std.proofs.Common.{◌+◌, ◌∙◌, ap, arith, length, subst, sym, ℕ, Option, ◌++◌, true}
-use Rattle.rice_code.specs.encode.BitBuffer.{HasRoomFor}
-use Rattle.rice_code.specs.encode.HeldBlocks.{pending_bits}
+use Rattle.rice_fast.proofs.Words.{◌+◌, ◌∙◌, ap, arith, length, subst, sym, ℕ, Option, ◌++◌, true, HasRoomFor, pending_bits}
 use Rattle.rice_fast.proofs.lemmas.encode.EndedSegments.{end_codes, end_has_room, start_is_low}
 use Rattle.rice_fast.proofs.lemmas.encode.StandingCoders.{blocks_few, few_blocks, run_inside}
 use Rattle.rice_fast.proofs.encode.coder.BlockCoder.put_end.Goals as goal

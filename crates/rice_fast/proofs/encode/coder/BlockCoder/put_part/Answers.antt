@@ -1,6 +1,4 @@
-use Rattle.std.proofs.Common.{◌≡◌, ◌∙◌, length, take, refl, subst, sym}
-use Rattle.rice_fast.specs.encode.OpenBlocks.{StandsAfter, whole_part}
-use Rattle.rice_fast.specs.declared.encode.coder.BlockCoder.{BlockCoder}
+use Rattle.rice_fast.proofs.Words.{◌≡◌, ◌∙◌, length, take, refl, subst, sym, StandsAfter, whole_part, BlockCoder}
 use Rattle.rice_fast.proofs.lemmas.encode.StandingCoders.{none_held, other_part, part_as_row, part_counted, part_has_room, row_is_put}
 use Rattle.rice_fast.proofs.encode.coder.BlockCoder.put_part.Goals as goal
 

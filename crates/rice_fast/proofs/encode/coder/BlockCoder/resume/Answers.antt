@@ -1,7 +1,4 @@
-use Rattle.std.proofs.Common.{◌∙◌, refl, subst, sym, w64}
-use Rattle.std.proofs.lemmas.Int.{to_z-of_z}
-use Rattle.rice_samples.specs.Parameters.{IsSample}
-use Rattle.rice_code.proofs.lemmas.encode.PushedCode.{open_between}
+use Rattle.rice_fast.proofs.Words.{◌∙◌, refl, subst, sym, w64, to_z-of_z, IsSample, open_between}
 use Rattle.rice_fast.proofs.lemmas.encode.StandingCoders.{begun_stands}
 use Rattle.rice_fast.proofs.encode.coder.BlockCoder.resume.Goals as goal
 

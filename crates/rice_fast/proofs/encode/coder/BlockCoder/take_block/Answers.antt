@@ -1,10 +1,6 @@
-use Rattle.std.proofs.Common.{ℕ, List, ◌≡◌, ◌+◌, ◌∙◌, ◌++◌, ap, arith, drop, length, length-append, rules, subst, sym, take}
-use Rattle.std.proofs.lemmas.List.{take-append-drop}
-use Rattle.rice_fast.specs.encode.OpenBlocks.{StandsAfter}
-use Rattle.rice_fast.specs.declared.encode.coder.BlockCoder.{BlockCoder}
+use Rattle.rice_fast.proofs.Words.{ℕ, List, ◌≡◌, ◌+◌, ◌∙◌, ◌++◌, ap, arith, drop, length, length-append, rules, subst, sym, take, take-append-drop, StandsAfter, BlockCoder}
 use Rattle.rice_fast.proofs.lemmas.encode.StandingCoders.{none_held, none_held_in, part_has_room, row_is_put, steps_for_block, with_block}
-use Rattle.rice_fast.proofs.lemmas.encode.RunsGoOn.{run_goes_on}
-use Rattle.rice_fast.proofs.lemmas.encode.TakenSamples.{block_in_part}
+use Rattle.rice_fast.proofs.lemmas.{encode.RunsGoOn.run_goes_on, encode.TakenSamples.block_in_part}
 use Rattle.rice_fast.proofs.encode.coder.BlockCoder.take_block.Goals as goal
 
 -- a part of which the front is written anew is as long

@@ -1,6 +1,5 @@
-use Rattle.std.proofs.Common.{◌≤◌, ◌<◌, ◌*◌, ◌∙◌, ap, arith}
-use Rattle.rice_fast.proofs.lemmas.vectors.LevelsSpelledInByteLanes.{one_byte}
-use Rattle.rice_fast.proofs.lemmas.vectors.HalfLanes.{two_bytes}
+use Rattle.rice_fast.proofs.Words.{◌≤◌, ◌<◌, ◌*◌, ◌∙◌, ap, arith}
+use Rattle.rice_fast.proofs.lemmas.{vectors.LevelsSpelledInByteLanes.one_byte, vectors.HalfLanes.two_bytes}
 use Rattle.rice_fast.proofs.encode.level_lanes.HalvesLevelLanes.levels_in.Goals as goal
 
 pub levels_of_bytes_in_halves-requires : goal.levels_of_bytes_in_halves-requires

@@ -1,5 +1,4 @@
-use Rattle.std.proofs.Common.{◌≡◌, ◌*◌, ◌∙◌, ap, sym}
-use Rattle.rice_samples.specs.Parameters.{width}
+use Rattle.rice_fast.proofs.Words.{◌≡◌, ◌*◌, ◌∙◌, ap, sym, width}
 use Rattle.rice_fast.proofs.lemmas.LaneLaws.{four_bytes}
 use Rattle.rice_fast.proofs.encode.level_lanes.WordsLevelLanes.levels_in.Goals as goal
 

@@ -1,6 +1,4 @@
-use Rattle.std.proofs.Common.{◌^◌, ◌<◌, ◌∙◌, ap, map-id, subst, sym}
-use Rattle.std.specs.Prelude.{All, flat_map}
-use Rattle.rice_bits.specs.Bits.{word}
+use Rattle.rice_fast.proofs.Words.{◌^◌, ◌<◌, ◌∙◌, ap, map-id, subst, sym, All, flat_map, word}
 use Rattle.rice_fast.proofs.lemmas.LaneLaws.{narrow_enough}
 use Rattle.rice_fast.proofs.lanes.halves.HalvesSampleLanes.words_ahead.Goals as goal
 

@@ -1,8 +1,5 @@
-use Rattle.std.proofs.Common.{◌∙◌, arith}
-use Rattle.std.proofs.lemmas.List.{take_all}
-use Rattle.rice_samples.specs.Parameters.{width}
-use Rattle.rice_fast.proofs.lemmas.vectors.HalfLanes.{two_bytes}
-use Rattle.rice_fast.proofs.lemmas.LaneLaws.{lanes_written}
+use Rattle.rice_fast.proofs.Words.{◌∙◌, arith, take_all, width}
+use Rattle.rice_fast.proofs.lemmas.{vectors.HalfLanes.two_bytes, LaneLaws.lanes_written}
 use Rattle.rice_fast.proofs.lanes.halves.HalvesSampleLanes.write_bytes.Goals as goal
 
 pub returns-clause-spelled : goal.returns-clause-spelled

@@ -1,6 +1,4 @@
-use Rattle.std.proofs.Common.{◌∙◌, arith, sym}
-use Rattle.std.proofs.lemmas.List.{take_all}
-use Rattle.rice_samples.specs.Parameters.{width}
+use Rattle.rice_fast.proofs.Words.{◌∙◌, arith, sym, take_all, width}
 use Rattle.rice_fast.proofs.lemmas.LaneLaws.{four_bytes, lanes_written}
 use Rattle.rice_fast.proofs.lanes.words.WordsSampleLanes.write_bytes.Goals as goal
 

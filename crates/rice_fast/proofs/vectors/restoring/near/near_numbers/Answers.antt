@@ -1,5 +1,4 @@
-use Rattle.std.proofs.Common.{◌^◌, ap, ◌∙◌}
-use Rattle.rice_fast.specs.RunningSums.{running_sums}
+use Rattle.rice_fast.proofs.Words.{◌^◌, ap, ◌∙◌, running_sums}
 use Rattle.rice_fast.proofs.lemmas.vectors.NearVectors.{sums_of_ways}
 use Rattle.rice_fast.proofs.vectors.restoring.near.near_numbers.Goals as goal
 

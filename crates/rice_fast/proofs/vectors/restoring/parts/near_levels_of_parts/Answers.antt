@@ -1,9 +1,5 @@
-use Rattle.std.proofs.Common.{◌≡◌, ℕ, ◌+◌, ◌-◌, ◌/◌, ◌^◌, ◌<◌, ◌≤◌, ◌∙◌, ap, arith, refl, replicate, sym}
-use Rattle.std.specs.Simd.Lanes.{zip2}
-use Rattle.std.proofs.Math.Nat.{pow-le-pow_right}
-use Rattle.rice_samples.specs.Parameters.{Parameters, value_count}
-use Rattle.rice_fast.proofs.lemmas.vectors.NearVectors.{near_levels_are, none_above}
-use Rattle.rice_fast.proofs.lemmas.vectors.NearLanes.{both_zeros}
+use Rattle.rice_fast.proofs.Words.{◌≡◌, ℕ, ◌+◌, ◌-◌, ◌/◌, ◌^◌, ◌<◌, ◌≤◌, ◌∙◌, ap, arith, refl, replicate, sym, zip2, pow-le-pow_right, Parameters, value_count}
+use Rattle.rice_fast.proofs.lemmas.{vectors.NearVectors.near_levels_are, vectors.NearVectors.none_above, vectors.NearLanes.both_zeros}
 use Rattle.rice_fast.proofs.vectors.restoring.parts.near_levels_of_parts.Goals as goal
 
 -- values of narrow samples fit the lanes

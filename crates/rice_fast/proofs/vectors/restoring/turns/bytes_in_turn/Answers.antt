@@ -1,7 +1,4 @@
-use Rattle.std.proofs.Common.{◌≡◌, ◌+◌, ◌≤◌, ◌∙◌, ◌++◌, replicate, ap, map-id, subst, sym, take}
-use Rattle.std.specs.Prelude.{All}
-use Rattle.std.proofs.lemmas.List.Elements.{All-take}
-use Rattle.rice_samples.specs.predict.Residuals.{last_number, ranks_below}
+use Rattle.rice_fast.proofs.Words.{◌≡◌, ◌+◌, ◌≤◌, ◌∙◌, ◌++◌, replicate, ap, map-id, subst, sym, take, All, All-take, last_number, ranks_below}
 use Rattle.rice_fast.proofs.lemmas.vectors.RanksForTurns.{repeated, repeated_fit}
 use Rattle.rice_fast.proofs.vectors.restoring.turns.bytes_in_turn.Goals as goal
 

@@ -1,7 +1,4 @@
-use Rattle.std.proofs.Common.{◌+◌, ◌-◌, ◌/◌, ◌^◌, ◌<◌, ◌∙◌, ap, arith, length-set, if◌then◌else◌, length, map, nat_lt, refl, subst, sym}
-use Rattle.std.specs.Prelude.{slice_set}
-use Rattle.std.proofs.lemmas.List.{length-map, map-set}
-use Rattle.rice_samples.specs.predict.NearNumbers.{way}
+use Rattle.rice_fast.proofs.Words.{◌+◌, ◌-◌, ◌/◌, ◌^◌, ◌<◌, ◌∙◌, ap, arith, length-set, if◌then◌else◌, length, map, nat_lt, refl, subst, sym, slice_set, length-map, map-set, way}
 use Rattle.rice_fast.proofs.lemmas.vectors.RanksForTurns.{element, made, way_widened}
 use Rattle.rice_fast.proofs.lemmas.vectors.RestoredLevels.{AreRestored, restored-more}
 use Rattle.rice_fast.proofs.vectors.restoring.turns.write_selected.Goals as goal

@@ -1,6 +1,5 @@
-use Rattle.std.proofs.Common.{◌∙◌, arith, w8}
-use Rattle.rice_fast.proofs.lemmas.vectors.OneVector.{each_fits}
-use Rattle.rice_fast.proofs.lemmas.vectors.JoinedPartsInLanes.{highs-raised}
+use Rattle.rice_fast.proofs.Words.{◌∙◌, arith, w8}
+use Rattle.rice_fast.proofs.lemmas.{vectors.OneVector.each_fits, vectors.JoinedPartsInLanes.highs-raised}
 use Rattle.rice_fast.proofs.vectors.lanes.bytes.BytesLanes.times_power_of_two.Goals as goal
 
 pub returns : goal.returns

@@ -1,5 +1,4 @@
-use Rattle.std.proofs.Common.{◌∙◌, ◌/◌, ◌^◌, ℕ}
-use Rattle.std.proofs.lemmas.Simd.{zip2_splat}
+use Rattle.rice_fast.proofs.Words.{◌∙◌, ◌/◌, ◌^◌, ℕ, zip2_splat}
 use Rattle.rice_fast.proofs.vectors.lanes.halves.HalvesLanes.half.Goals as goal
 
 pub returns : goal.returns
