@@ -1,32 +1,14 @@
 -- A decoder at work: how far it has come, what is written of its samples, and what the next block or the blocks of a run bring.
 use Rattle.std.specs.Io.KnownBytes.{Consumes}
-use Rattle.std.specs.Prelude.{◌≡◌, ℕ, ◌+◌, ◌*◌, ◌<◌, ◌≤◌, Bool, List, ◌++◌, length, sum_by, replicate, All, Option, None, Some, IfSome, ℤ, pos}
-use Rattle.rice_bits.specs.Limits.{most_bits_read}
-use Rattle.rice_bits.specs.device.OutletRoom.{Room, Appends}
-use Rattle.rice_bits.specs.read.Reader.{Reader}
-use Rattle.rice_bits.specs.read.Reader.{Refills}
-use Rattle.rice_code.specs.Limits.{most_samples_of_bit}
-use Rattle.rice_code.specs.code.Blocks.{blocks_from, zero_block}
+use Rattle.std.specs.Prelude.{◌≡◌, ℕ, ◌+◌, ◌*◌, ◌<◌, ◌≤◌, Bool, List, ◌++◌, length, sum_by, replicate, All, Option, None, Some, IfSome, ℤ, pos, zero, suc, [], ◌-◌, take, Result, Ok}
+use Rattle.rice_bits.specs.{Limits.most_bits_read, device.OutletRoom.Room, device.OutletRoom.Appends, read.Reader.Reader, read.Reader.Refills, Bits.bits_of}
 use Rattle.rice_code.specs.code.Decoded.{AreTaken, Decoded, DecodedFrom, Ending, IsWanted, cut_to}
-use Rattle.rice_samples.specs.Parameters.{Parameters, IsSample}
-use Rattle.rice_samples.specs.Places.{place}
-use Rattle.rice_samples.specs.bytes.Spelling.{spellings}
-use Rattle.rice_samples.specs.predict.Residuals.{last_of}
-use Rattle.std.specs.Prelude.{zero, suc, [], ◌-◌, take, Result, Ok}
-use Rattle.rice_code.specs.code.CodedDataSets.{CodedDataSet, turns}
-use Rattle.rice_code.specs.code.Forms.{blocks_in_all}
-use Rattle.rice_code.specs.code.Layout.{Lies}
-use Rattle.rice_code.specs.code.SoundBlocks.{AreSoundBlocks}
-use Rattle.rice_code.specs.declared.decode.call_results.CodeFault.{CodeFault}
-use Rattle.rice_code.specs.declared.decode.call_results.Step.{Step}
-use Rattle.rice_code.specs.declared.decode.call_results.Step.TheVariants.{Block}
-use Rattle.rice_code.specs.decode.Decoder.{RepeatsBlocks, Answers}
-use Rattle.rice_code.specs.decode.DecoderState.{DecoderState}
-use Rattle.rice_samples.specs.Parameters.{width}
-use Rattle.rice_code.specs.decode.Decoder.{GivesFromRun, with_mark}
-use Rattle.rice_code.specs.decode.RowsOfFields.{AreCounted}
-use Rattle.rice_bits.specs.Bits.{bits_of}
-use Rattle.rice_stream.specs.{DevicesInCalls.TakesPart}
+use Rattle.rice_code.specs.decode.Decoder.{RepeatsBlocks, Answers, GivesFromRun, with_mark}
+use Rattle.rice_code.specs.{Limits.most_samples_of_bit, code.Blocks.blocks_from, code.Blocks.zero_block, code.CodedDataSets.CodedDataSet, code.CodedDataSets.turns, code.Forms.blocks_in_all}
+use Rattle.rice_code.specs.{code.Layout.Lies, code.SoundBlocks.AreSoundBlocks, declared.decode.call_results.CodeFault.CodeFault, declared.decode.call_results.Step.Step}
+use Rattle.rice_code.specs.{declared.decode.call_results.Step.TheVariants.Block, decode.DecoderState.DecoderState, decode.RowsOfFields.AreCounted}
+use Rattle.rice_samples.specs.{Parameters.Parameters, Parameters.IsSample, Parameters.width, Places.place, bytes.Spelling.spellings, predict.Residuals.last_of}
+use Rattle.rice_stream.specs.DevicesInCalls.{TakesPart}
 
 -- The samples of `run` zero blocks from this block on, after sample p.
 pub record AreOfRun (s : Parameters) (block : ℕ) (p : ℤ) (run : ℕ) (samples : List ℤ) : Type 0 where

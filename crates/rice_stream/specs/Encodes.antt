@@ -1,19 +1,14 @@
 -- What encoding does: each way in which it ends.
 use Rattle.std.specs.Io.KnownBytes.{IsAtEnd}
 use Rattle.std.specs.Prelude.{◌≡◌, ◌≢◌, ℕ, ◌+◌, ◌-◌, ◌*◌, ◌<◌, ◌≤◌, ◌⊎◌, List, ◌++◌, length, take, All, Option, Some, None, ℤ}
-use Rattle.rice_bits.specs.Limits.{most_at_once}
-use Rattle.rice_bits.specs.device.OutletRoom.{Room}
-use Rattle.rice_samples.specs.Limits.{most_input}
-use Rattle.rice_samples.specs.Parameters.{Parameters, IsSample}
-use Rattle.rice_code.specs.Bounds.{bit_bound, step_bound, amortised_step_bound}
-use Rattle.rice_code.specs.code.Code.{code_bits, output, early_output, complete_samples}
-use Rattle.rice_samples.specs.Parameters.{width}
+use Rattle.rice_bits.specs.{Limits.most_at_once, device.OutletRoom.Room}
 use Rattle.rice_samples.specs.bytes.Spelling.{Spells, spellings, SpellingEnd, AtEnd, NoSpelling, TooFew}
-use Rattle.rice_code.specs.CoderSteps.{least_steps, most_steps}
-use Rattle.rice_code.specs.code.Blocks.{fill_count_of}
-use Rattle.rice_stream.specs.{declared.outcome.Report.Report, declared.outcome.Fault.Fault}
+use Rattle.rice_samples.specs.{Limits.most_input, Parameters.Parameters, Parameters.IsSample, Parameters.width}
+use Rattle.rice_code.specs.code.Code.{code_bits, output, early_output, complete_samples}
+use Rattle.rice_code.specs.{Bounds.bit_bound, Bounds.step_bound, Bounds.amortised_step_bound, CoderSteps.least_steps, CoderSteps.most_steps, code.Blocks.fill_count_of}
 use Rattle.rice_stream.specs.DevicesInCalls.{Call, Happens, StopsBetween, PassesLimit, IsWithinLimit}
 use Rattle.rice_stream.specs.declared.outcome.Fault.TheVariants.{Read, Write, TooLong, SampleOutOfRange, SampleCut}
+use Rattle.rice_stream.specs.{declared.outcome.Report.Report, declared.outcome.Fault.Fault}
 
 -- the bytes begin with the spellings of these samples
 pub record BeginsWith (s : Parameters) (bytes : List ℕ) (samples : List ℤ) : Type 0 where

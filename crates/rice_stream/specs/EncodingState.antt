@@ -1,18 +1,13 @@
 -- A coder at work: which samples it has taken, and what is written of their code.
 use Rattle.std.specs.Io.KnownBytes.{Consumes}
 use Rattle.std.specs.Prelude.{◌≡◌, ℕ, ◌+◌, ◌*◌, ◌<◌, ◌≤◌, Bool, List, [], ◌∷◌, ◌++◌, length, take, drop, Option, Some, None, Result, Ok, Err, ℤ}
-use Rattle.rice_bits.specs.Bits.{bits_in_bytes}
-use Rattle.rice_bits.specs.device.OutletRoom.{Room, Appends}
+use Rattle.rice_bits.specs.{Bits.bits_in_bytes, device.OutletRoom.Room, device.OutletRoom.Appends}
 use Rattle.rice_code.specs.code.Code.{code_bits, output, early_output, complete_samples}
-use Rattle.rice_code.specs.encode.Coder.{HasTaken, complete_code}
-use Rattle.rice_samples.specs.Limits.{most_input}
-use Rattle.rice_samples.specs.Parameters.{Parameters, width}
-use Rattle.rice_samples.specs.bytes.Spelling.{Reads, EndsSpelling, IsNoSpelling, NoSpelling}
-use Rattle.rice_code.specs.CoderSteps.{least_steps, most_steps}
-use Rattle.rice_code.specs.encode.OpenSegment.{CoderState}
+use Rattle.rice_code.specs.{encode.Coder.HasTaken, encode.Coder.complete_code, CoderSteps.least_steps, CoderSteps.most_steps, encode.OpenSegment.CoderState}
+use Rattle.rice_samples.specs.{Limits.most_input, Parameters.Parameters, Parameters.width, bytes.Spelling.Reads, bytes.Spelling.EndsSpelling, bytes.Spelling.IsNoSpelling, bytes.Spelling.NoSpelling}
 use Rattle.rice_fast.specs.encode.Standing.{Standing}
-use Rattle.rice_stream.specs.{BufferedBytes.BufferedBytes, DevicesInCalls.StopsBetween, declared.encoding.Encoding.Encoding}
-use Rattle.rice_stream.specs.{declared.outcome.Fault.Fault, declared.outcome.Fault.TheVariants.Write, declared.outcome.Fault.TheVariants.SampleOutOfRange}
+use Rattle.rice_stream.specs.declared.outcome.Fault.TheVariants.{Write, SampleOutOfRange}
+use Rattle.rice_stream.specs.{BufferedBytes.BufferedBytes, DevicesInCalls.StopsBetween, declared.encoding.Encoding.Encoding, declared.outcome.Fault.Fault}
 
 -- An encoding whose coder puts the code of a segment only when it is whole.
 pub record EncodingValue : Type 0 where

@@ -1,16 +1,13 @@
 -- What joins encoding and decoding, and each with the same piece by piece.
 use Rattle.std.specs.Io.KnownBytes.{Consumes}
 use Rattle.std.specs.Prelude.{◌≡◌, ℕ, ◌+◌, ◌*◌, ◌/◌, ◌<◌, ◌≤◌, ◌⊎◌, List, [], ◌∷◌, ◌++◌, length, take, drop, Option, Some, None, Ok, ℤ, ⊤}
-use Rattle.rice_bits.specs.device.OutletRoom.{Room, Appends}
-use Rattle.rice_samples.specs.Parameters.{Parameters, IsLegal, width}
-use Rattle.rice_bits.specs.Bits.{bits_of}
-use Rattle.rice_code.specs.Laws.{BeginsInterval}
-use Rattle.rice_code.specs.code.Code.{output}
+use Rattle.rice_bits.specs.{device.OutletRoom.Room, device.OutletRoom.Appends, Bits.bits_of}
+use Rattle.rice_samples.specs.{Parameters.Parameters, Parameters.IsLegal, Parameters.width, bytes.Spelling.spellings}
 use Rattle.rice_code.specs.code.Decoded.{Decoded, Ending, Reached, Ended, CutOff, Past, Large}
-use Rattle.rice_samples.specs.bytes.Spelling.{spellings}
-use Rattle.rice_stream.specs.{DevicesInCalls.Call, Encodes.Encodes, Decodes.Decodes, declared.outcome.Report.Report, declared.outcome.Fault.Fault, declared.outcome.Fault.TheVariants.Read}
-use Rattle.rice_stream.specs.{declared.outcome.Fault.TheVariants.Write, declared.seam.Seam.Seam, declared.stand.Pause.Pause, declared.stand.Stand.Stand, Feeding.IsSeam, Feeding.EncodesOn}
-use Rattle.rice_stream.specs.{Feeding.EncodesToEnd, Pulling.Origin, Pulling.IsStand, Pulling.DecodesOn, Pulling.at_front}
+use Rattle.rice_code.specs.{Laws.BeginsInterval, code.Code.output}
+use Rattle.rice_stream.specs.declared.outcome.Fault.TheVariants.{Read, Write}
+use Rattle.rice_stream.specs.{DevicesInCalls.Call, Encodes.Encodes, Decodes.Decodes, declared.outcome.Report.Report, declared.outcome.Fault.Fault, declared.seam.Seam.Seam, declared.stand.Pause.Pause}
+use Rattle.rice_stream.specs.{declared.stand.Stand.Stand, Feeding.IsSeam, Feeding.EncodesOn, Feeding.EncodesToEnd, Pulling.Origin, Pulling.IsStand, Pulling.DecodesOn, Pulling.at_front}
 use Rattle.rice_stream.specs.declared.stand.Pause.TheVariants as pauses
 
 -- A call that decodes is given what a call that encoded without a fault has written, and the number of its samples. Then it writes the bytes that were encoded, unless a device fails.

@@ -1,16 +1,11 @@
 //! Encodes samples, from an intake to an outlet.
 ghost use Rattle.std.specs.Prelude.{◌≡◌, ◌+◌, ◌*◌, ◌^◌, ◌<◌, ◌≤◌, List, ◌++◌, length, Option, Some, OnOk, OnErr, IfOk, ℤ};
-ghost use Rattle.rice_bits.specs.device.OutletRoom.{Room};
-ghost use Rattle.rice_bits.specs.Bits.{padded_bits};
-ghost use Rattle.rice_samples.specs.Limits.{most_input};
-ghost use Rattle.rice_samples.specs.Parameters.{Parameters, width};
-ghost use Rattle.rice_samples.specs.Places.{cut};
-ghost use Rattle.rice_stream.specs.DevicesInCalls.{Fails};
+ghost use Rattle.rice_bits.specs.{device.OutletRoom.Room, Bits.padded_bits};
+ghost use Rattle.rice_samples.specs.{Limits.most_input, Parameters.Parameters, Parameters.width, Places.cut};
 ghost use Rattle.rice_stream.specs.Encodes.{EncodesBetween, EncodesWithin, ReportsTaken, ReportsAll};
 ghost use Rattle.rice_stream.specs.EncodingState.{EncodingValue, Sees, Beginning, whole_part, CountsSamples, IsEncodingOf, WritesRest, CanPush, PushesFirst, PushesBytes, PushFails};
-ghost use Rattle.rice_stream.specs.Feeding.{IsSeam, IsSomeSeam, StandsAt, encoding_at};
-ghost use Rattle.rice_code.specs.code.Code.{code};
-ghost use Rattle.rice_code.specs.encode.Coder.{complete_code};
+ghost use Rattle.rice_stream.specs.{DevicesInCalls.Fails, Feeding.IsSeam, Feeding.IsSomeSeam, Feeding.StandsAt, Feeding.encoding_at};
+ghost use Rattle.rice_code.specs.{code.Code.code, encode.Coder.complete_code};
 
 use crate::input::Input;
 use crate::outcome::{Fault, Outcome, Report};

@@ -1,8 +1,7 @@
 //! Encoding and decoding, whole and piece by piece, by one coder and one decoder.
 ghost use Rattle.std.specs.Prelude.{◌≡◌, ◌+◌, ◌^◌, ◌<◌, Some};
-ghost use Rattle.rice_stream.specs.{DevicesInCalls.Fails, Encodes.EncodesBetween, Encodes.EncodesWithin, EncodingState.PushFails, Decodes.DecodesBetween, Decodes.DecodesWithin};
-ghost use Rattle.rice_stream.specs.Pulling.{IsSomeStand, DecodesOn};
-ghost use Rattle.rice_stream.specs.Feeding.{IsSomeSeam, EncodesOn, EncodesToEnd};
+ghost use Rattle.rice_stream.specs.{DevicesInCalls.Fails, Encodes.EncodesBetween, Encodes.EncodesWithin, EncodingState.PushFails, Decodes.DecodesBetween, Decodes.DecodesWithin, Pulling.IsSomeStand};
+ghost use Rattle.rice_stream.specs.{Pulling.DecodesOn, Feeding.IsSomeSeam, Feeding.EncodesOn, Feeding.EncodesToEnd};
 
 use crate::block_pass::NoPass;
 use crate::decoding::{decode, decode_blocks};

@@ -1,9 +1,7 @@
 //! Encodes samples piece by piece.
 ghost use Rattle.std.specs.Prelude.{◌≡◌, ◌+◌, ◌-◌, ◌*◌, ◌^◌, ◌<◌, ◌≤◌};
-ghost use Rattle.rice_samples.specs.Limits.{most_input};
-ghost use Rattle.rice_samples.specs.Places.{cut};
-ghost use Rattle.rice_stream.specs.{DevicesInCalls.Fails, Encodes.EncodesWithin, EncodingState.PushFails};
-ghost use Rattle.rice_stream.specs.Feeding.{IsSomeSeam, EncodesOn, EncodesToEnd};
+ghost use Rattle.rice_samples.specs.{Limits.most_input, Places.cut};
+ghost use Rattle.rice_stream.specs.{DevicesInCalls.Fails, Encodes.EncodesWithin, EncodingState.PushFails, Feeding.IsSomeSeam, Feeding.EncodesOn, Feeding.EncodesToEnd};
 
 use crate::encoding::Encoding;
 use crate::input::MOST_INPUT;

@@ -1,8 +1,7 @@
 //! The bytes of samples that are buffered for a coder.
 ghost use Rattle.std.specs.Io.KnownBytes.{IsAtEnd, Keeps};
 ghost use Rattle.std.specs.Prelude.{◌≡◌, ◌+◌, ◌-◌, ◌^◌, ◌<◌, ◌≤◌, length, take, drop, IfOk, IfErr, OnErr};
-ghost use Rattle.rice_bits.specs.Limits.{most_at_once};
-ghost use Rattle.rice_bits.specs.device.Failures.{CountsFailure};
+ghost use Rattle.rice_bits.specs.{Limits.most_at_once, device.Failures.CountsFailure};
 ghost use Rattle.rice_samples.specs.Limits.{most_input};
 ghost use Rattle.rice_stream.specs.BufferedBytes.{nothing_buffered, with_last, Refills, StopsRefilling, CountsReads, FillsBuffer};
 

@@ -137,8 +137,7 @@ restored_from parts joined = record {
 -- a block by split k
 pub split_ahead : {buffered : List Bool} {s : Parameters} {b before size from omitted head n k : ℕ} {highs lows levels : List ℕ} → k ≤ k_max s
     → word (id_len s) (k + 1) ≡ take (id_len s) buffered → HeadAhead buffered s b before (id_len s) from omitted head → HighsAhead buffered head omitted highs n
-    → PartsOfBlock buffered s size (head + n) omitted k from highs lows levels
-    → BlockAhead buffered s b (value_at s before) levels (head + n + (size - omitted) * k) 0
+    → PartsOfBlock buffered s size (head + n) omitted k from highs lows levels → BlockAhead buffered s b (value_at s before) levels (head + n + (size - omitted) * k) 0
 split_ahead {buffered} {s} {b} {before} {size} {omitted} {head = head_len} {n} {k} {highs} {lows} {levels} small id head high parts =
     let r = head.reference in
     let a = head.part in
@@ -213,8 +212,7 @@ uncompressed_ahead {buffered} {s} {b} {before} {size} {omitted} {head = head_len
 -- a block by second extension
 pub pairs_block_ahead : {buffered : List Bool} {s : Parameters} {b before size from omitted head n v searched : ℕ} {numbers lows levels : List ℕ}
     → word (id_len s) 0 ≡ take (id_len s) buffered → v < 2 → 0 < v → word 1 v ≡ take 1 (drop (id_len s) buffered)
-    → HeadAhead buffered s b before (id_len s + 1) from omitted head → PairsAhead buffered head omitted numbers n searched
-    → PartsOfBlock buffered s size (head + n) omitted 0 from numbers lows levels
+    → HeadAhead buffered s b before (id_len s + 1) from omitted head → PairsAhead buffered head omitted numbers n searched → PartsOfBlock buffered s size (head + n) omitted 0 from numbers lows levels
     → BlockAhead buffered s b (value_at s before) levels (head + n + (size - omitted) * 0) searched
 pairs_block_ahead {buffered} {s} {b} {before} {size} {omitted} {head = head_len} {n} {v} {numbers} {lows} {levels} id lt pos bit head pairs parts =
     let r = head.reference in

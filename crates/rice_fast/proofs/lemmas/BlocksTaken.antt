@@ -16,8 +16,7 @@ pub record TakesBlock {I : Type 0} (start marked middle new : Reader I) (first s
 -- the bytes of such a block
 pub bytes_given : {I : Type 0} {start marked middle new : Reader I} {first steps last : ℕ} {p q : DecoderState} {len l searched : ℕ} {bytes : List ℕ}
     → IsLegal p.setting → SpelledAhead start.buffered p.setting p.block p.before l len searched bytes → TakesBlock start marked middle new first steps last len searched p
-    → q ≡ record p { block = next_block_place p.setting p.block; before = value_at p.setting l; run = 0 }
-    → GivesBytes start new first last p q bytes
+    → q ≡ record p { block = next_block_place p.setting p.block; before = value_at p.setting l; run = 0 } → GivesBytes start new first last p q bytes
 bytes_given {start} {marked} {middle} {new} {first} {steps} {last} {p} {q} {len} {l} {searched} {bytes} legal spelled takes moves =
     let s = p.setting in
     let ahead = spelled.ahead in

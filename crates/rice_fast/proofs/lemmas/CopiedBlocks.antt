@@ -183,8 +183,7 @@ last_level s p (x ∷ xs) = last_level s x xs
 
 -- a copied block that is buffered, and the bytes of its samples, of which the last has level `l`
 pub copied_ahead : {buffered : List Bool} {s : Parameters} {w l : ℕ} {bytes : List ℕ} → IsLegal s → IsCopied s w → CopiedBlock buffered s w bytes → l < value_count s
-    → word (8 * w) (pattern s (value_at s l)) ≡ take (8 * w) (drop (id_len s + 8 * (w * s.block - w)) buffered)
-    → (b : ℕ) (p : ℤ) → SpelledAhead buffered s b p l (copied_bits s w) 0 bytes
+    → word (8 * w) (pattern s (value_at s l)) ≡ take (8 * w) (drop (id_len s + 8 * (w * s.block - w)) buffered) → (b : ℕ) (p : ℤ) → SpelledAhead buffered s b p l (copied_bits s w) 0 bytes
 copied_ahead {buffered} {s} {w} {l} {bytes} legal copied h small read b p =
     let words = h.words in
     let given = samples_in s w words.words legal copied words.fit in

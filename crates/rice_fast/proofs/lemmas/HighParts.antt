@@ -6,8 +6,7 @@ use Rattle.std.specs.Prelude.{min}
 
 -- a reference sample
 pub head_after_reference : {buffered : List Bool} {s : Parameters} {b before skip from v bits : ℕ} → is_reference s b ≡ true
-    → bits ≡ s.bits → v < 2 ^ bits → word bits v ≡ take bits (drop skip buffered)
-    → from < value_count s → pattern s (value_at s from) ≡ v → HeadAhead buffered s b before skip from 1 (skip + bits)
+    → bits ≡ s.bits → v < 2 ^ bits → word bits v ≡ take bits (drop skip buffered) → from < value_count s → pattern s (value_at s from) ≡ v → HeadAhead buffered s b before skip from 1 (skip + bits)
 head_after_reference {buffered} {s} {skip} {v} {bits} there bits_are fits value begins pat =
     record {
       reference = Some v;

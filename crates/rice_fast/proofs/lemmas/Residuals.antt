@@ -115,8 +115,7 @@ pub record AreTurned (s : Parameters) (vs levels : List ℕ) : Type 0 where
 
 -- the sums of patterns and the level of the sample with the pattern 0 are levels
 pub patterns_turned : (s : Parameters) {bits o mask : ℕ} → 1 ≤ s.bits → s.bits ≤ bits → s.bits ≤ 32 → o < value_count s → pattern s (value_at s o) ≡ 0 → mask ≡ value_count s - 1
-    → (n : ℕ) (vs : List ℕ) → length vs ≡ n → All (λ v. v < value_count s) vs
-    → AreTurned s vs (zip2 bit_and (zip2 (λ a b. (a + b) % 2 ^ bits) vs (replicate n o)) (replicate n mask))
+    → (n : ℕ) (vs : List ℕ) → length vs ≡ n → All (λ v. v < value_count s) vs → AreTurned s vs (zip2 bit_and (zip2 (λ a b. (a + b) % 2 ^ bits) vs (replicate n o)) (replicate n mask))
 patterns_turned s some le few lt none is zero [] len fit = record { legal = All-nil (λ l. l < value_count s); patterns = refl }
 patterns_turned s some le few lt none is zero (v ∷ vs) len fit = absurd (omega (arith, len))
 patterns_turned s some le few lt none is (suc n) [] len fit = absurd (omega (arith, len))

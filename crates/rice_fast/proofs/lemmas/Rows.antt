@@ -84,8 +84,7 @@ spelled_both : (s : Parameters) (xs ys : List ℕ) → spellings s (values_at s 
 spelled_both s [] ys = refl
 spelled_both s (x ∷ xs) ys = append_assoc (spelling s (value_at s x)) (spellings s (values_at s xs)) (spellings s (values_at s ys)) ∙ ap (λ l. spelling s (value_at s x) ++ l) (spelled_both s xs ys)
 
-front_spelled : (s : Parameters) (count : ℕ) (levels : List ℕ) → count ≤ length levels
-    → take (width s * count) (spellings s (values_at s levels)) ≡ spellings s (values_at s (take count levels))
+front_spelled : (s : Parameters) (count : ℕ) (levels : List ℕ) → count ≤ length levels → take (width s * count) (spellings s (values_at s levels)) ≡ spellings s (values_at s (take count levels))
 front_spelled s count levels most =
     let first = spellings s (values_at s (take count levels)) in
     let rest = spellings s (values_at s (drop count levels)) in
@@ -224,8 +223,7 @@ zeros_of_row at many {highs} inside zeros is =
 -- one row more
 pub one_row_more : {buffered : List Bool} {s : Parameters} {f : Fields} {at omitted place count last l : ℕ} {highs row bytes : List ℕ} (now : List ℕ) → f.omitted ≤ 1 → 1 ≤ count
     → at + count ≤ length highs → RowPlace f at omitted place → RowsAhead buffered s f highs at last bytes → length row ≡ count → LowsAhead buffered place omitted f.k row
-    → SpellsParts s last f.k count (take count (drop at highs)) row l (drop (width s * at) now) → take (width s * at) now ≡ take (width s * at) bytes
-    → RowsAhead buffered s f highs (at + count) l now
+    → SpellsParts s last f.k count (take count (drop at highs)) row l (drop (width s * at) now) → take (width s * at) now ≡ take (width s * at) bytes → RowsAhead buffered s f highs (at + count) l now
 one_row_more {buffered} {s} {f} {at} {omitted} {place} {count} {last} {l} {highs} {row} {bytes} now few some room here before row_len more spelled front =
     let part = take count (drop at highs) in
     let levels = before.levels ++ spelled.levels in

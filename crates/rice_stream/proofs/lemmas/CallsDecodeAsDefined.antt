@@ -17,8 +17,7 @@ front_of bits more a b e le =
 
 -- what is left begins with the same coded data set, which is refused
 unsound_front : {s : Parameters} {b used : ℕ} (bits more front : List Bool) {rest : List Bool} (P : CodedDataSet → Type 0) → bits ++ more ≡ front ++ rest
-    → (u : BeginsUnsound s b rest used P) → length front + used ≤ length bits
-    → (left : List Bool) × (bits ≡ front ++ left) × BeginsUnsound s b left used P
+    → (u : BeginsUnsound s b rest used P) → length front + used ≤ length bits → (left : List Bool) × (bits ≡ front ++ left) × BeginsUnsound s b left used P
 unsound_front {s} bits more front P e u le =
     let set = bits_of_set s u.refused in
     let all = front ++ set in
@@ -123,8 +122,7 @@ module _ (s : Parameters) (legal : IsLegal s) (asked : Option ℕ) (code left : 
 
 -- a code of which so few bits are used is not too long
 not_early : {s : Parameters} → IsLegal s → {asked : Option ℕ} {code : List ℕ} (front more : List ℕ) {xs ys : List ℤ} {ending e : Ending} {used n : ℕ}
-    → Decoded s (bits_of code) asked xs ending used → code ≡ front ++ more → used ≤ 8 * length front
-    → Decoded s (bits_of front) asked ys e n → RunsOut e → EndsBefore ending → ⊥
+    → Decoded s (bits_of code) asked xs ending used → code ≡ front ++ more → used ≤ 8 * length front → Decoded s (bits_of front) asked ys e n → RunsOut e → EndsBefore ending → ⊥
 not_early {s} legal {asked} {code} front more {xs} {ys} {ending} {e} {used} {n} whole split le d runs early =
     let bits : bits_of code ≡ bits_of front ++ bits_of more = ap bits_of split ∙ bits_of-append front more in
     let inside = ends_in_front (bits_of front) (bits_of more) ending early
@@ -140,8 +138,7 @@ record LongFront (code front more : List ℕ) : Type 0 where
 
 -- a code that decodes within the limit has no byte past it that is read
 never_long : {s : Parameters} → IsLegal s → {asked : Option ℕ} {code : List ℕ} (front more : List ℕ) {xs ys : List ℤ} {ending e : Ending} {used n : ℕ}
-    → Decoded s (bits_of code) asked xs ending used → used ≤ 2 ^ 52 → LongFront code front more
-    → Decoded s (bits_of front) asked ys e n → RunsOut e → ⊥
+    → Decoded s (bits_of code) asked xs ending used → used ≤ 2 ^ 52 → LongFront code front more → Decoded s (bits_of front) asked ys e n → RunsOut e → ⊥
 never_long legal {code} front more {ending = Ended} whole limit parts d runs =
     omega (arith, whole.bits_used, whole.ends.2, ap length whole.parts, length-append whole.front whole.rest, length-bits_of code, ap length parts.joined, length-append front more)
 never_long legal {code} front more {ending = CutOff} whole limit parts d runs =

@@ -1,10 +1,9 @@
 -- What the bits so far decode to, whatever follows them.
-use Rattle.std.proofs.Common.{◌≡◌, ℕ, suc, ◌+◌, ◌-◌, ◌*◌, ◌<◌, ◌≤◌, Bool, List, [], ◌∷◌, ◌++◌, length, take}
-use Rattle.std.proofs.Common.{replicate, refl, ap, arith, sym, ◌∙◌, subst, append_assoc, append-nil, length-append, Option, Some, None, ℤ, pos}
-use Rattle.rice_stream.proofs.Words.{recursion_from_All, All-from_recursion, All-append, mul-le-mul_left, take-length, length-replicate, take-append-le, take_all, Parameters, IsLegal, IsSample}
-use Rattle.rice_stream.proofs.Words.{last_of, zero_is_sample, BlockData, block_data, zero_block, blocks_from, CodedDataSet, bits_of_set, Decoded, DecodedFrom, Ending, Reached, EndsWith, IsWanted}
-use Rattle.rice_stream.proofs.Words.{cut_to, GivesBlock, IsForm, RunIsSound, ResidualsAreSound, blocks_in, AreSoundBlocks, block_after, padding, decoding_goes_on, last_append, blocks_append, take-nil}
-use Rattle.rice_stream.proofs.Words.{last_legal, blocks_have_samples, blocks_are_sound, DecodedSoFar, AreOfRun, cut_parts}
+use Rattle.rice_stream.proofs.Words.{◌≡◌, ℕ, suc, ◌+◌, ◌-◌, ◌*◌, ◌<◌, ◌≤◌, Bool, List, [], ◌∷◌, ◌++◌, length, take, replicate, refl, ap, arith, sym, ◌∙◌, subst, append_assoc, append-nil}
+use Rattle.rice_stream.proofs.Words.{length-append, Option, Some, None, ℤ, pos, recursion_from_All, All-from_recursion, All-append, mul-le-mul_left, take-length, length-replicate, take-append-le}
+use Rattle.rice_stream.proofs.Words.{take_all, Parameters, IsLegal, IsSample, last_of, zero_is_sample, BlockData, block_data, zero_block, blocks_from, CodedDataSet, bits_of_set, Decoded, DecodedFrom}
+use Rattle.rice_stream.proofs.Words.{Ending, Reached, EndsWith, IsWanted, cut_to, GivesBlock, IsForm, RunIsSound, ResidualsAreSound, blocks_in, AreSoundBlocks, block_after, padding, decoding_goes_on}
+use Rattle.rice_stream.proofs.Words.{last_append, blocks_append, take-nil, last_legal, blocks_have_samples, blocks_are_sound, DecodedSoFar, AreOfRun, cut_parts}
 
 -- no samples, cut to those that are wanted, are none
 pub cut_nothing : (s : Parameters) (wanted : Option ℕ) (b : ℕ) → cut_to s wanted b [] ≡ []

@@ -69,8 +69,7 @@ block_is_wanted asked written e f some none = some (e ∙ ap (wanted_of asked wr
 
 -- more bits were taken
 has_read-append : {start left left_new : Option (List ℕ)} {buffered buffered_new front bits : List Bool} {taken taken_new : ℕ}
-    → HasRead start left buffered taken front → Refills left left_new buffered buffered_new bits → taken_new ≡ taken + length bits
-    → HasRead start left_new buffered_new taken_new (front ++ bits)
+    → HasRead start left buffered taken front → Refills left left_new buffered buffered_new bits → taken_new ≡ taken + length bits → HasRead start left_new buffered_new taken_new (front ++ bits)
 has_read-append {start = start} {left = left} {left_new = left_new} {buffered = buffered} {buffered_new = buffered_new} {front = front} {bits = bits} r d e = record {
   bytes = r.bytes ++ d.given;
   gave = Consumes-trans start left left_new r.bytes d.given r.gave d.consumed;
@@ -89,8 +88,7 @@ pub progress_with_block : {I : Type 0} {s : Parameters} {asked : Option ℕ} {st
     {r new : Reader I} {steps steps_new written : ℕ} {xs : List ℤ} {count steps_next : ℕ} → IsLegal s
     → (runs : DecodingProgress s asked start out_old out p r steps written) → count ≡ wanted_of asked written s.block → wanted_of asked written s.block ≢ 0
     → Gains s r new steps steps_new runs.front runs.sets runs.blocks q.run runs.given xs → q ≡ state_after_block p xs q.run
-    → Grows steps steps_new r.taken new.taken count p.run q.run s.block → steps_next ≡ steps_new + count
-    → Appends out out_new (spellings s (take count xs))
+    → Grows steps steps_new r.taken new.taken count p.run q.run s.block → steps_next ≡ steps_new + count → Appends out out_new (spellings s (take count xs))
     → DecodingProgress s asked start out_old out_new q new steps_next (written + count)
 progress_with_block {s = s} {asked = asked} {start = start} {out_old = out_old} {out = out} {out_new = out_new} {p = p} {q = q} {r = r} {new = new}
     {steps = steps} {steps_new = steps_new} {written = written} {xs = xs} {count} legal runs is some gained moves grows ticked put =
@@ -171,8 +169,7 @@ call_ends_so {s = s} {asked = asked} {start = start} {left = left} {out_old = ou
 
 -- what is given ahead of the bits that were taken is limited
 given_is_limited : {start left : Option (List ℕ)} {buffered front : List Bool} {taken : ℕ} → (read : HasRead start left buffered taken front)
-    → length buffered ≤ most_buffered → taken + length buffered ≤ 2 ^ 52
-    → (length read.bytes ≤ taken / 8 + most_at_once) × (length read.bytes ≤ 2 ^ 49)
+    → length buffered ≤ most_buffered → taken + length buffered ≤ 2 ^ 52 → (length read.bytes ≤ taken / 8 + most_at_once) × (length read.bytes ≤ 2 ^ 49)
 given_is_limited {buffered = buffered} {front = front} read few limit =
     let a = length-bits_of read.bytes in
     let b = ap length read.bits in
@@ -209,8 +206,7 @@ counts_steps {s = s} {sets = sets} {front = front} buffered bytes last {ending} 
 
 -- and those where it ends with a whole one
 whole_steps : {s : Parameters} {rep : Report} {sets : List CodedDataSet} {front : List Bool} {blocks : ℕ} (buffered : List Bool) (bytes : List ℕ)
-    → HasSets s sets front blocks → bits_of bytes ≡ front ++ buffered → rep.bits ≡ length front
-    → rep.steps ≡ rep.bits + rep.samples + sum_by turns sets → CountsSteps s (bits_of bytes) rep Reached
+    → HasSets s sets front blocks → bits_of bytes ≡ front ++ buffered → rep.bits ≡ length front → rep.steps ≡ rep.bits + rep.samples + sum_by turns sets → CountsSteps s (bits_of bytes) rep Reached
 whole_steps {front = front} buffered bytes has bits count steps =
     let whole = append-nil front in
     counts_steps buffered bytes [] 0 has (bits ∙ ap (λ l. l ++ buffered) (sym whole)) (refl, refl) (count ∙ ap length (sym whole)) (omega (arith, steps))
@@ -411,12 +407,10 @@ record CountedReport {I : Type 0} (r new : Reader I) (steps steps_new written : 
 -- a coded data set was refused
 refused_ends : {I : Type 0} {s : Parameters} {asked : Option ℕ} {start : Reader I} {out_old out : Option Room} {p : DecoderState} {r new : Reader I}
     {steps steps_new written : ℕ} {rep : Report} {f : Option Fault} {left : Option (List ℕ)} {failed : ℕ} {P : CodedDataSet → Type 0} (ending : Ending) {fault : Option Fault}
-    → fault ≢ Some TooLong → AtWantedBlock s asked p written → (runs : DecodingProgress s asked start out_old out p r steps written)
-    → SetRefused (with_mark r) new steps steps_new s runs.blocks P
+    → fault ≢ Some TooLong → AtWantedBlock s asked p written → (runs : DecodingProgress s asked start out_old out p r steps written) → SetRefused (with_mark r) new steps steps_new s runs.blocks P
     → ((asked : Option ℕ) (rest : List Bool) (used : ℕ) → IsWanted s asked runs.blocks → BeginsUnsound s runs.blocks rest used P → EndsWith s asked runs.blocks rest ending used)
     → ((last : List Bool) (count : ℕ) (unsound : BeginsUnsound s runs.blocks last (length last) P) → count ≡ turns unsound.refused → EndsInTurns s runs.blocks last ending count)
-    → CountedReport r new steps steps_new written rep f left failed fault
-    → ((c : Call) (ys : List ℤ) → DecodesBytes s asked c rep c.given ys ending → length ys ≡ s.block * (written / s.block)
+    → CountedReport r new steps steps_new written rep f left failed fault → ((c : Call) (ys : List ℤ) → DecodesBytes s asked c rep c.given ys ending → length ys ≡ s.block * (written / s.block)
     → EndsDecoding s asked fault c rep ys ending) → DecodesBetween s asked start.left left out_old out rep f
 refused_ends {s = s} {asked = asked} {start = start} {p = p} {r = r} {new = new} {steps = steps} {steps_new = steps_new} {written = written} {rep = rep}
     {left = left} {P} ending {fault} other at_block runs refused by_rule by_turns reported ends =
@@ -587,8 +581,7 @@ progress_at_start {I = I} {s = s} {intake = intake} {left = left} {failed = fail
 -- the bounds of what is reported, after samples of a run too
 pub reports_within : {I : Type 0} {asked : Option ℕ} {new : Reader I} {steps steps_new taken written in_run turns all last : ℕ} {rep : Report}
     {f fault : Option Fault} {left : Option (List ℕ)} {failed : ℕ} (more : ℕ) → more ≤ in_run → HasSteps steps taken written in_run turns
-    → AreCounted steps steps_new taken new.taken → IfSome asked (λ n. all ≤ n) → all ≡ written + more → last ≡ steps_new + more
-    → Reports rep f left failed new all last fault → DecodesWithin asked rep
+    → AreCounted steps steps_new taken new.taken → IfSome asked (λ n. all ≤ n) → all ≡ written + more → last ≡ steps_new + more → Reports rep f left failed new all last fault → DecodesWithin asked rep
 reports_within {asked = asked} more few has counted asked_for all_is last_is tells =
     let samples = tells.samples_are in
     let bits = tells.bits_are in

@@ -1,12 +1,11 @@
 -- What a call of the decoder does to a decoding.
-use Rattle.std.proofs.Common.{◌≡◌, ℕ, ◌+◌, ◌<◌, ◌≤◌, ◌==◌, ◌&&◌, cond, Bool, true, List, [], ◌∷◌, ◌++◌, length, replicate}
-use Rattle.std.proofs.Common.{ap, arith, sym, ◌∙◌, ◌⊎◌, suc, inl, inr, subst, append_assoc, append-nil, length-append, Option, Some, None, ℤ, pos}
-use Rattle.rice_stream.proofs.Words.{All, IfSome, Ok, Err, Consumes, Consumes-nil, mod-lt, mod-eq_of_lt, cases_lt, bits_to_byte, Reader, bits_of-nil, Parameters, IsLegal, IsSample, place, last_of}
-use Rattle.rice_stream.proofs.Words.{zero_block, CodedDataSet, bits_of_set, turns, GivesBlock, GivesSet, GivesFromRun, StopsBy, SetEnds, with_mark, DecoderState, state_after_block, blocks_in}
-use Rattle.rice_stream.proofs.Words.{block_after, padding, SetCut, Block, Done, CodeFault, next_place, form_there, run_there, same_blocks_in, same_contents, BitFault, length-replicate, sum_by_push}
-use Rattle.rice_stream.proofs.Words.{Room, wanted_of, Advances, DecodedSoFar, Gains, DecodingProgress, HasSets}
-use Rattle.rice_code.specs.declared.decode.call_results.CodeFault.TheVariants as faults
+use Rattle.rice_stream.proofs.Words.{◌≡◌, ℕ, ◌+◌, ◌<◌, ◌≤◌, ◌==◌, ◌&&◌, cond, Bool, true, List, [], ◌∷◌, ◌++◌, length, replicate, ap, arith, sym, ◌∙◌, ◌⊎◌, suc, inl, inr, subst, append_assoc}
+use Rattle.rice_stream.proofs.Words.{append-nil, length-append, Option, Some, None, ℤ, pos, All, IfSome, Ok, Err, Consumes, Consumes-nil, mod-lt, mod-eq_of_lt, cases_lt, bits_to_byte, Reader}
+use Rattle.rice_stream.proofs.Words.{bits_of-nil, Parameters, IsLegal, IsSample, place, last_of, zero_block, CodedDataSet, bits_of_set, turns, GivesBlock, GivesSet, GivesFromRun, StopsBy, SetEnds}
+use Rattle.rice_stream.proofs.Words.{with_mark, DecoderState, state_after_block, blocks_in, block_after, padding, SetCut, Block, Done, CodeFault, next_place, form_there, run_there, same_blocks_in}
+use Rattle.rice_stream.proofs.Words.{same_contents, BitFault, length-replicate, sum_by_push, Room, wanted_of, Advances, DecodedSoFar, Gains, DecodingProgress, HasSets}
 use Rattle.rice_stream.proofs.lemmas.{SetsRead.sets-push, DecodedSamples.decoded_with_set, DecodedSamples.decoded_with_run_block}
+use Rattle.rice_code.specs.declared.decode.call_results.CodeFault.TheVariants as faults
 
 -- what the decoder says where it gives a block, inside a run and elsewhere
 pub record InsideRun {I : Type 0} (old new : Reader I) (steps steps_new : ℕ) (p q : DecoderState) (samples : List ℤ) : Type 0 where
@@ -45,8 +44,7 @@ pub record AreOfBlock (s : Parameters) (samples : List ℤ) : Type 0 where
 
 -- a block that was given has as many samples as each, and they are legal
 pub samples_of_block : {I : Type 0} {old new : Reader I} {steps steps_new : ℕ} {p q : DecoderState} {samples : List ℤ} (s : Parameters) → p.setting ≡ s
-    → p.stopped ≡ None → Advances old new steps steps_new p q samples (Ok Block)
-    → AreOfBlock s samples
+    → p.stopped ≡ None → Advances old new steps steps_new p q samples (Ok Block) → AreOfBlock s samples
 samples_of_block {samples = samples} s setting going a =
     subst (λ (t : Parameters). AreOfBlock t samples) setting
     (elim (took_block going a) [ inl k ↦ record { len = k.gives.gives.len; legal = k.gives.gives.legal } | inr k ↦ record { len = k.gives.set.gives.len; legal = k.gives.set.gives.legal } ])
@@ -76,8 +74,7 @@ run_gives_there {s} b {c} run {left} {p} {xs} j e g = record {
 -- A block of a coded data set. The reader may have taken other numbers of bits, if the padding is the same.
 pub gains_set : {I : Type 0} {s : Parameters} {r new : Reader I} {steps steps_new b c begun run : ℕ} {p : ℤ} {front : List Bool} {sets : List CodedDataSet} {given xs : List ℤ}
     → IsLegal s → place s b ≡ c → p ≡ last_of (pos 0) given → ((b n : ℕ) → padding s b (r.taken + n) ≡ padding s b (length front + n)) → begun ≤ b
-    → HasSets s sets front b → DecodedSoFar s front begun b 0 given
-    → GivesSet (with_mark r) new steps steps_new s c p xs run → Gains s r new steps steps_new front sets b run given xs
+    → HasSets s sets front b → DecodedSoFar s front begun b 0 given → GivesSet (with_mark r) new steps steps_new s c p xs run → Gains s r new steps steps_new front sets b run given xs
 gains_set {I = I} {s} {r} {new} {b} {c} {begun} {run} {p} {front} {sets} {given} {xs} legal here previous taken before has so_far gives =
     let j : 1 ≤ s.block = let k : 2 ≤ s.block = grind (arith, legal.block) in omega arith in
     let e = same_place s b c legal.interval_from here in
@@ -158,8 +155,7 @@ gains_run {I = I} {s} {r} {b} {c} {begun} {run} {run_new} {p} {front} {sets} {gi
 
 -- a block that was given goes on with what was decoded so far
 pub gains_block : {I : Type 0} {s : Parameters} {asked : Option ℕ} {start : Reader I} {out_old out : Option Room} {p q : DecoderState} {r new : Reader I}
-    {steps steps_new written : ℕ} {xs : List ℤ} → IsLegal s
-    → (runs : DecodingProgress s asked start out_old out p r steps written) → Advances r new steps steps_new p q xs (Ok Block)
+    {steps steps_new written : ℕ} {xs : List ℤ} → IsLegal s → (runs : DecodingProgress s asked start out_old out p r steps written) → Advances r new steps steps_new p q xs (Ok Block)
     → Gains s r new steps steps_new runs.front runs.sets runs.blocks q.run runs.given xs
 gains_block {s = s} {p = p} {q = q} {r = r} {new = new} {steps = steps} {steps_new = steps_new} {xs = xs} legal runs a =
     let at = runs.at_block in
@@ -246,8 +242,7 @@ stops_in_no_run {s = s} {p = p} {r = r} {new = new} {steps = steps} {steps_new =
 
 -- where the decoder finds the end, it is in no run, and what was decoded is all
 pub decoding_is_done : {I : Type 0} {s : Parameters} {asked : Option ℕ} {start : Reader I} {out_old out : Option Room} {p q : DecoderState} {r new : Reader I}
-    {steps steps_new written : ℕ} {xs : List ℤ} → IsLegal s
-    → (runs : DecodingProgress s asked start out_old out p r steps written) → Advances r new steps steps_new p q xs (Ok Done)
+    {steps steps_new written : ℕ} {xs : List ℤ} → IsLegal s → (runs : DecodingProgress s asked start out_old out p r steps written) → Advances r new steps steps_new p q xs (Ok Done)
     → (p.run ≡ 0) × SetEnds (with_mark r) new steps steps_new s runs.blocks true
 decoding_is_done {s = s} {p = p} {r = r} {new = new} {steps = steps} {steps_new = steps_new} legal runs a =
     let at = runs.at_block in

@@ -1,13 +1,12 @@
 -- How encoding ends.
-use Rattle.std.proofs.Common.{◌≡◌, ℕ, ◌+◌, ◌-◌, ◌*◌, ◌%◌, ◌<◌, ◌≤◌, List, [], ◌∷◌, ◌++◌, length, take, drop, refl}
-use Rattle.std.proofs.Common.{ap, arith, sym, ◌∙◌, subst, append_assoc, append-nil, length-append, Option, Some, None, ℤ, inl, inr}
+use Rattle.std.proofs.Common.{◌≡◌, ℕ, ◌+◌, ◌-◌, ◌*◌, ◌%◌, ◌<◌, ◌≤◌, List, [], ◌∷◌, ◌++◌, length, take, drop, refl, ap, arith, sym, ◌∙◌, subst, append_assoc, append-nil, length-append, Option, Some}
+use Rattle.std.proofs.Common.{None, ℤ, inl, inr}
 use Rattle.rice_stream.proofs.Words.{All, Err, IsAtEnd, mul-le-mul_left, mul-le-mul_right, mul_comm, drop_at, mod-mul-add, take-append_seam, Consumes-trans, Room, Parameters, IsSample, width, Spells}
 use Rattle.rice_stream.proofs.Words.{Reads, spellings, AtEnd, TooFew, code_bits, output, early_output, complete_samples, reads_then, reads_before, length-spellings, some_width, narrow_width, Fails}
 use Rattle.rice_stream.proofs.Words.{IsWithinLimit, PassesLimit, StopsBetween, Beginning, afresh, CountsSamples, TakesAll, WritesRest, EncodingProgress, Pushes, PushFails, EncodesBetween}
 use Rattle.rice_stream.proofs.Words.{EndsEncoding, EncodesWithin, ReportsTaken, ReportsAll, LeavesEarly, SpellsSoFar, EncodingValue, Report, Fault, Read, Write, TooLong, SampleOutOfRange, SampleCut}
 use Rattle.rice_stream.specs.BufferedBytes.{BufferedBytes, with_last, Refills, PassesInput, StopsRefilling, CountsReads}
-use Rattle.rice_stream.proofs.lemmas.EncodingBounds.{Settles, early_bounded, all_bounded}
-use Rattle.rice_stream.proofs.lemmas.EncodingLemmas.{Follows-all, settled_by}
+use Rattle.rice_stream.proofs.lemmas.{EncodingBounds.Settles, EncodingBounds.early_bounded, EncodingBounds.all_bounded, EncodingLemmas.Follows-all, EncodingLemmas.settled_by}
 
 -- a call that stops early is within the bounds
 pub within_early : (s : Parameters) (r : Report) (xs : List ℤ) → Settles s xs → ReportsTaken s r xs → EncodesWithin s r
@@ -161,8 +160,7 @@ drawing_ends {s} {left_old} {left} {left_new} {taken_old} {taken} {v} {r} r_new 
 
 -- and the failures then
 pub drawing_fails : (fault : Fault) {f : Option Fault} {reads mid : ℕ} (reads_new : ℕ) {writes writes_new : ℕ} (old new : BufferedBytes) (left left_new : Option (List ℕ))
-    → StopsRefilling fault old new left left_new → f ≡ Some fault → CountsReads {T = ℕ} mid reads_new (Err fault) → mid ≡ reads → writes_new ≡ writes
-    → Fails f reads reads_new writes writes_new
+    → StopsRefilling fault old new left left_new → f ≡ Some fault → CountsReads {T = ℕ} mid reads_new (Err fault) → mid ≡ reads → writes_new ≡ writes → Fails f reads reads_new writes writes_new
 drawing_fails fault {f} {reads} {mid} reads_new {writes} {writes_new} old new left left_new stops is counts same calm = subst (λ (f : Option Fault). Fails f reads reads_new writes writes_new) (sym is)
     (by_fault fault stops counts)
   where
@@ -196,12 +194,7 @@ finish_ends {s} {left_old} {left} {taken_old} {new} {e} {q} {r} {f} runs end non
     by_fault None took = (
       record { given = runs.bytes; left = left; written = output s xs },
       record { gave = runs.gave; left = refl; took = Follows-all taken_old new _ took },
-      record {
-        samples = xs;
-        ends = (spells, end, record { written = refl; reports = closes });
-        limit = omega (arith, runs.count, limit);
-        ahead = no_more;
-      },
+      record { samples = xs; ends = (spells, end, record { written = refl; reports = closes }); limit = omega (arith, runs.count, limit); ahead = no_more },
     )
     by_fault (Some Write) part = (
       record { given = runs.bytes; left = left; written = part.written },
@@ -266,11 +259,7 @@ pushing_ends {s} {left_old} {left} {taken_old} {taken} {taken_new} {v} {v_new} {
             ends = (
               fewer,
               inl (record {
-                given = record {
-                  rest = m.rest;
-                  split = joined.split ∙ ap (λ l. spellings s l ++ m.rest) same;
-                  legal = subst (All (IsSample s)) same joined.legal;
-                };
+                given = record { rest = m.rest; split = joined.split ∙ ap (λ l. spellings s l ++ m.rest) same; legal = subst (All (IsSample s)) same joined.legal };
                 some = omega arith;
                 reports = t;
                 stops = subst (λ (l : List ℤ). StopsBetween (early_output s l) (early_output s all) m.fails.takes.written) (sym front) m.fails.takes.stops;

@@ -150,11 +150,7 @@ none_whole {s} {old} {now} {f} {xs} ys h c same few =
     let b = complete_code s (xs ++ ys) in
     let z : bits_in_bytes (length f.sink) ≡ 0 = omega arith in
     let bytes : whole_bytes b ≡ whole_bytes a = more_bytes a b f.sink (sym same) ∙ ap (λ l. whole_bytes a ++ l) (whole_short f.sink few) ∙ append-nil (whole_bytes a) in
-    record {
-      counts = c;
-      sink = ap (λ n. drop n f.sink) (sym z) ∙ more_rest a b f.sink (sym same);
-      took = subst (λ (l : List ℕ). Follows old now l) (sym bytes) h.took;
-    }
+    record { counts = c; sink = ap (λ n. drop n f.sink) (sym z) ∙ more_rest a b f.sink (sym same); took = subst (λ (l : List ℕ). Follows old now l) (sym bytes) h.took }
 
 -- the whole bytes are written
 pub all_written : {s : Parameters} {old : Beginning} {now new : Option Room} {e f g : EncodingValue} {xs : List ℤ} (ys : List ℤ) → IsEncodingOf s old now e xs

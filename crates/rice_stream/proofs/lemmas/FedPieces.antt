@@ -1,11 +1,10 @@
 -- What is fed piece by piece is encoded as a whole.
-use Rattle.std.proofs.Common.{◌≡◌, ℕ, ◌+◌, ◌-◌, ◌*◌, ◌/◌, ◌<◌, ◌≤◌, Bool, false, List, [], ◌∷◌, ◌++◌, length}
-use Rattle.std.proofs.Common.{length-drop, drop, take, replicate, refl, ap, sym, ◌∙◌, subst, arith, append_assoc, append-nil, length-append, Some, ℤ}
-use Rattle.rice_stream.proofs.Words.{All, nat_tests, AllByRecursion, take-length, take_at, drop_at, length-take, All-append, All-from_recursion, All-head, All-nil, All-tail, bits_of-padded}
-use Rattle.rice_stream.proofs.Words.{bits_of-whole_bytes, length-bits_of, length-word, Parameters, IsLegal, IsSample, width, cut, spelling, spellings}
-use Rattle.rice_stream.proofs.Words.{AreIntervals, code, code_bits, early_output, output, Decoded, Reached, complete_code, state_between}
-use Rattle.rice_stream.proofs.Words.{between_all, complete_are_coded, intervals_are_decoded_alone, intervals_are_joined, length-spelling, length-spellings, spellings-append, bits_in_bytes, bits_of}
-use Rattle.rice_stream.proofs.Words.{bits_to_byte, whole_bytes, IsSeam, Piece, AreFed, TakeInParts, last_seam, place_after, FeedingIsEncoding, IsPlace, SeamsTellPlaces, Seam, one_sample}
+use Rattle.rice_stream.proofs.Words.{◌≡◌, ℕ, ◌+◌, ◌-◌, ◌*◌, ◌/◌, ◌<◌, ◌≤◌, Bool, false, List, [], ◌∷◌, ◌++◌, length, length-drop, drop, take, replicate, refl, ap, sym, ◌∙◌, subst, arith, append_assoc}
+use Rattle.rice_stream.proofs.Words.{append-nil, length-append, Some, ℤ, All, nat_tests, AllByRecursion, take-length, take_at, drop_at, length-take, All-append, All-from_recursion, All-head, All-nil}
+use Rattle.rice_stream.proofs.Words.{All-tail, bits_of-padded, bits_of-whole_bytes, length-bits_of, length-word, Parameters, IsLegal, IsSample, width, cut, spelling, spellings, AreIntervals, code}
+use Rattle.rice_stream.proofs.Words.{code_bits, early_output, output, Decoded, Reached, complete_code, state_between, between_all, complete_are_coded, intervals_are_decoded_alone}
+use Rattle.rice_stream.proofs.Words.{intervals_are_joined, length-spelling, length-spellings, spellings-append, bits_in_bytes, bits_of, bits_to_byte, whole_bytes, IsSeam, Piece, AreFed, TakeInParts}
+use Rattle.rice_stream.proofs.Words.{last_seam, place_after, FeedingIsEncoding, IsPlace, SeamsTellPlaces, Seam, one_sample}
 use Rattle.rice_stream.proofs.lemmas.EncodingLemmas.{code_nothing, settled_nothing}
 
 -- several spellings are of these samples alone

@@ -6,8 +6,7 @@ use Rattle.rice_stream.proofs.Words.{BeginsUnsound, Decoded, Ending, Reached, En
 use Rattle.rice_stream.proofs.Words.{EnoughAfterIsDecoding, EnoughIsDecoding, FrontIsPlace, GiveInParts, IsPlace, IsPulled, Pull, PullsAreDecoding, SeekingIsDecoding, StandsTellPlaces, last_stand}
 use Rattle.rice_stream.proofs.Words.{Origin, IsStand, PausesAt, bits_ahead, Pause, Stand, drop-append-add, drop-append_seam}
 use Rattle.rice_stream.specs.declared.stand.Pause.TheVariants as pauses
-use Rattle.rice_stream.proofs.lemmas.{ReturnedBytes.unsound_on, DecodingLemmas.same_place}
-use Rattle.rice_stream.proofs.lemmas.DecodedSamples.{at_end, ends_here, ends_reached}
+use Rattle.rice_stream.proofs.lemmas.{ReturnedBytes.unsound_on, DecodingLemmas.same_place, DecodedSamples.at_end, DecodedSamples.ends_here, DecodedSamples.ends_reached}
 
 -- Bits of a code were pulled from where decoding began, and a stand is after them.
 record HasPulled (s : Parameters) (code : List ℕ) (o : Origin) (stand : Stand) : Type 0 where
@@ -193,8 +192,7 @@ at_first s code o first le h = record { front = []; given = []; rest = drop o.bi
 
 -- what ends there is what the code decodes to
 decoded_all : {s : Parameters} {code : List ℕ} {o : Origin} {stand : Stand} {rest : List Bool} {ahead : ℕ} {ending : Ending} → (h : HasPulled s code o stand)
-    → h.rest ≡ rest → (f : EndsAfter s stand rest ahead ending)
-    → Decoded s (drop o.bits (bits_of code)) None h.given ending (length h.front + f.used)
+    → h.rest ≡ rest → (f : EndsAfter s stand rest ahead ending) → Decoded s (drop o.bits (bits_of code)) None h.given ending (length h.front + f.used)
 decoded_all {s} {stand} {rest} {ending} h e f =
     let st = h.stands in
     let ends = end_there s stand.block st.blocks rest ending f.used (same_place s st.blocks stand.block st.state.legal.interval_from st.here) f.ends in

@@ -1,10 +1,8 @@
 -- Blocks that the decoder gives, one or those of a run, and where decoding stands after them.
-use Rattle.std.proofs.Common.{◌≡◌, ℕ, zero, suc, ◌+◌, ◌-◌, ◌*◌, ◌<◌, ◌≤◌, List, [], ◌++◌, Bool}
-use Rattle.std.proofs.Common.{take, drop, replicate, refl, sym, ◌∙◌, ap, subst, arith, append_assoc, append-nil, None, ℤ}
+use Rattle.std.proofs.Common.{◌≡◌, ℕ, zero, suc, ◌+◌, ◌-◌, ◌*◌, ◌<◌, ◌≤◌, List, [], ◌++◌, Bool, take, drop, replicate, refl, sym, ◌∙◌, ap, subst, arith, append_assoc, append-nil, None, ℤ}
 use Rattle.rice_stream.proofs.Words.{Ok, length-replicate, replicate-append-replicate, mul-pos, Reader, Parameters, IsSample, width, spellings, RepeatsBlocks, DecoderState, IsDecoderState, Block}
 use Rattle.rice_stream.proofs.Words.{last_replicate, place_moves, Origin, IsStand, GivesMore, WritesRunAt, IsReadFrom, ahead, stand_at, state_of, Stand, Advances}
-use Rattle.rice_stream.proofs.lemmas.PullingLemmas.{Steps, gives_next, goes_on_at}
-use Rattle.rice_stream.proofs.lemmas.RunsWritten.{advances_in_run, run_is_more}
+use Rattle.rice_stream.proofs.lemmas.{PullingLemmas.Steps, PullingLemmas.gives_next, PullingLemmas.goes_on_at, RunsWritten.advances_in_run, RunsWritten.run_is_more}
 
 -- one call of the decoder
 pub gives_one : {I : Type 0} {s : Parameters} {stand next : Stand} {q : DecoderState} {r new : Reader I} {steps steps_new : ℕ} {xs : List ℤ} (o : Origin) (front : List Bool) (given : List ℤ)

@@ -202,8 +202,7 @@ stops_next s o {stand} {r} {new} {steps} {steps_new} front given {xs} {fault} re
 
 -- and so does the end
 pub done_next : {I : Type 0} (s : Parameters) (o : Origin) {stand : Stand} {r new : Reader I} {steps steps_new : ℕ} {q : DecoderState} (front : List Bool) (given : List ℤ) {xs : List ℤ}
-    → IsReadFrom stand r
-    → Advances r new steps steps_new (state_of s stand) q xs (Ok Done) → TakesNext s o front given stand r new xs (Ok None)
+    → IsReadFrom stand r → Advances r new steps steps_new (state_of s stand) q xs (Ok Done) → TakesNext s o front given stand r new xs (Ok None)
 done_next s o {stand} {r} {new} {steps} {steps_new} front given reads a =
     elim (runs_or_not (state_of s stand)) [
       | inl lt ↦ absurd (let e = (a.in_run refl lt).0 in cc)

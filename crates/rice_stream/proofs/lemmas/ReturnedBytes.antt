@@ -1,13 +1,12 @@
 -- What was encoded comes back.
-use Rattle.std.proofs.Common.{◌≡◌, ℕ, ◌+◌, ◌*◌, ◌<◌, ◌≤◌, cond, Bool, true, false, List, [], ◌∷◌, ◌++◌, length, length-append, replicate}
-use Rattle.std.proofs.Common.{refl, ap, arith, sym, ◌∙◌, ◌⊎◌, inl, inr, subst, append_assoc, append-nil, Option, Some, None, ℤ, pos}
-use Rattle.rice_stream.proofs.Words.{All, IsSome, div_ceil, mul_assoc, mul-le-mul_left, mul-le-mul_right, nat_tests, div_ceil_times, length-replicate, Consumes, IsAtEnd, bits_of-append, ⊤}
-use Rattle.rice_stream.proofs.Words.{bits_of-padded, length-bits_of, Parameters, IsLegal, IsSample, id_len, width, block_count, interval_count, spellings, zero_is_sample, code, output, Decoded}
-use Rattle.rice_stream.proofs.Words.{blocks_in_all, Ending, EndsWith, Reached, Ended, CutOff, Past, Large, decoded_is_one, padding_is_bounded, code_is_bounded, length-spellings, spellings-append}
-use Rattle.rice_stream.proofs.Words.{bits_of, bits_to_byte, Call, PassesLimit, DecodesBytes, EndsDecoding, ReturnsBytes, ReturnsBytesAndFill, Fault, Read, Write, TooLong}
-use Rattle.rice_stream.proofs.Words.{CodeEnds, RunPastSegment, ResidualTooLarge, CodedDataSet, BeginsUnsound, lt_of_mul-lt-mul_left}
-use Rattle.rice_code.proofs.lemmas.meaning.SamplesAreReturned as returned
+use Rattle.rice_stream.proofs.Words.{◌≡◌, ℕ, ◌+◌, ◌*◌, ◌<◌, ◌≤◌, cond, Bool, true, false, List, [], ◌∷◌, ◌++◌, length, length-append, replicate, refl, ap, arith, sym, ◌∙◌, ◌⊎◌, inl, inr, subst}
+use Rattle.rice_stream.proofs.Words.{append_assoc, append-nil, Option, Some, None, ℤ, pos, All, IsSome, div_ceil, mul_assoc, mul-le-mul_left, mul-le-mul_right, nat_tests, div_ceil_times}
+use Rattle.rice_stream.proofs.Words.{length-replicate, Consumes, IsAtEnd, bits_of-append, ⊤, bits_of-padded, length-bits_of, Parameters, IsLegal, IsSample, id_len, width, block_count, interval_count}
+use Rattle.rice_stream.proofs.Words.{spellings, zero_is_sample, code, output, Decoded, blocks_in_all, Ending, EndsWith, Reached, Ended, CutOff, Past, Large, decoded_is_one, padding_is_bounded}
+use Rattle.rice_stream.proofs.Words.{code_is_bounded, length-spellings, spellings-append, bits_of, bits_to_byte, Call, PassesLimit, DecodesBytes, EndsDecoding, ReturnsBytes, ReturnsBytesAndFill}
+use Rattle.rice_stream.proofs.Words.{Fault, Read, Write, TooLong, CodeEnds, RunPastSegment, ResidualTooLarge, CodedDataSet, BeginsUnsound, lt_of_mul-lt-mul_left}
 use Rattle.rice_stream.proofs.lemmas.EncodingBounds.{block_bound_le}
+use Rattle.rice_code.proofs.lemmas.meaning.SamplesAreReturned as returned
 
 -- it does not end where the bits do
 abbrev pub EndsBefore : Ending → Type 0
@@ -62,8 +61,7 @@ decoded_before s asked bits more xs ending used early d = with_rest d (d.rest ++
 
 -- what the first of some bytes decode to, where that ends before them, all do
 from_front : {s : Parameters} → IsLegal s → {asked : Option ℕ} {bytes : List ℕ} {xs ys : List ℤ} (front left : List ℕ) {ending known : Ending} {used all : ℕ}
-    → bytes ≡ front ++ left → EndsBefore ending
-    → Decoded s (bits_of front) asked ys ending used → Decoded s (bits_of bytes) asked xs known all → (ys ≡ xs) × (ending ≡ known)
+    → bytes ≡ front ++ left → EndsBefore ending → Decoded s (bits_of front) asked ys ending used → Decoded s (bits_of bytes) asked xs known all → (ys ≡ xs) × (ending ≡ known)
 from_front {s} legal {asked} {bytes} {xs} {ys} front left {ending} {known} {used} {all} split early d whole =
     let more = decoded_before s asked (bits_of front) (bits_of left) ys ending used early d in
     let bits : bits_of front ++ bits_of left ≡ bits_of bytes = sym (bits_of-append front left) ∙ ap bits_of (sym split) in

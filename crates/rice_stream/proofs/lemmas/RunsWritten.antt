@@ -80,10 +80,7 @@ run_is_more p m samples g = omega (arith, ap length g.gives.blocks_are, length-r
 
 -- a block of a run needs no bit
 pub advances_in_run : {I : Type 0} (r : Reader I) (steps : ℕ) (p m : DecoderState) (samples : List ℤ) → GivesFromRun p m samples → Advances r r steps steps p m samples (Ok Block)
-advances_in_run r steps p m samples g = record {
-  in_run = λ _ _. (refl, g, refl, refl);
-  reads = λ _ none. absurd (let e = run_is_more p m samples g in omega (arith, none, e));
-}
+advances_in_run r steps p m samples g = record { in_run = λ _ _. (refl, g, refl, refl); reads = λ _ none. absurd (let e = run_is_more p m samples g in omega (arith, none, e)) }
 
 -- the sample before, and the setting, stay
 pub stays_after : (n : ℕ) (p q : DecoderState) → RepeatsBlocks n p q → (q.before ≡ p.before) × (q.setting ≡ p.setting)
@@ -106,8 +103,7 @@ more_wanted (Some k) written block n h = let le : written + block * suc n ≤ k 
 pub progress_on : {I : Type 0} {s : Parameters} {asked : Option ℕ} {start : Reader I} {out_old : Option Room} {r : Reader I} (blocks : ℕ)
     {out : Option Room} (out_new : Option Room) {p : DecoderState} (q : DecoderState) {steps written : ℕ} → IsLegal s
     → DecodingProgress s asked start out_old out p r steps written → RepeatsBlocks blocks p q → IfSome asked (λ n. written + s.block * blocks ≤ n)
-    → Appends out out_new (spellings s (replicate (s.block * blocks) p.before))
-    → DecodingProgress s asked start out_old out_new q r (steps + s.block * blocks) (written + s.block * blocks)
+    → Appends out out_new (spellings s (replicate (s.block * blocks) p.before)) → DecodingProgress s asked start out_old out_new q r (steps + s.block * blocks) (written + s.block * blocks)
 progress_on {s = s} {asked = asked} {start = start} {out_old = out_old} {r = r} zero {out} out_new {p} q {steps} {written} legal runs same wanted put =
     let nothing : s.block * 0 ≡ 0 = omega arith in
     let none : spellings s (replicate (s.block * 0) p.before) ≡ [] = ap (λ n. spellings s (replicate n p.before)) nothing in
@@ -269,8 +265,7 @@ pub record SizesOfBlocks (s : Parameters) (w b : ℕ) : Type 0 where
 -- an outlet failed after so many bytes of the blocks of a run
 pub run_cut : {s : Parameters} {asked : Option ℕ} {written : ℕ} (m : ℕ) {taken w b : ℕ} {p : DecoderState} (q : DecoderState) {old new : Option Room} {spelled : List ℕ} → SizesOfBlocks s w b
     → RepeatsBlocks m p q → q.run + m ≡ p.run → IfSome asked (λ n. written + s.block * m ≤ n) → spelled ≡ spellings s (replicate (b * m) p.before)
-    → taken < length spelled → Appends old new (take taken spelled)
-    → FailsInRun s asked written p old new (taken / (w * b) * b)
+    → taken < length spelled → Appends old new (take taken spelled) → FailsInRun s asked written p old new (taken / (w * b) * b)
 run_cut {s} {asked} {written} m {taken} {w} {b} {p} q {old} {new} {spelled} sizes passes left wanted is short put =
     let x = p.before in
     let j = s.block in
@@ -282,7 +277,7 @@ run_cut {s} {asked} {written} m {taken} {w} {b} {p} q {old} {new} {spelled} size
     let below : r < each = subst (λ k. r < k) same (mod-lt taken (omega (arith, same, positive))) in
     let split : each * n + r ≡ taken = ap (λ k. k * n + r) (sym same) ∙ div-add-mod taken (w * b) in
     let many : spelled ≡ spellings s (replicate (j * m) x) = is ∙ ap (λ k. spellings s (replicate (k * m) x)) sizes.block_is in
-    let long : length spelled ≡ each * m = ap length many ∙ (length-repeat s (j * m) x ∙ product (width s) j m) in
+    let long : length spelled ≡ each * m = ap length many ∙ (length-repeat s (j * m) x ∙ omega arith) in
     let inside : n < m = lt_of_mul-lt-mul_left each (omega (arith, split, short, long)) in
     let k = m - n - 1 in
     let all : m ≡ n + suc k = omega (arith, inside) in
@@ -292,7 +287,7 @@ run_cut {s} {asked} {written} m {taken} {w} {b} {p} q {old} {new} {spelled} size
     let third = spellings s (replicate (j * k) x) in
     let text : spelled ≡ first ++ (second ++ third) = many
     ∙ (ap (λ z. spellings s (replicate z x)) parts ∙ (spellings-more s (j * n) (j + j * k) x ∙ ap (λ l. first ++ l) (spellings-more s j (j * k) x))) in
-    let first_len : length first ≡ each * n = length-repeat s (j * n) x ∙ product (width s) j n in
+    let first_len : length first ≡ each * n = length-repeat s (j * n) x ∙ omega arith in
     let second_len : length second ≡ each = length-repeat s j x in
     let place : taken ≡ length first + r = omega (arith, split, first_len) in
     let cut : take taken spelled ≡ first ++ take r second = (λ i. take (place i) (text i))
@@ -316,9 +311,6 @@ run_cut {s} {asked} {written} m {taken} {w} {b} {p} q {old} {new} {spelled} size
   where
     mul_positive : (a b : ℕ) → 1 ≤ a → 1 ≤ b → 1 ≤ a * b
     mul_positive a b h k = let c : a * 1 ≤ a * b = mul-le-mul_left a k in omega (arith, h, c)
-
-    product : (a b c : ℕ) → a * (b * c) ≡ a * b * c
-    product a b c = omega arith
 
     asked_for : (asked : Option ℕ) (count n k : ℕ) → count ≡ s.block * n → s.block * m ≡ s.block * n + (s.block + s.block * k)
         → IfSome asked (λ z. written + s.block * m ≤ z) → IfSome asked (λ z. written + count + s.block ≤ z)

@@ -1,13 +1,12 @@
 -- The code between two segments: what is kept of it, and how it goes on.
-use Rattle.std.proofs.Common.{◌≡◌, ℕ, ◌+◌, ◌-◌, ◌*◌, ◌/◌, ◌%◌, ◌^◌, ◌<◌, ◌≤◌, ◌++◌, Bool, false, List, [], ◌∷◌, length, take, drop}
-use Rattle.std.proofs.Common.{replicate, slice_index_or, Option, Some, None, Err, refl, ap, sym, ◌∙◌, subst, arith, inl, inr, append-nil, length-append, take-append-drop, ℤ}
-use Rattle.rice_stream.proofs.Words.{take_at, length-take-le, length-replicate, shr_below, mul-le-mul_left, mul-mod_right, div-add-mod, Room, Appends-nil, bits_of-padded, length-bits_of}
-use Rattle.rice_stream.proofs.Words.{length-word, word-nil, word-split, Parameters, IsLegal, width, cut, Reads, spellings, cut_is_start, cut_is_greatest, early_output, HasTaken, state_between}
-use Rattle.rice_stream.proofs.Words.{holds_nothing, between_all, some_width, length-spellings, lt_of_mul-lt-mul_left, bits_of, bits_to_byte, padded_bits, whole_bytes, word, ReportsTaken, ReportsAll}
-use Rattle.rice_stream.proofs.Words.{Beginning, CountsSamples, IsEncodingOf, TakesAll, Pushes, WritesRest, IsSeam, after, encoding_at, bytes_in_all, samples_to_take, TakesPiece, EncodesMore, AreAll}
-use Rattle.rice_stream.proofs.Words.{EncodesRest, EncodingValue, Fault, Write, SampleOutOfRange, SampleCut, Report, Seam}
-use Rattle.rice_stream.proofs.lemmas.EncodingLemmas.{counts_small}
-use Rattle.rice_stream.proofs.lemmas.SamplesOfFirstBytes.{stops_before, none_left, few_more}
+use Rattle.std.proofs.Common.{◌≡◌, ℕ, ◌+◌, ◌-◌, ◌*◌, ◌/◌, ◌%◌, ◌^◌, ◌<◌, ◌≤◌, ◌++◌, Bool, false, List, [], ◌∷◌, length, take, drop, replicate, slice_index_or, Option, Some, None, Err, refl, ap, sym}
+use Rattle.std.proofs.Common.{◌∙◌, subst, arith, inl, inr, append-nil, length-append, take-append-drop, ℤ}
+use Rattle.rice_stream.proofs.Words.{take_at, length-take-le, length-replicate, shr_below, mul-le-mul_left, mul-mod_right, div-add-mod, Room, Appends-nil, bits_of-padded, length-bits_of, length-word}
+use Rattle.rice_stream.proofs.Words.{word-nil, word-split, Parameters, IsLegal, width, cut, Reads, spellings, cut_is_start, cut_is_greatest, early_output, HasTaken, state_between, holds_nothing}
+use Rattle.rice_stream.proofs.Words.{between_all, some_width, length-spellings, lt_of_mul-lt-mul_left, bits_of, bits_to_byte, padded_bits, whole_bytes, word, ReportsTaken, ReportsAll, Beginning}
+use Rattle.rice_stream.proofs.Words.{CountsSamples, IsEncodingOf, TakesAll, Pushes, WritesRest, IsSeam, after, encoding_at, bytes_in_all, samples_to_take, TakesPiece, EncodesMore, AreAll, EncodesRest}
+use Rattle.rice_stream.proofs.Words.{EncodingValue, Fault, Write, SampleOutOfRange, SampleCut, Report, Seam}
+use Rattle.rice_stream.proofs.lemmas.{EncodingLemmas.counts_small, SamplesOfFirstBytes.stops_before, SamplesOfFirstBytes.none_left, SamplesOfFirstBytes.few_more}
 
 -- a list of no bits is the word of 0 of its length
 pub no_bits : (bits : List Bool) → length bits ≡ 0 → word (length bits) 0 ≡ bits

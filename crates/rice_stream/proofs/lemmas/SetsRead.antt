@@ -10,8 +10,7 @@ record SetAfter (s : Parameters) (b at position place : ℕ) (ds : List CodedDat
 
 -- one more coded data set lies after others
 lies-push : (s : Parameters) (b : ℕ) {at : ℕ} (position : ℕ) {place : ℕ} (ds : List CodedDataSet) (bits : List Bool) (d : CodedDataSet) (skipped : List Bool)
-    → SetAfter s b at position place ds bits d skipped → Lies s b position ds bits
-    → Lies s b position (ds ++ d ∷ []) (bits ++ (bits_of_set s d ++ skipped))
+    → SetAfter s b at position place ds bits d skipped → Lies s b position ds bits → Lies s b position (ds ++ d ∷ []) (bits ++ (bits_of_set s d ++ skipped))
 lies-push s b {at} position {place} [] bits d skipped stands lies =
     let here : at ≡ b = omega (arith, stands.at_is) in
     let there : place ≡ position = omega (arith, stands.place_is, ap length lies) in

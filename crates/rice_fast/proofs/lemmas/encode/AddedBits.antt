@@ -9,8 +9,7 @@ none_added {sink} {fields} = record { bits = sym (append-nil (sink ++ fields)); 
 
 -- the bits of one part, and then those of another
 pub both_added : (first second : List Bool) {sink fields sink1 fields1 sink2 fields2 : List Bool} {meter meter1 meter2 : ℕ}
-    → AddsBits first sink fields sink1 fields1 meter meter1 → AddsBits second sink1 fields1 sink2 fields2 meter1 meter2
-    → AddsBits (first ++ second) sink fields sink2 fields2 meter meter2
+    → AddsBits first sink fields sink1 fields1 meter meter1 → AddsBits second sink1 fields1 sink2 fields2 meter1 meter2 → AddsBits (first ++ second) sink fields sink2 fields2 meter meter2
 both_added first second {sink} {fields} h k =
     let n = length-append first second in
     record {
@@ -111,25 +110,18 @@ added_up_to f xs a m n e h = same_added (ap (λ i. flat_map f (slice_range xs a 
 
 -- the numbers up to a range are added, and then those of the range
 pub range_added : (f : ℕ → List Bool) (xs : List ℕ) (a m b : ℕ) {more : List Bool} {sink fields sink1 fields1 sink2 fields2 : List Bool} {meter meter1 meter2 : ℕ} → a ≤ m → m ≤ b
-    → more ≡ flat_map f (slice_range xs m b)
-    → AddsBits (flat_map f (slice_range xs a m)) sink fields sink1 fields1 meter meter1 → AddsBits more sink1 fields1 sink2 fields2 meter1 meter2
+    → more ≡ flat_map f (slice_range xs m b) → AddsBits (flat_map f (slice_range xs a m)) sink fields sink1 fields1 meter meter1 → AddsBits more sink1 fields1 sink2 fields2 meter1 meter2
     → AddsBits (flat_map f (slice_range xs a b)) sink fields sink2 fields2 meter meter2
 range_added f xs a m b {more} {sink} {fields} {sink1} {fields1} {sink2} {fields2} {meter} {meter1} {meter2} h k same done next =
     let all = bits_of_parts f xs a m b h k ∙ ap (λ v. flat_map f (slice_range xs a m) ++ v) (sym same) in
     let both = both_added (flat_map f (slice_range xs a m)) more done next in
     let len = ap length all in
-    record {
-      bits = both.bits ∙ ap (λ v. sink ++ fields ++ v) (sym all);
-      len = omega (arith, len, both.len);
-      steps = omega (arith, len, both.steps);
-    }
+    record { bits = both.bits ∙ ap (λ v. sink ++ fields ++ v) (sym all); len = omega (arith, len, both.len); steps = omega (arith, len, both.steps) }
 
 -- before they are, there is room
 pub room_for_range : (f : ℕ → List Bool) (xs : List ℕ) (a m n b : ℕ) {more : List Bool} {sink fields sink1 fields1 : List Bool} {meter meter1 : ℕ} → a ≤ m → m ≤ n → n ≤ b
-    → more ≡ flat_map f (slice_range xs m n)
-    → HasRoomForBits (flat_map f (slice_range xs a b)) (length sink + length fields) (meter + length fields)
-    → AddsBits (flat_map f (slice_range xs a m)) sink fields sink1 fields1 meter meter1
-    → HasRoomForBits more (length sink1 + length fields1) (meter1 + length fields1)
+    → more ≡ flat_map f (slice_range xs m n) → HasRoomForBits (flat_map f (slice_range xs a b)) (length sink + length fields) (meter + length fields)
+    → AddsBits (flat_map f (slice_range xs a m)) sink fields sink1 fields1 meter meter1 → HasRoomForBits more (length sink1 + length fields1) (meter1 + length fields1)
 room_for_range f xs a m n b {more} h k l same room done =
     let whole = ap length (bits_of_parts f xs a m b h (omega (arith, k, l))) ∙ length-append (flat_map f (slice_range xs a m)) (flat_map f (slice_range xs m b)) in
     let rest = ap length (bits_of_parts f xs m n b k l) ∙ length-append (flat_map f (slice_range xs m n)) (flat_map f (slice_range xs n b)) in

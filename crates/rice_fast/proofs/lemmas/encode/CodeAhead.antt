@@ -152,8 +152,7 @@ code_is_short s start cs legal sound =
     at_most x y n m h e = omega (arith, h, e)
 
 -- so is that of a segment's blocks,
-pub segment_is_short : (s : Parameters) (start : ℕ) (cs : List BlockData) → IsLegal s → AreSoundBlocks s start cs → length cs ≤ blocks_left s start
-    → length (code_of_blocks s start cs) ≤ 131392
+pub segment_is_short : (s : Parameters) (start : ℕ) (cs : List BlockData) → IsLegal s → AreSoundBlocks s start cs → length cs ≤ blocks_left s start → length (code_of_blocks s start cs) ≤ 131392
 segment_is_short s start cs legal sound few =
     let left = some_left s start legal.interval_from in
     omega (arith, code_is_short s start cs legal sound, segment_room s (length cs) legal (omega (arith, left.1, few)))
@@ -205,8 +204,7 @@ room_to_look {s} {start} {r} {run} {bits} {steps} {blocks} {sink} {from} m h leg
 
 -- and for what a block that is not zero puts
 pub room_for_other : {s : Parameters} {start : ℕ} {r : Option ℕ} {run bits steps : ℕ} {blocks : List BlockData} {c : BlockData} {sink from : List Bool} (m : ℕ)
-    → IsAhead s start r run bits steps blocks sink from
-    → IsNext s start r blocks c → is_zero_block c ≡ false → length from ≤ 7 → m + coding_steps s < 2 ^ 62
+    → IsAhead s start r run bits steps blocks sink from → IsNext s start r blocks c → is_zero_block c ≡ false → length from ≤ 7 → m + coding_steps s < 2 ^ 62
     → HasRoomFor (length (pending_bits s false (reference_at r (length blocks - run)) run) + cost s (shortest s c))
     (length (pending_bits s false (reference_at r (length blocks - run)) run) + cost s (shortest s c) + s.block * (k_max s + 5)) (length sink) (m + steps)
 room_for_other {s} {start} {r} {run} {bits} {steps} {blocks} {c} {sink} {from} m h next z little fits =
@@ -243,8 +241,7 @@ room_for_other {s} {start} {r} {run} {bits} {steps} {blocks} {c} {sink} {from} m
 
 -- At the end only the code of the run is still to come.
 pub end_follows : {s : Parameters} {start : ℕ} {r : Option ℕ} {run bits steps : ℕ} {blocks : List BlockData} {sink from : List Bool} → IsAhead s start r run bits steps blocks sink from
-    → 1 ≤ s.interval
-    → sink ++ pending_bits s true (reference_at r (length blocks - run)) run ≡ from ++ code_of_blocks s start blocks
+    → 1 ≤ s.interval → sink ++ pending_bits s true (reference_at r (length blocks - run)) run ≡ from ++ code_of_blocks s start blocks
 end_follows {s} {start} {r} {run} {bits} {steps} {blocks} {sink} {from} h some =
     let n = length blocks in
     let b = start + (n - run) in
@@ -282,11 +279,7 @@ end_puts {s} {start} {r} {run} {bits} {steps} {blocks} {sink} {from} m h some pu
     let all = end_follows h some in
     let whole = ap length all in
     let lens : length sink + length w ≡ length from + length (code_of_blocks s start blocks) = omega (arith, whole, length-append sink w, length-append from (code_of_blocks s start blocks)) in
-    record {
-      bits = put ∙ all;
-      steps_from = omega (arith, lens, h.len, h.least, counted, ticks);
-      steps_to = omega (arith, lens, h.len, h.most, counted, ticks);
-    }
+    record { bits = put ∙ all; steps_from = omega (arith, lens, h.len, h.least, counted, ticks); steps_to = omega (arith, lens, h.len, h.most, counted, ticks) }
 
 -- Where no bits are ahead, the bits before them do not matter.
 pub ahead_with : {s : Parameters} {start : ℕ} {r : Option ℕ} {run bits steps : ℕ} {blocks : List BlockData} {sink from : List Bool} → IsAhead s start r run bits steps blocks sink from → from ≡ sink

@@ -101,13 +101,7 @@ pushes_segment {c} {sink} {sink_new} {meter} {meter_new} {bits} {start} {m} {xs}
     let limit : m.coder.setting.block * blocks_left m.coder.setting m.coder.start ≡ s.block * c.blocks =
     ap (λ (v : CoderState). v.setting.block * blocks_left v.setting v.start) same ∙ ap (λ n. s.block * n) (sym holds.ends ∙ sym is_end) in
     let whole : IsWhole all = omega (arith, length-state_after_all m.coder xs, number, empty, limit) in
-    let more : HoldsMore m.coder m.coder all xs = record {
-      same = refl;
-      coded = stands.coded;
-      legal = stands.legal;
-      room = omega (arith, number, empty, limit);
-      holds = refl;
-    } in
+    let more : HoldsMore m.coder m.coder all xs = record { same = refl; coded = stands.coded; legal = stands.legal; room = omega (arith, number, empty, limit); holds = refl } in
     let pushes = whole_pushes more whole refl codes refl in
     let next : CoderState = state_between s start (value_at s c.previous) in
     let is_next : state_after_segment all ≡ next = ap state_after_segment same ∙ ap (λ v. state_between s v (value_at s c.previous)) (sym goes_on) in

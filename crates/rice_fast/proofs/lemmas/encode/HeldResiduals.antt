@@ -128,10 +128,4 @@ fill_is_taken coder (suc n) some =
     let head : next_reference coder x ≡ coder.reference =
     ap (λ v. cond (coder.setting.preprocess && (v && coder.start == 0)) (Some (pattern coder.setting x)) coder.reference) e
     ∙ ap (λ v. cond v (Some (pattern coder.setting x)) coder.reference) (and-false coder.setting.preprocess) in
-    λ i. record {
-      setting = coder.setting;
-      residuals = coder.residuals ++ next_residual coder x ∷ rest i;
-      reference = head i;
-      previous = last_replicate x n i;
-      start = coder.start;
-    }
+    λ i. record { setting = coder.setting; residuals = coder.residuals ++ next_residual coder x ∷ rest i; reference = head i; previous = last_replicate x n i; start = coder.start }

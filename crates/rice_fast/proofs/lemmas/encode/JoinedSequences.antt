@@ -64,8 +64,7 @@ weights_joined m b (w ∷ z ∷ ws) room k =
     λ i. one i ∷ rest i
 
 -- pairs of sequences, each of which is the number 1
-pub pairs_joined : (m b n : ℕ) (ws : List ℕ) → length ws ≡ 2 * n → b + 1 < m → Each1 (λ w. w ≤ b) ws
-    → zip2 (λ p q. (p + q) % m) (seconds ws) (replicate n 1) ≡ joined_values (replicate (2 * n) 1) ws
+pub pairs_joined : (m b n : ℕ) (ws : List ℕ) → length ws ≡ 2 * n → b + 1 < m → Each1 (λ w. w ≤ b) ws → zip2 (λ p q. (p + q) % m) (seconds ws) (replicate n 1) ≡ joined_values (replicate (2 * n) 1) ws
 pairs_joined m b zero ws len room k = none ws
   where
     none : (ws : List ℕ) → zip2 (λ p q. (p + q) % m) (seconds ws) [] ≡ joined_values [] ws
@@ -324,8 +323,7 @@ sequences_of_zeros zero = refl
 sequences_of_zeros (suc n) = ap suc (sequences_of_zeros n)
 
 -- The sequences of a row: those before number `from`, those up to number `count`, and those of the zeros after it.
-row_parts : (ms : List ℕ) (from count : ℕ) → from ≤ count → ms ≡ take count ms ++ replicate (16 - count) 0
-    → flat_map fundamental_sequence ms ≡
+row_parts : (ms : List ℕ) (from count : ℕ) → from ≤ count → ms ≡ take count ms ++ replicate (16 - count) 0 → flat_map fundamental_sequence ms ≡
     flat_map fundamental_sequence (slice_range ms 0 from) ++ flat_map fundamental_sequence (slice_range ms from count) ++ flat_map fundamental_sequence (replicate (16 - count) 0)
 row_parts ms from count le zeros =
     let f = fundamental_sequence in

@@ -136,8 +136,7 @@ eight_joined n w (a ∷ b ∷ c ∷ d ∷ e ∷ f ∷ g ∷ k ∷ []) len few h 
 eight_joined n w _ len few h = absurd (omega arith)
 
 -- two numbers of at most 28 digits are joined without a wrap
-pub joined_digits : (width : ℕ) (numbers : List ℕ) → length numbers ≡ 2 → width ≤ 28 → Each1 (λ v. v < 2 ^ width) numbers
-    → (get_or numbers 0 0 * 2 ^ width < 2 ^ 64) × (get_or numbers 1 0 < 2 ^ width)
+pub joined_digits : (width : ℕ) (numbers : List ℕ) → length numbers ≡ 2 → width ≤ 28 → Each1 (λ v. v < 2 ^ width) numbers → (get_or numbers 0 0 * 2 ^ width < 2 ^ 64) × (get_or numbers 1 0 < 2 ^ width)
 joined_digits width (a ∷ b ∷ []) len few h =
     let le : 2 ^ (width + width) ≤ 2 ^ 56 = pow-le-pow_right {n = 2} (omega arith) {i = width + width} {j = 56} (omega (arith, few)) in
     (omega (arith, join_below width width a b h.0 h.1.0, le), h.1.0)

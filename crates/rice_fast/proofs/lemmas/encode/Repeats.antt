@@ -12,12 +12,7 @@ pub record RowsCompared (s : Parameters) (level at : ℕ) (bytes other : List �
 
 -- no row yet
 pub none_compared : {s : Parameters} {level : ℕ} (bytes : List ℕ) {other : List ℕ} → RowsCompared s level 0 bytes other
-none_compared {s} bytes = record {
-  levels = [];
-  number = refl;
-  spelled = ap (λ m. take m bytes) (let none : width s * 0 ≡ 0 = omega arith in none);
-  same = λ h. tt;
-}
+none_compared {s} bytes = record { levels = []; number = refl; spelled = ap (λ m. take m bytes) (let none : width s * 0 ≡ 0 = omega arith in none); same = λ h. tt }
 
 -- numbers of which no digit differs are equal
 same_digits : (a b : ℕ) → bit_xor a b ≤ 0 → a ≡ b

@@ -36,8 +36,7 @@ last_legal count p (x ∷ xs) within legal = last_legal count x xs legal.0 legal
 
 -- a row of ranks from the level of the last sample before the row
 pub row_ranked : (s : Parameters) (g n b : ℕ) (levels : List ℕ) {moved row : List ℕ} → s.preprocess ≡ true → g + 1 ≡ value_count s → length levels ≡ n → b < value_count s
-    → Each1 (λ l. l < value_count s) levels → moved ≡ take n (b ∷ levels)
-    → (Each1 (λ p. p ≤ g) moved → Each1 (λ x. x ≤ g) levels → row ≡ zip2 (rank_below (g + 1)) moved levels)
+    → Each1 (λ l. l < value_count s) levels → moved ≡ take n (b ∷ levels) → (Each1 (λ p. p ≤ g) moved → Each1 (λ x. x ≤ g) levels → row ≡ zip2 (rank_below (g + 1)) moved levels)
     → row ≡ later_residuals s (value_at s b) (values_at s levels)
 row_ranked s g n b levels {moved} e above len within legal shifted ranking =
     let fit = Each1-weaker (λ l. l < value_count s) (λ l. l ≤ g) (λ l h. omega (arith, h, above)) levels legal in
@@ -91,8 +90,7 @@ pub record Row (s : Parameters) (n at : ℕ) (bytes earlier seen row more residu
 
 -- one row more
 pub row_more : {s : Parameters} {n before at : ℕ} {bytes earlier seen row more : List ℕ} (written : List ℕ) {residuals after : List ℕ} → before < value_count s → at + n ≤ length written
-    → RowsRead s n before at bytes earlier seen written → Row s n at bytes earlier seen row more residuals → after ≡ put_chunk at written residuals
-    → RowsRead s n before (at + n) bytes row more after
+    → RowsRead s n before at bytes earlier seen written → Row s n at bytes earlier seen row more residuals → after ≡ put_chunk at written residuals → RowsRead s n before (at + n) bytes row more after
 row_more {s} {n} {before} {at} {bytes} {earlier} {seen} {row} {more} written {residuals} within room old new stored = record {
   levels = old.levels ++ row;
   number = length-append old.levels row ∙ omega (arith, old.number, new.many);
@@ -125,8 +123,7 @@ row_more {s} {n} {before} {at} {bytes} {earlier} {seen} {row} {more} written {re
 -- where no digit is seen above the greatest level, all samples are read with their residuals
 pub rows_read : {s : Parameters} {n before at : ℕ} {bytes earlier seen residuals : List ℕ} (g last : ℕ) {first over : List ℕ} → before < value_count s → g + 1 ≡ value_count s
     → RowsRead s n before at bytes earlier seen residuals → length residuals ≤ at → length bytes ≡ width s * length residuals → length seen ≡ n
-    → first ≡ replicate n g → over ≡ zip2 (λ a b. a - b) seen first → over ≡ replicate n 0 → last ≡ get_or earlier (n - 1) 0
-    → HasResidualsOf s bytes before residuals last
+    → first ≡ replicate n g → over ≡ zip2 (λ a b. a - b) seen first → over ≡ replicate n 0 → last ≡ get_or earlier (n - 1) 0 → HasResidualsOf s bytes before residuals last
 rows_read {s} {n} {before} {at} {bytes} {earlier} {seen} {residuals} g last {first} {over} within above rows whole len many firsts overs none last_is =
     residuals_spelled s before last bytes rows.levels residuals all spelled (sym (take_all at residuals whole) ∙ rows.coded each) below (ap (value_at s) end ∙ value_at_last s before rows.levels)
   where

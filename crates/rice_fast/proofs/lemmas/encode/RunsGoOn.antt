@@ -40,8 +40,7 @@ before_run {c} bytes h pending =
 
 -- The block goes on the run, for two steps a sample.
 pub run_goes_on : {c : BlockCoder} {sink : List Bool} {meter : ℕ} {m : Standing} {xs : List ℤ} {bytes : List ℕ} → StandsAfter c sink meter m xs → HasRoomAt m → c.held ≡ 0 → c.blocks < c.end
-    → length bytes ≡ width c.setting * c.setting.block → GoesOn c bytes
-    → (meter + c.setting.block + c.setting.block < 2 ^ 62)
+    → length bytes ≡ width c.setting * c.setting.block → GoesOn c bytes → (meter + c.setting.block + c.setting.block < 2 ^ 62)
     × (ys : List ℤ) × Reads c.setting bytes ys [] × (length ys ≡ c.setting.block)
     × StandsWith (with_block c (c.run + 1) c.bits_ahead (c.steps_ahead + c.setting.block)) [] sink (meter + c.setting.block + c.setting.block) m (xs ++ ys)
 run_goes_on {c} {bytes = bytes} h room none less len goes =

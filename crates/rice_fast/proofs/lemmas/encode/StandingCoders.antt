@@ -125,8 +125,7 @@ room_for_look {m = m} {xs} h room whole less =
 
 -- can be put,
 unfoldable pub part_has_room : {c : BlockCoder} {sink : List Bool} {meter : ℕ} {m : Standing} {xs : List ℤ} → StandsWith c (whole_part c) sink meter m xs → HasRoomAt m
-    → length (whole_part c) ≡ c.setting.block → c.blocks < c.end
-    → HasRoomForBlock c sink meter
+    → length (whole_part c) ≡ c.setting.block → c.blocks < c.end → HasRoomForBlock c sink meter
 part_has_room {c} {sink} {meter} {m} {xs} h room whole less =
     let s = c.setting in
     let holds = h.holds in
@@ -148,17 +147,11 @@ part_has_room {c} {sink} {meter} {m} {xs} h room whole less =
 
 -- and then it is coded
 abbrev pub with_block : BlockCoder → ℕ → ℕ → ℕ → BlockCoder
-with_block c run bits steps = record c {
-  blocks = c.blocks + 1;
-  run = run;
-  bits_ahead = bits;
-  steps_ahead = steps;
-}
+with_block c run bits steps = record c { blocks = c.blocks + 1; run = run; bits_ahead = bits; steps_ahead = steps }
 
 -- what is put of it is ahead then
 pub row_is_put : {c : BlockCoder} {row : List ℕ} {sink sink_new : List Bool} {meter meter_new : ℕ} {m : Standing} {xs : List ℤ} (run bits steps : ℕ) → (h : StandsWith c row sink meter m xs)
-    → length row ≡ c.setting.block → c.blocks < c.end
-    → IsAhead c.setting c.start c.reference run bits steps
+    → length row ≡ c.setting.block → c.blocks < c.end → IsAhead c.setting c.start c.reference run bits steps
     (held_blocks c.setting c.reference c.blocks h.residuals ++ block_with (reference_at c.reference (length (held_blocks c.setting c.reference c.blocks h.residuals))) row ∷ []) sink_new m.sink
     → meter_new ≡ m.meter + length xs + steps → StandsWith (with_block c run bits steps) [] sink_new meter_new m xs
 row_is_put {c} {row} {sink} {sink_new} {meter} {meter_new} {m} {xs} run bits steps h whole less ahead ticks =
@@ -189,8 +182,7 @@ row_is_put {c} {row} {sink} {sink_new} {meter} {meter_new} {m} {xs} run bits ste
 
 -- Of a row of zeros nothing is put: it is looked at, and pending.
 pub zeros_are_put : {c : BlockCoder} {row : List ℕ} {sink : List Bool} {meter : ℕ} {m : Standing} {xs : List ℤ} → StandsWith c row sink meter m xs → length row ≡ c.setting.block → c.blocks < c.end
-    → list_all (λ d. d == 0) row ≡ true
-    → StandsWith (with_block c (c.run + 1) c.bits_ahead (c.steps_ahead + c.setting.block)) [] sink (meter + c.setting.block) m xs
+    → list_all (λ d. d == 0) row ≡ true → StandsWith (with_block c (c.run + 1) c.bits_ahead (c.steps_ahead + c.setting.block)) [] sink (meter + c.setting.block) m xs
 zeros_are_put {c} {row} {sink} {meter} h whole less none =
     let joins : JoinsRun c.setting c.run (c.run + 1) sink sink meter (meter + c.setting.block) = record { run_is = refl; bits = refl; steps = refl } in
     row_is_put (c.run + 1) c.bits_ahead (c.steps_ahead + c.setting.block) h whole less
@@ -241,8 +233,7 @@ noted_reference {s} {start} {r} q {run} {bits} {steps} {sink} {from} (suc n) ds 
 
 -- after no residuals nothing is ahead
 pub blank_holds : (s : Parameters) (start level : ℕ) (part : List ℕ) (sink : List Bool) (meter : ℕ) → IsOpen (state_between s start (value_at s level)) (s.block * blocks_left s start)
-    → level < value_count s
-    → HoldsOpen (coder_between s start (blocks_left s start) level part) [] sink meter [] sink meter
+    → level < value_count s → HoldsOpen (coder_between s start (blocks_left s start) level part) [] sink meter [] sink meter
 blank_holds s start level part sink meter opens below = record {
   opens = opens;
   ends = refl;
@@ -260,8 +251,7 @@ blank_holds s start level part sink meter opens below = record {
 
 -- so a coder between two segments stands for the plain one there
 pub between_stands : (s : Parameters) (start level : ℕ) (part : List ℕ) (sink : List Bool) (meter : ℕ) → IsOpen (state_between s start (value_at s level)) (s.block * blocks_left s start)
-    → level < value_count s
-    → IsCoder (state_between s start (value_at s level)) → length part ≡ 64
+    → level < value_count s → IsCoder (state_between s start (value_at s level)) → length part ≡ 64
     → StandsFor (coder_between s start (blocks_left s start) level part) sink meter (record { coder = state_between s start (value_at s level); sink = sink; meter = meter })
 between_stands s start level part sink meter opens below coded room =
     let one : 1 ≤ s.block = grind (arith, opens.legal.block) in

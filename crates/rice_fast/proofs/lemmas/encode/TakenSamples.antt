@@ -82,12 +82,7 @@ noted_fits c reference x legal sample old e =
 
 -- the coder that holds one sample more in its part
 abbrev pub with_held : BlockCoder → Option ℕ → ℕ → List ℕ → BlockCoder
-with_held c reference level part = record c {
-  reference = reference;
-  previous = level;
-  part = part;
-  held = c.held + 1;
-}
+with_held c reference level part = record c { reference = reference; previous = level; part = part; held = c.held + 1 }
 
 pub record HoldsOne (c : BlockCoder) (x : ℤ) (residual : ℕ) (reference : Option ℕ) (level : ℕ) : Type 0 where
   pub sample : IsSample c.setting x
@@ -100,8 +95,7 @@ pub record HoldsOne (c : BlockCoder) (x : ℤ) (residual : ℕ) (reference : Opt
 
 -- a sample is held
 pub one_held : {c : BlockCoder} {sink : List Bool} {meter : ℕ} {m : Standing} {xs : List ℤ} {x : ℤ} {residual : ℕ} {reference : Option ℕ} {level : ℕ} → StandsAfter c sink meter m xs
-    → HoldsOne c x residual reference level
-    → StandsAfter (with_held c reference level (slice_set c.part c.held residual)) sink (meter + 1) m (xs ++ x ∷ [])
+    → HoldsOne c x residual reference level → StandsAfter (with_held c reference level (slice_set c.part c.held residual)) sink (meter + 1) m (xs ++ x ∷ [])
 one_held {c} {sink} {meter} {m} {xs} {x} {residual} {reference} {level} h one =
     let s = c.setting in
     let stands = h.stands in
@@ -222,13 +216,7 @@ block_held {c} {sink} {meter} {m} {xs} {bytes} {reference} {before} {es} {last} 
     let samples = recursion_from_All (IsSample s) h.samples h.reads.legal in
     let own : AllByRecursion (IsSample m.coder.setting) h.samples = subst (λ (v : CoderState). AllByRecursion (IsSample v.setting) h.samples) (sym stands.coder) samples in
     let noted = before_fits is in
-    let held = more_held reference last es stands.holds (record {
-      below = h.below;
-      fits = noted.0;
-      noted = noted.1;
-      room = omega (arith, empty, whole);
-      inside = less;
-    }) in
+    let held = more_held reference last es stands.holds (record { below = h.below; fits = noted.0; noted = noted.1; room = omega (arith, empty, whole); inside = less }) in
     let all = length-append xs h.samples in (
       count,
       whole,

@@ -8,8 +8,7 @@ use Rattle.std.proofs.lemmas.List.{take-take}
 use Rattle.rice_fast.proofs.lemmas.vectors.WordsOfBytes.{AreWords, words_read}
 
 -- the level that is read from a word tells the word, also where it is not legal
-level_of_word : (s : Parameters) (more word o : ℕ) → 1 ≤ s.bits → s.bits ≤ more → more ≤ 32 → o ≡ offset s → word < 2 ^ more
-    → twos_complement more (value_at s ((word + o) % 2 ^ 32 % 2 ^ more)) ≡ word
+level_of_word : (s : Parameters) (more word o : ℕ) → 1 ≤ s.bits → s.bits ≤ more → more ≤ 32 → o ≡ offset s → word < 2 ^ more → twos_complement more (value_at s ((word + o) % 2 ^ 32 % 2 ^ more)) ≡ word
 level_of_word s more word o h le few e lt =
     let all : 32 ≡ 32 - more + more = omega arith in
     let low : (word + o) % 2 ^ 32 % 2 ^ more ≡ (word + offset s) % 2 ^ more = ap (λ k. (word + o) % 2 ^ k % 2 ^ more) all
@@ -87,8 +86,7 @@ words_spelled s k (suc n) w o greatest (v ∷ vs) some holds is room few e g len
     λ j. one j ++ rest j
 
 -- a level less the offset, in each lane, is the pattern of the sample
-pub patterns_in_lanes : (s : Parameters) (k n o greatest : ℕ) (ls : List ℕ) → 1 ≤ s.bits → s.bits ≤ k → o ≡ offset s → greatest + 1 ≡ value_count s
-    → length ls ≡ n → Each1 (λ l. l < value_count s) ls
+pub patterns_in_lanes : (s : Parameters) (k n o greatest : ℕ) (ls : List ℕ) → 1 ≤ s.bits → s.bits ≤ k → o ≡ offset s → greatest + 1 ≡ value_count s → length ls ≡ n → Each1 (λ l. l < value_count s) ls
     → zip2 bit_and (zip2 (λ a b. (a + (2 ^ k - b)) % 2 ^ k) ls (replicate n o)) (replicate n greatest) ≡ map (pattern s) (values_at s ls)
 patterns_in_lanes s k n o greatest [] some room e g len legal = refl
 patterns_in_lanes s k zero o greatest (l ∷ ls) some room e g len legal = absurd (omega arith)

@@ -75,8 +75,7 @@ splat-fits w (suc n) x h = (h, splat-fits w n x h)
 
 -- levels that are legal, and near to one another, are those of the parts
 pub near_levels_are : {s : Parameters} (m : ℕ) {before width : ℕ} (greatest : ℕ) {highs lows ranks levels : List ℕ} → greatest + 1 ≡ value_count s
-    → length ranks ≡ length highs → levels ≡ near_numbers m before ranks
-    → ranks ≡ joined_parts width highs lows → All (λ x. x ≤ greatest) levels → ranks_below (greatest + 1) before levels ≡ ranks
+    → length ranks ≡ length highs → levels ≡ near_numbers m before ranks → ranks ≡ joined_parts width highs lows → All (λ x. x ≤ greatest) levels → ranks_below (greatest + 1) before levels ≡ ranks
     → AreLevelsOfParts s before width highs lows levels
 near_levels_are m {before} greatest {ranks} {levels} count len near joined legal ranked = record {
   len = ap length near ∙ (length-near_numbers m before ranks ∙ len);

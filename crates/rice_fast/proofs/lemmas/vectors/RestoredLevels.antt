@@ -24,8 +24,7 @@ pub record AreRestored (count before i reached : ℕ) (levels ds : List ℕ) : T
 
 -- one more by its residual
 pub restored-more : {count before i reached next : ℕ} (above : ℕ) {levels ds : List ℕ} → i < length levels → i < length ds
-    → AreRestored count before i reached levels ds → next < count → above ≡ count → rank_below above reached next ≡ get_or ds i 0
-    → AreRestored count before (i + 1) next (slice_set levels i next) ds
+    → AreRestored count before i reached levels ds → next < count → above ≡ count → rank_below above reached next ≡ get_or ds i 0 → AreRestored count before (i + 1) next (slice_set levels i next) ds
 restored-more {count} {before} {i} {next} above {levels} {ds} h k so_far within same ranked =
     let more = take_more_set levels i next h in
     let from = sym so_far.last_is in

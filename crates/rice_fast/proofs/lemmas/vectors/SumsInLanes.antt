@@ -106,10 +106,7 @@ whole m p n k xs ys most len h = ext_get_or 0 (add m ys (replicate n p)) (runnin
         ∙ (ap (λ z. z % m) (let e : before xs (suc i) + p ≡ p + before xs (suc i) = omega arith in e) ∙ sym (sum_at m p xs i (omega (arith, len))))))))
 
 alone : (m n : ℕ) (xs : List ℕ) → length xs ≡ n → Windows m n 1 xs xs
-alone m n xs e = record {
-  len = e;
-  sums = λ i lt. ap (λ z. z % m) (one i);
-}
+alone m n xs e = record { len = e; sums = λ i lt. ap (λ z. z % m) (one i) }
   where
     one : (i : ℕ) → get_or xs i 0 ≡ before xs (suc i) - before xs (suc i - 1)
     one i =

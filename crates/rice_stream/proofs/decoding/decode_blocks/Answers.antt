@@ -1,9 +1,7 @@
-use Rattle.std.proofs.Common.{arith, ◌*◌, ap, refl, sym, ◌∙◌, subst, true, Some}
-use Rattle.rice_stream.proofs.Words.{Ok, DecoderState, Advances, AnswersBytes, wanted_of, refusal_fault}
-use Rattle.rice_stream.proofs.lemmas.BytesOfBlocks.{block_fails, block_written, progress_unchanged}
-use Rattle.rice_stream.proofs.lemmas.DecodingLemmas.{decoding_is_done, stops_in_no_run}
+use Rattle.rice_stream.proofs.Words.{arith, ◌*◌, ap, refl, sym, ◌∙◌, subst, true, Some, Ok, DecoderState, Advances, AnswersBytes, wanted_of, refusal_fault}
 use Rattle.rice_stream.proofs.lemmas.DecodingEnds.{reports_as, block_is_wanted, progress_at_start, refusal_ends, ended_ends, ends_within, nothing_read, reached_ends}
 use Rattle.rice_stream.proofs.lemmas.RunsWritten.{progress_with_run, run_fails, run_shrinks, run_within}
+use Rattle.rice_stream.proofs.lemmas.{BytesOfBlocks.block_fails, BytesOfBlocks.block_written, BytesOfBlocks.progress_unchanged, DecodingLemmas.decoding_is_done, DecodingLemmas.stops_in_no_run}
 use Rattle.rice_stream.proofs.decoding.decode_blocks.Goals as goal
 
 pub decode_all-init : goal.decode_all-init

@@ -1,5 +1,4 @@
-use Rattle.std.proofs.Common.{◌≡◌, ◌+◌, ◌-◌, ◌*◌}
-use Rattle.rice_stream.proofs.Words.{new_reader, DecodingProgress}
+use Rattle.rice_stream.proofs.Words.{◌≡◌, ◌+◌, ◌-◌, ◌*◌, new_reader, DecodingProgress}
 use Rattle.rice_stream.proofs.decoding.decode_blocks.Given as goal
 
 abbrev pub invariant-decode_all : goal.invariant-decode_all

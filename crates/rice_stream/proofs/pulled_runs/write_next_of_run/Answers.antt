@@ -1,4 +1,4 @@
-use Rattle.std.proofs.Common.{◌≡◌, ℕ, ◌+◌, ◌-◌, ◌*◌, ◌/◌, ◌<◌, ◌≤◌, ◌∙◌, arith, inl, inr, length, max, w64, to_z, of_z, to_z-of_z}
+use Rattle.std.proofs.Common.{◌≡◌, ℕ, ◌+◌, ◌-◌, ◌*◌, ◌/◌, ◌≤◌, ◌∙◌, arith, inl, inr, length, max, w64, to_z, of_z, to_z-of_z}
 use Rattle.rice_stream.proofs.Words.{cases_lt, common_steps, mul-le-mul_left, mul-le-mul_right, stand_at}
 use Rattle.rice_stream.proofs.lemmas.PulledRuns.{run_written}
 use Rattle.rice_stream.proofs.pulled_runs.write_next_of_run.Goals as goal

@@ -1,9 +1,8 @@
-use Rattle.std.proofs.Common.{rules, arith, refl, w64, FitsSigned, ℤ, ◌<◌, ◌≡◌, ◌+◌, ◌*◌, ◌++◌, ◌∙◌, ap, sym, subst, length, length-drop, take, drop, Option}
-use Rattle.rice_stream.proofs.Words.{Ok, IfSome, ◌%◌, mul-pos, to_z-of_z, length-take, length-take-le, length-bits_of, width, spellings, bits_of, DecodesMore, GoesOnAt, TakesNext, ahead, state_of}
-use Rattle.rice_stream.proofs.Words.{Pause, Stand}
+use Rattle.rice_stream.proofs.Words.{rules, arith, refl, w64, FitsSigned, ℤ, ◌<◌, ◌≡◌, ◌+◌, ◌*◌, ◌++◌, ◌∙◌, ap, sym, subst, length, length-drop, take, drop, Option, Ok, IfSome, ◌%◌, mul-pos}
+use Rattle.rice_stream.proofs.Words.{to_z-of_z, length-take, length-take-le, length-bits_of, width, spellings, bits_of, DecodesMore, GoesOnAt, TakesNext, ahead, state_of, Pause, Stand}
+use Rattle.rice_stream.proofs.lemmas.PulledPieceSoFar.{ends_so, failed_once, has_none, has_room, more_so_far, never_too_long, none_so_far, nothing_ahead, refused_so}
 use Rattle.rice_code.specs.declared.decode.call_results.CodeFault.TheVariants as faults
 use Rattle.rice_stream.specs.declared.stand.Pause.TheVariants as pauses
-use Rattle.rice_stream.proofs.lemmas.PulledPieceSoFar.{ends_so, failed_once, has_none, has_room, more_so_far, never_too_long, none_so_far, nothing_ahead, refused_so}
 use Rattle.rice_stream.proofs.pulling.decode_piece.Goals as goal
 
 pub decode_all-init : goal.decode_all-init
@@ -44,12 +43,7 @@ write_next_of_run-len-requires-clause-come g c =
     let know = c.requires.stand in
     let i = c.decode_all.invariant in
     let so = i.so_far know.0 know.1 know.2 know.3 in
-    record {
-      stand = (know.0, know.1 ++ so.bits, know.2 ++ so.samples, so.stands);
-      state = i.state;
-      reads = i.reads;
-      aligned = search rules;
-    }
+    record { stand = (know.0, know.1 ++ so.bits, know.2 ++ so.samples, so.stands); state = i.state; reads = i.reads; aligned = search rules }
 
 pub write_next_of_run-len-requires-clause-room : goal.write_next_of_run-len-requires-clause-room
 write_next_of_run-len-requires-clause-room g c =
@@ -82,12 +76,7 @@ give_next_block-requires-clause-come g c =
     let know = c.requires.stand in
     let i = c.decode_all.invariant in
     let so = i.so_far know.0 know.1 know.2 know.3 in
-    record {
-      stand = (know.0, know.1 ++ so.bits, know.2 ++ so.samples, so.stands);
-      state = i.state;
-      reads = i.reads;
-      aligned = search rules;
-    }
+    record { stand = (know.0, know.1 ++ so.bits, know.2 ++ so.samples, so.stands); state = i.state; reads = i.reads; aligned = search rules }
 
 pub decode_all-preserved : goal.decode_all-preserved
 decode_all-preserved g c =
@@ -151,10 +140,7 @@ pause_of-requires-clause-read g c = λ read.
     let so = c.decode_all.invariant.so_far know.0 know.1 know.2 know.3 in
     let says = c.in-Err.ensures in
     let failed = failed_once c.args.setting.now know.0 (know.1 ++ so.bits) (know.2 ++ so.samples) c.decode_all.here c.decode_all.reader c.give_next_block.new.reader
-    says.samples (record {
-      fault_is = read;
-      takes = says.takes know.0 (know.1 ++ so.bits) (know.2 ++ so.samples) so.stands;
-    }) in
+    says.samples (record { fault_is = read; takes = says.takes know.0 (know.1 ++ so.bits) (know.2 ++ so.samples) so.stands }) in
     omega (arith, failed, c.into_inner-intake-in-Err.ensures.failed)
 
 pub pause_of-requires-clause-long : goal.pause_of-requires-clause-long
@@ -163,10 +149,7 @@ pause_of-requires-clause-long g c = λ long.
     let so = c.decode_all.invariant.so_far know.0 know.1 know.2 know.3 in
     let says = c.in-Err.ensures in
     never_too_long c.args.setting.now know.0 (know.1 ++ so.bits) (know.2 ++ so.samples) c.decode_all.here c.decode_all.reader c.give_next_block.new.reader
-    says.samples (record {
-      fault_is = long;
-      takes = says.takes know.0 (know.1 ++ so.bits) (know.2 ++ so.samples) so.stands;
-    })
+    says.samples (record { fault_is = long; takes = says.takes know.0 (know.1 ++ so.bits) (know.2 ++ so.samples) so.stands })
 
 pub returns-in-Err : goal.returns-in-Err
 returns-in-Err g c = λ o front given h.

@@ -1,7 +1,6 @@
 use Rattle.std.proofs.Common.{arith, ◌≡◌, ◌+◌, ◌-◌, ◌*◌, ap, length, sym, take, ◌∙◌, subst, None}
 use Rattle.rice_stream.proofs.Words.{Ok, Err, err_from_is_err_and, Parameters, width, spellings, DecoderState, IsDecoderState, Block, Done, Advances, GivesMore, stand_at, state_of, Stand}
-use Rattle.rice_stream.proofs.lemmas.{DecodingLemmas.samples_of_block, PulledRuns.gives_one}
-use Rattle.rice_stream.proofs.lemmas.PullingLemmas.{Steps, done_next, stops_next}
+use Rattle.rice_stream.proofs.lemmas.{DecodingLemmas.samples_of_block, PulledRuns.gives_one, PullingLemmas.Steps, PullingLemmas.done_next, PullingLemmas.stops_next}
 use Rattle.rice_stream.proofs.pulling.give_next_block.Goals as goal
 
 pub returns-in_err-next_bytes : goal.returns-in_err-next_bytes
@@ -67,8 +66,4 @@ returns g c =
     } in
     let given = subst (λ (t : Stand). GivesMore s stand t q old new says.samples) (sym c.stand_after-next.ensures.numbers) (gives_one know.0 know.1 know.2 know.3 same steps) in
     let spelled = subst (λ (t : Parameters). take (width t * length says.samples) bytes ≡ spellings t says.samples) setting_old (says.spelled (ap Ok c.in-Block.is)) in
-    record {
-      samples = says.samples;
-      goes_on = (given.goes_on, block.len, ap (λ n. take (width s * n) bytes) (sym block.len) ∙ spelled);
-      takes = given.gives;
-    }
+    record { samples = says.samples; goes_on = (given.goes_on, block.len, ap (λ n. take (width s * n) bytes) (sym block.len) ∙ spelled); takes = given.gives }

@@ -1,5 +1,4 @@
-use Rattle.std.proofs.Common.{rules, length, ◌≢◌, ◌≡◌, ◌∙◌, ap, subst}
-use Rattle.rice_stream.proofs.Words.{word, SliceIn, Reader, Stops, Takes, ahead}
+use Rattle.rice_stream.proofs.Words.{rules, length, ◌≢◌, ◌≡◌, ◌∙◌, ap, subst, word, SliceIn, Reader, Stops, Takes, ahead}
 use Rattle.rice_stream.proofs.lemmas.PulledPieceSoFar.{never_refused, nothing_skipped, skipped_bits}
 use Rattle.rice_stream.proofs.pulling.skip_bits.Goals as goal
 

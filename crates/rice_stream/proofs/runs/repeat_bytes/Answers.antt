@@ -1,5 +1,4 @@
-use Rattle.std.proofs.Common.{◌≡◌, ◌≤◌, ◌+◌, ◌*◌, ◌∙◌, ap, arith, length, take}
-use Rattle.std.proofs.Math.Nat.{mul-le-mul_left}
+use Rattle.rice_stream.proofs.Words.{◌≡◌, ◌≤◌, ◌+◌, ◌*◌, ◌∙◌, ap, arith, length, take, mul-le-mul_left}
 use Rattle.rice_stream.proofs.lemmas.RunsWritten.{copied-on, first-copy}
 use Rattle.rice_stream.proofs.runs.repeat_bytes.Goals as goal
 

@@ -1,5 +1,4 @@
-use Rattle.std.proofs.Common.{◌≡◌, ◌-◌, ◌*◌, ◌≤◌, length, take}
-use Rattle.rice_stream.specs.DecodingState.{repeated}
+use Rattle.rice_stream.proofs.Words.{◌≡◌, ◌-◌, ◌*◌, ◌≤◌, length, take, repeated}
 use Rattle.rice_stream.proofs.runs.repeat_bytes.Given as goal
 
 abbrev pub invariant-repeat : goal.invariant-repeat

@@ -1,5 +1,4 @@
-use Rattle.std.proofs.Common.{arith, ◌≡◌, ◌∙◌, ◌-◌, ◌+◌, ap, sym, subst, length, take, drop, length-drop}
-use Rattle.rice_stream.proofs.Words.{take-length, take-add, Appends, Appends-trans}
+use Rattle.rice_stream.proofs.Words.{arith, ◌≡◌, ◌∙◌, ◌-◌, ◌+◌, ap, sym, subst, length, take, drop, length-drop, take-length, take-add, Appends, Appends-trans}
 use Rattle.rice_stream.proofs.write.write_counted.Goals as goal
 
 pub returns-in-Err-write_in_calls-clause-err : goal.returns-in-Err-write_in_calls-clause-err

@@ -1,5 +1,4 @@
-use Rattle.std.proofs.Common.{arith, ◌≡◌, ◌+◌, ap, sym, ◌∙◌, subst, length, take, drop, length-drop, ◌-◌}
-use Rattle.rice_stream.proofs.Words.{take-length, take-add, Appends, Appends-trans, Appends-kept}
+use Rattle.rice_stream.proofs.Words.{arith, ◌≡◌, ◌+◌, ap, sym, ◌∙◌, subst, length, take, drop, length-drop, ◌-◌, take-length, take-add, Appends, Appends-trans, Appends-kept}
 use Rattle.rice_stream.proofs.write.write_in_calls.Goals as goal
 
 pub loop-done-preserved : goal.loop-done-preserved

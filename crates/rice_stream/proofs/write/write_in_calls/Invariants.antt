@@ -1,5 +1,4 @@
-use Rattle.std.proofs.Common.{length, ◌-◌, ◌≡◌, ◌≤◌, take}
-use Rattle.rice_bits.specs.device.OutletRoom.{Appends}
+use Rattle.rice_stream.proofs.Words.{length, ◌-◌, ◌≡◌, ◌≤◌, take, Appends}
 use Rattle.rice_stream.proofs.write.write_in_calls.Given as goal
 
 abbrev pub invariant-loop-done : goal.invariant-loop-done

@@ -2,6 +2,4 @@ use Rattle.rice_fast.proofs.Words.{◌≡◌, ◌*◌, take, word, ends_after, i
 use Rattle.rice_fast.proofs.ahead.ends.first_ends.Given as goal
 
 abbrev pub invariant-loop-place : goal.invariant-loop-place
-invariant-loop-place l = record {
-  ends : l.ends ≡ in_lanes (ends_after 0 (take (8 * l.place) (word 64 l.front)));
-}
+invariant-loop-place l = record { ends : l.ends ≡ in_lanes (ends_after 0 (take (8 * l.place) (word 64 l.front))) }

@@ -6,8 +6,4 @@ pub loop-i-preserved : goal.loop-i-preserved
 loop-i-preserved c =
     let e = pairs_left c.loop-i.i c.args.items.now (omega arith) in
     let f = ap (sum_by (λ g. g + 1)) e in
-    record {
-      same = grind (arith, common_steps, e);
-      len = grind (arith, common_steps, f);
-      steps = grind (arith, common_steps, f);
-    }
+    record { same = grind (arith, common_steps, e); len = grind (arith, common_steps, f); steps = grind (arith, common_steps, f) }

@@ -1,5 +1,4 @@
-use Rattle.std.proofs.Common.{arith, ◌≡◌, ◌+◌, ◌≤◌, length, ap, sym, subst}
-use Rattle.rice_stream.proofs.Words.{Parameters, code_bits, complete_samples, fill_count_of, AddsCode}
+use Rattle.rice_stream.proofs.Words.{arith, ◌≡◌, ◌+◌, ◌≤◌, length, ap, sym, subst, Parameters, code_bits, complete_samples, fill_count_of, AddsCode}
 use Rattle.rice_stream.proofs.lemmas.EncodingLemmas.{all_small, has_room, samples_end, standing_of}
 use Rattle.rice_stream.proofs.encoding.Encoding.code_rest_and_fill.Goals as goal
 

@@ -1,5 +1,4 @@
-use Rattle.std.proofs.Common.{subst, sym, List, ℕ}
-use Rattle.rice_stream.proofs.Words.{Follows, padded_bits, whole_bytes, code, output, early_output, complete_code}
+use Rattle.rice_stream.proofs.Words.{subst, sym, List, ℕ, Follows, padded_bits, whole_bytes, code, output, early_output, complete_code}
 use Rattle.rice_stream.proofs.lemmas.{BytesOfGrowingCode.more_bytes, EncodingLemmas.Follows-trans, EncodingLemmas.part_follows}
 use Rattle.rice_stream.proofs.encoding.Encoding.finish.Goals as goal
 

@@ -1,25 +1,13 @@
-use Rattle.std.proofs.Common.{arith, ◌≡◌, ◌+◌, ◌-◌, ◌*◌, ◌≤◌, ◌++◌, [], List, ℕ, ℤ}
-use Rattle.std.proofs.Common.{length, take, drop, refl, ap, sym, ◌∙◌, subst, append_assoc, append-nil, length-append, length-drop}
-use Rattle.std.proofs.Math.Seq.{take-length}
-use Rattle.std.proofs.lemmas.List.{drop-drop}
-use Rattle.rice_samples.specs.Parameters.{Parameters, width}
-use Rattle.rice_samples.specs.bytes.Spelling.{Reads, IsNoSpelling}
-use Rattle.rice_samples.proofs.lemmas.bytes.SpellingLengths.{some_width}
-use Rattle.rice_samples.proofs.lemmas.bytes.ReadSamples.{reads_then}
-use Rattle.rice_stream.specs.EncodingState.{IsEncodingOf, MeetsFailure}
-use Rattle.rice_stream.proofs.lemmas.EncodingLemmas.{fails_after}
-use Rattle.rice_stream.proofs.lemmas.SamplesOfFirstBytes.{few_more}
+use Rattle.rice_stream.proofs.Words.{arith, ◌≡◌, ◌+◌, ◌-◌, ◌*◌, ◌≤◌, ◌++◌, [], List, ℕ, ℤ, length, take, drop, refl, ap, sym, ◌∙◌, subst, append_assoc, append-nil, length-append, length-drop}
+use Rattle.rice_stream.proofs.Words.{take_rest, drop-drop, Parameters, width, Reads, IsNoSpelling, some_width, reads_then, IsEncodingOf, MeetsFailure}
+use Rattle.rice_stream.proofs.lemmas.{EncodingLemmas.fails_after, SamplesOfFirstBytes.few_more}
 use Rattle.rice_stream.proofs.encoding.Encoding.push_bytes.Goals as goal
-
--- the bytes from a place on
-from : (at : ℕ) (bytes : List ℕ) → take (length bytes - at) (drop at bytes) ≡ drop at bytes
-from at bytes = ap (λ n. take n (drop at bytes)) (sym (length-drop at bytes)) ∙ take-length (drop at bytes)
 
 -- what is read of them, of all bytes
 read_from : (s : Parameters) (bytes : List ℕ) (at n w : ℕ) (ys : List ℤ) → Reads s (take (length bytes - at) (drop at bytes)) ys (drop (width s * n) (take (length bytes - at) (drop at bytes)))
     → w ≡ width s → Reads s (drop at bytes) ys (drop (at + w * n) bytes)
 read_from s bytes at n w ys r e =
-    let here = subst (λ (l : List ℕ). Reads s l ys (drop (width s * n) l)) (from at bytes) r in
+    let here = subst (λ (l : List ℕ). Reads s l ys (drop (width s * n) l)) (take_rest bytes at) r in
     let after = drop-drop (width s * n) at bytes ∙ ap (λ w. drop (at + w * n) bytes) (sym e) in
     subst (Reads s (drop at bytes) ys) after here
 
@@ -49,7 +37,7 @@ push_some-requires g c =
     let can = c.requires.ready in
     let p = c.loop-at.invariant.part can.value can.start can.before can.sees can.holds in
     let few = few_more s p.2 bytes (drop at bytes) p.3 (some_width s) in
-    let size = ap length (from at bytes) in
+    let size = ap length (take_rest bytes at) in
     record {
       ready = record {
         value = p.0;
@@ -76,7 +64,7 @@ returns-in-Ok-eq0-clause-did g c v old xs sees h =
     let nothing : w * n ≡ 0 = ap (λ n. w * n) c.in-Ok-eq0.field-0-test ∙ (let z : w * 0 ≡ 0 = omega arith in z) in
     let here : at ≡ at + w * n = omega (arith, nothing) in
     let same : drop at bytes ≡ drop (at + w * n) bytes = ap (λ k. drop k bytes) here in
-    let none = subst (IsNoSpelling s) (from at bytes) (q.2.1 c.in-Ok-eq0.field-0-test) in (
+    let none = subst (IsNoSpelling s) (take_rest bytes at) (q.2.1 c.in-Ok-eq0.field-0-test) in (
       q.0,
       q.1,
       (
@@ -95,7 +83,7 @@ pub returns-in-Err-clause-did : goal.returns-in-Err-clause-did
 returns-in-Err-clause-did g c v old xs sees h =
     let p = c.loop-at.invariant.part v old xs sees h in
     let q = c.in-Err.ensures.did p.0 old (xs ++ p.2) p.1 p.4 in
-    (q.0, q.1, fails_after p.3 (subst (λ l. MeetsFailure c.args.setting.now old (g.O.Outlet.taken c.push_some.new.outlet) q.0 (xs ++ p.2) l) (from c.loop-at.at c.args.bytes.now) q.2))
+    (q.0, q.1, fails_after p.3 (subst (λ l. MeetsFailure c.args.setting.now old (g.O.Outlet.taken c.push_some.new.outlet) q.0 (xs ++ p.2) l) (take_rest c.args.bytes.now c.loop-at.at) q.2))
 
 pub loop-at-preserved : goal.loop-at-preserved
 loop-at-preserved g c =
@@ -107,7 +95,7 @@ loop-at-preserved g c =
     let n = c.in-Ok.count in
     let size : w * n ≡ width s * n = ap (λ w. w * n) c.width-width.ensures.value in
     record {
-      within = omega (arith, size, c.in-Ok.ensures.within, ap length (from at bytes), length-drop at bytes, i.within);
+      within = omega (arith, size, c.in-Ok.ensures.within, ap length (take_rest bytes at), length-drop at bytes, i.within);
       part = λ v old xs sees h. (let p = i.part v old xs sees h in
           let q = c.in-Ok.ensures.did p.0 old (xs ++ p.2) p.1 p.4 in (
             q.0,

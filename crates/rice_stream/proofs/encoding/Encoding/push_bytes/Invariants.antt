@@ -1,6 +1,4 @@
-use Rattle.std.proofs.Common.{List, ℤ, length, drop, ◌-◌, ◌++◌, ◌≡◌, ◌≤◌}
-use Rattle.rice_samples.specs.bytes.Spelling.{Reads}
-use Rattle.rice_stream.specs.EncodingState.{EncodingValue, Sees, Beginning, IsEncodingOf}
+use Rattle.rice_stream.proofs.Words.{List, ℤ, length, drop, ◌-◌, ◌++◌, ◌≡◌, ◌≤◌, Reads, EncodingValue, Sees, Beginning, IsEncodingOf}
 use Rattle.rice_stream.proofs.encoding.Encoding.push_bytes.Given as goal
 
 abbrev pub invariant-loop-at : goal.invariant-loop-at

@@ -1,12 +1,6 @@
-use Rattle.std.proofs.Common.{arith, ◌≡◌, ◌+◌, ◌<◌, ◌≤◌, ◌++◌, length, length-append, ap, sym, subst}
-use Rattle.std.proofs.lemmas.Result.{err_from_is_err_and}
-use Rattle.rice_samples.specs.Parameters.{width}
-use Rattle.rice_samples.specs.bytes.Spelling.{IsNoSpelling}
-use Rattle.rice_code.specs.encode.Coder.{complete_code}
-use Rattle.rice_stream.specs.EncodingState.{whole_part}
-use Rattle.rice_stream.proofs.lemmas.EncodingLemmas.{all_written, after_push, counts_with, early_small, few_spelled, has_room, holds_code}
-use Rattle.rice_stream.proofs.lemmas.EncodingLemmas.{meets_failure, none_whole, shows_all, shows_none, sink_short, spelled_of, standing_of}
-use Rattle.rice_stream.proofs.lemmas.EncodingLemmas.{taken_spelled}
+use Rattle.rice_stream.proofs.Words.{arith, ◌≡◌, ◌+◌, ◌<◌, ◌≤◌, ◌++◌, length, length-append, ap, sym, subst, err_from_is_err_and, width, IsNoSpelling, complete_code, whole_part}
+use Rattle.rice_stream.proofs.lemmas.EncodingLemmas.{all_written, after_push, counts_with, early_small, few_spelled, has_room, holds_code, meets_failure, none_whole, shows_all, shows_none, sink_short}
+use Rattle.rice_stream.proofs.lemmas.EncodingLemmas.{spelled_of, standing_of, taken_spelled}
 use Rattle.rice_stream.proofs.encoding.Encoding.push_some.Goals as goal
 
 pub push-taken-requires : goal.push-taken-requires
@@ -80,11 +74,7 @@ returns-clause-did g c v old xs sees h =
     let code_is = subst (λ l. complete_code s (xs ++ p.2.samples) ≡ whole_part (complete_code s xs) ++ l) shows t.code_is in
     let new = c.write_whole.new.sink in (
       record { samples = v.samples + taken.samples; coder = p.0.coder; sink = new; meter = p.0.meter; bits = v.bits + taken.bits },
-      record {
-        standing = g.met.C.TakesBytes.with_sink _ _ _ p.0 p.1 shows new;
-        samples = ap (λ n. n + taken.samples) sees.samples;
-        bits = ap (λ n. n + taken.bits) sees.bits;
-      },
+      record { standing = g.met.C.TakesBytes.with_sink _ _ _ p.0 p.1 shows new; samples = ap (λ n. n + taken.samples) sees.samples; bits = ap (λ n. n + taken.bits) sees.bits },
       (
         record {
           more = p.2.samples;
@@ -110,11 +100,7 @@ returns-in_err-write_whole-clause-did g c =
     let code_is = subst (λ l. complete_code s (xs ++ p.2.samples) ≡ whole_part (complete_code s xs) ++ l) shows t.code_is in
     let new = c.write_whole.new.sink in (
       record { samples = v.samples + taken.samples; coder = p.0.coder; sink = new; meter = p.0.meter; bits = v.bits + taken.bits },
-      record {
-        standing = g.met.C.TakesBytes.with_sink _ _ _ p.0 p.1 shows new;
-        samples = ap (λ n. n + taken.samples) sees.samples;
-        bits = ap (λ n. n + taken.bits) sees.bits;
-      },
+      record { standing = g.met.C.TakesBytes.with_sink _ _ _ p.0 p.1 shows new; samples = ap (λ n. n + taken.samples) sees.samples; bits = ap (λ n. n + taken.bits) sees.bits },
       meets_failure {f = record { samples = v.samples + taken.samples; coder = p.0.coder; sink = c.push-taken.new.sink; meter = p.0.meter; bits = v.bits + taken.bits }}
           h (record { counts = counts_with c.push-taken.new.sink t.counts; code_is = code_is; bits = t.bits; goes_on = t.goes_on; before_last = t.before_last })
           c.in_err-write_whole.ensures.err.0 (counts_with new t.counts) (spelled_of s v h.counts.setting p.2),

@@ -1,5 +1,4 @@
-use Rattle.std.proofs.Common.{arith, rules, ◌++◌, ◌∙◌, ap, sym, subst, length}
-use Rattle.rice_stream.proofs.Words.{word, standing_between}
+use Rattle.rice_stream.proofs.Words.{arith, rules, ◌++◌, ◌∙◌, ap, sym, subst, length, word, standing_between}
 use Rattle.rice_stream.proofs.encoding.Encoding.put_bits_of_seam.Goals as goal
 
 pub put-requires : goal.put-requires

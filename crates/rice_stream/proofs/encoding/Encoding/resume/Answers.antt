@@ -1,5 +1,4 @@
-use Rattle.std.proofs.Common.{rules, refl, w64, FitsSigned, arith, subst}
-use Rattle.rice_stream.proofs.Words.{to_z-of_z, standing_between}
+use Rattle.rice_stream.proofs.Words.{rules, refl, w64, FitsSigned, arith, subst, to_z-of_z, standing_between}
 use Rattle.rice_stream.proofs.lemmas.Seams.{few_steps_so_far}
 use Rattle.rice_stream.proofs.encoding.Encoding.resume.Goals as goal
 

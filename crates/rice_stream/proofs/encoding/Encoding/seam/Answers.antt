@@ -1,7 +1,6 @@
 use Rattle.std.proofs.Common.{arith, rules, w64, FitsSigned, ◌∙◌, ◌^◌, ◌<◌, ap, sym, subst, length}
 use Rattle.rice_stream.proofs.Words.{to_z-of_z, word}
-use Rattle.rice_stream.proofs.lemmas.EncodingLemmas.{nothing_held, sink_short, standing_of}
-use Rattle.rice_stream.proofs.lemmas.Seams.{seam_of}
+use Rattle.rice_stream.proofs.lemmas.{EncodingLemmas.nothing_held, EncodingLemmas.sink_short, EncodingLemmas.standing_of, Seams.seam_of}
 use Rattle.rice_stream.proofs.encoding.Encoding.seam.Goals as goal
 
 pub take_waiting_number-waiting-requires : goal.take_waiting_number-waiting-requires

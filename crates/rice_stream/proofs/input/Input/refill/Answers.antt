@@ -1,5 +1,4 @@
-use Rattle.std.proofs.Common.{◌≡◌, ℕ, List, [], ◌∷◌, length, ap, refl, subst, ◌∙◌, arith}
-use Rattle.std.specs.Io.KnownBytes.{Consumes}
+use Rattle.rice_stream.proofs.Words.{◌≡◌, ℕ, List, [], ◌∷◌, length, ap, refl, subst, ◌∙◌, arith, Consumes}
 use Rattle.rice_stream.proofs.input.Input.refill.Goals as goal
 
 -- one byte

@@ -1,5 +1,4 @@
-use Rattle.std.proofs.Common.{arith, ◌≡◌, ◌≤◌, ◌∙◌, refl, ap, sym, drop, length, []}
-use Rattle.rice_stream.proofs.Words.{bits_in_bytes, word-nil, code, code_bits, complete_samples, least_steps, most_steps, none_taken}
+use Rattle.rice_stream.proofs.Words.{arith, ◌≡◌, ◌≤◌, ◌∙◌, refl, ap, sym, drop, length, [], bits_in_bytes, word-nil, code, code_bits, complete_samples, least_steps, most_steps, none_taken}
 use Rattle.rice_stream.proofs.lemmas.EncodingLemmas.{settled_nothing, code_nothing, sets_nothing}
 use Rattle.rice_stream.proofs.seam.Seam.new.Goals as goal
 

@@ -1,5 +1,4 @@
-use Rattle.std.proofs.Common.{arith, refl, []}
-use Rattle.rice_stream.proofs.Words.{mod-eq_of_lt, zero_is_sample}
+use Rattle.rice_stream.proofs.Words.{arith, refl, [], mod-eq_of_lt, zero_is_sample}
 use Rattle.rice_stream.proofs.lemmas.{DecodedSamples.decoded_nothing, SetsRead.sets-none}
 use Rattle.rice_stream.proofs.stand.Stand.at.Goals as goal
 

@@ -1,9 +1,4 @@
-use Rattle.std.proofs.Common.{subst, sym}
-use Rattle.rice_samples.specs.Parameters.{Parameters}
-use Rattle.rice_code.specs.code.Blocks.{fill_count_of}
-use Rattle.rice_code.specs.code.Code.{complete_samples}
-use Rattle.rice_code.specs.encode.Coder.{AddsCode}
-use Rattle.rice_fast.proofs.lemmas.encode.StandingCoders.{setting_of}
+use Rattle.rice_stream.proofs.Words.{subst, sym, Parameters, fill_count_of, complete_samples, AddsCode, setting_of}
 use Rattle.rice_stream.proofs.takes.BlockCoderTakesBytes.finish.Goals as goal
 
 pub returns : goal.returns

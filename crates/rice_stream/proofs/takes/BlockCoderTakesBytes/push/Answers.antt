@@ -1,12 +1,5 @@
-use Rattle.std.proofs.Common.{arith, ◌≡◌, ◌==◌, ◌<◌, ◌≤◌, ℕ, zero, suc, List, Bool, false, [], length, refl, subst, sym}
-use Rattle.std.proofs.lemmas.Bool.Decides.{nat_tests}
-use Rattle.rice_samples.specs.Parameters.{width}
-use Rattle.rice_fast.specs.declared.encode.coder.BlockCoder.{BlockCoder}
-use Rattle.rice_fast.specs.encode.OpenBlocks.{StandsFor}
-use Rattle.rice_fast.specs.encode.Standing.{Standing}
-use Rattle.rice_fast.proofs.lemmas.encode.StandingCoders.{setting_of, stands_between}
-use Rattle.rice_samples.specs.bytes.Spelling.{IsNoSpelling}
-use Rattle.rice_stream.specs.TakenBytes.{ShowsCode}
+use Rattle.rice_stream.proofs.Words.{arith, ◌≡◌, ◌==◌, ◌<◌, ◌≤◌, ℕ, zero, suc, List, Bool, false, [], length, refl, subst, sym, nat_tests, width, IsNoSpelling, BlockCoder, StandsFor, Standing}
+use Rattle.rice_stream.proofs.Words.{setting_of, stands_between, ShowsCode}
 use Rattle.rice_stream.proofs.takes.BlockCoderTakesBytes.push.Goals as goal
 
 -- only with the code of a segment that is whole is nothing ahead

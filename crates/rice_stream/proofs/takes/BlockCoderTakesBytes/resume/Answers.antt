@@ -1,7 +1,4 @@
-use Rattle.std.proofs.Common.{subst, w64}
-use Rattle.std.proofs.lemmas.Int.{to_z-of_z}
-use Rattle.rice_fast.specs.encode.OpenBlocks.{StandsFor}
-use Rattle.rice_stream.specs.TakenBytes.{standing_between}
+use Rattle.rice_stream.proofs.Words.{subst, w64, to_z-of_z, StandsFor, standing_between}
 use Rattle.rice_stream.proofs.takes.BlockCoderTakesBytes.resume.Goals as goal
 
 pub returns : goal.returns

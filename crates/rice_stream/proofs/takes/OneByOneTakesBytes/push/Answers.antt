@@ -1,15 +1,7 @@
-use Rattle.std.proofs.Common.{rules, refl, sym, ap, subst, zero, suc, ◌∙◌, arith, ◌≡◌, ◌≢◌, ℕ, ◌*◌, ◌<◌, ◌++◌, [], ◌∷◌, Bool, false, take, drop, take-append-drop, append-nil, List, ℤ, w64, FitsSigned}
-use Rattle.std.specs.Prelude.{All}
-use Rattle.std.proofs.lemmas.Int.{to_z-of_z}
-use Rattle.rice_samples.specs.Parameters.{Parameters, IsSample, width}
-use Rattle.rice_samples.specs.bytes.Spelling.{IsNoSpelling, Reads, spelling}
-use Rattle.rice_code.specs.code.Code.{code, code_bits, complete_samples}
-use Rattle.rice_code.specs.CoderSteps.{least_steps, most_steps}
-use Rattle.rice_fast.specs.encode.Standing.{Standing}
-use Rattle.std.proofs.lemmas.List.Elements.{All-cons}
-use Rattle.rice_code.specs.encode.Coder.{HasTaken, PushesSamples}
-use Rattle.rice_code.specs.encode.OpenSegment.{CoderState}
-use Rattle.rice_stream.specs.TakenBytes.{TakesSpelled}
+use Rattle.rice_stream.proofs.Words.{rules, refl, sym, ap, subst, zero, suc, ◌∙◌, arith, ◌≡◌, ◌≢◌, ℕ, ◌*◌, ◌<◌, ◌++◌, [], ◌∷◌, Bool, false, take, drop, append-nil, List, ℤ, w64, FitsSigned, All}
+use Rattle.rice_stream.proofs.Words.{to_z-of_z, All-cons, Parameters, IsSample, width, IsNoSpelling, Reads, spelling, code, code_bits, complete_samples, least_steps, most_steps, HasTaken}
+use Rattle.rice_stream.proofs.Words.{PushesSamples, CoderState, Standing, TakesSpelled}
+use Rattle.std.proofs.Common.{take-append-drop}
 use Rattle.rice_stream.proofs.takes.OneByOneTakesBytes.push.Goals as goal
 
 none_taken : (s : Parameters) (m : ℕ) (xs : List ℤ) (x : ℤ) → m < 1 → complete_samples s (xs ++ take m (x ∷ [])) ≡ complete_samples s xs

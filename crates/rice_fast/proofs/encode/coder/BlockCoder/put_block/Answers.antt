@@ -16,8 +16,7 @@ sound_next {c} h = sound_of c.setting (c.start + length h.blocks) (next_of h) (l
 
 -- neither bits nor steps get fewer
 grows : (s : Parameters) (run result : ℕ) (w : List Bool) (b : BlockData) (sink sink_new : List Bool) (m m_new : ℕ) → 1 ≤ s.block
-    → (is_zero_block b ≡ true → JoinsRun s run result sink sink_new m m_new) → (is_zero_block b ≡ false → EndsRun s w b result sink sink_new m m_new)
-    → (length sink ≤ length sink_new) × (m ≤ m_new)
+    → (is_zero_block b ≡ true → JoinsRun s run result sink sink_new m m_new) → (is_zero_block b ≡ false → EndsRun s w b result sink sink_new m m_new) → (length sink ≤ length sink_new) × (m ≤ m_new)
 grows s run result w b sink sink_new m m_new one joins ends = elim (bool_cases (is_zero_block b)) [
   | inl z ↦ let j = joins z in (omega (arith, ap length j.bits), omega (arith, j.steps))
   | inr z ↦ let e = ends z in let some : s.block * 1 ≤ s.block * (best_split s b + 4) = mul-le-mul_left s.block (omega arith) in (omega (arith, e.len), omega (arith, e.steps_from, some, one))
