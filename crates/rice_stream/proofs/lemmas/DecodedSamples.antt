@@ -76,7 +76,6 @@ pub decoded_with_set : {s : Parameters} {front : List Bool} (skipped : List Bool
     length skipped ≡ padding s (block_after s b d) (length front + length (bits_of_set s d)) → GivesBlock s b (last_of (pos 0) all) xs run (blocks_in s b d)
     → DecodedSoFar s (front ++ (bits_of_set s d ++ skipped)) (b + 1) (b + 1) run (all ++ xs)
 decoded_with_set {s} {front} skipped {b} {run} {all} {xs} d legal after before sound skips gives =
-    let p = last_of (pos 0) all in
     let more_one : s.block * b + s.block ≡ s.block * (b + 1) = omega arith in
     let all_sound = subst (AreSoundBlocks s b) (sym gives.blocks_are) (blocks_are_sound s b d legal (sound.form, sound.run, sound.residuals)) in
     record {

@@ -95,13 +95,11 @@ progress_with_block {s = s} {asked = asked} {start = start} {out_old = out_old} 
     let b = runs.blocks in
     let at = runs.at_block in
     let so = runs.has_written in
-    let w = wanted_of asked written s.block in
     let goes = goes_on s asked b written runs.given runs.decoded.len so.count some in
     let so_far = all_written s asked b written runs.given runs.decoded.len so.count goes in
     let part : take count xs ≡ cut_to s asked b xs = ap (λ n. take n xs) is ∙ wanted_part s asked b written xs so_far.0 gained.len in
     let cut = cut_more s asked b runs.given xs runs.decoded.len in
     let most : count ≤ s.block = omega (arith, is, most_wanted asked written s.block) in
-    let end : b + 1 + q.run ≡ b + 1 + q.run = refl in
     record {
       blocks = b + 1;
       front = runs.front ++ gained.bits;

@@ -2,7 +2,8 @@
 use Rattle.std.proofs.Common.{◌≡◌, ◌≢◌, ℕ, zero, suc, ◌+◌, ◌-◌, ◌*◌, ◌/◌, ◌%◌, ◌^◌, ◌<◌, ◌≤◌, Bool, List, [], ◌∷◌, ◌++◌}
 use Rattle.std.proofs.Common.{length, length-drop, take, drop, refl, ap, arith, sym, ◌∙◌, subst, append_assoc, append-nil, length-append, Some, None, ℤ, pos}
 use Rattle.rice_stream.proofs.Words.{mul-le-mul_left, drop-nil, take-length, drop-drop, bits_of-append, bits_of-nil, length-bits_of, Parameters, width, place, spellings, CodedDataSet, bits_of_set}
-use Rattle.rice_stream.proofs.Words.{BeginsUnsound, Decoded, Ending, Reached, Ended, CutOff, EndsWith, IsWanted, decoding_begins_afresh, end_there, bits_of, DecodedSoFar, ArePulled, EndsCode}
+use Rattle.rice_stream.proofs.Words.{BeginsUnsound, Decoded, Ending, Reached, Ended, CutOff, Past, Large, EndsWith, IsWanted, decoding_begins_afresh, end_there, bits_of, DecodedSoFar}
+use Rattle.rice_stream.proofs.Words.{ArePulled, EndsCode}
 use Rattle.rice_stream.proofs.Words.{EnoughAfterIsDecoding, EnoughIsDecoding, FrontIsPlace, GiveInParts, IsPlace, IsPulled, Pull, PullsAreDecoding, SeekingIsDecoding, StandsTellPlaces, last_stand}
 use Rattle.rice_stream.proofs.Words.{Origin, IsStand, PausesAt, bits_ahead, Pause, Stand, drop-append-add, drop-append_seam}
 use Rattle.rice_stream.specs.declared.stand.Pause.TheVariants as pauses
@@ -142,49 +143,27 @@ nothing_far stand piece after e = let k = stand.bits % 8 - length (bits_of piece
 -- a pause after which nothing is left is the end of the code
 pause_finishes : {s : Parameters} (old : Stand) {stand : Stand} (piece after : List ℕ) (room count : ℕ) (left : List Bool) (pause : Pause) {ending : Ending}
     → PausesAt s old piece room stand left count pause → EndsCode pause after ending → EndsAfter s stand (left ++ bits_after_stand old piece after) (length left) ending
-pause_finishes {s} old {stand} piece after room count left pauses.Blank at e =
-    let whole : left ≡ left ++ bits_after_stand old piece after = sym (append-nil left) ∙ ap (λ l. left ++ l) (sym (nothing_far old piece after e.0)) in
-    record {
-      none = at.1;
-      used = length left;
-      few = omega arith;
-      ends = subst (λ (v : Ending). EndsWith s None stand.block (left ++ bits_after_stand old piece after) v (length left)) (sym e.1)
-          (subst (λ (l : List Bool). EndsWith s None stand.block l Ended (length left)) whole at.2);
-    }
-pause_finishes {s} old {stand} piece after room count left pauses.Cut at e =
-    let whole : left ≡ left ++ bits_after_stand old piece after = sym (append-nil left) ∙ ap (λ l. left ++ l) (sym (nothing_far old piece after e.0)) in
-    record {
-      none = at.1;
-      used = length left;
-      few = omega arith;
-      ends = subst (λ (v : Ending). EndsWith s None stand.block (left ++ bits_after_stand old piece after) v (length left)) (sym e.1)
-          (subst (λ (l : List Bool). EndsWith s None stand.block l CutOff (length left)) whole at.2);
-    }
-pause_finishes {s} old {stand} piece after room count left pauses.RunPastSegment at e =
-    record {
-      none = at.1;
-      used = at.2;
-      few = unsound_in s stand.block at.2 left _ at.3.1;
-      ends = subst (λ (v : Ending). EndsWith s None stand.block (left ++ bits_after_stand old piece after) v at.2) (sym e)
-          (tt, unsound_on s stand.block at.2 left (bits_after_stand old piece after) _ at.3.1);
-    }
-pause_finishes {s} old {stand} piece after room count left pauses.ResidualTooLarge at e =
-    record {
-      none = at.1;
-      used = at.2;
-      few = unsound_in s stand.block at.2 left _ at.3.1;
-      ends = subst (λ (v : Ending). EndsWith s None stand.block (left ++ bits_after_stand old piece after) v at.2) (sym e)
-          (tt, unsound_on s stand.block at.2 left (bits_after_stand old piece after) _ at.3.1);
-    }
-pause_finishes old piece after room count left _ at e = absurd e
+pause_finishes {s} old {stand} piece after room count left pause {ending} at e = by_pause pause at e
+  where
+    far : List Bool
+    far = bits_after_stand old piece after
+
+    so : (known : Ending) (used : ℕ) → ending ≡ known → stand.run ≡ 0 → used ≤ length left → EndsWith s None stand.block (left ++ far) known used → EndsAfter s stand (left ++ far) (length left) ending
+    so known used is none few ends = record { none = none; used = used; few = few; ends = subst (λ (v : Ending). EndsWith s None stand.block (left ++ far) v used) (sym is) ends }
+
+    alone : (known : Ending) → after ≡ [] → EndsWith s None stand.block left known (length left) → EndsWith s None stand.block (left ++ far) known (length left)
+    alone known none ends = subst (λ (l : List Bool). EndsWith s None stand.block l known (length left)) (sym (append-nil left) ∙ ap (λ l. left ++ l) (sym (nothing_far old piece after none))) ends
+
+    by_pause : (pause : Pause) → PausesAt s old piece room stand left count pause → EndsCode pause after ending → EndsAfter s stand (left ++ far) (length left) ending
+    by_pause pauses.Blank at e = so Ended (length left) e.1 at.1 (omega arith) (alone Ended e.0 at.2)
+    by_pause pauses.Cut at e = so CutOff (length left) e.1 at.1 (omega arith) (alone CutOff e.0 at.2)
+    by_pause pauses.RunPastSegment at e = so Past at.2 e at.1 (unsound_in s stand.block at.2 left _ at.3.1) (tt, unsound_on s stand.block at.2 left far _ at.3.1)
+    by_pause pauses.ResidualTooLarge at e = so Large at.2 e at.1 (unsound_in s stand.block at.2 left _ at.3.1) (tt, unsound_on s stand.block at.2 left far _ at.3.1)
+    by_pause _ at e = absurd e
 
 -- a code that ends was not refused for its length
 not_long : (pause : Pause) (after : List ℕ) (ending : Ending) → EndsCode pause after ending → pause ≢ pauses.TooLong
-not_long pauses.Blank after ending e = λ same. absurd cc
-not_long pauses.Cut after ending e = λ same. absurd cc
-not_long pauses.RunPastSegment after ending e = λ same. absurd cc
-not_long pauses.ResidualTooLarge after ending e = λ same. absurd cc
-not_long _ after ending e = absurd e
+not_long pause after ending e = λ same. absurd (subst (λ (q : Pause). EndsCode q after ending) same e)
 
 -- nothing is pulled yet
 at_first : (s : Parameters) (code : List ℕ) (o : Origin) (first : Stand) → o.bits ≤ length (bits_of code) → IsStand s o first [] [] → HasPulled s code o first

@@ -156,17 +156,7 @@ never_long s b first last stand r new reads cut =
     let stops = cut.stops in
     let refilled = refills_ahead r.left stops.middle r.buffered [] cut.bits reads.reported stops.refills in
     let some = one_left stops.middle new.left stops.refuses.0.0 refilled.0 stops.refuses.0.1 in
-    omega (
-      arith,
-      reads.limit,
-      reads.taken,
-      ap length refilled.1,
-      length-append cut.bits (bits_of (bytes_reported stops.middle)),
-      length-bits_of (bytes_reported stops.middle),
-      some,
-      stops.refuses.2,
-      stops.taken,
-    )
+    omega (arith, reads, ap length refilled.1, length-append {A = Bool}, length-bits_of, some, stops.refuses.2, stops.taken)
   where
     one_left : (mid new : Option (List ℕ)) (byte : ℕ) → IsSome mid → Consumes mid new (byte ∷ []) → 1 ≤ length (bytes_reported mid)
     one_left None new byte reported c = absurd (let e : false ≡ true = reported in cc)

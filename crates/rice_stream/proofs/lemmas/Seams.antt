@@ -20,13 +20,7 @@ spelled_by bits full bytes f e = ap bits_of (e ∙ ap whole_bytes f) ∙ bits_of
 -- fewer than eight bits, padded, are one byte
 one_long : (bits full : List Bool) (bytes : List ℕ) → full ≡ padded_bits bits → bytes ≡ whole_bytes full → 0 < length bits → length bits < 8 → length bytes ≡ 1
 one_long bits full bytes f e some few =
-    omega (
-      arith,
-      length-bits_of bytes,
-      ap length (spelled_by bits full bytes f e),
-      length-append bits (replicate (bits_to_byte (length bits)) false),
-      length-replicate (bits_to_byte (length bits)) false,
-    )
+    omega (arith, length-bits_of, ap length (spelled_by bits full bytes f e), length-append {A = Bool}, length-replicate {A = Bool})
 
 -- some bits, fewer than eight, have at least one byte when they are padded
 pub one_byte : (bits full : List Bool) (bytes : List ℕ) → full ≡ padded_bits bits → bytes ≡ whole_bytes full → 0 < length bits → length bits < 8 → 0 < length bytes

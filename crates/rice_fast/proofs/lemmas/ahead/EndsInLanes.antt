@@ -39,7 +39,6 @@ row-filled place byte =
     let es = ends_after (8 * place) (word 8 byte) in
     let few : length es ≤ 8 = omega (arith, length-word 8 byte, few-ends (8 * place) (word 8 byte)) in
     let n : 8 - length es + 8 ≡ 16 - length es = omega (arith, few) in
-    let m : 16 - length es + length es ≡ 16 = omega (arith, few) in
     append_assoc es (replicate (8 - length es) 0) (replicate 8 0)
     ∙ (ap (λ z. es ++ z) (replicate-append-replicate (8 - length es) 8 0 ∙ ap (λ k. replicate k 0) n)
     ∙ filled 16 16 es (omega (arith, few)) (omega arith))

@@ -15,7 +15,6 @@ lanes-spell front bytes count ends h e some few there =
     let bits = take (8 * bytes) (word 64 front) in
     let es = ends_after 0 bits in
     let n : count ≡ suc (count - 1) = omega (arith, some) in
-    let none : 0 - 0 ≡ 0 = omega arith in
     let first : take count ends ≡ take count es = ap (take count) e ∙ lanes-first count es few there in
     let last : get_or ends (count - 1) 0 ≡ get_or (0 ∷ es) count 0 =
     sym (get_or-take count ends (count - 1) 0 (omega (arith, some)))

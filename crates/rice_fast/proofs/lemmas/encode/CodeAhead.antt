@@ -172,14 +172,7 @@ bits_are_few : {s : Parameters} {start : ℕ} {r : Option ℕ} {run bits steps :
     → bits ≤ length (code_of_blocks s start blocks)
 bits_are_few {s} {start} {r} {run} {bits} {steps} {blocks} {sink} {from} h =
     let whole = ap length (h.same [] (omega (arith, h.few))) in
-    omega (
-      arith,
-      whole,
-      h.len,
-      length-append sink (to_follow s start r (length blocks) run []),
-      length-append from (code_of_blocks s start (blocks ++ [])),
-      ap (λ v. length (code_of_blocks s start v)) (append-nil blocks),
-    )
+    omega (arith, h.len, length-append {A = Bool}, ap (λ v. length (code_of_blocks s start v)) (append-nil blocks))
 
 -- and the steps are fewer than those of a whole segment.
 pub steps_are_few : {s : Parameters} {start : ℕ} {r : Option ℕ} {run bits steps : ℕ} {blocks : List BlockData} {sink from : List Bool} → IsAhead s start r run bits steps blocks sink from → IsLegal s
@@ -220,15 +213,7 @@ room_for_other {s} {start} {r} {run} {bits} {steps} {blocks} {c} {sink} {from} m
     let follow = before_other s start r n run c [] legal.interval_from h.inside next.below z in
     let whole = ap length (ap (λ v. sink ++ v) (sym follow) ∙ h.same (c ∷ []) (omega (arith, next.below))) in
     let lens = shortest_len s (start + n) c one (last_sound s start blocks c next.sound) in
-    let put : length sink + (length w + cost s (shortest s c)) ≤ length from + length (code_of_blocks s start cs) = omega (
-      arith,
-      whole,
-      lens,
-      length-append sink (w ++ (x ++ y)),
-      length-append w (x ++ y),
-      length-append x y,
-      length-append from (code_of_blocks s start cs),
-    ) in
+    let put : length sink + (length w + cost s (shortest s c)) ≤ length from + length (code_of_blocks s start cs) = omega (arith, length-append {A = Bool}) in
     let short = code_is_short s start cs legal next.sound in
     let small = segment_is_short s start cs legal next.sound (omega (arith, count, next.below)) in
     let looks = s.block * (k_max s + 5) in

@@ -28,10 +28,4 @@ pub split_is_not_shorter : (s : Parameters) (c : BlockData) → IsSoundData s c 
 split_is_not_shorter s c sound most some large =
     let n = length (sent_residuals c) in
     let few : n * s.bits ≤ n * (k_max s + 3) = mul-le-mul_left n ((last_split s).1 most) in
-    omega (
-      arith,
-      few,
-      large_leaves c.residuals n (k_max s) some large,
-      coded_sum c.reference c.residuals (k_max s) sound.zero,
-      all_sent s c.reference c.residuals (omega (arith, some)),
-    )
+    omega (arith, large_leaves c.residuals n (k_max s) some large, coded_sum c.reference c.residuals (k_max s) sound.zero, all_sent s c.reference c.residuals (omega (arith, some)))

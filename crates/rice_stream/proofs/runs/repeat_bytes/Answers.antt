@@ -11,7 +11,6 @@ copy_within-requires-clause-dest_in_bounds c =
 pub repeat-init : goal.repeat-init
 repeat-init c =
     let pattern = c.args.pattern.now in
-    let w = length pattern in
     let old = c.args.bytes.now in
     let same : c.copy_from_slice.new.self ≡ pattern = c.copy_from_slice.ensures.after in
     let first = first-copy pattern (c.copy_from_slice.new.self) old c.args.count same c.requires.count c.requires.len in

@@ -67,10 +67,8 @@ loop-i-preserved g c =
     record {
       after = omega (arith, l.invariant.after);
       adds = added_up_to f xs c.args.from (16 * l.i + n) (min c.args.len (16 * (l.i + 1))) next
-          (range_added f xs c.args.from (min c.args.len (16 * l.i)) (16 * l.i + n) (omega (arith, c.requires.from, c.requires.len, l.invariant.after)) (omega (
-            arith,
-            before,
-          )) row l.invariant.adds c.put_row-fields-in-loop-i.ensures);
+          (range_added f xs c.args.from (min c.args.len (16 * l.i)) (16 * l.i + n) (omega (arith, c.requires.from, c.requires.len, l.invariant.after)) (omega arith)
+          row l.invariant.adds c.put_row-fields-in-loop-i.ensures);
     }
 
 pub returns : goal.returns

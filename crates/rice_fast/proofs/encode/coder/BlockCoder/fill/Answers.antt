@@ -18,7 +18,6 @@ hold-requires-clause-meter c =
 pub loop-i-preserved : goal.loop-i-preserved
 loop-i-preserved c =
     let inv = c.loop-i.invariant in
-    let self = c.args.self.now in
     let x = c.previous-x.result in
     let fits : FitsSigned w64 x = search rules in
     record {
