@@ -1,23 +1,12 @@
 -- What each call does, whatever becomes of its setting. The first argument of each is what the setting asks for, or why it is refused.
 use Rattle.std.specs.Prelude.{◌≡◌, ◌≢◌, ℕ, ◌*◌, ◌/◌, ◌<◌, ◌≤◌, Bool, List, length, Some, None, Result, IfOk, IfErr, ℤ}
-use Rattle.rice_samples.specs.Limits.{most_input}
-use Rattle.rice_samples.specs.Parameters.{Parameters, width}
-use Rattle.rice_samples.specs.bytes.UnusedBits.{SpellsPatterns}
-use Rattle.rice_samples.specs.declared.setting.SettingFault.{SettingFault}
+use Rattle.rice_samples.specs.{Limits.most_input, Parameters.Parameters, Parameters.width, bytes.UnusedBits.SpellsPatterns, declared.setting.SettingFault.SettingFault}
 use Rattle.rice_code.specs.Bounds.{step_bound}
-use Rattle.rice_stream.specs.Feeding.{IsSeam, IsSomeSeam}
-use Rattle.rice_stream.specs.Pulling.{Origin, IsStand, IsSomeStand, at_front}
-use Rattle.rice_calls.specs.AskedSetting.{setting_asked}
-use Rattle.rice_calls.specs.Calls.{EncodesInto, DecodesInto, RefusesSetting}
-use Rattle.rice_calls.specs.Feeding.{Begins, PushesInto, FinishesInto}
-use Rattle.rice_calls.specs.Pulling.{CanBegin, OpensDrain, PullsInto}
-use Rattle.rice_calls.specs.Statuses.{status_number, refusal_status}
-use Rattle.rice_calls.specs.SufficientRoom.{code_room, push_room, set_room}
-use Rattle.rice_calls.specs.declared.feeding.RiceFeed.{RiceFeed}
-use Rattle.rice_calls.specs.declared.pulling.RiceDrain.{RiceDrain}
-use Rattle.rice_calls.specs.declared.report.RiceReport.{RiceReport}
-use Rattle.rice_calls.specs.declared.setting.RiceSetting.{RiceSetting}
+use Rattle.rice_stream.specs.{Feeding.IsSeam, Feeding.IsSomeSeam, Pulling.Origin, Pulling.IsStand, Pulling.IsSomeStand, Pulling.at_front}
 use Rattle.rice_calls.specs.declared.status.Status.TheVariants.{Done, NoRoom, BadPlace}
+use Rattle.rice_calls.specs.{AskedSetting.setting_asked, Calls.EncodesInto, Calls.DecodesInto, Calls.RefusesSetting, Feeding.Begins, Feeding.PushesInto, Feeding.FinishesInto, Pulling.CanBegin}
+use Rattle.rice_calls.specs.{Pulling.OpensDrain, Pulling.PullsInto, Statuses.status_number, Statuses.refusal_status, SufficientRoom.code_room, SufficientRoom.push_room, SufficientRoom.set_room}
+use Rattle.rice_calls.specs.{declared.feeding.RiceFeed.RiceFeed, declared.pulling.RiceDrain.RiceDrain, declared.report.RiceReport.RiceReport, declared.setting.RiceSetting.RiceSetting}
 
 abbrev pub Asked : Type 0
 Asked = Result Parameters SettingFault

@@ -1,8 +1,6 @@
 -- The setting that C asks for.
 use Rattle.std.specs.Prelude.{if◌then◌else◌, Result}
-use Rattle.rice_samples.specs.Parameters.{Parameters}
-use Rattle.rice_samples.specs.Settings.{parameters, setting_of, any_setting_of}
-use Rattle.rice_samples.specs.declared.setting.SettingFault.{SettingFault}
+use Rattle.rice_samples.specs.{Parameters.Parameters, Settings.parameters, Settings.setting_of, Settings.any_setting_of, declared.setting.SettingFault.SettingFault}
 use Rattle.rice_calls.specs.declared.setting.RiceSetting.{RiceSetting}
 
 abbrev pub asked : RiceSetting → Parameters

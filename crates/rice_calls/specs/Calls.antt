@@ -1,16 +1,11 @@
 -- What a call does with its caller's memory.
 use Rattle.std.specs.Prelude.{◌≡◌, ◌≢◌, ℕ, ◌≤◌, List, ◌++◌, length, drop, Option, Some}
 use Rattle.std.specs.Io.KnownBytes.{Consumes}
-use Rattle.rice_samples.specs.Parameters.{Parameters}
-use Rattle.rice_samples.specs.declared.setting.SettingFault.{SettingFault}
-use Rattle.rice_stream.specs.DevicesInCalls.{Call}
-use Rattle.rice_stream.specs.Encodes.{Encodes, EncodesWithin}
-use Rattle.rice_stream.specs.Decodes.{Decodes, DecodesWithin}
-use Rattle.rice_stream.specs.declared.outcome.Fault.{Fault}
+use Rattle.rice_samples.specs.{Parameters.Parameters, declared.setting.SettingFault.SettingFault}
 use Rattle.rice_stream.specs.declared.outcome.Fault.TheVariants.{Read, Write}
-use Rattle.rice_calls.specs.declared.report.RiceReport.{RiceReport}
-use Rattle.rice_calls.specs.Reports.{report_of, empty_report}
+use Rattle.rice_stream.specs.{DevicesInCalls.Call, Encodes.Encodes, Encodes.EncodesWithin, Decodes.Decodes, Decodes.DecodesWithin, declared.outcome.Fault.Fault}
 use Rattle.rice_calls.specs.Statuses.{status_number, refusal_status, fault_status, fault_place}
+use Rattle.rice_calls.specs.{declared.report.RiceReport.RiceReport, Reports.report_of, Reports.empty_report}
 
 -- These bytes stand at the front of a memory, and those after them are as they were.
 abbrev pub StandsInFront : List ℕ → List ℕ → List ℕ → Type 0

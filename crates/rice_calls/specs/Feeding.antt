@@ -2,18 +2,9 @@
 use Rattle.std.specs.Prelude.{◌≡◌, ℕ, List, [], Option, Some, None, Result, Ok, Err, ℤ}
 use Rattle.rice_bits.specs.device.OutletRoom.{Room, begun}
 use Rattle.rice_samples.specs.Parameters.{Parameters}
-use Rattle.rice_stream.specs.Encodes.{EncodesWithin}
-use Rattle.rice_stream.specs.Feeding.{IsSeam, EncodesMore, EncodesRest}
-use Rattle.rice_stream.specs.declared.outcome.Fault.{Fault}
-use Rattle.rice_stream.specs.declared.outcome.Report.{Report}
-use Rattle.rice_stream.specs.declared.seam.Seam.{Seam}
-use Rattle.rice_calls.specs.declared.feeding.RiceFeed.{RiceFeed}
-use Rattle.rice_calls.specs.declared.report.RiceReport.{RiceReport}
-use Rattle.rice_calls.specs.declared.setting.RiceSetting.{RiceSetting}
-use Rattle.rice_calls.specs.declared.status.Status.TheVariants.{Done}
-use Rattle.rice_calls.specs.Calls.{WritesFront, ReportsCall}
-use Rattle.rice_calls.specs.Reports.{report_of}
-use Rattle.rice_calls.specs.Statuses.{status_number}
+use Rattle.rice_stream.specs.{Encodes.EncodesWithin, Feeding.IsSeam, Feeding.EncodesMore, Feeding.EncodesRest, declared.outcome.Fault.Fault, declared.outcome.Report.Report, declared.seam.Seam.Seam}
+use Rattle.rice_calls.specs.{declared.feeding.RiceFeed.RiceFeed, declared.report.RiceReport.RiceReport, declared.setting.RiceSetting.RiceSetting, declared.status.Status.TheVariants.Done}
+use Rattle.rice_calls.specs.{Calls.WritesFront, Calls.ReportsCall, Reports.report_of, Statuses.status_number}
 
 -- what is counted at a seam
 abbrev pub report_of_seam : Seam → Report

@@ -1,23 +1,12 @@
 -- What joins the calls that encode and decode.
 use Rattle.std.specs.Prelude.{◌≡◌, ◌≢◌, ◌⊎◌, ℕ, ◌+◌, ◌*◌, ◌/◌, ◌<◌, ◌≤◌, Bool, List, [], ◌∷◌, ◌++◌, length, take, drop, sum_by, Some, None, ℤ, ⊤}
-use Rattle.rice_samples.specs.Parameters.{Parameters, IsLegal, width}
-use Rattle.rice_samples.specs.bytes.Spelling.{spellings}
-use Rattle.rice_stream.specs.Feeding.{IsSeam}
+use Rattle.rice_samples.specs.{Parameters.Parameters, Parameters.IsLegal, Parameters.width, bytes.Spelling.spellings}
+use Rattle.rice_stream.specs.{Feeding.IsSeam, Laws.IsPlace, Laws.place_at, Laws.place_after, Pulling.Origin, Pulling.IsStand, declared.seam.Seam.Seam}
 use Rattle.rice_code.specs.code.Code.{output}
-use Rattle.rice_stream.specs.Laws.{IsPlace, place_at, place_after}
-use Rattle.rice_stream.specs.Pulling.{Origin, IsStand}
-use Rattle.rice_stream.specs.declared.seam.Seam.{Seam}
-use Rattle.rice_calls.specs.declared.pulling.RiceDrain.{RiceDrain}
-use Rattle.rice_calls.specs.declared.feeding.RiceFeed.{RiceFeed}
-use Rattle.rice_calls.specs.declared.report.RiceReport.{RiceReport}
-use Rattle.rice_calls.specs.declared.setting.RiceSetting.{RiceSetting}
-use Rattle.rice_calls.specs.declared.status.Status.{Status}
 use Rattle.rice_calls.specs.declared.status.Status.TheVariants.{Done, NoRoom, CodeEnds, RunPastSegment, ResidualTooLarge, OnlyZeros, MoreCode}
-use Rattle.rice_calls.specs.Calls.{EncodesInto, DecodesInto, StandsInFront}
-use Rattle.rice_calls.specs.Pulling.{OpensDrain, PullsInto}
-use Rattle.rice_calls.specs.Feeding.{Begins, PushesInto, FinishesInto}
-use Rattle.rice_calls.specs.SufficientRoom.{code_room, push_room}
-use Rattle.rice_calls.specs.Statuses.{status_number}
+use Rattle.rice_calls.specs.{declared.pulling.RiceDrain.RiceDrain, declared.feeding.RiceFeed.RiceFeed, declared.report.RiceReport.RiceReport, declared.setting.RiceSetting.RiceSetting}
+use Rattle.rice_calls.specs.{declared.status.Status.Status, Calls.EncodesInto, Calls.DecodesInto, Calls.StandsInFront, Pulling.OpensDrain, Pulling.PullsInto, Feeding.Begins, Feeding.PushesInto}
+use Rattle.rice_calls.specs.{Feeding.FinishesInto, SufficientRoom.code_room, SufficientRoom.push_room, Statuses.status_number}
 
 -- A call that decodes is given what a call that encoded all has written, the number of its samples, and room for their bytes.
 -- Then it writes these bytes, and all is done.

@@ -1,18 +1,10 @@
 -- What the calls that decode piece by piece do with their caller's memory.
 use Rattle.std.specs.Prelude.{◌≡◌, ℕ, ◌*◌, ◌/◌, ◌%◌, ◌≤◌, Bool, true, List, [], length, ℤ}
 use Rattle.rice_bits.specs.Limits.{most_bits_read}
-use Rattle.rice_samples.specs.Limits.{most_samples_counted}
-use Rattle.rice_samples.specs.Parameters.{Parameters, width}
-use Rattle.rice_stream.specs.Pulling.{Origin, IsStand, DecodesMore}
-use Rattle.rice_stream.specs.declared.outcome.Report.{Report}
-use Rattle.rice_stream.specs.declared.stand.Pause.{Pause}
-use Rattle.rice_stream.specs.declared.stand.Stand.{Stand}
-use Rattle.rice_calls.specs.declared.pulling.RiceDrain.{RiceDrain}
-use Rattle.rice_calls.specs.declared.report.RiceReport.{RiceReport}
-use Rattle.rice_calls.specs.declared.setting.RiceSetting.{RiceSetting}
-use Rattle.rice_calls.specs.declared.status.Status.TheVariants.{Done}
-use Rattle.rice_calls.specs.Reports.{report_of}
-use Rattle.rice_calls.specs.Statuses.{status_number, pause_status, pause_place}
+use Rattle.rice_samples.specs.{Limits.most_samples_counted, Parameters.Parameters, Parameters.width}
+use Rattle.rice_stream.specs.{Pulling.Origin, Pulling.IsStand, Pulling.DecodesMore, declared.outcome.Report.Report, declared.stand.Pause.Pause, declared.stand.Stand.Stand}
+use Rattle.rice_calls.specs.{declared.pulling.RiceDrain.RiceDrain, declared.report.RiceReport.RiceReport, declared.setting.RiceSetting.RiceSetting, declared.status.Status.TheVariants.Done}
+use Rattle.rice_calls.specs.{Reports.report_of, Statuses.status_number, Statuses.pause_status, Statuses.pause_place}
 
 -- a place where an interval can begin: on a byte, where intervals are padded
 pub record CanBegin (s : Parameters) (samples bits : ℕ) : Type 0 where

@@ -1,17 +1,14 @@
 -- The status of a call, and its number.
 use Rattle.std.specs.Prelude.{ℕ, Option, Some, None, Result, Ok, Err}
-use Rattle.rice_samples.specs.Parameters.{Parameters}
-use Rattle.rice_samples.specs.declared.setting.SettingFault.{SettingFault}
+use Rattle.rice_samples.specs.{Parameters.Parameters, declared.setting.SettingFault.SettingFault}
 use Rattle.rice_samples.specs.declared.setting.SettingFault.TheVariants as settings
 use Rattle.rice_stream.specs.declared.outcome.Fault.{Fault}
 use Rattle.rice_stream.specs.declared.outcome.Fault.TheVariants as faults
 use Rattle.rice_stream.specs.declared.stand.Pause.{Pause}
 use Rattle.rice_stream.specs.declared.stand.Pause.TheVariants as pauses
-use Rattle.rice_calls.specs.AskedSetting.{setting_asked}
-use Rattle.rice_calls.specs.declared.setting.RiceSetting.{RiceSetting}
-use Rattle.rice_calls.specs.declared.status.Status.{Status}
-use Rattle.rice_calls.specs.declared.status.Status.TheVariants.{Done, BadBits, BadBlock, BadInterval, SampleOutOfRange, InputCut, CodeEnds}
-use Rattle.rice_calls.specs.declared.status.Status.TheVariants.{RunPastSegment, ResidualTooLarge, NoRoom, TooLong, OnlyZeros, MoreCode, BadPlace}
+use Rattle.rice_calls.specs.declared.status.Status.TheVariants.{Done, BadBits, BadBlock, BadInterval, SampleOutOfRange, InputCut, CodeEnds, RunPastSegment, ResidualTooLarge, NoRoom, TooLong}
+use Rattle.rice_calls.specs.declared.status.Status.TheVariants.{OnlyZeros, MoreCode, BadPlace}
+use Rattle.rice_calls.specs.{AskedSetting.setting_asked, declared.setting.RiceSetting.RiceSetting, declared.status.Status.Status}
 
 -- the number that C sees
 abbrev pub status_number : Status → ℕ

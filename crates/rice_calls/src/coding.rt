@@ -1,12 +1,8 @@
 //! Encodes and decodes, from memory to memory.
 ghost use Rattle.std.specs.Prelude.{◌≡◌, Option, Some};
 ghost use Rattle.rice_bits.specs.device.Slice.{slice_left, slice_state, slice_failures};
-ghost use Rattle.rice_stream.specs.DevicesInCalls.{Fails};
-ghost use Rattle.rice_stream.specs.Encodes.{EncodesBetween, EncodesWithin};
-ghost use Rattle.rice_stream.specs.Decodes.{DecodesBetween, DecodesWithin};
-ghost use Rattle.rice_calls.specs.AsAsked.{DecodesAllAsAsked, DecodesAsAsked, EncodesAsAsked};
-ghost use Rattle.rice_calls.specs.AskedSetting.{setting_asked};
-ghost use Rattle.rice_calls.specs.Calls.{EncodesInto, DecodesInto};
+ghost use Rattle.rice_stream.specs.{DevicesInCalls.Fails, Encodes.EncodesBetween, Encodes.EncodesWithin, Decodes.DecodesBetween, Decodes.DecodesWithin};
+ghost use Rattle.rice_calls.specs.{AsAsked.DecodesAllAsAsked, AsAsked.DecodesAsAsked, AsAsked.EncodesAsAsked, AskedSetting.setting_asked, Calls.EncodesInto, Calls.DecodesInto};
 
 use crate::feeding::finish_into;
 use crate::report::RiceReport;

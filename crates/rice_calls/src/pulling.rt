@@ -1,9 +1,7 @@
 //! Decodes piece by piece, for a caller without the whole code, or without room for all samples. The caller's memory holds all state.
 ghost use Rattle.std.specs.Prelude.{◌↔◌, IsTrue, Bool, List, ℤ};
 ghost use Rattle.rice_stream.specs.Pulling.{Origin, IsStand, IsSomeStand};
-ghost use Rattle.rice_calls.specs.AsAsked.{IsDrain, OpensAsAsked, OpensAtAsAsked, PullsAsAsked};
-ghost use Rattle.rice_calls.specs.AskedSetting.{setting_asked};
-ghost use Rattle.rice_calls.specs.Pulling.{CanBegin, PullsInto};
+ghost use Rattle.rice_calls.specs.{AsAsked.IsDrain, AsAsked.OpensAsAsked, AsAsked.OpensAtAsAsked, AsAsked.PullsAsAsked, AskedSetting.setting_asked, Pulling.CanBegin, Pulling.PullsInto};
 
 use crate::report::RiceReport;
 use crate::setting::RiceSetting;

@@ -1,8 +1,6 @@
 //! The setting as C passes it, and the values that depend on it alone.
 ghost use Rattle.std.specs.Prelude.{◌≡◌};
-ghost use Rattle.rice_calls.specs.AsAsked.{TellsCodeRoom, TellsSetRoom, TellsStepBound, TellsWidth};
-ghost use Rattle.rice_calls.specs.AskedSetting.{setting_asked};
-ghost use Rattle.rice_calls.specs.Statuses.{status_number, check_of};
+ghost use Rattle.rice_calls.specs.{AsAsked.TellsCodeRoom, AsAsked.TellsSetRoom, AsAsked.TellsStepBound, AsAsked.TellsWidth, AskedSetting.setting_asked, Statuses.status_number, Statuses.check_of};
 
 use crate::status::{Status, refusal_status};
 use rice_code::{padded_bound, set_bound};

@@ -1,6 +1,5 @@
 //! Sets the unused bits of a caller's samples as the setting requires.
-ghost use Rattle.rice_calls.specs.AsAsked.{SpellsAsAsked};
-ghost use Rattle.rice_calls.specs.AskedSetting.{setting_asked};
+ghost use Rattle.rice_calls.specs.{AsAsked.SpellsAsAsked, AskedSetting.setting_asked};
 
 use crate::setting::RiceSetting;
 use crate::status::{Status, refusal_status};

@@ -1,10 +1,6 @@
 -- How many bytes a pull writes, by the numbers of samples at the stands before and after it.
-use Rattle.std.proofs.Common.{◌≡◌, ℕ, ◌+◌, ◌-◌, ◌*◌, ◌≤◌, Bool, List, length, length-append, ap, arith, ◌∙◌, ℤ}
-use Rattle.rice_samples.specs.Parameters.{Parameters, width}
-use Rattle.rice_stream.specs.Pulling.{Origin, IsStand, DecodesMore, PausesAt}
-use Rattle.rice_stream.specs.declared.stand.Pause.{Pause}
+use Rattle.rice_calls.proofs.Words.{◌≡◌, ℕ, ◌+◌, ◌-◌, ◌*◌, ◌≤◌, Bool, List, length, length-append, ap, arith, ◌∙◌, ℤ, Parameters, width, Origin, IsStand, DecodesMore, PausesAt, Pause, Stand}
 use Rattle.rice_stream.specs.declared.stand.Pause.TheVariants as pauses
-use Rattle.rice_stream.specs.declared.stand.Stand.{Stand}
 
 -- what is written has room
 written_fits : (s : Parameters) (old new : Stand) (piece : List ℕ) (room count : ℕ) (rest : List Bool) (pause : Pause) → PausesAt s old piece room new rest count pause → width s * count ≤ room

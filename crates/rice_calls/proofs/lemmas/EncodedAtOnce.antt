@@ -1,26 +1,9 @@
 -- A code that is begun and finished by one piece is that of a call that encodes all at once.
-use Rattle.std.proofs.Common.{◌≡◌, ℕ, ◌+◌, ◌-◌, ◌*◌, ◌<◌, ◌≤◌, List, [], ◌∷◌, ◌++◌, length}
-use Rattle.std.proofs.Common.{take, drop, Option, Some, None, refl, sym, ◌∙◌, ap, subst, arith, inl, inr, append-nil, append_assoc, length-append, take-append-drop, take-take, ℤ}
-use Rattle.std.proofs.Math.Seq.{take-append_seam}
-use Rattle.std.proofs.lemmas.List.{length-take-le}
-use Rattle.rice_bits.specs.device.OutletRoom.{Room, begun}
-use Rattle.rice_samples.specs.Limits.{most_input}
-use Rattle.rice_samples.specs.Parameters.{Parameters, IsLegal, width}
-use Rattle.rice_samples.specs.bytes.Spelling.{AtEnd, Spells, spellings, NoSpelling}
-use Rattle.rice_samples.proofs.lemmas.bytes.SpellingLengths.{length-spellings, narrow_width}
-use Rattle.rice_code.specs.code.Code.{early_output}
-use Rattle.rice_stream.specs.DevicesInCalls.{Call, StopsBetween}
-use Rattle.rice_stream.specs.Encodes.{Encodes, ReportsTaken}
-use Rattle.rice_stream.specs.EncodingState.{Follows, FollowsBetween}
-use Rattle.rice_stream.specs.Feeding.{after, AreAll, EncodesRest, MeetsEnd}
-use Rattle.rice_stream.proofs.lemmas.FedPieces.{nothing_early}
-use Rattle.rice_stream.specs.declared.outcome.Fault.{Fault}
-use Rattle.rice_stream.specs.declared.outcome.Fault.TheVariants.{Read, Write, TooLong, SampleOutOfRange, SampleCut, CodeEnds, RunPastSegment, ResidualTooLarge}
-use Rattle.rice_stream.specs.declared.outcome.Report.{Report}
-use Rattle.rice_calls.specs.declared.report.RiceReport.{RiceReport}
-use Rattle.rice_calls.specs.Calls.{EncodesInto, ReportsCall, TakesInput, WritesFront}
-use Rattle.rice_calls.specs.Feeding.{FinishesInto}
-use Rattle.rice_calls.specs.Reports.{report_of}
+use Rattle.rice_calls.proofs.Words.{◌≡◌, ℕ, ◌+◌, ◌-◌, ◌*◌, ◌<◌, ◌≤◌, List, [], ◌∷◌, ◌++◌, length, take, drop, Option, Some, None, refl, sym, ◌∙◌, ap, subst, arith, inl, inr, append-nil, append_assoc}
+use Rattle.rice_calls.proofs.Words.{length-append, take-append-drop, take-take, ℤ, take-append_seam, length-take-le, Room, begun, most_input, Parameters, IsLegal, width, AtEnd, Spells, spellings}
+use Rattle.rice_calls.proofs.Words.{NoSpelling, length-spellings, narrow_width, early_output, Call, StopsBetween, Encodes, ReportsTaken, Follows, FollowsBetween, after, AreAll, EncodesRest, MeetsEnd}
+use Rattle.rice_calls.proofs.Words.{nothing_early, Fault, Read, Write, TooLong, SampleOutOfRange, SampleCut, CodeEnds, RunPastSegment, ResidualTooLarge, Report, RiceReport, EncodesInto, ReportsCall}
+use Rattle.rice_calls.proofs.Words.{TakesInput, WritesFront, FinishesInto, report_of}
 
 -- a call that encodes these bytes, and writes those
 record EncodedBy (s : Parameters) (input bytes : List ℕ) (r : Report) (fault : Option Fault) : Type 0 where
@@ -106,14 +89,7 @@ module _ (s : Parameters) (legal : IsLegal s) (input : List ℕ) (few : length i
         record { written = all_written meets.writes; reports = rep },
       );
       limit = few;
-      ahead = omega (
-        arith,
-        ap length meets.reads.split,
-        length-append (spellings s more) meets.rest,
-        bytes_of_samples more (spellings s more) refl rep.samples,
-        meets.ends.1,
-        narrow_width s,
-      );
+      ahead = omega (arith, ap length meets.reads.split, length-append (spellings s more) meets.rest, bytes_of_samples more (spellings s more) refl rep.samples, meets.ends.1, narrow_width s);
     };
     written = refl;
   }
@@ -150,12 +126,7 @@ module _ (s : Parameters) (legal : IsLegal s) (input : List ℕ) (few : length i
       samples = more;
       ends = (
         omega (arith, bytes_of_samples more input all.spelled rep.samples),
-        inr (record {
-          given = spells_all more all;
-          end = refl;
-          reports = rep;
-          stops = stops_so stops;
-        }),
+        inr (record { given = spells_all more all; end = refl; reports = rep; stops = stops_so stops }),
       );
       limit = few;
       ahead = omega (arith, bytes_of_samples more input all.spelled rep.samples);

@@ -1,15 +1,6 @@
 -- What an outlet takes of a piece that is fed.
-use Rattle.std.proofs.Common.{◌≡◌, ℕ, List, [], Option, Some, None, Result, Ok, Err, refl, sym, ◌∙◌, ap, inl, inr, append-nil, ℤ}
-use Rattle.rice_bits.specs.device.OutletRoom.{Room, Fills}
-use Rattle.rice_samples.specs.Parameters.{Parameters}
-use Rattle.rice_stream.specs.DevicesInCalls.{Fails}
-use Rattle.rice_stream.specs.EncodingState.{PushFails}
-use Rattle.rice_stream.specs.Feeding.{EncodesMore, EncodesRest}
-use Rattle.rice_stream.specs.declared.outcome.Fault.{Fault}
-use Rattle.rice_stream.specs.declared.outcome.Fault.TheVariants.{Read, Write, TooLong, SampleOutOfRange, SampleCut, CodeEnds, RunPastSegment, ResidualTooLarge}
-use Rattle.rice_stream.specs.declared.outcome.Report.{Report}
-use Rattle.rice_stream.specs.declared.seam.Seam.{Seam}
-use Rattle.rice_calls.specs.Feeding.{fault_of}
+use Rattle.rice_calls.proofs.Words.{◌≡◌, ℕ, List, [], Option, Some, None, Result, Ok, Err, refl, sym, ◌∙◌, ap, inl, inr, append-nil, ℤ, Room, Fills, Parameters, Fails, PushFails, EncodesMore}
+use Rattle.rice_calls.proofs.Words.{EncodesRest, Fault, Read, Write, TooLong, SampleOutOfRange, SampleCut, CodeEnds, RunPastSegment, ResidualTooLarge, Report, Seam, fault_of}
 
 -- the room of an outlet that was not used
 room_of : Option Room → Room → Room

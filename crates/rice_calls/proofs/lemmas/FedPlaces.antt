@@ -1,19 +1,7 @@
 -- Where intervals begin in a code that is fed piece by piece.
-use Rattle.std.proofs.Common.{◌≡◌, ℕ, ◌+◌, ◌*◌, List, [], ◌∷◌, ◌++◌, length, drop, Some, None, Result, Ok, Err, refl, sym, ◌∙◌, ap, subst, arith, append_assoc, length-append, ℤ}
-use Rattle.std.proofs.lemmas.List.{drop_at}
-use Rattle.std.proofs.lemmas.List.Sums.{sum_by-cons}
-use Rattle.rice_bits.specs.device.OutletRoom.{Room, begun}
-use Rattle.rice_samples.specs.Parameters.{Parameters, width}
-use Rattle.rice_samples.specs.bytes.Spelling.{spellings}
-use Rattle.rice_code.specs.code.Code.{early_output}
-use Rattle.rice_stream.specs.Feeding.{IsSeam, EncodesMore}
-use Rattle.rice_stream.specs.declared.outcome.Fault.{Fault}
-use Rattle.rice_stream.specs.declared.seam.Seam.{Seam}
-use Rattle.rice_stream.proofs.lemmas.FedPieces.{nothing_early, place_of_seam}
-use Rattle.rice_samples.proofs.lemmas.bytes.SpellingLengths.{length-spellings, spellings-append}
-use Rattle.rice_calls.specs.declared.feeding.RiceFeed.{RiceFeed}
-use Rattle.rice_calls.specs.Feeding.{fault_of, fed}
-use Rattle.rice_calls.specs.Laws.{AreFed, FeedsTellPlaces, Push, last_feed, written_by}
+use Rattle.rice_calls.proofs.Words.{◌≡◌, ℕ, ◌+◌, ◌*◌, List, [], ◌∷◌, ◌++◌, length, drop, Some, None, Result, Ok, Err, refl, sym, ◌∙◌, ap, subst, arith, append_assoc, length-append, ℤ, drop_at}
+use Rattle.rice_calls.proofs.Words.{sum_by-cons, Room, begun, Parameters, width, spellings, early_output, IsSeam, EncodesMore, Fault, Seam, nothing_early, place_of_seam, length-spellings}
+use Rattle.rice_calls.proofs.Words.{spellings-append, RiceFeed, fault_of, fed, AreFed, FeedsTellPlaces, Push, last_feed, written_by}
 use Rattle.rice_calls.proofs.lemmas.RoomOfCallSuffices.{none_of}
 
 -- The first samples of an input were fed, and so many bytes are written.

@@ -1,40 +1,15 @@
 -- Pieces of a code that are pulled give what a call writes that decodes all of it.
-use Rattle.std.proofs.Common.{◌≡◌, ◌≢◌, ℕ, ◌+◌, ◌*◌, ◌/◌, ◌<◌, ◌≤◌, ◌==◌, Bool, cond, List, [], ◌∷◌, ◌++◌, length, take}
-use Rattle.std.proofs.Common.{drop, Option, Some, None, refl, inl, inr, sym, ◌∙◌, ap, subst, arith, length-append, take-append-drop, ℤ}
-use Rattle.std.proofs.Math.Nat.{mul-div_cancel_left, mul-le-mul_left}
-use Rattle.std.proofs.lemmas.Bool.{cases_lt}
-use Rattle.std.proofs.lemmas.List.{length-take-le, take_at}
-use Rattle.rice_bits.specs.Bits.{bits_of}
-use Rattle.rice_bits.proofs.lemmas.bits.BytesAndBits.{bits_of-append}
-use Rattle.rice_samples.specs.Parameters.{Parameters, IsLegal, width}
-use Rattle.rice_samples.specs.bytes.Spelling.{spellings}
-use Rattle.rice_samples.proofs.lemmas.setting.LevelsOfSamples.{zero_is_sample}
-use Rattle.rice_code.specs.code.Decoded.{Decoded, Ending, Reached, Ended, CutOff, Past, Large}
-use Rattle.rice_code.proofs.lemmas.meaning.DecodedInOneWay.{decoded_is_one}
-use Rattle.rice_stream.specs.Decodes.{EndsDecoding}
-use Rattle.rice_stream.specs.Laws.{EndsCode, IsPlace, place_at}
+use Rattle.rice_calls.proofs.Words.{◌≡◌, ◌≢◌, ℕ, ◌+◌, ◌*◌, ◌/◌, ◌<◌, ◌≤◌, ◌==◌, Bool, cond, List, [], ◌∷◌, ◌++◌, length, take, drop, Option, Some, None, refl, inl, inr, sym, ◌∙◌, ap, subst, arith}
+use Rattle.rice_calls.proofs.Words.{length-append, take-append-drop, ℤ, mul-div_cancel_left, mul-le-mul_left, cases_lt, length-take-le, take_at, bits_of, bits_of-append, Parameters, IsLegal, width}
+use Rattle.rice_calls.proofs.Words.{spellings, zero_is_sample, Decoded, Ending, Reached, Ended, CutOff, Past, Large, decoded_is_one, EndsDecoding, EndsCode, IsPlace, place_at, Origin, IsStand}
+use Rattle.rice_calls.proofs.Words.{DecodesMore, Fault, Report, Pause, Stand, FaultOf, decodes_as, never_reached, seek_all, seek_enough, stands_tell_places, decoded_before, length-spellings}
+use Rattle.rice_calls.proofs.Words.{spellings-append, RiceDrain, RiceReport, Status, DecodesInto, StandsInFront, ArePulled, DrainsTellPlaces, EndsAll, EnoughIsDecoding, IsPulled, Pull}
+use Rattle.rice_calls.proofs.Words.{PullsAreDecoding, WriteInParts, last_drain, place_all, report_of, status_number, pause_status, fault_status, fault_place, pause_place}
+use Rattle.rice_calls.proofs.lemmas.{BytesOfPulledPiece.more_samples, ReturnedSamples.decode_suffices}
 use Rattle.rice_stream.specs.Laws as stream
-use Rattle.rice_stream.specs.Pulling.{Origin, IsStand, DecodesMore}
-use Rattle.rice_stream.specs.declared.outcome.Fault.{Fault}
-use Rattle.rice_stream.specs.declared.outcome.Report.{Report}
 use Rattle.rice_stream.specs.declared.outcome.Fault.TheVariants as faults
-use Rattle.rice_stream.specs.declared.stand.Pause.{Pause}
 use Rattle.rice_stream.specs.declared.stand.Pause.TheVariants as pauses
-use Rattle.rice_stream.specs.declared.stand.Stand.{Stand}
-use Rattle.rice_stream.proofs.lemmas.CallsDecodeAsDefined.{FaultOf, decodes_as, never_reached}
-use Rattle.rice_stream.proofs.lemmas.PulledPieces.{seek_all, seek_enough, stands_tell_places}
-use Rattle.rice_stream.proofs.lemmas.ReturnedBytes.{decoded_before}
-use Rattle.rice_samples.proofs.lemmas.bytes.SpellingLengths.{length-spellings, spellings-append}
-use Rattle.rice_calls.specs.declared.pulling.RiceDrain.{RiceDrain}
-use Rattle.rice_calls.specs.declared.report.RiceReport.{RiceReport}
-use Rattle.rice_calls.specs.declared.status.Status.{Status}
 use Rattle.rice_calls.specs.declared.status.Status.TheVariants as statuses
-use Rattle.rice_calls.specs.Calls.{DecodesInto, StandsInFront}
-use Rattle.rice_calls.specs.Laws.{ArePulled, DrainsTellPlaces, EndsAll, EnoughIsDecoding, IsPulled, Pull, PullsAreDecoding, WriteInParts, last_drain, place_all}
-use Rattle.rice_calls.specs.Reports.{report_of}
-use Rattle.rice_calls.specs.Statuses.{status_number, pause_status, fault_status, fault_place, pause_place}
-use Rattle.rice_calls.proofs.lemmas.BytesOfPulledPiece.{more_samples}
-use Rattle.rice_calls.proofs.lemmas.ReturnedSamples.{decode_suffices}
 
 -- ---- the pulls, as those of the engine
 
@@ -89,8 +64,7 @@ pulled-push s code drain (p ∷ ps) last after h k = (h.0, pulled-push s code p.
 
 -- what they gave stands in the caller's memory
 wrote_in_parts : {s : Parameters} (code : List ℕ) {o : Origin} {front : List Bool} {given : List ℤ} (drain : RiceDrain) (pulls : List Pull) (xs : List ℤ)
-    → IsStand s o drain.stand front given → ArePulled s code drain pulls → stream.GiveInParts s drain.stand (engines pulls) xs
-    → WriteInParts pulls (spellings s xs)
+    → IsStand s o drain.stand front given → ArePulled s code drain pulls → stream.GiveInParts s drain.stand (engines pulls) xs → WriteInParts pulls (spellings s xs)
 wrote_in_parts {s} code drain [] xs h pulled g = ap (spellings s) g
 wrote_in_parts {s} code {o} {front} {given} drain (p ∷ ps) xs h pulled g =
     let d = pulled.0.1.1 o front given h in
@@ -152,8 +126,7 @@ tells_end _ ended after fault last j h f at_pause = absurd h
 
 -- a drain stands for some bits and samples after each pull
 stands_at : (s : Parameters) (code : List ℕ) (o : Origin) (front : List Bool) (given : List ℤ) (drain : RiceDrain) (pulls : List Pull)
-    → IsStand s o drain.stand front given → ArePulled s code drain pulls
-    → (bits : List Bool) × (xs : List ℤ) × IsStand s o (last_drain drain pulls).stand bits xs
+    → IsStand s o drain.stand front given → ArePulled s code drain pulls → (bits : List Bool) × (xs : List ℤ) × IsStand s o (last_drain drain pulls).stand bits xs
 stands_at s code o front given drain [] h pulled = (front, given, h)
 stands_at s code o front given drain (p ∷ ps) h pulled =
     let d = pulled.0.1.1 o front given h in
@@ -176,8 +149,7 @@ tells_drain {s} code {o} {front} {given} drain p after h pulled =
 
 -- with room for all samples the whole call does not fail
 never_full : {s : Parameters} {code : List ℕ} {xs : List ℤ} {ending : Ending} {used : ℕ} {old new : List ℕ} {report : RiceReport} {status : ℕ} → IsLegal s
-    → Decoded s (bits_of code) None xs ending used → (ending ≡ Reached → ⊥) → (d : DecodesInto s None code old new report status)
-    → width s * length xs ≤ length old → d.fault ≢ Some faults.Write
+    → Decoded s (bits_of code) None xs ending used → (ending ≡ Reached → ⊥) → (d : DecodesInto s None code old new report status) → width s * length xs ≤ length old → d.fault ≢ Some faults.Write
 never_full {s} {code} {xs} {ending} {used} {report} legal whole early d room full =
     let ys = d.decodes.samples in
     let fails = subst (λ (f : Option Fault). EndsDecoding s None f d.call (report_of report) ys d.decodes.ending) full d.decodes.ends in

@@ -1,24 +1,9 @@
 -- What was encoded comes back, and room suffices.
-use Rattle.std.proofs.Common.{◌≡◌, ◌≢◌, ℕ, ◌*◌, ◌/◌, ◌<◌, ◌≤◌, List, [], ◌++◌, length, take, drop, Option, Some, None, inl, inr, ◌⊎◌, sym, ◌∙◌, ap, subst, arith, append-nil, ℤ}
-use Rattle.std.specs.Io.KnownBytes.{Consumes, IsAtEnd}
-use Rattle.std.proofs.Math.Seq.{take-append_seam}
-use Rattle.rice_samples.specs.Parameters.{Parameters, IsLegal, width}
-use Rattle.rice_samples.specs.bytes.Spelling.{spellings}
-use Rattle.rice_samples.proofs.lemmas.bytes.SpellingLengths.{length-spellings}
-use Rattle.rice_stream.proofs.lemmas.ReturnedBytes as stream
-use Rattle.rice_stream.specs.DevicesInCalls.{Call}
-use Rattle.rice_stream.specs.Encodes.{Encodes}
-use Rattle.rice_stream.specs.Decodes.{Decodes}
-use Rattle.rice_stream.specs.declared.outcome.Fault.{Fault}
-use Rattle.rice_stream.specs.declared.outcome.Fault.TheVariants.{Read, Write}
-use Rattle.rice_calls.specs.declared.report.RiceReport.{RiceReport}
-use Rattle.rice_calls.specs.declared.status.Status.TheVariants.{Done, NoRoom}
-use Rattle.rice_calls.specs.Calls.{EncodesInto, DecodesInto, StandsInFront}
-use Rattle.rice_calls.specs.Laws.{ReturnsBytes, ReturnsBytesAndFill, RoomSuffices}
-use Rattle.rice_calls.specs.Reports.{report_of}
-use Rattle.rice_calls.specs.SufficientRoom.{code_room}
-use Rattle.rice_calls.specs.Statuses.{status_number, fault_status}
+use Rattle.rice_calls.proofs.Words.{◌≡◌, ◌≢◌, ℕ, ◌*◌, ◌/◌, ◌<◌, ◌≤◌, List, [], ◌++◌, length, take, drop, Option, Some, None, inl, inr, ◌⊎◌, sym, ◌∙◌, ap, subst, arith, append-nil, ℤ, Consumes}
+use Rattle.rice_calls.proofs.Words.{IsAtEnd, take-append_seam, Parameters, IsLegal, width, spellings, length-spellings, Call, Encodes, Decodes, Fault, Read, Write, RiceReport, Done, NoRoom}
+use Rattle.rice_calls.proofs.Words.{EncodesInto, DecodesInto, StandsInFront, ReturnsBytes, ReturnsBytesAndFill, RoomSuffices, report_of, code_room, status_number, fault_status}
 use Rattle.rice_calls.proofs.lemmas.RoomOfCallSuffices.{encode_wants, decode_wants, write_of, none_of}
+use Rattle.rice_stream.proofs.lemmas.ReturnedBytes as stream
 
 -- with the room that is reported, encoding never wants more
 pub encode_suffices : (s : Parameters) (input old new : List ℕ) (r : RiceReport) (status : ℕ) → IsLegal s → EncodesInto s input old new r status

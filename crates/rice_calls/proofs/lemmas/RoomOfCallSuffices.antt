@@ -1,34 +1,10 @@
 -- The room that is reported for a call suffices: one that wants room had less.
-use Rattle.std.proofs.Common.{◌≡◌, ◌≢◌, ℕ, ◌+◌, ◌*◌, ◌/◌, ◌<◌, ◌≤◌, cond, Bool, true, false, List, [], ◌∷◌, ◌++◌}
-use Rattle.std.proofs.Common.{length, take, replicate, Option, Some, None, inl, inr, ◌⊎◌, refl, ◌∙◌, ap, arith, length-append, ℤ, pos}
-use Rattle.std.specs.Prelude.{All}
-use Rattle.std.specs.Int.{div_ceil}
-use Rattle.std.specs.Io.KnownBytes.{Consumes}
-use Rattle.std.proofs.Math.Nat.{mul-le-mul_left, mul-le-mul_right, div-add-mod, mod-lt}
-use Rattle.std.proofs.lemmas.Bool.{cases_lt}
-use Rattle.std.proofs.lemmas.Bool.Decides.{nat_tests}
-use Rattle.std.proofs.lemmas.Grind.{div_ceil_times}
-use Rattle.std.proofs.lemmas.List.{length-replicate, length-take}
-use Rattle.std.proofs.lemmas.List.Elements.{All-take}
-use Rattle.rice_bits.specs.Bits.{bits_in_bytes, bits_to_byte, padded_bits, whole_bytes}
-use Rattle.rice_bits.proofs.lemmas.bits.BytesAndBits.{bits_of-whole_bytes, length-bits_of}
-use Rattle.rice_samples.specs.Parameters.{Parameters, IsLegal, IsSample, width}
-use Rattle.rice_samples.specs.Places.{block_count, interval_count, cut}
-use Rattle.rice_samples.specs.bytes.Spelling.{spellings}
-use Rattle.rice_code.specs.Bounds.{block_bound, bit_bound, padding_bound, padded_bound}
-use Rattle.rice_code.specs.code.Code.{code, output, early_output}
-use Rattle.rice_code.proofs.lemmas.cost.PaddingBounds.{padding_is_bounded}
-use Rattle.rice_code.proofs.lemmas.code.SoundBlocks.{code_is_bounded}
-use Rattle.rice_samples.proofs.lemmas.setting.LevelsOfSamples.{zero_is_sample}
-use Rattle.rice_samples.proofs.lemmas.bytes.SpellingLengths.{length-spellings}
-use Rattle.rice_stream.specs.DevicesInCalls.{Call, StopsBetween}
-use Rattle.rice_stream.specs.Encodes.{Encodes, FailsAfter, FailsAtEnd}
-use Rattle.rice_stream.specs.Decodes.{Decodes}
-use Rattle.rice_stream.specs.declared.outcome.Report.{Report}
-use Rattle.rice_stream.specs.declared.outcome.Fault.{Fault}
-use Rattle.rice_stream.specs.declared.outcome.Fault.TheVariants.{Read, Write, TooLong, SampleOutOfRange, SampleCut, CodeEnds, RunPastSegment, ResidualTooLarge}
-use Rattle.rice_calls.specs.SufficientRoom.{code_room}
-use Rattle.rice_calls.specs.Statuses.{status_number, fault_status}
+use Rattle.rice_calls.proofs.Words.{◌≡◌, ◌≢◌, ℕ, ◌+◌, ◌*◌, ◌/◌, ◌<◌, ◌≤◌, cond, Bool, true, false, List, [], ◌∷◌, ◌++◌, length, take, replicate, Option, Some, None, inl, inr, ◌⊎◌, refl, ◌∙◌, ap}
+use Rattle.rice_calls.proofs.Words.{arith, length-append, ℤ, pos, All, div_ceil, Consumes, mul-le-mul_left, mul-le-mul_right, div-add-mod, mod-lt, cases_lt, nat_tests, div_ceil_times}
+use Rattle.rice_calls.proofs.Words.{length-replicate, length-take, All-take, bits_in_bytes, bits_to_byte, padded_bits, whole_bytes, bits_of-whole_bytes, length-bits_of, Parameters, IsLegal, IsSample}
+use Rattle.rice_calls.proofs.Words.{width, block_count, interval_count, cut, spellings, block_bound, bit_bound, padding_bound, padded_bound, code, output, early_output, padding_is_bounded}
+use Rattle.rice_calls.proofs.Words.{code_is_bounded, zero_is_sample, length-spellings, Call, StopsBetween, Encodes, FailsAfter, FailsAtEnd, Decodes, Report, Fault, Read, Write, TooLong}
+use Rattle.rice_calls.proofs.Words.{SampleOutOfRange, SampleCut, CodeEnds, RunPastSegment, ResidualTooLarge, code_room, status_number, fault_status}
 
 -- ---- more samples want no less room
 
@@ -114,18 +90,12 @@ pub encode_wants : (s : Parameters) (c : Call) (r : Report) (input left : List �
 encode_wants s c r input left legal gave e = by_end e.ends.1
   where
     by_end : FailsAfter s c r e.samples ⊎ FailsAtEnd s c r e.samples → length c.written < code_room s (length input / width s)
-    by_end (inl h) = omega (
-      arith,
-      stops_short _ _ c.written h.stops,
-      early_fits s e.samples (length input / width s) legal h.given.legal
-          (few_samples s e.samples c.given h.given.rest input left legal h.given.split gave),
-    )
-    by_end (inr h) = omega (
-      arith,
-      stops_short _ _ c.written h.stops,
-      output_fits s e.samples (length input / width s) legal h.given.legal
-          (few_samples s e.samples c.given h.given.rest input left legal h.given.whole gave),
-    )
+    by_end (inl h) =
+        let few = few_samples s e.samples c.given h.given.rest input left legal h.given.split gave in
+        omega (arith, stops_short _ _ c.written h.stops, early_fits s e.samples (length input / width s) legal h.given.legal few)
+    by_end (inr h) =
+        let few = few_samples s e.samples c.given h.given.rest input left legal h.given.whole gave in
+        omega (arith, stops_short _ _ c.written h.stops, output_fits s e.samples (length input / width s) legal h.given.legal few)
 
 -- decoding that wants room had less than the samples asked for take
 pub decode_wants : (s : Parameters) (count : ℕ) (c : Call) (r : Report) → Decodes s (Some count) c r (Some Write) → length c.written < count * width s

@@ -1,30 +1,8 @@
 -- The room that is reported for a piece suffices.
-use Rattle.std.proofs.Common.{◌≡◌, ℕ, ◌+◌, ◌-◌, ◌*◌, ◌/◌, ◌<◌, ◌≤◌, false, List, [], ◌∷◌, ◌++◌, length, take, replicate, Option}
-use Rattle.std.proofs.Common.{Some, None, Result, Ok, Err, inl, inr, sym, ◌∙◌, ap, subst, arith, append_assoc, append-nil, length-append, ℤ}
-use Rattle.std.specs.Prelude.{All}
-use Rattle.std.proofs.Math.Seq.{take-append-add}
-use Rattle.std.proofs.lemmas.Grind.{div_ceil_times}
-use Rattle.std.proofs.lemmas.List.{length-replicate, length-take}
-use Rattle.std.proofs.lemmas.List.Elements.{All-from_recursion, All-take}
-use Rattle.rice_bits.specs.Bits.{bits_to_byte, padded_bits}
-use Rattle.rice_bits.specs.device.OutletRoom.{Room, begun}
-use Rattle.rice_samples.specs.Parameters.{Parameters, IsLegal, IsSample, width}
-use Rattle.rice_samples.specs.Places.{cut}
-use Rattle.rice_code.specs.Bounds.{added_bound}
-use Rattle.rice_code.specs.code.Code.{code, output, early_output}
-use Rattle.rice_code.proofs.lemmas.cost.AddedCodeBound.{added_code_is_bounded}
-use Rattle.rice_code.proofs.lemmas.encode.PushedCode.{between_all}
-use Rattle.rice_stream.specs.EncodingState.{FollowsBetween}
-use Rattle.rice_stream.specs.Feeding.{IsSeam, after, WantsRoom, AreAll, EncodesMore, EncodesRest}
-use Rattle.rice_stream.specs.declared.outcome.Fault.{Fault}
-use Rattle.rice_stream.specs.declared.outcome.Fault.TheVariants.{Read, Write, TooLong, SampleOutOfRange, SampleCut, CodeEnds, RunPastSegment, ResidualTooLarge}
-use Rattle.rice_stream.specs.declared.outcome.Report.{Report}
-use Rattle.rice_stream.specs.declared.seam.Seam.{Seam}
-use Rattle.rice_stream.proofs.lemmas.FedPieces.{code_of_seam}
-use Rattle.rice_stream.proofs.lemmas.Seams.{cut_grows}
-use Rattle.rice_calls.specs.Feeding.{fault_of}
-use Rattle.rice_calls.specs.Laws.{PushRoomSuffices}
-use Rattle.rice_calls.specs.SufficientRoom.{push_room}
+use Rattle.rice_calls.proofs.Words.{◌≡◌, ℕ, ◌+◌, ◌-◌, ◌*◌, ◌/◌, ◌<◌, ◌≤◌, false, List, [], ◌∷◌, ◌++◌, length, take, replicate, Option, Some, Result, Ok, Err, inl, inr, sym, ◌∙◌, ap, subst, arith}
+use Rattle.rice_calls.proofs.Words.{append_assoc, append-nil, length-append, ℤ, All, take-append-add, div_ceil_times, length-replicate, length-take, All-from_recursion, All-take, bits_to_byte}
+use Rattle.rice_calls.proofs.Words.{padded_bits, Room, begun, Parameters, IsLegal, IsSample, width, cut, added_bound, code, output, early_output, added_code_is_bounded, between_all, FollowsBetween}
+use Rattle.rice_calls.proofs.Words.{IsSeam, after, WantsRoom, AreAll, EncodesMore, EncodesRest, Fault, Write, Report, Seam, code_of_seam, cut_grows, fault_of, PushRoomSuffices, push_room}
 use Rattle.rice_calls.proofs.lemmas.RoomOfCallSuffices.{bound_le, few_samples, few_whole, stops_short, write_of}
 
 -- the samples of a feed are legal
@@ -79,27 +57,17 @@ module _ (s : Parameters) (legal : IsLegal s) (seam : Seam) (xs : List ℤ) (h :
     push_wants : (r : Result Seam Fault) → fault_of r ≡ Some Write → EncodesMore s xs input (Some (begun name old)) (Some room) r
         → length room.bytes < push_room s seam.waiting_bits (length input / width s)
     push_wants (Ok seam) e w = absurd cc
-    push_wants (Err Write) e w = more_wants w.0 w.1 w.2
-    push_wants (Err Read) e w = absurd w
-    push_wants (Err TooLong) e w = absurd cc
-    push_wants (Err (SampleOutOfRange index)) e w = absurd cc
-    push_wants (Err (SampleCut index)) e w = absurd w
-    push_wants (Err (CodeEnds samples)) e w = absurd w
-    push_wants (Err (RunPastSegment block)) e w = absurd w
-    push_wants (Err (ResidualTooLarge block)) e w = absurd w
+    push_wants (Err fault) e w =
+        let is : fault ≡ Write = cc in
+        let wants = subst (λ (f : Fault). EncodesMore s xs input (Some (begun name old)) (Some room) (Err f)) is w in
+        more_wants wants.0 wants.1 wants.2
 
     finish_wants : (r : Report) (fault : Option Fault) → fault ≡ Some Write → EncodesRest s xs input (Some (begun name old)) (Some room) r fault
         → length room.bytes < push_room s seam.waiting_bits (length input / width s)
-    finish_wants r None e w = absurd cc
-    finish_wants r (Some Write) e (inl w) = more_wants w.0 w.1 w.2
-    finish_wants r (Some Write) e (inr w) = rest_wants w.0 w.1 w.3
-    finish_wants r (Some Read) e w = absurd w
-    finish_wants r (Some TooLong) e w = absurd cc
-    finish_wants r (Some (SampleOutOfRange index)) e w = absurd cc
-    finish_wants r (Some (SampleCut index)) e w = absurd cc
-    finish_wants r (Some (CodeEnds samples)) e w = absurd w
-    finish_wants r (Some (RunPastSegment block)) e w = absurd w
-    finish_wants r (Some (ResidualTooLarge block)) e w = absurd w
+    finish_wants r fault e w = elim (subst (λ (f : Option Fault). EncodesRest s xs input (Some (begun name old)) (Some room) r f) e w) [
+      | inl w ↦ more_wants w.0 w.1 w.2
+      | inr w ↦ rest_wants w.0 w.1 w.3
+    ]
 
 -- the room that is reported suffices for the code of a piece
 pub push_room_suffices : PushRoomSuffices

@@ -1,10 +1,5 @@
 -- What became of the slice that an outlet began with.
-use Rattle.std.proofs.Common.{◌≡◌, ◌≢◌, ℕ, ◌+◌, ◌<◌, List, [], ◌++◌, length, Option, Some, sym, ◌∙◌, ap, subst, arith, length-append}
-use Rattle.rice_bits.specs.device.OutletRoom.{Room, begun, Fills}
-use Rattle.rice_stream.specs.DevicesInCalls.{Fails}
-use Rattle.rice_stream.specs.declared.outcome.Fault.{Fault}
-use Rattle.rice_stream.specs.declared.outcome.Fault.TheVariants.{Read, Write}
-use Rattle.rice_calls.specs.Calls.{WritesFront}
+use Rattle.rice_calls.proofs.Words.{◌≡◌, ◌≢◌, ℕ, ◌+◌, ◌<◌, List, [], ◌++◌, length, Option, Some, sym, ◌∙◌, ap, subst, arith, length-append, Room, begun, Fills, Fails, Fault, Read, Write, WritesFront}
 
 -- memory is read without faults
 not_read : (fault : Option Fault) (n : ℕ) → Fails fault 0 0 0 n → fault ≢ Some Read

@@ -1,9 +1,4 @@
-use Rattle.std.proofs.Common.{◌++◌, List, ℕ, Some, sym, ◌∙◌, subst, ap, length, take-append-drop}
-use Rattle.rice_bits.specs.device.OutletRoom.{Room, begun}
-use Rattle.rice_bits.specs.device.Slice.{slice_left, slice_state}
-use Rattle.rice_stream.specs.DevicesInCalls.{Happens}
-use Rattle.rice_stream.specs.Decodes.{Decodes, DecodesWithin}
-use Rattle.rice_stream.specs.declared.outcome.Report.{Report}
+use Rattle.rice_calls.proofs.Words.{◌++◌, List, ℕ, Some, sym, ◌∙◌, subst, ap, length, take-append-drop, Room, begun, slice_left, slice_state, Happens, Decodes, DecodesWithin, Report}
 use Rattle.rice_calls.proofs.lemmas.WrittenMemory.{writes_front}
 use Rattle.rice_calls.proofs.coding.decode_into.Goals as goal
 

@@ -1,6 +1,5 @@
-use Rattle.std.proofs.Common.{rules, refl, sym, ◌∙◌, subst}
+use Rattle.rice_calls.proofs.Words.{rules, refl, sym, ◌∙◌, subst, Asked, EncodesAsAsked}
 use Rattle.rice_calls.proofs.lemmas.ReturnedSamples.{encode_suffices}
-use Rattle.rice_calls.specs.AsAsked.{Asked, EncodesAsAsked}
 use Rattle.rice_calls.proofs.coding.encode.Goals as goal
 
 pub returns-in-Ok : goal.returns-in-Ok

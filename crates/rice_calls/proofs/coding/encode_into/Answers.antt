@@ -1,5 +1,4 @@
-use Rattle.std.proofs.Common.{arith, ◌≤◌, [], length}
-use Rattle.rice_samples.specs.Limits.{most_input}
+use Rattle.rice_calls.proofs.Words.{arith, ◌≤◌, [], length, most_input}
 use Rattle.rice_calls.proofs.lemmas.EncodedAtOnce.{encodes_at_once}
 use Rattle.rice_calls.proofs.coding.encode_into.Goals as goal
 

@@ -1,9 +1,4 @@
-use Rattle.std.proofs.Common.{◌++◌, List, ℕ, Some, sym, ◌∙◌, subst, ap, length, take-append-drop}
-use Rattle.rice_bits.specs.device.OutletRoom.{Room, begun}
-use Rattle.rice_bits.specs.device.Slice.{slice_left, slice_state}
-use Rattle.rice_stream.specs.DevicesInCalls.{Happens}
-use Rattle.rice_stream.specs.Encodes.{Encodes, EncodesWithin}
-use Rattle.rice_stream.specs.declared.outcome.Report.{Report}
+use Rattle.rice_calls.proofs.Words.{◌++◌, List, ℕ, Some, sym, ◌∙◌, subst, ap, length, take-append-drop, Room, begun, slice_left, slice_state, Happens, Encodes, EncodesWithin, Report}
 use Rattle.rice_calls.proofs.lemmas.WrittenMemory.{writes_front}
 use Rattle.rice_calls.proofs.coding.encode_past_limit.Goals as goal
 

@@ -1,11 +1,5 @@
-use Rattle.std.proofs.Common.{◌∙◌, Some, sym, subst, ap, take-append-drop}
-use Rattle.rice_bits.specs.device.OutletRoom.{Room, begun}
-use Rattle.rice_bits.specs.device.Slice.{slice_state}
-use Rattle.rice_stream.specs.Encodes.{EncodesWithin}
-use Rattle.rice_stream.specs.Feeding.{EncodesRest}
-use Rattle.rice_stream.specs.declared.outcome.Report.{Report}
-use Rattle.rice_calls.proofs.lemmas.FedOutlets.{rest_fills}
-use Rattle.rice_calls.proofs.lemmas.WrittenMemory.{all_in_front}
+use Rattle.rice_calls.proofs.Words.{◌∙◌, Some, sym, subst, ap, take-append-drop, Room, begun, slice_state, EncodesWithin, EncodesRest, Report}
+use Rattle.rice_calls.proofs.lemmas.{FedOutlets.rest_fills, WrittenMemory.all_in_front}
 use Rattle.rice_calls.proofs.feeding.finish_into.Goals as goal
 
 pub returns : goal.returns
@@ -27,9 +21,5 @@ returns g c xs h =
       writes = all_in_front c.args.code.now name out.failures run.result.fault
           (rest_fills s xs c.args.samples.now start (slice_state out) run.result.report run.result.fault did)
           (tie ∙ sym (take-append-drop out.at out.room.now)) c.code-1.given.1.0 run.ensures.failures c.taken-written.ensures.full;
-      tells = record {
-        status = c.tell.ensures.status;
-        written = c.tell.ensures.written ∙ c.taken-written.ensures.count;
-        place = c.tell.ensures.place;
-      };
+      tells = record { status = c.tell.ensures.status; written = c.tell.ensures.written ∙ c.taken-written.ensures.count; place = c.tell.ensures.place };
     }

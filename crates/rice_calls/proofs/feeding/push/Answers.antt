@@ -1,7 +1,5 @@
-use Rattle.std.proofs.Common.{rules, refl, sym, ◌∙◌, subst, IfOk, List, ℤ}
-use Rattle.rice_stream.specs.Feeding.{IsSeam}
+use Rattle.rice_calls.proofs.Words.{rules, refl, sym, ◌∙◌, subst, IfOk, List, ℤ, IsSeam, Asked, PushesAsAsked}
 use Rattle.rice_calls.proofs.lemmas.RoomOfPieceSuffices.{push_room_suffices}
-use Rattle.rice_calls.specs.AsAsked.{Asked, PushesAsAsked}
 use Rattle.rice_calls.proofs.feeding.push.Goals as goal
 
 pub returns-in-Ok : goal.returns-in-Ok

@@ -1,12 +1,6 @@
-use Rattle.std.proofs.Common.{◌∙◌, Some, None, Option, Result, Ok, Err, sym, subst, ap, refl, take-append-drop}
-use Rattle.rice_bits.specs.device.OutletRoom.{Room, begun}
-use Rattle.rice_bits.specs.device.Slice.{slice_state}
-use Rattle.rice_stream.specs.Feeding.{EncodesMore}
-use Rattle.rice_stream.specs.declared.outcome.Fault.{Fault}
-use Rattle.rice_stream.specs.declared.seam.Seam.{Seam}
-use Rattle.rice_calls.specs.Statuses.{status_number, fault_status, fault_place}
-use Rattle.rice_calls.proofs.lemmas.FedOutlets.{more_fills, more_fails}
-use Rattle.rice_calls.proofs.lemmas.WrittenMemory.{all_in_front}
+use Rattle.rice_calls.proofs.Words.{◌∙◌, Some, None, Option, Result, Ok, Err, sym, subst, ap, refl, take-append-drop, Room, begun, slice_state, EncodesMore, Fault, Seam, status_number, fault_status}
+use Rattle.rice_calls.proofs.Words.{fault_place}
+use Rattle.rice_calls.proofs.lemmas.{FedOutlets.more_fills, FedOutlets.more_fails, WrittenMemory.all_in_front}
 use Rattle.rice_calls.proofs.feeding.push_into.Goals as goal
 
 pub returns-in-Ok : goal.returns-in-Ok
