@@ -1,8 +1,7 @@
 -- The head of a buffered block, and its high parts in rows of sixteen.
-use Rattle.rice_fast.proofs.Words.{◌≡◌, ℕ, zero, suc, ◌+◌, ◌-◌, ◌*◌, ◌/◌, ◌%◌, ◌^◌, ◌<◌, ◌≤◌, Bool, true, List, ◌++◌, length, take, drop, take-take, replicate, refl, sym, ◌∙◌, ap, subst, arith, Some}
-use Rattle.rice_fast.proofs.Words.{flat_map, take-add, take-append-add, flat_map-append, drop-append-le, drop-drop, length-take-le, take-append-le, word, fundamental_sequence, BeginWithSequences}
-use Rattle.rice_fast.proofs.Words.{Parameters, value_at, value_count, is_reference, pattern, HeadAhead, HighsAhead, rows_len}
-use Rattle.std.specs.Prelude.{min}
+use Rattle.rice_fast.proofs.Words.{◌≡◌, ℕ, zero, suc, ◌+◌, ◌-◌, ◌*◌, ◌^◌, ◌<◌, ◌≤◌, Bool, true, List, ◌++◌, length, take, drop, take-take, replicate, refl, sym, ◌∙◌, ap, subst, arith, Some, flat_map}
+use Rattle.rice_fast.proofs.Words.{take-add, take-append-add, flat_map-append, drop-append-le, drop-drop, length-take-le, take-append-le, word, fundamental_sequence, BeginWithSequences, Parameters}
+use Rattle.rice_fast.proofs.Words.{value_at, value_count, is_reference, pattern, HeadAhead, HighsAhead}
 
 -- a reference sample
 pub head_after_reference : {buffered : List Bool} {s : Parameters} {b before skip from v bits : ℕ} → is_reference s b ≡ true
@@ -73,23 +72,3 @@ highs-row {buffered} {skip} {omitted} {len} {n} {highs} {row} few before more =
           ∙ (flat_map-append fundamental_sequence (drop omitted highs) row ∙ ((λ j. before.spelled j ++ more.spelled j) ∙ after-both buffered skip len n));
       within = omega (arith, within);
     }
-
--- the rows of a block: those before a row, all of them, and a row among them
-pub rows_before : (size row : ℕ) → 16 * row < size → rows_len size row ≡ 16 * row
-rows_before size row lt = omega (arith, lt)
-
--- after its last row all samples of a block are in rows
-pub rows_end : (size row : ℕ) → (size + 15) / 16 ≤ row → rows_len size row ≡ size
-rows_end size row least = omega (arith, least)
-
--- where a block is of whole rows, a row more is sixteen samples more,
-pub whole_row : (size row : ℕ) → 16 * row < size → size % 16 ≡ 0 → 16 * row + 16 ≡ rows_len size (row + 1)
-whole_row size row lt none = omega (arith, lt, none)
-
--- and in any block it is as many as are left, up to sixteen
-pub part_of_row : (size row count : ℕ) → 16 * row < size → count ≡ min (size - 16 * row) 16 → 16 * row + count ≡ rows_len size (row + 1)
-part_of_row size row count lt is = omega (arith, lt, is)
-
--- a row of a block of at most 64 samples is one of four, and begins inside the block
-pub row_inside : (size row : ℕ) → size ≤ 64 → row < (size + 15) / 16 → (row < 4) × (16 * row < size)
-row_inside size row most lt = (omega (arith, lt, most), omega (arith, lt))

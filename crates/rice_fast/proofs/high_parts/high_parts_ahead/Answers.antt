@@ -1,5 +1,5 @@
-use Rattle.rice_fast.proofs.Words.{◌≡◌, ◌+◌, ◌*◌, ◌≤◌, ◌∙◌, ap, arith, length, take, subst, sym, length-take-le, HighsAhead, rows_len}
-use Rattle.rice_fast.proofs.lemmas.HighParts.{highs-row, row_inside, rows_before, rows_end, stored_row}
+use Rattle.rice_fast.proofs.Words.{◌≡◌, ◌+◌, ◌*◌, ◌<◌, ◌≤◌, ◌∙◌, ap, arith, length, take, subst, sym, length-take-le, HighsAhead, rows_len}
+use Rattle.rice_fast.proofs.lemmas.HighParts.{highs-row, stored_row}
 use Rattle.rice_fast.proofs.high_parts.high_parts_ahead.Goals as goal
 
 pub overflow_add-skip : goal.overflow_add-skip
@@ -31,10 +31,11 @@ loop-row-preserved g c =
     let l = c.loop-row in
     let next = c.in_ok-next.next in
     let row = c.row_len-in-loop-row in
-    let inside = row_inside size l.row c.requires.size.1 c.loop-row-test.true in
-    let before = subst (λ n. HighsAhead w skip o (take n l.highs) l.len) (rows_before size l.row inside.1) l.invariant.rows in
-    let few : o ≤ length (take (16 * l.row) l.highs) = omega (arith, c.requires.omitted, l.auto.row, length-take-le (16 * l.row) l.highs (omega (arith, inside.0, l.invariant.places))) in
-    let stored = stored_row l.row row.result next.numbers l.highs c.store_row-in-loop-row.new.rows row.ensures.some.1 (omega (arith, inside.0, l.invariant.places)) c.in_ok-next.ensures.lanes
+    let inside : l.row < 4 = omega (arith, c.loop-row-test.true, c.requires.size) in
+    let at : rows_len size l.row ≡ 16 * l.row = omega (arith, c.loop-row-test.true) in
+    let before = subst (λ n. HighsAhead w skip o (take n l.highs) l.len) at l.invariant.rows in
+    let few : o ≤ length (take (16 * l.row) l.highs) = omega (arith, c.requires.omitted, l.auto.row, length-take-le (16 * l.row) l.highs (omega (arith, inside, l.invariant.places))) in
+    let stored = stored_row l.row row.result next.numbers l.highs c.store_row-in-loop-row.new.rows row.ensures.some.1 (omega (arith, inside, l.invariant.places)) c.in_ok-next.ensures.lanes
     c.store_row-in-loop-row.ensures.value in
     record {
       places = c.store_row-in-loop-row.ensures.len ∙ l.invariant.places;
@@ -45,7 +46,5 @@ loop-row-preserved g c =
 pub returns : goal.returns
 returns g c =
     let l = c.loop-row in
-    record {
-      some = subst (λ n. HighsAhead c.args.reader.now.buffered c.args.skip c.args.omitted (take n l.highs) l.len)
-          (rows_end c.args.size l.row (omega (arith, c.loop-row-test.false))) l.invariant.rows;
-    }
+    let end : rows_len c.args.size l.row ≡ c.args.size = omega (arith, c.loop-row-test.false) in
+    record { some = subst (λ n. HighsAhead c.args.reader.now.buffered c.args.skip c.args.omitted (take n l.highs) l.len) end l.invariant.rows }

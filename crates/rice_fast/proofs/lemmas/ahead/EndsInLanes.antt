@@ -2,10 +2,9 @@
 use Rattle.rice_fast.proofs.Words.{◌≡◌, ℕ, zero, suc, ◌+◌, ◌-◌, ◌*◌, ◌/◌, ◌%◌, ◌^◌, ◌<◌, ◌≤◌, Bool, cond, ◌||◌, List, [], ◌∷◌, ◌++◌, length, take, drop, get_or, replicate, map, length-append, refl}
 use Rattle.rice_fast.proofs.Words.{take-map, sym, ◌∙◌, ap, arith, append_assoc, subst, take-take, w8, bit_or, range_with_len, zip2, Each1, pick_l, ones, or_zero_l, or_zero_r, ones-le, ones-ones}
 use Rattle.rice_fast.proofs.Words.{ones_cat, T, leb, ltb, map-replicate, zeroes, take-add, length-replicate, length-take-le, map-append, replicate-append-replicate, take-replicate}
-use Rattle.rice_fast.proofs.Words.{get_or-map-range_with_len, add-mul, div-mul-add, mod_below, pow-add, pow_pos, shr_below, shr_split, Each1-chunk, SwzOk, SwzOk-from_Each1, swz_l, pick_l_whole}
-use Rattle.rice_fast.proofs.Words.{to_be_bytes, bits_of, word, ends_after, bits_of-eight, word-mod, front_below, take-front, length-word, in_lanes, places_after, row_of_place, SLIDE, ROWS}
-use Rattle.std.specs.Int.{w64}
-use Rattle.rice_fast.proofs.lemmas.{ahead.WordsInBytes.byte_at, ahead.WordsInBytes.table_row, ahead.EndsAndGapsLemmas.ends-append, ahead.EndsAndGapsLemmas.ends-count, ahead.EndsAndGapsLemmas.few-ends}
+use Rattle.rice_fast.proofs.Words.{get_or-map-range_with_len, add-mul, div-mul-add, mod_below, pow-add, pow_pos, shr_below, shr_split, Each1-chunk, SwzOk, SwzOk-from_Each1, swz_l, pick_l_whole, word}
+use Rattle.rice_fast.proofs.Words.{ends_after, word-mod, front_below, take-front, length-word, in_lanes, places_after, row_of_place, SLIDE, ROWS}
+use Rattle.rice_fast.proofs.lemmas.{ahead.WordsInBytes.table_row, ahead.EndsAndGapsLemmas.ends-append, ahead.EndsAndGapsLemmas.ends-count, ahead.EndsAndGapsLemmas.few-ends}
 use Rattle.std.specs.Prelude.{◌==◌}
 
 -- the tables
@@ -208,11 +207,6 @@ pub zeros-of : (front n : ℕ) → n ≤ 64 → front < 2 ^ 64 → ones ((2 ^ 64
 zeros-of front n h fits =
     let other = ap ones (front-other front n h fits) in
     omega (arith, other, ones-of front n h fits, ones_of_complement n (front / 2 ^ (64 - n)) (front_below 64 n front h fits))
-
--- the byte at a place among the eight bytes of a number has the eight digits there
-pub byte-of : (front place : ℕ) (bytes : List ℕ) → place < 8 → bytes ≡ to_be_bytes w64 front → word 8 (get_or bytes place 0) ≡ take 8 (drop (8 * place) (word 64 front))
-byte-of front place bytes h e =
-    sym (byte_at place bytes (omega (arith, h, ap length e))) ∙ ap (λ b. take 8 (drop (8 * place) b)) (ap bits_of e ∙ bits_of-eight front)
 
 -- one byte more: the ends of its ones, moved after those before it and joined with them, are the ends of all in lanes
 pub byte-joined : (front : ℕ) {place : ℕ} (byte : ℕ) {before more shifted : List ℕ} (count : ℕ) → place < 7

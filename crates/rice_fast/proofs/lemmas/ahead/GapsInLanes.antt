@@ -3,10 +3,6 @@ use Rattle.rice_fast.proofs.Words.{◌≡◌, ℕ, zero, suc, ◌+◌, ◌-◌, 
 use Rattle.rice_fast.proofs.Words.{get_or-take, length-take-le, take-append-le, fundamental_sequence, word, ends_after, gaps, length-word, in_lanes}
 use Rattle.rice_fast.proofs.lemmas.ahead.EndsAndGapsLemmas.{gaps-spell, take-gaps}
 
--- the first lanes are the first numbers
-lanes-first : (t : ℕ) (es : List ℕ) → t ≤ 16 → t ≤ length es → take t (in_lanes es) ≡ take t es
-lanes-first t es h few = take-take t 16 (es ++ replicate 16 0) h ∙ take-append-le t es (replicate 16 0) few
-
 -- the fundamental sequences of the first gaps are the bits up to the last of these ends, which is within the first bytes
 pub lanes-spell : (front bytes count : ℕ) (ends : List ℕ) → bytes ≤ 7 → ends ≡ in_lanes (ends_after 0 (take (8 * bytes) (word 64 front)))
     → 1 ≤ count → count ≤ 16 → count ≤ length (ends_after 0 (take (8 * bytes) (word 64 front)))
@@ -15,7 +11,7 @@ lanes-spell front bytes count ends h e some few there =
     let bits = take (8 * bytes) (word 64 front) in
     let es = ends_after 0 bits in
     let n : count ≡ suc (count - 1) = omega (arith, some) in
-    let first : take count ends ≡ take count es = ap (take count) e ∙ lanes-first count es few there in
+    let first : take count ends ≡ take count es = ap (take count) e ∙ (take-take count 16 (es ++ replicate 16 0) few ∙ take-append-le count es (replicate 16 0) there) in
     let last : get_or ends (count - 1) 0 ≡ get_or (0 ∷ es) count 0 =
     sym (get_or-take count ends (count - 1) 0 (omega (arith, some)))
     ∙ (ap (λ z. get_or z (count - 1) 0) first ∙ (get_or-take count es (count - 1) 0 (omega (arith, some)) ∙ ap (λ k. get_or (0 ∷ es) k 0) (sym n))) in

@@ -54,10 +54,6 @@ sequence_added m h = let n = length-fundamental_sequence m in record { bits = h.
 pub room_for_sequence : (m : ℕ) {bits meter : ℕ} → HasRoomForBits (fundamental_sequence m) bits meter → HasRoomFor (m + 1) (m + 1) bits meter
 room_for_sequence m h = let n = length-fundamental_sequence m in record { room = omega (arith, n, h.room); steps = omega (arith, n, h.steps) }
 
--- where there is room for bits, there is for none
-pub room_for_none : {count ticks bits meter : ℕ} → HasRoomFor count ticks bits meter → HasRoomFor 0 0 bits meter
-room_for_none h = record { room = omega (arith, h.room); steps = omega (arith, h.steps) }
-
 -- a range of a list is its first part and the rest
 slice_parts : (xs : List ℕ) (a m b : ℕ) → a ≤ m → m ≤ b → slice_range xs a b ≡ slice_range xs a m ++ slice_range xs m b
 slice_parts xs a m b h k =

@@ -1,12 +1,12 @@
 -- What the fast coder stands for when a segment ends.
 use Rattle.rice_fast.proofs.Words.{◌≡◌, ℕ, zero, suc, ◌+◌, ◌-◌, ◌*◌, ◌/◌, ◌%◌, ◌^◌, ◌<◌, ◌≤◌, ◌==◌, Bool, true, false, cond, not, ◌&&◌, List, [], ◌∷◌, ◌++◌, length, take, drop, replicate, refl, ap}
-use Rattle.rice_fast.proofs.Words.{arith, sym, ◌∙◌, subst, length-append, ℤ, nat_tests, sum_by-cons, length-replicate, length-take-le, mul-div_cancel_left, mul-add-mod_self_left, mod-eq_of_lt, mod-lt}
+use Rattle.rice_fast.proofs.Words.{arith, sym, ◌∙◌, subst, length-append, ℤ, nat_tests, sum_by-cons, length-replicate, length-take-le, mul-div_cancel_left, mul-add-mod_self_left, mod-eq_of_lt}
 use Rattle.rice_fast.proofs.Words.{bits_to_byte, word, length-word, Parameters, IsSample, id_len, value_at, width, begins_segment, blocks_left, Reads, some_left, BlockData, fill_count, fill_count_of}
 use Rattle.rice_fast.proofs.Words.{is_zero_block, shortest, complete_samples, data_sets, CodedDataSet, NoCompression, RemainderOfSegment, SecondExtension, Split, ZeroBlocks, bits_of_set}
 use Rattle.rice_fast.proofs.Words.{no_compression_tail, run_number, run_tail, second_extension_tail, split_tail, zero_run, AreSoundBlocks, HasRoomFor, AddsCode, CompletesNone, HasTaken, IsCoder}
 use Rattle.rice_fast.proofs.Words.{PushesSamples, held_blocks, pending_bits, reference_at, CodesHeld, CoderState, HoldsSoundBlocks, IsOpen, IsWhole, bits_held, blocks_held, contents_held, is_empty}
 use Rattle.rice_fast.proofs.Words.{state_after_all, state_after_segment, state_between, next_start, all_take, codes_held, next_is_open, held_len, finish_adds, HoldsMore, is_coder_after}
-use Rattle.rice_fast.proofs.Words.{several_stay_open, whole_pushes, length-state_after_all, HoldsOpen, PushesOpen, StandsAfter, StandsFor, StandsWith, coder_between, coder_with, HasRoomAt, Standing}
+use Rattle.rice_fast.proofs.Words.{several_stay_open, whole_pushes, length-state_after_all, PushesOpen, StandsAfter, StandsFor, StandsWith, coder_between, coder_with, HasRoomAt, Standing}
 use Rattle.rice_fast.proofs.Words.{TakesSpelled, BlockCoder}
 use Rattle.std.specs.Prelude.{sum_by}
 use Rattle.rice_fast.proofs.lemmas.encode.StandingCoders.{after_none, between_stands, blocks_few, blocks_inside, part_counted, meter_after, residuals_counted}
@@ -35,10 +35,6 @@ some_bits_of s b (c ∷ cs) some = first (is_zero_block c)
         (cond z (cond (false && not (begins_segment s b)) [] (zero_run s b c.reference (c ∷ cs) ∷ [])) (shortest s c ∷ []) ++ data_sets s (b + 1) (is_zero_block c) cs)
     first true = of_cons (zero_run s b c.reference (c ∷ cs)) (data_sets s (b + 1) (is_zero_block c) cs)
     first false = of_cons (shortest s c) (data_sets s (b + 1) (is_zero_block c) cs)
-
--- a segment begins inside an interval
-pub start_is_low : {c : BlockCoder} {row : List ℕ} {sink : List Bool} {meter : ℕ} {ds : List ℕ} {from : List Bool} {m : ℕ} → HoldsOpen c row sink meter ds from m → c.start < 4096
-start_is_low {c} h = omega (arith, h.opens.place, mod-lt c.start h.opens.legal.interval_from, h.opens.legal.interval_to)
 
 -- the code of the pending run is the last
 pub end_has_room : {c : BlockCoder} {sink : List Bool} {meter : ℕ} {m : Standing} {xs : List ℤ} → StandsAfter c sink meter m xs → HasRoomAt m

@@ -1,7 +1,7 @@
 -- The lowest digits of several residuals in one word.
 use Rattle.rice_fast.proofs.Words.{◌≡◌, ℕ, zero, suc, take, ◌+◌, ◌-◌, ◌*◌, ◌/◌, ◌%◌, ◌^◌, ◌<◌, ◌≤◌, List, [], ◌∷◌, ◌++◌, length, drop, get_or, map, refl, ap, arith, sym, subst, ◌∙◌, append_assoc}
-use Rattle.rice_fast.proofs.Words.{flat_map, slice_range, bit_and, bit_or, Each1, drop-append_seam, drop-append-le, length-map, take_all, pow-le-pow_right, and_mask, mod_below, one_shl, pow_pos}
-use Rattle.rice_fast.proofs.Words.{or_shifted, word, length-word, word-split, word-cat, join_below, low_word, low_digits_of_each, joined_in_pairs}
+use Rattle.rice_fast.proofs.Words.{flat_map, slice_range, bit_and, bit_or, Each1, drop-append_seam, drop-append-le, take_all, pow-le-pow_right, and_mask, mod_below, one_shl, pow_pos, or_shifted, word}
+use Rattle.rice_fast.proofs.Words.{length-word, word-split, word-cat, join_below, low_word, low_digits_of_each, joined_in_pairs}
 use Rattle.std.proofs.Common.{mod-eq_of_lt}
 use Rattle.rice_fast.proofs.lemmas.encode.AddedBits.{slice_to_end}
 
@@ -16,10 +16,6 @@ tail_of_word n m v =
 pub words_of_low : (w : ℕ) (xs : List ℕ) → flat_map (word w) (low_digits_of_each w xs) ≡ flat_map (word w) xs
 words_of_low w [] = refl
 words_of_low w (x ∷ xs) = (λ i. low_word w x _ refl i ++ words_of_low w xs i)
-
--- there are as many
-pub length-low : (w : ℕ) (xs : List ℕ) → length (low_digits_of_each w xs) ≡ length xs
-length-low w xs = length-map xs (λ d. d % 2 ^ w)
 
 -- a mask takes them
 pub masked : (w : ℕ) (xs : List ℕ) → map (λ d. bit_and d (2 ^ w - 1)) xs ≡ low_digits_of_each w xs

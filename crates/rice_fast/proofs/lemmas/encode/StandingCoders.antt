@@ -76,11 +76,6 @@ blocks_sound {c} {row} {sink} {meter} {m} {xs} n h few whole =
     let sound : HoldsSoundBlocks (coder_with c h.residuals) = subst HoldsSoundBlocks same (sound_after m.coder xs n h.coded h.legal count left) in
     blocks_are_sound (coder_with c h.residuals) n one whole sound
 
--- residuals are those of whole blocks, and a row
-pub parts_of : {c : BlockCoder} {row : List ℕ} {sink : List Bool} {meter : ℕ} {ds : List ℕ} {from : List Bool} {m : ℕ} → HoldsOpen c row sink meter ds from m
-    → ds ≡ take (c.setting.block * c.blocks) ds ++ row
-parts_of {c} {ds = ds} h = sym (take-append-drop (c.setting.block * c.blocks) ds) ∙ ap (λ v. take (c.setting.block * c.blocks) ds ++ v) h.part
-
 -- a row that is a block makes one block more
 pub next_block : {c : BlockCoder} {row : List ℕ} {sink : List Bool} {meter : ℕ} {ds : List ℕ} {from : List Bool} {m : ℕ} → HoldsOpen c row sink meter ds from m → length row ≡ c.setting.block
     → held_blocks c.setting c.reference (c.blocks + 1) ds ≡ held_blocks c.setting c.reference c.blocks ds ++ block_with (reference_at c.reference c.blocks) row ∷ []
@@ -88,7 +83,7 @@ next_block {c} {row} {ds = ds} h whole =
     let s = c.setting in
     let front = take (s.block * c.blocks) ds in
     let len : length front ≡ s.block * c.blocks = length-take-le (s.block * c.blocks) ds (omega (arith, h.number)) in
-    let parts = parts_of h in
+    let parts : ds ≡ front ++ row = sym (take-append-drop (s.block * c.blocks) ds) ∙ ap (λ v. front ++ v) h.part in
     ap (held_blocks s c.reference (c.blocks + 1)) parts
     ∙ (held_next s c.reference c.blocks front row len whole
     ∙ ap (λ v. v ++ block_with (reference_at c.reference c.blocks) row ∷ [])

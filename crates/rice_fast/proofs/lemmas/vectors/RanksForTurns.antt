@@ -1,8 +1,7 @@
 -- What is computed of ranks in lanes before their numbers are found one after another.
 use Rattle.rice_fast.proofs.Words.{◌≡◌, ℕ, zero, suc, ◌+◌, ◌-◌, ◌/◌, ◌%◌, ◌^◌, ◌<◌, ◌≤◌, if◌then◌else◌, List, [], ◌∷◌, ◌++◌, ◌∙◌, ◌*◌, map, length, take, drop, get_or, refl, subst, sym, ap, arith}
-use Rattle.rice_fast.proofs.Words.{nat_lt, bit_and, zip2, nat_tests, length-map, get_or-map, get_or-replicate, length-replicate, take-append-drop, and_mask, pow-add, way, last_number, rank_below}
-use Rattle.rice_fast.proofs.Words.{ranks_below, All-append, mod-eq_of_lt, pow-le-pow_right}
-use Rattle.std.proofs.Common.{All}
+use Rattle.rice_fast.proofs.Words.{nat_lt, bit_and, zip2, nat_tests, length-map, get_or-map, take-append-drop, and_mask, pow-add, way, last_number, rank_below, ranks_below, mod-eq_of_lt}
+use Rattle.rice_fast.proofs.Words.{pow-le-pow_right}
 use Rattle.std.specs.Prelude.{replicate}
 use Rattle.rice_fast.proofs.lemmas.vectors.RestoredLevels.{ranks_below-append}
 
@@ -63,7 +62,3 @@ pub repeated : (g p n last : ℕ) (ranks first : List ℕ) → last ≤ g → la
 repeated g p n last ranks first within is ranked none =
     ranks_below-append (g + 1) p first (replicate n last)
     ∙ ((λ j. ranked j ++ (ap (λ q. ranks_below (g + 1) q (replicate n last)) (sym is) ∙ (none_away (g + 1) last n (omega arith) ∙ sym none)) j) ∙ take-append-drop 8 ranks)
-
--- where the last of some numbers is repeated, all of them stay as small
-pub repeated_fit : (g n last : ℕ) (first : List ℕ) → last ≤ g → All (λ x. x ≤ g) first → All (λ x. x ≤ g) (first ++ replicate n last)
-repeated_fit g n last first within fit = All-append (λ x. x ≤ g) first (replicate n last) fit (λ i d lt. rw (get_or-replicate n i last d (omega (arith, lt, length-replicate n last))) within)

@@ -1,5 +1,5 @@
-use Rattle.rice_fast.proofs.Words.{◌≡◌, ◌-◌, ◌*◌, ◌%◌, ◌^◌, ap, arith, ◌∙◌, bit_and, one_shl, zip2_splat}
-use Rattle.rice_fast.proofs.lemmas.encode.LowParts.{length-low, masked}
+use Rattle.rice_fast.proofs.Words.{◌≡◌, ◌-◌, ◌*◌, ◌%◌, ◌^◌, ap, arith, ◌∙◌, bit_and, one_shl, zip2_splat, length-map}
+use Rattle.rice_fast.proofs.lemmas.encode.LowParts.{masked}
 use Rattle.rice_fast.proofs.encode.low_parts.lowest_digits.Goals as goal
 
 pub returns-clause-value : goal.returns-clause-value
@@ -9,4 +9,4 @@ returns-clause-value c =
     rw mask (zip2_splat bit_and c.args.eight 8 (2 ^ w - 1) c.requires.lanes ∙ masked w c.args.eight)
 
 pub returns-clause-len : goal.returns-clause-len
-returns-clause-len c = rw (returns-clause-value c) (length-low c.args.width c.args.eight ∙ c.requires.lanes)
+returns-clause-len c = rw (returns-clause-value c) (length-map c.args.eight (λ d. d % 2 ^ c.args.width) ∙ c.requires.lanes)

@@ -1,5 +1,5 @@
 use Rattle.rice_fast.proofs.Words.{arith, length, refl, ◌+◌, ◌∙◌, sym, word, low_word}
-use Rattle.rice_fast.proofs.lemmas.encode.AddedBits.{added_to_end, bits_of_one, bits_of_none, none_added, range_added, room_for_none, room_for_range, room_to_end, same_added, word_added}
+use Rattle.rice_fast.proofs.lemmas.encode.AddedBits.{added_to_end, bits_of_one, bits_of_none, none_added, range_added, room_for_range, room_to_end, same_added, word_added}
 use Rattle.rice_fast.proofs.encode.low_parts.put_in_turn.Goals as goal
 
 pub loop-i-init : goal.loop-i-init
@@ -10,8 +10,9 @@ add-requires-clause-room c =
     let l = c.loop-i in
     let xs = c.args.some.now in
     let f = word c.args.width in
-    room_for_none (room_for_range f xs c.args.from l.i l.i (length xs) l.invariant.after (omega arith) (omega (arith, l.auto.i-end)) (sym (bits_of_none f xs l.i))
-    (room_to_end f xs c.args.from (length xs) refl c.requires.room) l.invariant.adds)
+    let room = room_for_range f xs c.args.from l.i l.i (length xs) l.invariant.after (omega arith) (omega (arith, l.auto.i-end)) (sym (bits_of_none f xs l.i))
+    (room_to_end f xs c.args.from (length xs) refl c.requires.room) l.invariant.adds in
+    record { room = omega (arith, room.room); steps = omega (arith, room.steps) }
 
 pub loop-i-preserved : goal.loop-i-preserved
 loop-i-preserved c =

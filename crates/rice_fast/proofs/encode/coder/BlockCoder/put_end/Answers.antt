@@ -1,5 +1,5 @@
-use Rattle.rice_fast.proofs.Words.{◌+◌, ◌∙◌, ap, arith, length, subst, sym, ℕ, Option, ◌++◌, true, HasRoomFor, pending_bits}
-use Rattle.rice_fast.proofs.lemmas.encode.EndedSegments.{end_codes, end_has_room, start_is_low}
+use Rattle.rice_fast.proofs.Words.{◌+◌, ◌∙◌, ap, arith, length, subst, sym, ℕ, Option, ◌++◌, true, HasRoomFor, pending_bits, mod-lt}
+use Rattle.rice_fast.proofs.lemmas.encode.EndedSegments.{end_codes, end_has_room}
 use Rattle.rice_fast.proofs.lemmas.encode.StandingCoders.{blocks_few, few_blocks, run_inside}
 use Rattle.rice_fast.proofs.encode.coder.BlockCoder.put_end.Goals as goal
 
@@ -15,7 +15,7 @@ put_pending_run-requires-clause-room c =
 pub overflow_add-self : goal.overflow_add-self
 overflow_add-self c =
     let holds = c.requires.stands.2.stands.holds in
-    omega (arith, blocks_few holds, few_blocks holds, start_is_low holds)
+    omega (arith, blocks_few holds, few_blocks holds, holds.opens.place, mod-lt c.args.self.now.start holds.opens.legal.interval_from, holds.opens.legal.interval_to)
 
 pub returns : goal.returns
 returns c m xs h room =

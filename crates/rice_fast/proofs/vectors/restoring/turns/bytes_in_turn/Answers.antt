@@ -1,5 +1,5 @@
-use Rattle.rice_fast.proofs.Words.{◌≡◌, ◌+◌, ◌≤◌, ◌∙◌, ◌++◌, replicate, ap, map-id, subst, sym, take, All, All-take, last_number, ranks_below}
-use Rattle.rice_fast.proofs.lemmas.vectors.RanksForTurns.{repeated, repeated_fit}
+use Rattle.rice_fast.proofs.Words.{◌≡◌, ◌+◌, ◌≤◌, ◌∙◌, ◌++◌, replicate, ap, map-id, subst, sym, take, All, All-take, last_number, ranks_below, All-append, get_or-replicate, arith}
+use Rattle.rice_fast.proofs.lemmas.vectors.RanksForTurns.{repeated}
 use Rattle.rice_fast.proofs.vectors.restoring.turns.bytes_in_turn.Goals as goal
 
 pub write_selected-last-requires-clause-ranks : goal.write_selected-last-requires-clause-ranks
@@ -11,7 +11,8 @@ returns-clause-fit c =
     let turned = c.write_selected-last in
     let whole : c.of-2.result.lanes ≡ turned.new.numbers ++ replicate 8 turned.result = c.of-2.ensures ∙ ap (λ xs. xs ++ replicate 8 turned.result) c.copy_from_slice.ensures.after in
     subst (All (λ x. x ≤ c.args.greatest)) (sym whole)
-    (repeated_fit c.args.greatest 8 turned.result turned.new.numbers turned.ensures.within (subst (All (λ x. x ≤ c.args.greatest)) (map-id turned.new.numbers) turned.ensures.fit))
+    (All-append (λ x. x ≤ c.args.greatest) turned.new.numbers (replicate 8 turned.result) (subst (All (λ x. x ≤ c.args.greatest)) (map-id turned.new.numbers) turned.ensures.fit)
+    (λ i d lt. rw (get_or-replicate 8 i turned.result d (omega (arith, lt))) turned.ensures.within))
 
 pub returns-clause-ranks : goal.returns-clause-ranks
 returns-clause-ranks c =
