@@ -83,7 +83,7 @@ pub use Rattle.std.proofs.lemmas.{List.Sums.sum_by-append, List.Sums.sum_by-cons
 pub use Rattle.std.proofs.lemmas.{Nat.leading_length, Nat.mod-mul-add, Nat.mod_below, Nat.one_shl, Nat.or_lt, Nat.or_shifted, Nat.pow-add, Nat.pow_pos, Nat.shr_below, Nat.shr_split}
 pub use Rattle.std.specs.Prelude.{All, IfSome, bit_and, bit_or, flat_map, nat_le, slice_index, slice_index_or, slice_range, slice_set}
 pub use Rattle.std.specs.Simd.Lanes.{Each1, Each2, Steps, digits_l, fold_l, number_l, pick_l, put_chunk, sel_l, sum_l, top, zip2}
-pub use Rattle.std.specs.{Int.Width, Int.bytes_high_first, Int.to_be_bytes, Int.Bits.bit_xor, Int.Bits.xor_add_and, Int.Count.ones, List.AllByRecursion, List.list_all, List.range_with_len}
+pub use Rattle.std.specs.{Int.Width, Int.bytes_high_first, Int.Bits.bit_xor, Int.Bits.xor_add_and, Int.Count.ones, List.AllByRecursion, List.list_all, List.range_with_len}
 pub use lib.Bits.{or_zero_l, or_zero_r}
 pub use lib.Count.{count_leading_zeros, ones-le, ones-ones, ones_cat}
 pub use lib.Dec.{T, leb, ltb}

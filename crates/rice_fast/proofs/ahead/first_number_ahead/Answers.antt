@@ -2,9 +2,6 @@ use Rattle.rice_fast.proofs.Words.{◌-◌, ◌%◌, ◌≤◌, ◌∙◌, ap, a
 use Rattle.rice_fast.proofs.lemmas.ahead.BitsAhead.{first-from}
 use Rattle.rice_fast.proofs.ahead.first_number_ahead.Goals as goal
 
-pub at_least_57_bits_from-requires : goal.at_least_57_bits_from-requires
-at_least_57_bits_from-requires g c = omega (arith, c.ahead-at.ensures.room)
-
 pub overflow_cast-result : goal.overflow_cast-result
 overflow_cast-result g c =
     let few : c.args.width ≤ 64 = omega (arith, c.requires.width) in

@@ -2,9 +2,6 @@ use Rattle.std.proofs.Common.{◌∙◌, arith}
 use Rattle.rice_fast.proofs.lemmas.ahead.BitsAhead.{first-from, there_after}
 use Rattle.rice_fast.proofs.ahead.number_ahead.Goals as goal
 
-pub number_from-requires-clause-room : goal.number_from-requires-clause-room
-number_from-requires-clause-room g c = omega (arith, c.requires.width, c.ahead-at.ensures.room)
-
 pub returns-clause-bits : goal.returns-clause-bits
 returns-clause-bits g c =
     c.number_from.ensures.bits

@@ -1,9 +1,5 @@
-use Rattle.rice_fast.proofs.Words.{arith}
 use Rattle.rice_fast.proofs.lemmas.{ahead.BitsAhead.there_after, ahead.SequencesAhead.sequences-from}
 use Rattle.rice_fast.proofs.ahead.sequences_ahead.Goals as goal
-
-pub at_least_57_bits_from-front-requires : goal.at_least_57_bits_from-front-requires
-at_least_57_bits_from-front-requires g c = omega (arith, c.ahead-at.ensures.room)
 
 pub returns : goal.returns
 returns g c =

@@ -2,9 +2,6 @@ use Rattle.rice_fast.proofs.Words.{◌≡◌, ◌+◌, ◌∙◌, ap, arith, dro
 use Rattle.rice_fast.proofs.lemmas.BlocksAhead.{pairs_block_ahead}
 use Rattle.rice_fast.proofs.fields.pair_fields_ahead.Goals as goal
 
-pub overflow_add-result : goal.overflow_add-result
-overflow_add-result g c = (let inside = c.in_ok-pairs.ensures.within in record { fits = omega (arith, inside, c.taken-taken.ensures.buffered) })
-
 pub returns : goal.returns
 returns g c =
     let a = c.args in

@@ -2,9 +2,6 @@ use Rattle.rice_fast.proofs.Words.{◌≡◌, ◌^◌, ◌≤◌, ◌∙◌, ap,
 use Rattle.rice_fast.proofs.lemmas.BlocksAhead.{split_ahead}
 use Rattle.rice_fast.proofs.fields.split_fields_ahead.Goals as goal
 
-pub overflow_add-result : goal.overflow_add-result
-overflow_add-result g c = (let inside = c.in_ok-len.ensures.some.within in record { fits = omega (arith, inside, c.taken-taken.ensures.buffered) })
-
 pub returns : goal.returns
 returns g c =
     let a = c.args in

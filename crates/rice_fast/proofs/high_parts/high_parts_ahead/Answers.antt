@@ -2,12 +2,6 @@ use Rattle.rice_fast.proofs.Words.{◌≡◌, ◌+◌, ◌*◌, ◌<◌, ◌≤�
 use Rattle.rice_fast.proofs.lemmas.HighParts.{highs-row, stored_row}
 use Rattle.rice_fast.proofs.high_parts.high_parts_ahead.Goals as goal
 
-pub overflow_add-skip : goal.overflow_add-skip
-overflow_add-skip g c = let inside = c.loop-row.invariant.rows.within in record { fits = omega (arith, inside, c.taken-taken.ensures.buffered) }
-
-pub overflow_add-len : goal.overflow_add-len
-overflow_add-len g c = let inside = c.in_ok-next.ensures.some.within in record { fits = omega (arith, inside, c.taken-taken.ensures.buffered) }
-
 pub loop-row-init : goal.loop-row-init
 loop-row-init g c =
     let first = c.in_ok-first in
@@ -42,9 +36,3 @@ loop-row-preserved g c =
       rows = subst (λ xs. HighsAhead w skip o xs (l.len + next.len)) (sym (ap (λ n. take n c.store_row-in-loop-row.new.rows) (sym row.ensures.end) ∙ stored))
           (highs-row few before c.in_ok-next.ensures.some);
     }
-
-pub returns : goal.returns
-returns g c =
-    let l = c.loop-row in
-    let end : rows_len c.args.size l.row ≡ c.args.size = omega (arith, c.loop-row-test.false) in
-    record { some = subst (λ n. HighsAhead c.args.reader.now.buffered c.args.skip c.args.omitted (take n l.highs) l.len) end l.invariant.rows }

@@ -2,9 +2,6 @@ use Rattle.rice_fast.proofs.Words.{◌≡◌, ◌∙◌, ap, arith, rules, subst
 use Rattle.rice_fast.proofs.lemmas.BlocksTaken.{bytes_given, spelled_at}
 use Rattle.rice_fast.proofs.one_pass.pass.Goals as goal
 
-pub value_at-last-requires : goal.value_at-last-requires
-value_at-last-requires g c = c.in-Some.ensures.legal
-
 pub returns-clause-some : goal.returns-clause-some
 returns-clause-some g c _ =
     let p = c.args.decoder.now in

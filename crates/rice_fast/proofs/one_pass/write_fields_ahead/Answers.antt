@@ -1,26 +1,6 @@
 use Rattle.rice_fast.proofs.Words.{◌≡◌, ◌-◌, ◌*◌, ◌≤◌, ◌∙◌, ap, arith, length, take, mul-le-mul_right, length-take-le, width}
 use Rattle.rice_fast.proofs.one_pass.write_fields_ahead.Goals as goal
 
-pub overflow_add-fields : goal.overflow_add-fields
-overflow_add-fields g c =
-    let f = c.in_ok-fields.fields in
-    let fields = c.in_ok-fields.ensures in
-    let there = fields.there in
-    let narrow = fields.narrow in
-    let legal = c.block-block.ensures.legal.block in
-    let part : c.args.size * f.k ≤ 64 * f.k = mul-le-mul_right f.k (omega (arith, legal, c.requires.size)) in
-    record { fits = omega (arith, there, narrow, g.met.L.Lanes.most_bits, part, c.taken-taken.ensures.buffered) }
-
-pub overflow_add-fields-2 : goal.overflow_add-fields-2
-overflow_add-fields-2 g c =
-    let f = c.in_ok-fields.fields in
-    let fields = c.in_ok-fields.ensures in
-    let there = fields.there in
-    let narrow = fields.narrow in
-    let legal = c.block-block.ensures.legal.block in
-    let part : c.args.size * f.k ≤ 64 * f.k = mul-le-mul_right f.k (omega (arith, legal, c.requires.size)) in
-    record { fits = omega (arith, there, narrow, g.met.L.Lanes.most_bits, part, c.taken-taken.ensures.buffered, c.LOOK.ensures, g.met.L.SampleLanes.look) }
-
 pub returns : goal.returns
 returns g c =
     let s = c.args.setting.now in

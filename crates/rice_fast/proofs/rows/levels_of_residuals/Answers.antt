@@ -5,9 +5,6 @@ use Rattle.rice_fast.proofs.rows.levels_of_residuals.Goals as goal
 pub in_turn-requires-clause-greatest : goal.in_turn-requires-clause-greatest
 in_turn-requires-clause-greatest g c = (let values = c.number_of_values.ensures in greatest_fits c.args.setting.now g.L.Lanes.bits c.requires.narrow (omega (arith, values.range)) values.value)
 
-pub in_turn-requires-clause-ranks : goal.in_turn-requires-clause-ranks
-in_turn-requires-clause-ranks g c = λ i d lt. (let values = c.number_of_values.ensures in let x = c.requires.sound i d lt in omega (arith, x, values.value, values.range))
-
 pub splat-zero-requires : goal.splat-zero-requires
 splat-zero-requires g c =
     let origin = c.level_of_pattern.ensures.below in

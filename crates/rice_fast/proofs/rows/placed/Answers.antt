@@ -1,4 +1,4 @@
-use Rattle.std.proofs.Common.{◌≡◌, ℕ, zero, suc, ◌-◌, ◌≤◌, ◌++◌, ◌∙◌, List, ap, arith, refl, sym, take, take-take, replicate}
+use Rattle.std.proofs.Common.{◌≡◌, ℕ, zero, suc, ◌-◌, ◌≤◌, ◌++◌, ◌∙◌, List, ap, arith, refl, take, take-take, replicate}
 use Rattle.rice_fast.proofs.rows.placed.Goals as goal
 
 -- where one is omitted
@@ -6,10 +6,6 @@ after_one : (o n count : ℕ) (xs : List ℕ) {row : List ℕ} → o ≤ 1 → (
 after_one zero n count xs few some most is = absurd (some refl)
 after_one (suc zero) n count xs few some most is = ap (take count) is ∙ take-take count n (replicate 1 0 ++ xs) most
 after_one (suc (suc o)) n count xs few some most is = absurd (omega (arith, few))
-
-pub returns-then-omitted-eq0 : goal.returns-then-omitted-eq0
-returns-then-omitted-eq0 g c =
-    c.first.ensures ∙ ap (λ o. take c.args.count (replicate o 0 ++ g.L.Lanes.numbers c.args.numbers) ++ replicate (g.L.Lanes.COUNT - c.args.count) 0) (sym c.if-omitted-eq0.true)
 
 pub returns : goal.returns
 returns g c =

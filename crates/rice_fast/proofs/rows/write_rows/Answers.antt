@@ -1,4 +1,4 @@
-use Rattle.rice_fast.proofs.Words.{◌≡◌, ◌+◌, ◌-◌, ◌*◌, ◌≤◌, ◌∙◌, ap, arith, drop, subst, take, take-take, length-take-le, RowsAhead, SpellsParts}
+use Rattle.rice_fast.proofs.Words.{◌≡◌, ◌+◌, ◌-◌, ◌*◌, ◌≤◌, ◌∙◌, ap, arith, drop, subst, take, take-take, length-take-le, SpellsParts}
 use Rattle.rice_fast.proofs.lemmas.Rows.{first_place, next_place, no_rows, one_row_more, zeros_of_row}
 use Rattle.rice_fast.proofs.rows.write_rows.Goals as goal
 
@@ -43,8 +43,3 @@ loop-at-preserved g c =
           (subst (λ hs. SpellsParts c.args.setting.now l.last f.k n hs (take n (g.L.Lanes.numbers lows.result)) c.in_ok-last.last (drop (g.row.WIDTH * l.at) new)) first spelled))
           (subst (λ w. take (w * l.at) new ≡ take (w * l.at) l.bytes) width_is c.write_row.ensures.front);
     }
-
-pub returns : goal.returns
-returns g c =
-    let l = c.loop-at in
-    subst (λ n. RowsAhead c.args.reader.now.buffered c.args.setting.now c.args.fields.now c.args.highs.now n l.last l.bytes) (omega (arith, l.invariant.within, c.loop-at-test.false)) l.invariant.rows

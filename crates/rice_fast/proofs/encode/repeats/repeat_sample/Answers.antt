@@ -6,9 +6,6 @@ use Rattle.rice_fast.proofs.encode.repeats.repeat_sample.Goals as goal
 pub splat-same-requires : goal.splat-same-requires
 splat-same-requires g c = level_fits c.args.setting.now c.args.level g.L.Lanes.bits c.requires.level c.requires.bits.most
 
-pub splat-other-requires : goal.splat-other-requires
-splat-other-requires g c = omega (arith, g.met.L.Lanes.two_values)
-
 pub loop-at-init : goal.loop-at-init
 loop-at-init g c = record { most = omega arith; rows = none_compared c.args.bytes.now }
 

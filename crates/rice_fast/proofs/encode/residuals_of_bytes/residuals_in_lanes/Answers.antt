@@ -6,9 +6,6 @@ use Rattle.rice_fast.proofs.encode.residuals_of_bytes.residuals_in_lanes.Goals a
 pub splat-earlier-requires : goal.splat-earlier-requires
 splat-earlier-requires g c = level_fits c.args.setting.now c.args.before g.L.Lanes.bits c.requires.before c.requires.bits.most
 
-pub splat-seen-requires : goal.splat-seen-requires
-splat-seen-requires g c = omega (arith, g.met.L.Lanes.two_values)
-
 pub splat-requires : goal.splat-requires
 splat-requires g c =
     let values = c.number_of_values.ensures in

@@ -1,4 +1,4 @@
-use Rattle.rice_fast.proofs.Words.{◌≡◌, ◌*◌, ◌^◌, ◌<◌, ◌∙◌, ap, arith, length-set, drop, take, refl, replicate, subst, sym, All, flat_map, drop-drop, take_all, word}
+use Rattle.rice_fast.proofs.Words.{◌≡◌, ◌*◌, ◌∙◌, ap, arith, length-set, drop, take, refl, replicate, sym, flat_map, drop-drop, take_all, word}
 use Rattle.rice_fast.proofs.lemmas.WordsOneByOne.{no_words, one_more}
 use Rattle.rice_fast.proofs.lanes.words.words_one_by_one.Goals as goal
 
@@ -14,13 +14,6 @@ loop-i-preserved g c =
           (number.ensures.bits ∙ ap (take c.args.width) (sym (drop-drop (l.i * c.args.width) c.args.skip c.args.reader.now.buffered)));
       long = length-set l.words l.i number.result ∙ l.invariant.long;
     }
-
-pub returns-clause-fit : goal.returns-clause-fit
-returns-clause-fit g c =
-    let l = c.loop-i in
-    let all : l.i ≡ 8 = omega (arith, c.loop-i-test.false, l.auto.i-end) in
-    let whole : take l.i l.words ≡ l.words = take_all l.i l.words (omega (arith, all, l.invariant.long)) in
-    subst (All (λ v. v < 2 ^ c.args.width)) (whole ∙ sym c.of.ensures) l.invariant.words.fit
 
 pub returns-clause-bits : goal.returns-clause-bits
 returns-clause-bits g c =

@@ -7,12 +7,6 @@ returns-then-self-clause-stands c m xs h room =
     let one : 1 ≤ c.args.self.now.setting.block = grind (arith, h.stands.holds.opens.legal.block) in
     pushes_nothing h (omega (arith, one, c.requires.between)) (search rules)
 
-pub next_place-start-requires : goal.next_place-start-requires
-next_place-start-requires c =
-    let holds = c.requires.stands.2.stands.holds in
-    let o = holds.opens in
-    (record { legal = o.legal; place = o.place; begins = o.begins; few = omega arith; previous = o.previous; reference = o.reference; ends = o.ends }, holds.ends)
-
 pub returns-clause-stands : goal.returns-clause-stands
 returns-clause-stands c m xs h room =
     let s = c.args.self.now.setting in

@@ -31,9 +31,6 @@ of-residuals-requires g c =
     let known = c.known_or-size.ensures ∙ c.block.ensures.value in
     subst (λ n. IsBlockSize (length (take n c.args.self.now.part))) (sym known) (subst IsBlockSize (sym (sound_next h).len) h.legal.block)
 
-pub code_next_or_add_to_run-self-requires-clause-fits : goal.code_next_or_add_to_run-self-requires-clause-fits
-code_next_or_add_to_run-self-requires-clause-fits g c = c.requires.room.fits
-
 pub code_next_or_add_to_run-self-requires-clause-sound : goal.code_next_or_add_to_run-self-requires-clause-sound
 code_next_or_add_to_run-self-requires-clause-sound g c =
     let h = c.requires.room in

@@ -1,11 +1,6 @@
-use Rattle.rice_fast.proofs.Words.{◌≡◌, ◌*◌, ◌∙◌, ap, sym, width}
+use Rattle.rice_fast.proofs.Words.{◌≡◌, ◌*◌, ◌∙◌, ap, width}
 use Rattle.rice_fast.proofs.lemmas.LaneLaws.{four_bytes}
 use Rattle.rice_fast.proofs.encode.level_lanes.WordsLevelLanes.levels_in.Goals as goal
-
-pub levels_of_threes_in_words-requires : goal.levels_of_threes_in_words-requires
-levels_of_threes_in_words-requires c =
-    let three : width c.args.setting.now ≡ 3 = sym c.width.ensures.value ∙ c.if-width-eq3.true in
-    record { three = three; len = c.requires.len ∙ ap (λ w. w * 8) three }
 
 pub levels_in_words-requires : goal.levels_in_words-requires
 levels_in_words-requires c =
