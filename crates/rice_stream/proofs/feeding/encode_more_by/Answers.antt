@@ -1,4 +1,4 @@
-use Rattle.std.proofs.Common.{arith, ◌≡◌, ◌+◌, ◌-◌, ◌*◌, ◌/◌, ◌≤◌, ◌++◌, length, take, refl, subst, ℕ, Err}
+use Rattle.std.proofs.Common.{arith, ◌≡◌, ◌+◌, ◌-◌, ◌*◌, ◌/◌, ◌≤◌, ◌++◌, length, take, subst, ℕ, Err}
 use Rattle.rice_stream.proofs.Words.{length-take, err_from_is_err_and, width, cut, some_width, TakesAll, Pushes, after, encoding_at}
 use Rattle.rice_stream.proofs.lemmas.Seams.{all_whole, cut_grows, encoding_is_resumed, few_all, fit_in, goes_on, more_stops}
 use Rattle.rice_stream.proofs.feeding.encode_more_by.Goals as goal
@@ -15,11 +15,6 @@ bytes_left-requires-clause-samples g c =
     let s = c.args.setting.now in
     let h = c.requires.seam.1 in
     omega (arith, h.counts.samples, few_all (width s) (length c.requires.seam.0) 0 (some_width s) (omega (arith, h.limit)))
-
-pub returns-then-bytes-bytes_left-clause-did : goal.returns-then-bytes-bytes_left-clause-did
-returns-then-bytes-bytes_left-clause-did g c xs h =
-    let size : c.width-width.result * c.args.seam.now.samples ≡ width c.args.setting.now * length xs = (λ i. c.width-width.ensures.value i * h.counts.samples i) in
-    record { passes = omega (arith, size, c.bytes_left.ensures.value, c.if-bytes-bytes_left.true); untouched = refl }
 
 pub put_bits_of_seam-requires : goal.put_bits_of_seam-requires
 put_bits_of_seam-requires g c = (c.args.setting.now, c.requires.seam.0, c.requires.seam.1, c.resume-encoding.ensures)

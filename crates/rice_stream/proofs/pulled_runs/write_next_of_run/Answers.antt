@@ -40,6 +40,3 @@ returns-clause-gives c =
       block_some = omega (arith, c.block-block.ensures.range);
       some = blocks.ensures.some;
     }) (c.stand_after-stand.ensures.numbers ∙ (λ i. stand_at (stand.samples + n) (stand.bits + taken i) (steps i) q)) same (grind (arith, common_steps, c.spell_copies_of_sample.ensures))
-
-pub returns-clause-room : goal.returns-clause-room
-returns-clause-room c = grind (arith, common_steps)

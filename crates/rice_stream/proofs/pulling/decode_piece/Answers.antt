@@ -1,5 +1,5 @@
-use Rattle.rice_stream.proofs.Words.{rules, arith, refl, w64, FitsSigned, ℤ, ◌<◌, ◌≡◌, ◌+◌, ◌*◌, ◌++◌, ◌∙◌, ap, sym, subst, length, length-drop, take, drop, Option, Ok, IfSome, ◌%◌, mul-pos}
-use Rattle.rice_stream.proofs.Words.{to_z-of_z, length-take, length-take-le, length-bits_of, width, spellings, bits_of, DecodesMore, GoesOnAt, TakesNext, ahead, state_of, Pause, Stand}
+use Rattle.rice_stream.proofs.Words.{rules, arith, refl, w64, FitsSigned, ℤ, ◌≡◌, ◌+◌, ◌*◌, ◌++◌, ◌∙◌, ap, sym, subst, length, length-drop, take, drop, Option, Ok, IfSome, ◌%◌, to_z-of_z, length-take}
+use Rattle.rice_stream.proofs.Words.{length-take-le, length-bits_of, width, spellings, bits_of, DecodesMore, GoesOnAt, TakesNext, ahead, state_of, Pause, Stand}
 use Rattle.rice_stream.proofs.lemmas.PulledPieceSoFar.{ends_so, failed_once, has_none, has_room, more_so_far, never_too_long, none_so_far, nothing_ahead, refused_so}
 use Rattle.rice_code.specs.declared.decode.call_results.CodeFault.TheVariants as faults
 use Rattle.rice_stream.specs.declared.stand.Pause.TheVariants as pauses
@@ -44,15 +44,6 @@ write_next_of_run-len-requires-clause-come g c =
     let i = c.decode_all.invariant in
     let so = i.so_far know.0 know.1 know.2 know.3 in
     record { stand = (know.0, know.1 ++ so.bits, know.2 ++ so.samples, so.stands); state = i.state; reads = i.reads; aligned = search rules }
-
-pub write_next_of_run-len-requires-clause-room : goal.write_next_of_run-len-requires-clause-room
-write_next_of_run-len-requires-clause-room g c =
-    let size : c.known_width-width.result * c.known_or-block.result ≡ width c.args.setting.now * c.args.setting.now.block =
-    λ j. c.known_width-width.ensures.value j * (c.known_or-block.ensures ∙ c.block.ensures.value) j in
-    omega (arith, size, c.decode_all-test.true, c.decode_all.invariant.within)
-
-pub decode_all-smaller-then-is_repeating : goal.decode_all-smaller-then-is_repeating
-decode_all-smaller-then-is_repeating g c = let says = c.write_next_of_run-len.ensures in omega (arith, says.len, says.room, says.gives.some)
 
 pub decode_all-preserved-then-is_repeating : goal.decode_all-preserved-then-is_repeating
 decode_all-preserved-then-is_repeating g c =
@@ -109,16 +100,6 @@ decode_all-preserved g c =
           (says.takes o (front ++ so.bits) (given ++ so.samples) so.stands)) len
           (c.copy_at.ensures ∙ (λ j. take at out ++ (bytes j ++ drop (at + whole j) out)));
     }
-
-pub copy_at-requires : goal.copy_at-requires
-copy_at-requires g c =
-    let n = c.known_width-width.result * c.known_or-block.result in
-    omega (arith, length-take n c.give_next_block.new.bytes, c.decode_all-test.true, c.decode_all.invariant.within)
-
-pub decode_all-smaller : goal.decode_all-smaller
-decode_all-smaller g c =
-    let some : 0 < c.known_width-width.result * c.known_or-block.result = mul-pos (omega (arith, c.known_width-width.ensures.range)) (omega (arith, c.known_or-block.ensures, c.block.ensures.range)) in
-    omega (arith, some, c.copy_at.auto.samples, c.decode_all-test.true, c.decode_all.invariant.within)
 
 pub returns-in-None : goal.returns-in-None
 returns-in-None g c = λ o front given h.

@@ -1,5 +1,5 @@
-use Rattle.std.proofs.Common.{◌≡◌, ◌≤◌, ◌*◌, ◌∙◌, ap, arith, replicate, sym, subst, w64, to_z, of_z, to_z-of_z}
-use Rattle.rice_stream.proofs.Words.{IsSample, spellings}
+use Rattle.std.proofs.Common.{◌≡◌, ◌≤◌, ◌*◌, ◌∙◌, ap, arith, replicate, w64, to_z, of_z, to_z-of_z}
+use Rattle.rice_stream.proofs.Words.{spellings}
 use Rattle.rice_stream.proofs.lemmas.RunsWritten.{run_cut}
 use Rattle.rice_stream.proofs.runs.write_run.Goals as goal
 
@@ -8,14 +8,6 @@ slice_bounds-spelled-end g c =
     let e : c.width-width.result * (c.block-block.result * c.blocks_at_once-blocks.result) ≤ 320 =
     (let w = c.width-width.ensures.value in let b = c.block-block.ensures.value in rw (w, b) (let r = c.blocks_at_once-blocks.ensures.room in omega (arith, r))) in
     omega (arith, e)
-
-pub spell_copies_of_sample-requires-clause-sample : goal.spell_copies_of_sample-requires-clause-sample
-spell_copies_of_sample-requires-clause-sample g c =
-    let p = c.args.decoder.now in
-    let z = c.before-sample.result in
-    let same : to_z w64 (of_z w64 z) ≡ z = to_z-of_z {w = w64} {z = z} (record { sfits = c.before-sample.type_inv }) in
-    let legal : IsSample c.args.setting.now p.before = subst (λ t. IsSample t p.before) c.requires.setting c.block-place.ensures.state.sample in
-    subst (IsSample c.args.setting.now) (sym (same ∙ c.before-sample.ensures)) legal
 
 pub returns-in-Err-clause-err : goal.returns-in-Err-clause-err
 returns-in-Err-clause-err g c =

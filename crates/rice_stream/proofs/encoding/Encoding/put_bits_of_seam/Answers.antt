@@ -1,10 +1,5 @@
-use Rattle.rice_stream.proofs.Words.{arith, rules, ◌++◌, ◌∙◌, ap, sym, subst, length, word, standing_between}
+use Rattle.rice_stream.proofs.Words.{◌++◌, ◌∙◌, ap, sym, subst, word, standing_between}
 use Rattle.rice_stream.proofs.encoding.Encoding.put_bits_of_seam.Goals as goal
-
-pub put-requires : goal.put-requires
-put-requires g c =
-    let h = c.requires.2 in
-    (search rules, (omega (arith, h.few), (h.fits, (omega (arith, ap length c.requires.3.sink, h.few), omega (arith, c.new-aside.ensures, h.few)))))
 
 pub returns : goal.returns
 returns g c s st =
