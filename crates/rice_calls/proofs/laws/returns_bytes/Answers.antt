@@ -1,5 +1,4 @@
-use Rattle.rice_calls.proofs.lemmas.ReturnedSamples as returning
 use Rattle.rice_calls.proofs.laws.returns_bytes.Goals as goal
 
 pub returns : goal.returns
-returns c = returning.returns_bytes
+returns c = Rattle.rice_calls.proofs.lemmas.ReturnedSamples.returns_bytes
