@@ -1,4 +1,4 @@
-use Rattle.rice_calls.proofs.Words.{rules, refl, sym, ◌∙◌, subst, IfOk, List, ℤ, IsSeam, Asked, PushesAsAsked}
+use Rattle.rice_calls.proofs.Words.{rules, sym, ◌∙◌, subst, IfOk, List, ℤ, IsSeam, Asked, PushesAsAsked}
 use Rattle.rice_calls.proofs.lemmas.RoomOfPieceSuffices.{push_room_suffices}
 use Rattle.rice_calls.proofs.feeding.push.Goals as goal
 
@@ -13,13 +13,4 @@ returns-in-Ok g c =
       ok = λ xs stands_for. search (rules, b.ensures);
       room = room a.feed.now b.new.feed stands.1 (search (rules, b.ensures));
       refused = tt;
-    })
-
-pub returns-in-Err : goal.returns-in-Err
-returns-in-Err g c =
-    subst (λ (t : Asked). PushesAsAsked t c.args.samples.now c.args.code.now c.args.code.now c.args.feed.now c.args.feed.now c.refuse.new.self c.refuse.result)
-    (sym c.in-Err.is ∙ c.legal.ensures.answer) (record {
-      ok = tt;
-      room = tt;
-      refused = (record { status = c.refuse.ensures.status; untouched = refl; report = c.refuse.ensures.report }, refl);
     })
