@@ -41,6 +41,18 @@ fn open_to_read<R: Files>(rt: &R, name: &str) -> io::Result<R::File> {
     }
 }
 
+/// Creates a file with these permissions, or empties the one of this name, to write to it.
+fn open_to_write<R: Files>(rt: &R, name: &str, mode: u32) -> io::Result<R::File> {
+    // Where standard streams are closed, a new file takes their place, and messages would go into it. A directory, which
+    // is neither read nor written, stands in for each.
+    let _input = File::open(rt, "/");
+    let _output = File::open(rt, "/");
+    let _errors = File::open(rt, "/");
+    let mut options = File::options();
+    options.write(true).create(true).truncate(true).mode(mode);
+    options.open(rt, name)
+}
+
 /// Returns the bytes of a regular file.
 fn size_of(found: io::Result<Metadata>) -> Option<u64> {
     match found {
@@ -127,22 +139,11 @@ impl<'a, 'r, R: Runtime + AllocGlobal> System<'a> for Host<'a, 'r, R> {
     }
 
     fn create(&mut self, name: &'a str, mode: Option<u32>) -> Result<Self::Dest, CreateFault> {
-        // Where standard streams are closed, a new file takes their place, and messages would go into it. A directory, which
-        // is neither read nor written, stands in for each.
-        let _input = File::open(self.rt, "/");
-        let _output = File::open(self.rt, "/");
-        let _errors = File::open(self.rt, "/");
         let sink = Counted::new(self.rt, self.progress, Sink::Pending);
         let Ok(mut writer) = BufWriter::with_capacity(self.rt.alloc(), FILE_BUFFER, sink) else {
             return Err(CreateFault::NoMemory);
         };
-        let mut options = File::options();
-        options
-            .write(true)
-            .create(true)
-            .truncate(true)
-            .mode(mode.unwrap_or(ANY_NEW_FILE));
-        match options.open(self.rt, name) {
+        match open_to_write(self.rt, name, mode.unwrap_or(ANY_NEW_FILE)) {
             Ok(file) => {
                 writer.get_mut().get_mut().set(file);
                 Ok(FromBufWriter::new(writer))

@@ -15,7 +15,7 @@ use crate::trial::perform_test;
 use aec_command::{is_test, is_verbose, matches_of, plan_of, test_plan_of};
 use clap::error::ErrorKind;
 use clap::{ArgMatches, Error};
-use std::alloc::{AllocGlobal, Global};
+use std::alloc::{AllocError, AllocGlobal, Global};
 use std::rt::Runtime;
 use std::{env, io};
 
@@ -95,34 +95,46 @@ fn refuse<'a, S: System<'a>>(system: &mut S, error: &Error) -> u8
     }
 }
 
+/// Writes why the words of the process can't be read, and returns the exit status.
+fn refuse_arguments<'a, S: System<'a>>(system: &mut S, error: io::Error) -> u8
+    requires { (o : Outside) → S.reported system.old ≡ Some o → o.said ≡ None }
+{
+    if error.kind() == io::ErrorKind::OutOfMemory {
+        return fail(system, Message::Start(StartFault::NoMemory));
+    }
+    system.tell(Message::NotUtf8);
+    USAGE
+}
+
+/// Returns the words of the process.
+fn words_of<R: Runtime + AllocGlobal>(rt: &R) -> io::Result<Vec<String>> {
+    Ok(env::args(rt)?.collect(rt.alloc())?)
+}
+
+/// Returns the texts of the words.
+fn texts_of(alloc: Global, words: &[String]) -> Result<Vec<&str>, AllocError> {
+    let mut texts = Vec::new(alloc);
+    for word in words {
+        texts.push(word.as_str())?;
+    }
+    Ok(texts)
+}
+
 /// Runs the command with the words of the process, and returns its exit status. `terminal` says whether standard error is one.
 pub fn start_with_arguments<R: Runtime + AllocGlobal>(rt: &R, terminal: bool) -> u8 {
     let progress = Progress::new(terminal);
-    let mut host = Host::new(rt, &progress);
-    let words = match env::args(rt) {
+    let words = match words_of(rt) {
         Ok(words) => words,
-        Err(error) if error.kind() == io::ErrorKind::OutOfMemory => {
-            return fail(&mut host, Message::Start(StartFault::NoMemory));
-        }
-        Err(_) => {
-            host.tell(Message::NotUtf8);
-            return USAGE;
-        }
+        Err(error) => return refuse_arguments(&mut Host::new(rt, &progress), error),
     };
-    let mut all = Vec::new(rt.alloc());
-    for word in words {
-        if all.push(word).is_err() {
-            return fail(&mut host, Message::Start(StartFault::NoMemory));
+    match texts_of(rt.alloc(), words.as_slice()) {
+        Ok(texts) if terminal => {
+            start_on(&mut Host::new(rt, &progress), rt.alloc(), texts.as_slice())
         }
+        Ok(texts) => start(rt, texts.as_slice()),
+        Err(_) => fail(
+            &mut Host::new(rt, &progress),
+            Message::Start(StartFault::NoMemory),
+        ),
     }
-    let mut texts = Vec::new(rt.alloc());
-    for word in &all {
-        if texts.push(word.as_str()).is_err() {
-            return fail(&mut host, Message::Start(StartFault::NoMemory));
-        }
-    }
-    if terminal {
-        return start_on(&mut Host::new(rt, &progress), rt.alloc(), texts.as_slice());
-    }
-    start(rt, texts.as_slice())
 }

@@ -85,8 +85,35 @@ fn expect(
     Err(Fail::new(format_args!("{words}: {taken} bytes, {outcome:?}")))
 }
 
+/// Fails unless these options do what is wanted of the bytes given. What was encoded without a fault is decoded again.
+fn expect_both_ways(
+    alloc: Global,
+    options: &str,
+    given: Given<'_>,
+    room: usize,
+    wanted: &Wanted<'_>,
+) -> Result<(), Fail> {
+    let left = given.left;
+    let words = format!(in alloc; "aec {options} - -")?;
+    expect(alloc, words.as_str(), given, room, wanted)?;
+    if options.contains("-d") || !wanted.fault.is_empty() {
+        return Ok(());
+    }
+    let samples = wanted.samples;
+    let words = format!(in alloc; "aec {options} -d --samples {samples} - -")?;
+    let code = Given {
+        left: wanted.written,
+        fails: false,
+    };
+    let decoded = Wanted {
+        written: left,
+        ..*wanted
+    };
+    expect(alloc, words.as_str(), code, left.len(), &decoded)
+}
+
 /// Tries a line: the options, the bytes that the intake gives, `!` where it fails after them, and the outlet's room. After these
-/// stand the bytes that are written, the report's samples and bits, and the fault. What was encoded without one is decoded again.
+/// stand the bytes that are written, the report's samples and bits, and the fault.
 fn expect_line(alloc: Global, line: &str) -> Result<(), Fail> {
     let mut columns = Columns::of(line);
     let options = columns.next();
@@ -94,34 +121,14 @@ fn expect_line(alloc: Global, line: &str) -> Result<(), Fail> {
     let fails = columns.next() == "!";
     let room = columns.next().parse::<usize>()?;
     let written = bytes_of(columns.next(), alloc)?;
-    let samples = columns.next();
     let wanted = Wanted {
         written: written.as_slice(),
-        samples: samples.parse::<u64>()?,
+        samples: columns.next().parse::<u64>()?,
         bits: columns.next().parse::<u64>()?,
         fault: columns.next(),
     };
-    let words = format!(in alloc; "aec {options} - -")?;
     let left = given.as_slice();
-    expect(alloc, words.as_str(), Given { left, fails }, room, &wanted)?;
-    if options.contains("-d") || !wanted.fault.is_empty() {
-        return Ok(());
-    }
-    let words = format!(in alloc; "aec {options} -d --samples {samples} - -")?;
-    let code = Given {
-        left: wanted.written,
-        fails,
-    };
-    expect(
-        alloc,
-        words.as_str(),
-        code,
-        left.len(),
-        &Wanted {
-            written: left,
-            ..wanted
-        },
-    )
+    expect_both_ways(alloc, options, Given { left, fails }, room, &wanted)
 }
 
 const ENCODED: &str =

@@ -63,8 +63,7 @@ pub struct Reported<'a> {
     pub shown: Option<ErrorKind>,
     pub found: Option<Finding>,
     pub closed: Option<(bool, u64)>,
-    // Whether the file can be opened only once, and the name that could not be opened once more.
-    pub opens_once: bool,
+    // The name that could not be opened once more.
     pub missed: Option<&'a str>,
 }
 
@@ -94,7 +93,6 @@ impl<'a> Reported<'a> {
             shown: None,
             found: None,
             closed: None,
-            opens_once: false,
             missed: None,
         }
     }
@@ -135,7 +133,7 @@ impl<'a> System<'a> for Reported<'a> {
     }
 
     fn reopen(&mut self, name: &'a str) -> Result<SliceIn<'a>, OpenFault> {
-        if !self.opens_once && name == self.name {
+        if name == self.name {
             return Ok(SliceIn::new(self.file));
         }
         self.missed = Some(name);
