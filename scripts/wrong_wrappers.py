@@ -65,7 +65,7 @@ WRONG = [
     ]),
     ("rice_base_tests", [("FromReader tries again", WRAP, READ, READ_TWICE, "bits::devices_over_readers")]),
     ("aec_tool", [("Host opens the root", HOST, "open_to_read(self.rt, name)", 'open_to_read(self.rt, "/")', "tests::commands::reads_and_writes_files")]),
-    ("aec_tool", [("Host creates no file", HOST, "options.open(self.rt, name)", "File::open(self.rt, name)", "tests::commands::reads_and_writes_files")]),
+    ("aec_tool", [("Host creates no file", HOST, "options.open(rt, name)", "File::open(rt, name)", "tests::commands::reads_and_writes_files")]),
     ("aec_tool", [
         ("Host passes over a failed flush", HOST, FLUSH, FLUSH_UNSEEN, "tests::commands::tells_that_the_flush_failed"),
         ("Host opens no file once more", HOST, REOPEN, FAIL_REOPEN, "tests::commands::tells_that_a_file_can_not_be_opened_once_more"),
