@@ -1,15 +1,27 @@
-use Rattle.std.proofs.{lemmas.Grind.common_steps, Common.arith}
+use Rattle.std.proofs.Common.{arith}
 use Rattle.rice_code.proofs.lemmas.encode.ChoiceLemmas.{takes_no_compression, takes_second_extension, takes_split}
 use Rattle.rice_code.proofs.encode.choice.shortest_of.Goals as goal
 
 pub returns-then-split-second_extension-clause-value : goal.returns-then-split-second_extension-clause-value
-returns-then-split-second_extension-clause-value c = grind (arith, common_steps, takes_split)
+returns-then-split-second_extension-clause-value c =
+    let r = c.requires in
+    let plain = c.no_compression_cost-no_compression.ensures.value in
+    takes_split c.args.setting.now c.args.block.now c.args.k r.best (omega (arith, r.split, plain)) (omega (arith, r.split, r.second_extension_from))
 
 pub returns-else-split-second_extension-clause-value : goal.returns-else-split-second_extension-clause-value
-returns-else-split-second_extension-clause-value c = grind (arith, common_steps, takes_second_extension)
+returns-else-split-second_extension-clause-value c =
+    let r = c.requires in
+    let is = r.second_extension_is (omega arith) in
+    takes_second_extension c.args.setting.now c.args.block.now c.args.k r.best (omega (arith, is, c.no_compression_cost-no_compression.ensures.value)) (omega (arith, is, r.split))
 
 pub returns-then-split-no_compression-clause-value : goal.returns-then-split-no_compression-clause-value
-returns-then-split-no_compression-clause-value c = grind (arith, common_steps, takes_split)
+returns-then-split-no_compression-clause-value c =
+    let r = c.requires in
+    let plain = c.no_compression_cost-no_compression.ensures.value in
+    takes_split c.args.setting.now c.args.block.now c.args.k r.best (omega (arith, r.split, plain)) (omega (arith, r.split, plain, r.second_extension_from))
 
 pub returns-else-split-no_compression-clause-value : goal.returns-else-split-no_compression-clause-value
-returns-else-split-no_compression-clause-value c = grind (arith, common_steps, takes_no_compression)
+returns-else-split-no_compression-clause-value c =
+    let r = c.requires in
+    let plain = c.no_compression_cost-no_compression.ensures.value in
+    takes_no_compression c.args.setting.now c.args.block.now c.args.k r.best (omega (arith, plain, r.second_extension_from)) (omega (arith, r.split, plain))
