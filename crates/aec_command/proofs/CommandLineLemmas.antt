@@ -1,8 +1,10 @@
 -- What the parser makes of the command, where its definition is that of the command line.
-use Rattle.std.proofs.Common.{◌≡◌, ◌∙◌, true, false, List, codes, Result, Ok, Err, IfOk, IfErr, refl, ap, subst}
+use Rattle.std.proofs.Common.{◌≡◌, ◌∙◌, ◌&&◌, Bool, true, false, List, codes, Result, Ok, Err, IfOk, IfErr, refl, ap, subst}
 use Rattle.std.specs.Option.{option_map_or}
 use Rattle.std.specs.Str.{bytes_eq}
 use Rattle.clap.specs.Words.{App, Row, Rule, Text, HasMatchesOf, AddsArg, FailsBy, app_of, found_of, rows_of, rule_of, with_rule, fault_of, kind_of, is_simple, is_simple_and_free}
+use Rattle.clap.specs.Faults.{is_free_app}
+use Rattle.clap.specs.Simple.{built}
 use Rattle.clap.proofs.WalkLemmas.{one_text-rows}
 use Rattle.clap.specs.declared.builder.arg.Arg.{Arg}
 use Rattle.clap.specs.declared.builder.command.Command.{Command}
@@ -11,17 +13,9 @@ use Rattle.clap.specs.declared.parser.matches.ArgMatches.{ArgMatches}
 use Rattle.aec_command.specs.CommandLine.{AreParsedBy, IsRefusedBy, aec, aec_test, asks_test}
 use Rattle.aec_command.specs.Plan.{is_flagged}
 
-pub aec_is_simple : is_simple aec ≡ true
-unfolding aec aec_test
-aec_is_simple = refl
-
 pub aec_is_free : is_simple_and_free aec ≡ true
 unfolding aec aec_test
 aec_is_free = refl
-
-pub test_is_simple : is_simple aec_test ≡ true
-unfolding aec_test
-test_is_simple = refl
 
 pub test_is_free : is_simple_and_free aec_test ≡ true
 unfolding aec_test
@@ -45,13 +39,17 @@ fails_by command a words r free is_it fails =
     subst (λ b. is_simple_and_free b ≡ true → FailsBy (fault_of b words) r) is_it fails in
     of_it free
 
+first_holds : (p q : Bool) → (p && q) ≡ true → p ≡ true
+first_holds true q e = refl
+first_holds false q e = e
+
 -- the words' matches
-pub words_are_parsed : (command a : App) (words : List Text) (r : Result ArgMatches Error) → is_simple command ≡ true → is_simple_and_free command ≡ true → a ≡ command
+pub words_are_parsed : (command a : App) (words : List Text) (r : Result ArgMatches Error) → is_simple_and_free command ≡ true → a ≡ command
     → IfOk r (HasMatchesOf a words) → (is_simple_and_free a ≡ true → FailsBy (fault_of a words) r) → IfOk r (AreParsedBy command words)
-words_are_parsed command a words (Ok m) simple free is_it has fails =
+words_are_parsed command a words (Ok m) free is_it has fails =
     let of_it : HasMatchesOf command words m = subst (λ b. HasMatchesOf b words m) is_it has in
-    record { in_order = fails_by command a words (Ok m) free is_it fails; rows = (of_it simple).0 }
-words_are_parsed command a words (Err e) simple free is_it has fails = tt
+    record { in_order = fails_by command a words (Ok m) free is_it fails; rows = (of_it (first_holds (is_simple command) (is_free_app (built command)) free)).0 }
+words_are_parsed command a words (Err e) free is_it has fails = tt
 
 -- the words' faults
 pub words_are_refused : (command a : App) (words : List Text) (r : Result ArgMatches Error) → is_simple_and_free command ≡ true → a ≡ command

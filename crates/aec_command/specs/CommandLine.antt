@@ -58,6 +58,10 @@ abbrev pub with_rules : App → List Rule → App
 with_rules a [] = a
 with_rules a (rule ∷ rules) = with_rules (with_rule a rule) rules
 
+-- the command with its texts, before it has arguments
+abbrev pub without_arguments : App
+without_arguments = record { top = record (new_shape (codes "aec")) { has_version = true }; subs = [] }
+
 -- The command of a test: the options and one name, in order.
 unfoldable pub aec_test : App
 aec_test = record {

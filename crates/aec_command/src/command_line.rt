@@ -1,16 +1,13 @@
 //! The options of the command line.
 ghost use Rattle.std.specs.Prelude.{◌≡◌, false, codes, IfOk};
 ghost use Rattle.clap.specs.Words.{app_of, rule_of};
-ghost use Rattle.aec_command.specs.CommandLine.{aec, aec_test, flag_rule, long_flag_rule, number_rule, buffer_rule, samples_rule, name_rule, with_rules, rules_up_to_j, rules_from_m, long_rules};
+ghost use Rattle.aec_command.specs.CommandLine.{aec, aec_test, flag_rule, long_flag_rule, number_rule, buffer_rule, samples_rule, name_rule, with_rules, rules_up_to_j, rules_from_m, long_rules, without_arguments};
 
 use clap::builder::ValueParser;
 use clap::{Arg, ArgAction, Command, value_parser};
 use std::alloc::{AllocError, Global};
 
 const VERSION: &str = "1.0.0";
-
-const ABOUT: &str =
-    "Compresses samples without loss, by the adaptive Rice coder of CCSDS 121.0-B-3";
 
 const NOTES: &str =
     "Decompress with the options that compressed. A code does not tell how many samples{n}it has: without --samples, those that fill its last block or run are written too.{n}{n}Examples:{n}  aec -n 8 -j 32 -r 128 frame.raw code.aec     # a byte a sample{n}  aec -n 12 -j 32 -r 128 camera.raw code.aec   # two bytes a sample, the upper four bits 0{n}  aec -n 16 -j 32 -r 128 samples.bin code.aec{n}  aec -d -n 16 -j 32 -r 128 --samples 5000 code.aec samples.bin{n}  aec --test -n 16 -j 32 -r 128 --samples 5000 code.aec";
@@ -19,6 +16,10 @@ const NOTES: &str =
 /// step of a function that holds it.
 fn notes<'a>() -> &'a str {
     NOTES
+}
+
+fn summary<'a>() -> &'a str {
+    "Compresses samples without loss, by the adaptive Rice coder of CCSDS 121.0-B-3"
 }
 
 fn help_of_test<'a>() -> &'a str {
@@ -192,14 +193,22 @@ pub fn command<'a>(alloc: Global) -> Result<Command<'a>, AllocError>
 pub fn command_with_one_name<'a>(alloc: Global) -> Result<Command<'a>, AllocError>
     ensures { IfOk result (λ c. app_of c ≡ aec_test) }
 {
-    let described = Command::new(alloc, "aec")
-        .bin_name("aec")?
-        .version(VERSION)
-        .about(ABOUT)
-        .after_help(notes());
-    let begun = with_options_up_to_j(described, alloc)?;
+    let begun = with_options_up_to_j(described(alloc)?, alloc)?;
     let lettered = with_options_from_m(begun, alloc)?;
     with_long_options(lettered, alloc)?.arg(source(alloc))
+}
+
+/// Returns the command with its texts, and without arguments.
+fn described<'a>(alloc: Global) -> Result<Command<'a>, AllocError>
+    ensures { IfOk result (λ c. app_of c ≡ without_arguments) }
+{
+    Ok(
+        Command::new(alloc, "aec")
+            .bin_name("aec")?
+            .version(VERSION)
+            .about(summary())
+            .after_help(notes()),
+    )
 }
 
 /// Adds the options of one letter in alphabetical order, up to `-j`.

@@ -1,6 +1,4 @@
-use Rattle.std.proofs.Common.{◌≡◌, ◌∙◌, true, codes, ap}
-use Rattle.clap.specs.Words.{App, app_of, new_app}
-use Rattle.clap.specs.Simple.{app_of_fields}
+use Rattle.std.proofs.Common.{◌∙◌, ap}
 use Rattle.aec_command.specs.CommandLine.{aec_test, with_rules, rules_up_to_j, rules_from_m, long_rules}
 use Rattle.aec_command.proofs.CommandLineLemmas.{last_argument_adds_rule}
 use Rattle.aec_command.proofs.command_line.command_with_one_name.Goals as goal
@@ -9,10 +7,7 @@ use Rattle.aec_command.proofs.command_line.command_with_one_name.Goals as goal
 pub returns : goal.returns
 unfolding aec_test
 returns c =
-    let named : app_of c.in_ok-bin_name.field-0 ≡ new_app (codes "aec") = ap app_of_fields c.in_ok-bin_name.ensures.0 ∙ c.new.ensures.app in
-    let versioned = ap app_of_fields c.version.ensures ∙ ap (λ (x : App). record x { top = record x.top { has_version = true } }) named in
-    let described = ap app_of_fields c.after_help-described.ensures ∙ ap app_of_fields c.about.ensures ∙ versioned in
-    let up_to_j = c.in_ok-begun.ensures ∙ ap (λ x. with_rules x rules_up_to_j) described in
+    let up_to_j = c.in_ok-begun.ensures ∙ ap (λ x. with_rules x rules_up_to_j) c.in_ok-described.ensures in
     let from_m = c.in_ok-lettered.ensures ∙ ap (λ x. with_rules x rules_from_m) up_to_j in
     let long = c.in_ok-with_long_options.ensures ∙ ap (λ x. with_rules x long_rules) from_m in
     last_argument_adds_rule _ _ _ _ c.arg.result c.arg.ensures c.source.ensures.local c.source.ensures.rule long
