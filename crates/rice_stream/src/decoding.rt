@@ -1,17 +1,16 @@
 //! Decodes a code to its samples.
-ghost use Rattle.std.specs.Prelude.{◌≡◌, ◌+◌, ◌-◌, ◌*◌, ◌^◌, ◌<◌, ◌≤◌, Ok, Option, None, Some, true, false};
-ghost use Rattle.rice_bits.specs.Limits.{step_limit, most_bits_read};
-ghost use Rattle.rice_code.specs.declared.decode.call_results.Step.TheVariants.{Block};
+ghost use Rattle.std.specs.Prelude.{◌≡◌, ◌+◌, ◌^◌, ◌<◌, ◌≤◌, OnErr, OnOk, Option, Some, take, true};
+ghost use Rattle.rice_bits.specs.device.OutletRoom.{Appends};
 ghost use Rattle.rice_samples.specs.Parameters.{width as width_of};
-ghost use Rattle.rice_stream.specs.{DecodingState.AnswersBytes, DevicesInCalls.Fails};
+ghost use Rattle.rice_stream.specs.DevicesInCalls.{Fails, TakesPart};
 ghost use Rattle.rice_stream.specs.Decodes.{DecodesBetween, DecodesWithin, Reports, wanted_of, ended_fault, refusal_fault};
 
-use crate::block_bytes::bytes_of_next;
+use crate::block_bytes::next_bytes;
 use crate::block_pass::{BlockPass, FastPass};
 use crate::outcome::{Fault, Outcome, Report};
 use crate::runs::write_run;
 use crate::write::write_all;
-use rice_bits::{BitReader, Intake, Meter, Outlet};
+use rice_bits::{BitReader, Intake, Meter, Outlet, WriteFault};
 use rice_code::{CodeFault, Decoder, Step, known_or};
 use rice_samples::Setting;
 
@@ -130,24 +129,17 @@ fn decode_sizes<I: Intake, O: Outlet, const WIDTH: usize>(
     }
 }
 
-/// Returns whether all of the next block is wanted, of `count` samples that are.
-pub(crate) fn is_whole(count: usize, block: u32) -> bool
-    ensures { result ≡ true → count ≡ block }
-{
-    count == block as usize
-}
-
-/// Returns whether all of the next block is wanted, and it is in a run that repeats the sample before.
+/// Returns whether all samples of the next block are wanted, of `count` that are, and it is in a run that repeats the sample before.
 fn repeats<P: BlockPass<SIZE, WIDTH>, const SIZE: usize, const WIDTH: usize>(
     decoder: &Decoder,
     setting: &Setting,
-    whole: bool,
+    count: usize,
 ) -> bool
     requires { decoder.now.setting ≡ setting.now }
-    ensures { result ≡ true → (whole ≡ true) × (0 < decoder.now.run) ×
+    ensures { result ≡ true → (count ≡ setting.now.block) × (0 < decoder.now.run) ×
         (decoder.now.setting.preprocess ≡ true) }
 {
-    whole && P::is_repeating(decoder, setting)
+    count == setting.block() as usize && P::is_repeating(decoder, setting)
 }
 
 /// Returns the number of bytes of a sample, which the compiler knows where it is laid out for `WIDTH`.
@@ -164,32 +156,27 @@ pub(crate) fn known_width<const WIDTH: usize>(setting: &Setting) -> usize
     }
 }
 
-/// Reads the next block by a pass, if `whole` says that all of it is wanted, and writes the bytes of its samples to the front of `bytes`.
-/// Returns whether it did; otherwise nothing has happened.
+/// Writes the first `len` bytes, which are all `size` bytes of a block, or those of its samples that are wanted.
 #[inline(always)]
-fn pass_whole<P: BlockPass<SIZE, WIDTH>, I: Intake, const SIZE: usize, const WIDTH: usize>(
-    setting: &Setting,
-    whole: bool,
-    decoder: &mut Decoder,
-    reader: &mut BitReader<I>,
-    meter: &mut Meter,
-    bytes: &mut [u8; 320],
-) -> bool
-    requires setting { decoder.old.setting ≡ setting.now }
-    requires size { 0 < SIZE → SIZE ≡ setting.now.block }
-    requires width { 0 < WIDTH → WIDTH ≡ width_of setting.now }
-    requires stopped { decoder.old.stopped ≡ None }
-    requires going { reader.old.refusal ≡ None }
-    requires room { meter.old + 2 * (most_bits_read - reader.old.taken) + 64 < step_limit }
-    ensures whole { result ≡ true → whole ≡ true }
-    ensures some { result ≡ true → AnswersBytes reader.old reader.new meter.old meter.new decoder.old
-        decoder.new bytes.new (Ok Block) }
-    ensures none { result ≡ false → (decoder.new ≡ decoder.old) × (reader.new ≡ reader.old) ×
-        (meter.new ≡ meter.old) }
-    ensures going { reader.new.refusal ≡ None }
-    ensures stopped { decoder.new.stopped ≡ None }
+fn write_block<O: Outlet>(
+    outlet: &mut O,
+    bytes: &[u8; 320],
+    size: usize,
+    len: usize,
+) -> Result<(), WriteFault>
+    requires len { len ≤ 320 }
+    requires counted { O.failed outlet.old + 1 < 2 ^ 64 }
+    ensures ok { OnOk result (Appends (O.taken outlet.old) (O.taken outlet.new) (take len bytes.now) ×
+        (O.failed outlet.new ≡ O.failed outlet.old)) }
+    ensures err { OnErr result (TakesPart (O.taken outlet.old) (O.taken outlet.new)
+        (take len bytes.now) ×
+        (O.failed outlet.new ≡ O.failed outlet.old + 1)) }
 {
-    whole && P::pass(decoder, setting, reader, meter, bytes)
+    // The compiler knows the size of most blocks.
+    if len == size {
+        return write_all(outlet, &bytes[..size]);
+    }
+    write_all(outlet, &bytes[..len])
 }
 
 /// Decodes, by a loop for blocks of `SIZE` samples of `WIDTH` bytes, or of any where these are 0.
@@ -229,24 +216,7 @@ pub(crate) fn decode_blocks<
         if count == 0 {
             return ended(None, written, reader, &meter);
         }
-        let whole = is_whole(count, block);
-        if pass_whole::<P, I, SIZE, WIDTH>(
-            &own,
-            whole,
-            &mut decoder,
-            &mut reader,
-            &mut meter,
-            &mut bytes,
-        ) {
-            match write_all(outlet, &bytes[..size]) {
-                Ok(()) => {}
-                Err(_) => return ended(Some(Fault::Write), written, reader, &meter),
-            }
-            written += block as u64;
-            meter.tick(block as u64);
-            continue 'decode_all;
-        }
-        if repeats::<P, SIZE, WIDTH>(&decoder, &own, whole) {
+        if repeats::<P, SIZE, WIDTH>(&decoder, &own, count) {
             match write_run(&own, asked, written, &mut decoder, &mut bytes, outlet) {
                 Ok(samples) => {
                     written += samples;
@@ -260,7 +230,13 @@ pub(crate) fn decode_blocks<
                 }
             }
         }
-        let answer = bytes_of_next(&mut decoder, &own, &mut reader, &mut meter, &mut bytes);
+        let answer = next_bytes::<P, I, SIZE, WIDTH>(
+            &mut decoder,
+            &own,
+            &mut reader,
+            &mut meter,
+            &mut bytes,
+        );
         let step = match answer {
             Ok(step) => step,
             Err(fault) => {
@@ -272,7 +248,7 @@ pub(crate) fn decode_blocks<
             Step::Block => {}
             Step::Done => return ended(end_of(asked, written), written, reader, &meter),
         }
-        match write_all(outlet, &bytes[..width * count]) {
+        match write_block(outlet, &bytes, size, width * count) {
             Ok(()) => {}
             Err(_) => return ended(Some(Fault::Write), written, reader, &meter),
         }

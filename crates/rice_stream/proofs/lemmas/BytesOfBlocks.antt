@@ -15,15 +15,6 @@ first_spelled s n samples bytes few spelled =
     sym (take-take (width s * n) (width s * length samples) bytes (mul-le-mul_left (width s) few)) ∙ ap (take (width s * n)) (spelled ∙ parts)
     ∙ take_at (spellings s front) (spellings s (drop n samples)) (width s * n) len
 
--- where nothing has happened
-pub progress_unchanged : {I : Type 0} {s : Parameters} {asked : Option ℕ} {start : Reader I} {out_old out : Option Room} {p q : DecoderState} {r t : Reader I} {steps steps_new written : ℕ}
-    → (q ≡ p) × (t ≡ r) × (steps_new ≡ steps) → DecodingProgress s asked start out_old out p r steps written → DecodingProgress s asked start out_old out q t steps_new written
-progress_unchanged {s = s} {asked = asked} {start = start} {out_old = out_old} {out = out} {p = p} {q = q} {r = r} {t = t} {steps = steps}
-    {steps_new = steps_new} {written = written} same runs =
-    subst (λ (x : DecoderState). DecodingProgress s asked start out_old out x t steps_new written) (sym same.0)
-    (subst (λ (x : Reader _). DecodingProgress s asked start out_old out p x steps_new written) (sym same.1)
-    (subst (λ (n : ℕ). DecodingProgress s asked start out_old out p r n written) (sym same.2) runs))
-
 -- A block was given, and these bytes of its samples are written: those of the samples that are wanted.
 module _ {I : Type 0} {s : Parameters} {asked : Option ℕ} {start : Reader I} {out_old out : Option Room} {p q : DecoderState} {r new : Reader I} {steps steps_new written : ℕ}
     {bytes : List ℕ} (legal : IsLegal s) (runs : DecodingProgress s asked start out_old out p r steps written) (says : AnswersBytes r new steps steps_new p q bytes (Ok Block))

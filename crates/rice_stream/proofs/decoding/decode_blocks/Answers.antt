@@ -1,7 +1,7 @@
-use Rattle.rice_stream.proofs.Words.{arith, ◌*◌, ap, refl, sym, ◌∙◌, subst, true, Some, Ok, DecoderState, Advances, AnswersBytes, wanted_of, refusal_fault}
+use Rattle.rice_stream.proofs.Words.{arith, ◌*◌, ap, refl, sym, ◌∙◌, subst, true, Some, Ok, Advances, AnswersBytes, wanted_of, refusal_fault}
 use Rattle.rice_stream.proofs.lemmas.DecodingEnds.{reports_as, block_is_wanted, progress_at_start, refusal_ends, ended_ends, ends_within, nothing_read, reached_ends}
 use Rattle.rice_stream.proofs.lemmas.RunsWritten.{progress_with_run, run_fails, run_shrinks, run_within}
-use Rattle.rice_stream.proofs.lemmas.{BytesOfBlocks.block_fails, BytesOfBlocks.block_written, BytesOfBlocks.progress_unchanged, DecodingLemmas.decoding_is_done, DecodingLemmas.stops_in_no_run}
+use Rattle.rice_stream.proofs.lemmas.{BytesOfBlocks.block_fails, BytesOfBlocks.block_written, DecodingLemmas.decoding_is_done, DecodingLemmas.stops_in_no_run}
 use Rattle.rice_stream.proofs.decoding.decode_blocks.Goals as goal
 
 pub decode_all-init : goal.decode_all-init
@@ -17,9 +17,8 @@ returns-then-count-eq0-clause-call g c =
 
 pub returns-in-Err-answer-clause-call : goal.returns-in-Err-answer-clause-call
 returns-in-Err-answer-clause-call g c =
-    let i = c.decode_all.invariant in
+    let runs = c.decode_all.invariant.runs in
     let old = c.decode_all in
-    let runs = progress_unchanged (c.pass_whole.ensures.none c.if-pass_whole.false) i.runs in
     let legal = c.block-block.ensures.legal in
     let says = c.in-Err-answer.ensures.gives in
     let some = block_is_wanted c.args.asked old.written c.wanted-count.ensures.value c.block-block.ensures.value c.if-count-eq0.false in
@@ -29,98 +28,62 @@ returns-in-Err-answer-clause-call g c =
 
 pub returns-in-Done-clause-call : goal.returns-in-Done-clause-call
 returns-in-Done-clause-call g c =
-    let i = c.decode_all.invariant in
+    let runs = c.decode_all.invariant.runs in
     let old = c.decode_all in
-    let mid = c.pass_whole.new in
-    let new = c.bytes_of_next-answer.new in
-    let runs = progress_unchanged (c.pass_whole.ensures.none c.if-pass_whole.false) i.runs in
+    let new = c.next_bytes-answer.new in
     let legal = c.block-block.ensures.legal in
     let says = c.in-Ok-answer.ensures.gives in
-    let a = subst (λ t. Advances mid.reader new.reader mid.meter new.meter mid.decoder new.decoder says.samples (Ok t)) c.in-Done.is says.advances in
+    let a = subst (λ t. Advances old.reader new.reader old.meter new.meter old.decoder new.decoder says.samples (Ok t)) c.in-Done.is says.advances in
     let some = block_is_wanted c.args.asked old.written c.wanted-count.ensures.value c.block-block.ensures.value c.if-count-eq0.false in
     let tells = reports_as c.end_of.ensures c.ended-in-Done.ensures.reports in
     let ends = decoding_is_done legal runs a in
     ended_ends true runs some ends.0 ends.1 says.counted tells
 
-pub returns-in-Err-write_all-clause-call : goal.returns-in-Err-write_all-clause-call
-returns-in-Err-write_all-clause-call g c =
-    let old = c.pass_whole.new in
-    let new = c.bytes_of_next-answer.new in
+pub returns-in-Err-write_block-clause-call : goal.returns-in-Err-write_block-clause-call
+returns-in-Err-write_block-clause-call g c =
+    let old = c.decode_all in
+    let new = c.next_bytes-answer.new in
     let says = subst (λ t. AnswersBytes old.reader new.reader old.meter new.meter old.decoder new.decoder new.bytes (Ok t)) c.in-Block.is c.in-Ok-answer.ensures.gives in
-    block_fails c.block-block.ensures.legal (progress_unchanged (c.pass_whole.ensures.none c.if-pass_whole.false) c.decode_all.invariant.runs) says c.wanted-count.result
+    block_fails c.block-block.ensures.legal c.decode_all.invariant.runs says c.wanted-count.result
     (c.wanted-count.ensures.value ∙ ap (wanted_of c.args.asked c.decode_all.written) c.block-block.ensures.value) c.if-count-eq0.false
-    (ap (λ n. n * c.wanted-count.result) c.known_width-width.ensures.value) c.in-Err-write_all.ensures.err.0 c.ended-in-Err-write_all.ensures.reports
+    (ap (λ n. n * c.wanted-count.result) c.known_width-width.ensures.value) c.in-Err-write_block.ensures.err.0 c.ended-in-Err-write_block.ensures.reports
 
 pub decode_all-preserved : goal.decode_all-preserved
 decode_all-preserved g c =
-    let old = c.pass_whole.new in
-    let new = c.bytes_of_next-answer.new in
+    let old = c.decode_all in
+    let new = c.next_bytes-answer.new in
     let says = subst (λ t. AnswersBytes old.reader new.reader old.meter new.meter old.decoder new.decoder new.bytes (Ok t)) c.in-Block.is c.in-Ok-answer.ensures.gives in
     record {
-      runs = block_written c.block-block.ensures.legal (progress_unchanged (c.pass_whole.ensures.none c.if-pass_whole.false) c.decode_all.invariant.runs) says c.wanted-count.result
+      runs = block_written c.block-block.ensures.legal c.decode_all.invariant.runs says c.wanted-count.result
           (c.wanted-count.ensures.value ∙ ap (wanted_of c.args.asked c.decode_all.written) c.block-block.ensures.value) c.if-count-eq0.false
-          (ap (λ n. n * c.wanted-count.result) c.known_width-width.ensures.value) c.in-Ok-write_all.ensures.ok.0 c.tick-in-decode_all.ensures;
-      writes = c.in-Ok-write_all.ensures.ok.1 ∙ c.decode_all.invariant.writes;
+          (ap (λ n. n * c.wanted-count.result) c.known_width-width.ensures.value) c.in-Ok-write_block.ensures.ok.0 c.tick-in-decode_all.ensures;
+      writes = c.in-Ok-write_block.ensures.ok.1 ∙ c.decode_all.invariant.writes;
     }
 
 pub returns-in-Err-clause-call : goal.returns-in-Err-clause-call
 returns-in-Err-clause-call g c =
-    let all = c.is_whole-whole.ensures (c.pass_whole.ensures.whole c.if-pass_whole.true) in
-    block_fails c.block-block.ensures.legal c.decode_all.invariant.runs (c.pass_whole.ensures.some c.if-pass_whole.true) c.block-block.result
-    (sym all ∙ c.wanted-count.ensures.value ∙ ap (wanted_of c.args.asked c.decode_all.written) c.block-block.ensures.value) (λ none. c.if-count-eq0.false (all ∙ none))
-    (λ j. c.known_width-width.ensures.value j * c.known_or.ensures j) c.in-Err.ensures.err.0 c.ended-in-Err.ensures.reports
+    run_fails c.block-block.ensures.legal c.decode_all.invariant.runs c.in-Err.ensures.err c.tick-in-Err.ensures refl c.ended-in-Err.ensures.reports
 
-pub decode_all-preserved-then-pass_whole : goal.decode_all-preserved-then-pass_whole
-decode_all-preserved-then-pass_whole g c =
-    let all = c.is_whole-whole.ensures (c.pass_whole.ensures.whole c.if-pass_whole.true) in
-    record {
-      runs = block_written c.block-block.ensures.legal c.decode_all.invariant.runs (c.pass_whole.ensures.some c.if-pass_whole.true) c.block-block.result
-          (sym all ∙ c.wanted-count.ensures.value ∙ ap (wanted_of c.args.asked c.decode_all.written) c.block-block.ensures.value) (λ none. c.if-count-eq0.false (all ∙ none))
-          (λ j. c.known_width-width.ensures.value j * c.known_or.ensures j) c.in-Ok.ensures.ok.0 c.tick.ensures;
-      writes = c.in-Ok.ensures.ok.1 ∙ c.decode_all.invariant.writes;
-    }
-
-pub returns-in-Err-write_run-clause-call : goal.returns-in-Err-write_run-clause-call
-returns-in-Err-write_run-clause-call g c =
-    run_fails c.block-block.ensures.legal (progress_unchanged (c.pass_whole.ensures.none c.if-pass_whole.false) c.decode_all.invariant.runs)
-    c.in-Err-write_run.ensures.err c.tick-in-Err-write_run.ensures refl c.ended-in-Err-write_run.ensures.reports
-
-pub decode_all-preserved-in-Ok-write_run : goal.decode_all-preserved-in-Ok-write_run
-decode_all-preserved-in-Ok-write_run g c = record {
-  runs = progress_with_run c.block-block.ensures.legal (progress_unchanged (c.pass_whole.ensures.none c.if-pass_whole.false) c.decode_all.invariant.runs)
-      c.in-Ok-write_run.ensures.ok c.tick-in-Ok-write_run.ensures;
-  writes = c.in-Ok-write_run.ensures.failures ∙ c.decode_all.invariant.writes;
+pub decode_all-preserved-in-Ok : goal.decode_all-preserved-in-Ok
+decode_all-preserved-in-Ok g c = record {
+  runs = progress_with_run c.block-block.ensures.legal c.decode_all.invariant.runs c.in-Ok.ensures.ok c.tick.ensures;
+  writes = c.in-Ok.ensures.failures ∙ c.decode_all.invariant.writes;
 }
 
-pub decode_all-smaller-in-Ok-write_run : goal.decode_all-smaller-in-Ok-write_run
-decode_all-smaller-in-Ok-write_run g c =
-    let less = run_shrinks c.block-block.ensures.legal (progress_unchanged (c.pass_whole.ensures.none c.if-pass_whole.false) c.decode_all.invariant.runs).at_block.setting
-    c.in-Ok-write_run.ensures.ok in
-    let same = c.pass_whole.ensures.none c.if-pass_whole.false in
-    omega (arith, less, ap (λ r. r.taken) same.1, ap (λ (d : DecoderState). d.run * d.setting.block) same.0)
+pub decode_all-smaller-in-Ok : goal.decode_all-smaller-in-Ok
+decode_all-smaller-in-Ok g c = omega (arith, run_shrinks c.block-block.ensures.legal c.decode_all.invariant.runs.at_block.setting c.in-Ok.ensures.ok)
 
 pub returns-then-count-eq0-clause-bounds : goal.returns-then-count-eq0-clause-bounds
 returns-then-count-eq0-clause-bounds g c = let runs = c.decode_all.invariant.runs in ends_within runs (nothing_read runs) c.ended.ensures.reports
 
 pub returns-in-Err-clause-bounds : goal.returns-in-Err-clause-bounds
-returns-in-Err-clause-bounds g c = ends_within c.decode_all.invariant.runs (c.pass_whole.ensures.some c.if-pass_whole.true).counted c.ended-in-Err.ensures.reports
-
-pub returns-in-Err-write_run-clause-bounds : goal.returns-in-Err-write_run-clause-bounds
-returns-in-Err-write_run-clause-bounds g c =
-    let runs = progress_unchanged (c.pass_whole.ensures.none c.if-pass_whole.false) c.decode_all.invariant.runs in
-    run_within runs c.in-Err-write_run.ensures.err c.tick-in-Err-write_run.ensures refl c.ended-in-Err-write_run.ensures.reports
+returns-in-Err-clause-bounds g c = run_within c.decode_all.invariant.runs c.in-Err.ensures.err c.tick-in-Err.ensures refl c.ended-in-Err.ensures.reports
 
 pub returns-in-Err-answer-clause-bounds : goal.returns-in-Err-answer-clause-bounds
-returns-in-Err-answer-clause-bounds g c =
-    let runs = progress_unchanged (c.pass_whole.ensures.none c.if-pass_whole.false) c.decode_all.invariant.runs in
-    ends_within runs c.in-Err-answer.ensures.gives.counted c.ended-in-Err-answer.ensures.reports
+returns-in-Err-answer-clause-bounds g c = ends_within c.decode_all.invariant.runs c.in-Err-answer.ensures.gives.counted c.ended-in-Err-answer.ensures.reports
 
 pub returns-in-Done-clause-bounds : goal.returns-in-Done-clause-bounds
-returns-in-Done-clause-bounds g c =
-    let runs = progress_unchanged (c.pass_whole.ensures.none c.if-pass_whole.false) c.decode_all.invariant.runs in
-    ends_within runs c.in-Ok-answer.ensures.gives.counted c.ended-in-Done.ensures.reports
+returns-in-Done-clause-bounds g c = ends_within c.decode_all.invariant.runs c.in-Ok-answer.ensures.gives.counted c.ended-in-Done.ensures.reports
 
-pub returns-in-Err-write_all-clause-bounds : goal.returns-in-Err-write_all-clause-bounds
-returns-in-Err-write_all-clause-bounds g c =
-    let runs = progress_unchanged (c.pass_whole.ensures.none c.if-pass_whole.false) c.decode_all.invariant.runs in
-    ends_within runs c.in-Ok-answer.ensures.gives.counted c.ended-in-Err-write_all.ensures.reports
+pub returns-in-Err-write_block-clause-bounds : goal.returns-in-Err-write_block-clause-bounds
+returns-in-Err-write_block-clause-bounds g c = ends_within c.decode_all.invariant.runs c.in-Ok-answer.ensures.gives.counted c.ended-in-Err-write_block.ensures.reports

@@ -1,4 +1,4 @@
-use Rattle.rice_stream.proofs.Words.{rules, arith, refl, w64, FitsSigned, ℤ, ◌≡◌, ◌+◌, ◌*◌, ◌++◌, ◌∙◌, ap, sym, subst, length, length-drop, take, drop, Option, Ok, IfSome, ◌%◌, to_z-of_z, length-take}
+use Rattle.rice_stream.proofs.Words.{rules, arith, refl, w64, FitsSigned, ℤ, ◌≡◌, ◌+◌, ◌*◌, ◌++◌, ◌∙◌, ap, sym, subst, length, length-drop, take, drop, Option, Ok, IfSome, ◌%◌, to_z-of_z}
 use Rattle.rice_stream.proofs.Words.{length-take-le, length-bits_of, width, spellings, bits_of, DecodesMore, GoesOnAt, TakesNext, ahead, state_of, Pause, Stand}
 use Rattle.rice_stream.proofs.lemmas.PulledPieceSoFar.{ends_so, failed_once, has_none, has_room, more_so_far, never_too_long, none_so_far, nothing_ahead, refused_so}
 use Rattle.rice_code.specs.declared.decode.call_results.CodeFault.TheVariants as faults
