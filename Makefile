@@ -94,8 +94,8 @@ aec: crates/aec_tool/out/aec_tool
 	cp $< $@
 
 # The libraries first, one after the other: `rt run` alone would begin with a pass over all sources, which takes minutes.
-crates/aec_tool/out/aec_tool: $(call sources,$(LIBRARIES) aec_command aec_tool)
-	$(call prove,$(LIBRARIES) aec_command)
+crates/aec_tool/out/aec_tool: $(call sources,$(LIBRARIES) aec_command aec_run aec_tool)
+	$(call prove,$(LIBRARIES) aec_command aec_run)
 	cd crates/aec_tool && rt run --jobs $(JOBS) -- --help > /dev/null
 	touch $@
 
@@ -375,4 +375,4 @@ lemmas:
 	scripts/lemma_lines.py
 
 plant:
-	for crate in $(FOR_C) rice_c rice_small aec_command aec_tool; do (cd crates/$$crate && rt plant --max 1000000 --minutes 10000) || exit 1; done
+	for crate in $(FOR_C) rice_c rice_small aec_command aec_run aec_tool; do (cd crates/$$crate && rt plant --max 1000000 --minutes 10000) || exit 1; done

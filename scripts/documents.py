@@ -120,7 +120,7 @@ def wrong_messages():
     explained = {numbered(text) for text in re.findall(r'(?m)^\.It "(.*)"$', read(MANUAL))}
     messages = set(re.findall(r"(?m)^  says aec: (.*)$", read("scripts/rows.txt")))
     messages = {re.sub(r"^(cannot \w+) .*", r"\1 NAME", re.sub(r"^.*(?= \(block)", "FAULT", text)) for text in messages}
-    for crate in ("aec_command", "aec_tool", "rice_stream"):
+    for crate in ("aec_command", "aec_run", "rice_stream"):
         for path in glob.glob(f"crates/{crate}/src/**/*.rt", recursive=True):
             messages |= set(re.findall(r'#\[error\("([^"]+)"\)\]', read(path)))
     for message in sorted(messages):

@@ -173,7 +173,7 @@ def house():
     box(axes, 335, 136, 280, 26, "aec_command: options, and their plan", fill="white", size=9)
     arrow(axes, (335, 149), (225, 125))
     arrow(axes, (660, 140), (616, 150))
-    for y, name, text in ((100, "aec_tool", "the command"), (36, "rice_calls, rice_c, rice_small", "libraries for C: compat and\nPython stand on rice_c")):
+    for y, name, text in ((100, "aec_run, aec_tool", "the command"), (36, "rice_calls, rice_c, rice_small", "libraries for C: compat and\nPython stand on rice_c")):
         box(axes, 660, y, 225, 52, f"{name}\n{text}", fill="white", size=9)
         arrow(axes, (660, y + 26), (627, 92))
     label(axes, 15, 20, "An arrow goes to what is used; what that stands on may be used too.", size=9, style="italic")

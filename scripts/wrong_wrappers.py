@@ -17,7 +17,7 @@ import tempfile
 ROOT = pathlib.Path(__file__).resolve().parent.parent
 WRAP = "crates/rice_bits/src/device/over_std.rt"
 BUFFERED = "crates/rice_bits/src/device/over_buf_writer.rt"
-HOST = "crates/aec_tool/src/host.rt"
+HOST = "crates/aec_run/src/host.rt"
 
 READ = """\
         match self.reader.read(buf) {

@@ -1,7 +1,7 @@
 //! `start` over a runtime in memory with limited devices and no clock: cases that `scripts/rows.txt` cannot try with the program.
-use crate::start_up::start;
 use crate::tests::columns::Columns;
 use crate::tests::runtime_in_memory::{Memory, Record};
+use aec_run::start;
 use std::test::Fail;
 
 // Eight samples of 7 bits, all 0, coded without compression.

@@ -1,8 +1,8 @@
 //! `run` over memory, by the plan of a command line: what it writes, reports and answers.
-use crate::coding::run;
-use crate::exit_status::exit_status;
 use crate::tests::columns::{Columns, bytes_of};
 use aec_command::{matches_of, plan_of};
+use aec_run::exit_status::exit_status;
+use aec_run::run;
 use rice_bits::{FromReader, SliceOut};
 use rice_stream::Outcome;
 use std::alloc::Global;

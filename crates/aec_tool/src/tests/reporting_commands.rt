@@ -1,6 +1,6 @@
 //! `start_on` over a system that reports its contents. Its contract determines the result of each case.
-use crate::start_up::start_on;
 use crate::tests::reporting_system::Reported;
+use aec_run::start_up::start_on;
 use std::test::Fail;
 
 // Eight samples, all 5, and their code.

@@ -3,11 +3,11 @@ ghost use Rattle.std.specs.Prelude.{◌≡◌, None, Some, true, if◌then◌els
 ghost use Rattle.std.specs.Str.{bytes_eq};
 ghost use Rattle.rice_bits.specs.device.OutletRoom.{known};
 
-use crate::finding::Finding;
-use crate::help::Job;
-use crate::message::Message;
-use crate::same_file::FileId;
-use crate::system::{CreateFault, OpenFault, System};
+use aec_run::finding::Finding;
+use aec_run::help::Job;
+use aec_run::message::Message;
+use aec_run::same_file::FileId;
+use aec_run::system::{CreateFault, OpenFault, System};
 use clap::Error;
 use clap::error::ErrorKind;
 use rice_bits::{Outlet, SliceIn, WriteFault};
@@ -99,7 +99,7 @@ impl<'a> Reported<'a> {
 }
 
 impl<'a> System<'a> for Reported<'a> {
-    ghost use Rattle.aec_tool.specs.Outside.{destination_of, said_of};
+    ghost use Rattle.aec_run.specs.Outside.{destination_of, said_of};
 
     type Source = SliceIn<'a>;
 
