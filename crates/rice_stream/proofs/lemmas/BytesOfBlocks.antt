@@ -1,5 +1,5 @@
 -- Blocks of which a decoder gives the bytes.
-use Rattle.std.proofs.Common.{◌≡◌, ◌≢◌, ℕ, ◌+◌, ◌*◌, ◌≤◌, ◌∙◌, List, ◌++◌, length, drop, take, ap, subst, sym, take-take, Option, Some, ℤ, refl, arith}
+use Rattle.std.proofs.Common.{◌≡◌, ◌≢◌, ℕ, ◌+◌, ◌-◌, ◌*◌, ◌<◌, ◌≤◌, ◌∙◌, List, ◌++◌, length, drop, take, ap, subst, sym, take-take, Option, Some, ℤ, refl, arith}
 use Rattle.rice_stream.proofs.Words.{Ok, length-take-le, take-append-drop, take_at, mul-le-mul_left, Appends, Room, Reader, Parameters, IsLegal, width, spellings, length-spellings, spellings-append}
 use Rattle.rice_stream.proofs.Words.{DecoderState, Block, AnswersBytes, DecodesBetween, Reports, wanted_of, DecodingProgress, TakesPart, Report, Fault, Write}
 use Rattle.rice_stream.proofs.lemmas.DecodingLemmas.{gains_block, moves_of, samples_of_block}
@@ -14,6 +14,15 @@ first_spelled s n samples bytes few spelled =
     let parts : spellings s samples ≡ spellings s front ++ spellings s (drop n samples) = ap (spellings s) (sym (take-append-drop n samples)) ∙ spellings-append s front (drop n samples) in
     sym (take-take (width s * n) (width s * length samples) bytes (mul-le-mul_left (width s) few)) ∙ ap (take (width s * n)) (spelled ∙ parts)
     ∙ take_at (spellings s front) (spellings s (drop n samples)) (width s * n) len
+
+-- fewer samples of a run and bits are to come after a block
+pub block_shrinks : {I : Type 0} {s : Parameters} {asked : Option ℕ} {start : Reader I} {out_old out : Option Room} {p q : DecoderState} {r new : Reader I} {steps steps_new written : ℕ}
+    {bytes : List ℕ} → IsLegal s → DecodingProgress s asked start out_old out p r steps written → AnswersBytes r new steps steps_new p q bytes (Ok Block)
+    → 456 * (4503599627370496 - new.taken) + q.run * q.setting.block < 456 * (4503599627370496 - r.taken) + p.run * p.setting.block
+block_shrinks {s = s} legal runs says =
+    let some : 2 ≤ s.block = grind (arith, legal.block) in
+    let len = (samples_of_block s runs.at_block.setting runs.at_block.going says.advances).len in
+    omega (arith, some, len, says.counted.forward, says.counted.limit, says.by_bits)
 
 -- A block was given, and these bytes of its samples are written: those of the samples that are wanted.
 module _ {I : Type 0} {s : Parameters} {asked : Option ℕ} {start : Reader I} {out_old out : Option Room} {p q : DecoderState} {r new : Reader I} {steps steps_new written : ℕ}

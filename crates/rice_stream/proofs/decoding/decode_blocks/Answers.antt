@@ -1,7 +1,7 @@
 use Rattle.rice_stream.proofs.Words.{arith, ◌*◌, ap, refl, sym, ◌∙◌, subst, true, Some, Ok, Advances, AnswersBytes, wanted_of, refusal_fault}
 use Rattle.rice_stream.proofs.lemmas.DecodingEnds.{reports_as, block_is_wanted, progress_at_start, refusal_ends, ended_ends, ends_within, nothing_read, reached_ends}
 use Rattle.rice_stream.proofs.lemmas.RunsWritten.{progress_with_run, run_fails, run_shrinks, run_within}
-use Rattle.rice_stream.proofs.lemmas.{BytesOfBlocks.block_fails, BytesOfBlocks.block_written, DecodingLemmas.decoding_is_done, DecodingLemmas.stops_in_no_run}
+use Rattle.rice_stream.proofs.lemmas.{BytesOfBlocks.block_fails, BytesOfBlocks.block_shrinks, BytesOfBlocks.block_written, DecodingLemmas.decoding_is_done, DecodingLemmas.stops_in_no_run}
 use Rattle.rice_stream.proofs.decoding.decode_blocks.Goals as goal
 
 pub decode_all-init : goal.decode_all-init
@@ -59,6 +59,13 @@ decode_all-preserved g c =
           (ap (λ n. n * c.wanted-count.result) c.known_width-width.ensures.value) c.in-Ok-write_block.ensures.ok.0 c.tick-in-decode_all.ensures;
       writes = c.in-Ok-write_block.ensures.ok.1 ∙ c.decode_all.invariant.writes;
     }
+
+pub decode_all-smaller : goal.decode_all-smaller
+decode_all-smaller g c =
+    let old = c.decode_all in
+    let new = c.next_bytes-answer.new in
+    let says = subst (λ t. AnswersBytes old.reader new.reader old.meter new.meter old.decoder new.decoder new.bytes (Ok t)) c.in-Block.is c.in-Ok-answer.ensures.gives in
+    block_shrinks c.block-block.ensures.legal old.invariant.runs says
 
 pub returns-in-Err-clause-call : goal.returns-in-Err-clause-call
 returns-in-Err-clause-call g c =
