@@ -38,7 +38,7 @@ pub use Rattle.rice_samples.proofs.lemmas.setting.CutLemmas.{cut_is_start}
 pub use Rattle.rice_samples.specs.Places.{begins_segment, block_count, blocks_left, cut, interval_count, is_padded, is_reference, is_reference_sample, place, segment_start}
 pub use Rattle.rice_samples.specs.predict.Residuals.{filled_samples, last_of, pattern, rank, rank_below, ranks, residual, residuals}
 pub use Rattle.rice_samples.specs.Parameters.{IsBlockSize, IsLegal, IsSample, Parameters, id_len, k_max, level, value_count}
-pub use Rattle.rice_samples.specs.{Examples.defaults, Examples.one_bit_defaults, Examples.unprocessed_defaults, blocks.Pairs.pair_code, blocks.Pairs.pair_codes}
+pub use Rattle.rice_samples.specs.{blocks.Pairs.pair_code, blocks.Pairs.pair_codes}
 pub use Rattle.rice_code.specs.decode.ReadSets.{BlockCut, BlockRead, IsLowEntropy, LowEntropyCut, LowEntropyRead, PartsCut, PartsRead, SetCut, SetRead, low_entropy_tail, reference_place, set_tail}
 pub use Rattle.rice_code.specs.code.CodedDataSets.{reference_bits, reference_len, run_number, run_tail, run_with_zeros, second_extension_tail, sent_from, sent_residuals, split_tail, turns}
 pub use Rattle.rice_code.specs.code.Forms.{AllFit, IsBlock, IsForm, IsReference, IsZeroAtReference, ResidualsAreSound, RunIsSound, blocks_in, blocks_in_all, zero_blocks}

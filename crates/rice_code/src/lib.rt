@@ -1,11 +1,9 @@
-//! The code of CCSDS 121.0-B-3: its definitions in `specs/`, theorems on them and worked examples, the coder, and the decoder.
+//! The code of CCSDS 121.0-B-3: its definitions in `specs/`, theorems on them, the coder, and the decoder.
 #![tactic(auto)]
 
 pub mod bounds;
 pub mod decode;
-pub mod decoding_examples;
 pub mod encode;
-pub mod examples;
 mod known_len;
 pub mod laws;
 

@@ -1,5 +1,4 @@
 -- What contracts of this crate cite: settings, samples in bytes, residuals, and blocks of these.
-pub mod Examples
 pub mod Laws
 pub mod Limits
 pub mod Parameters

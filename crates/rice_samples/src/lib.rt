@@ -3,7 +3,6 @@
 
 pub mod blocks;
 pub mod bytes;
-pub mod examples;
 pub mod laws;
 mod patterns;
 pub mod predict;

@@ -1,0 +1,2 @@
+-- What the worked examples of the lower crates cite.
+pub mod Examples

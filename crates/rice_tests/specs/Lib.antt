@@ -1,0 +1,2 @@
+-- What the worked examples cite.
+pub mod Examples
