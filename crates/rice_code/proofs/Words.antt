@@ -9,7 +9,7 @@ pub use Rattle.rice_bits.proofs.lemmas.bits.WordsAndNumbers.{word-zero, followed
 pub use Rattle.rice_code.specs.Laws.{AddedCodeIsBounded, AreIntervals, BeginsInterval, CodesDiffer, DamageStaysInItsInterval, DecodingBeginsAfresh, IntervalsAreDecodedAlone, IntervalsAreJoined}
 pub use Rattle.rice_code.specs.Laws.{IntervalsBeginAfresh, IsOutputOf, IsWantedSet, MakeBlocks, NoCodeIsShorter, NoOutputIsShorter, NoSetsAreShorter, OwnBytesAreRecognised, PaddedIntervalsAreJoined}
 pub use Rattle.rice_code.specs.code.CodedDataSets.{CodedDataSet, NoCompression, RemainderOfSegment, SecondExtension, Split, ZeroBlocks, bits_of_set, bits_of_sets, cost, no_compression_tail}
-pub use Rattle.rice_code.specs.encode.OpenSegment.{state_with_fill, CoderState, CodesHeld, HasRoomForSegment, HoldsAnySegment, HoldsSoundBlocks, IsOpen, IsWhole, bits_held, blocks_held, code_held}
+pub use Rattle.rice_code.specs.encode.OpenSegment.{state_with_fill, CoderState, CodesHeld, HasRoomForSegment, HoldsSoundBlocks, IsOpen, IsWhole, bits_held, blocks_held, code_held}
 pub use Rattle.rice_code.specs.encode.OpenSegment.{contents_held, empty_state, is_empty, next_reference, next_residual, next_start, sets_held, state_after, state_after_all, state_after_segment}
 pub use Rattle.std.proofs.Math.{Seq.drop-append_seam, Seq.take-append-add, Seq.take-append_seam, Seq.take-length, Seq.take-suc, Seq.take-nil, Bool.and-false, Bool.and-true, Bool.and-false}
 pub use Rattle.std.proofs.lemmas.{Bool.cases_lt, Bool.iff_false, Bool.leb-false, Bool.leb-true, Bool.true_from_ne_false, Bool.eqb-true, Bool.ltb-true, Int.ints, Int.to_z-of_z, List.Folds.flat_map-map}
@@ -48,7 +48,7 @@ pub use Rattle.rice_code.specs.code.Code.{bits_from, code, code_bits, code_from,
 pub use Rattle.rice_code.specs.decode.Decoder.{Answers, GivesFromRun, GivesSet, RepeatsBlocks, SetEnds, Skips, StopsBy, TakesSet, answer_to, with_mark}
 pub use Rattle.rice_code.specs.code.Blocks.{BlockData, block_data, blocks_from, blocks_of, fill_count, fill_count_of, is_zero_block, zero_block}
 pub use Rattle.rice_code.specs.CoderSteps.{coding_steps, least_looks, least_looks_at, most_looks, most_looks_at, most_steps, segment_steps}
-pub use Rattle.rice_code.specs.decode.DecoderState.{DecoderState, IsDecoderState, IsRestored, next_block_place, place_after, residual_at}
+pub use Rattle.rice_code.specs.decode.DecoderState.{DecoderState, IsDecoderState, next_block_place, place_after, residual_at}
 pub use Rattle.rice_code.specs.Laws.{RefusedBytesAreNoOutput, RunIsNeverLonger, SetsAreBounded, SplitIsPaid, count_after}
 pub use Rattle.rice_code.specs.Bounds.{amortised_step_bound, bit_bound, block_bound, padding_bound, set_bound, step_bound}
 pub use Rattle.rice_code.specs.encode.{Coder.AddsCode, Coder.HasCodedBefore, Coder.HasTaken, Coder.IsCoder, Coder.PushesSamples, Coder.reference_in, OpenSegment.state_between, SetOfChoice.chosen_set}

@@ -13,7 +13,7 @@ pub use Rattle.rice_code.proofs.lemmas.encode.PushedCode.{filled_sound, finish_a
 pub use Rattle.rice_code.proofs.lemmas.encode.PushedSamples.{HoldsMore, is_coder_after, open_pushes, several_stay_open, whole_is_sound, whole_pushes}
 pub use Rattle.rice_code.proofs.lemmas.encode.SegmentBlocksInTurn.{left_inside, looks_other, looks_zero, most_of_all, shortest_len, sound_of, steps_least}
 pub use Rattle.rice_code.proofs.lemmas.encode.SeveralSamplesHeld.{later_patterns, later_ranks, length-later, length-state_after_all, state_after_all-cons, state_after_all-first, state_after_all-none}
-pub use Rattle.rice_code.proofs.lemmas.encode.SeveralSamplesHeld.{state_after_all-snoc}
+pub use Rattle.rice_code.proofs.lemmas.encode.SeveralSamplesHeld.{state_after_all-snoc, state_with_later}
 pub use Rattle.rice_code.proofs.lemmas.meaning.CoveredBlocks.{and-split, bool_cases, zero_block_is}
 pub use Rattle.rice_code.proofs.lemmas.{code.RepeatedSamples.last_replicate, code.RepeatedSamples.same_rank, code.SoundBlocks.all_append, code.SoundBlocks.all_take}
 pub use Rattle.rice_code.proofs.lemmas.{cost.BlockBounds.blocks_are_bounded, cost.CostIsLength.coded_and_reference, cost.CostIsLength.length_words, cost.PairsAreLonger.pairs_are_longer}
@@ -27,14 +27,14 @@ pub use Rattle.rice_code.specs.code.CodedDataSets.{reference_bits, reference_len
 pub use Rattle.rice_code.specs.encode.BitBuffer.{AddsBits, AddsFields, HasRoomFor, HasRoomForBits, IsShort, PutsSet}
 pub use Rattle.rice_code.specs.encode.HeldBlocks.{EndsRun, JoinsRun, PutsBlocks, PutsShortest, code_of_blocks, held_blocks, pending_bits, pending_run, pending_zeros, reference_at}
 pub use Rattle.rice_code.specs.encode.OpenSegment.{CoderState, CodesHeld, HoldsSoundBlocks, IsOpen, IsWhole, bits_held, blocks_held, contents_held, empty_state, is_empty, is_first, later_residuals}
-pub use Rattle.rice_code.specs.encode.OpenSegment.{next_reference, next_residual, next_start, state_after, state_after_all, state_after_segment, state_between, state_with_fill, state_with_later}
+pub use Rattle.rice_code.specs.encode.OpenSegment.{next_reference, next_residual, next_start, state_after, state_after_all, state_after_segment, state_between, state_with_fill}
 pub use Rattle.rice_code.specs.{Bounds.block_bound, CoderSteps.coding_steps, CoderSteps.least_looks, CoderSteps.most_looks, CoderSteps.segment_steps, code.Choice.IsBestSplit, code.Choice.best_split}
 pub use Rattle.rice_code.specs.{code.Choice.shortest, code.Code.complete_samples, code.Code.data_sets, code.Forms.AllFit, code.Forms.IsBlock, code.Forms.IsReference, code.Forms.IsZeroAtReference}
 pub use Rattle.rice_code.specs.{code.Layout.padding, code.Runs.zero_run, code.SoundBlocks.AreSoundBlocks, code.SoundBlocks.IsSoundBlock, code.SoundBlocks.IsSoundData, code.SoundBlocks.block_with}
 pub use Rattle.rice_code.specs.{declared.encode.choice.Choice.Choice, decode.Decoder.GivesBlock, decode.Decoder.Skips, decode.Decoder.TakesSet, decode.Decoder.with_mark}
 pub use Rattle.rice_code.specs.{decode.DecoderState.DecoderState, decode.DecoderState.next_block_place, decode.ReadSets.reference_place, encode.Coder.AddsCode, encode.Coder.CompletesNone}
 pub use Rattle.rice_code.specs.{encode.Coder.HasTaken, encode.Coder.IsCoder, encode.Coder.PushesSamples, encode.SentParts.AddsSequences, encode.SentParts.pairs_len, encode.SetOfChoice.chosen_set}
-pub use Rattle.rice_fast.specs.CopiedBlocks.{CopiedBlock, IsCopied, WordsAhead, copied_bits}
+pub use Rattle.rice_fast.specs.CopiedBlocks.{IsCopied, WordsAhead, copied_bits}
 pub use Rattle.rice_fast.specs.FieldsAhead.{AreFields, HeadAhead, HighsAhead, LowsAhead, PairsAhead, rows_len}
 pub use Rattle.rice_fast.specs.encode.OpenBlocks.{GoesOn, HasRoomForBlock, HoldsOpen, IsAhead, IsBefore, PushesOpen, StandsAfter, StandsFor, StandsWith, coder_between, coder_with, is_at_first}
 pub use Rattle.rice_fast.specs.encode.OpenBlocks.{to_follow, whole_part}

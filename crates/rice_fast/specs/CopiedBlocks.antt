@@ -1,5 +1,5 @@
 -- Blocks without compression that have the bytes of their samples as they are.
-use Rattle.std.specs.Prelude.{◌≡◌, ◌⊎◌, ℕ, ◌+◌, ◌-◌, ◌*◌, ◌^◌, ◌<◌, ◌≤◌, Bool, false, List, All, length, take, drop, flat_map}
+use Rattle.std.specs.Prelude.{◌≡◌, ◌⊎◌, ℕ, ◌+◌, ◌*◌, ◌^◌, ◌<◌, Bool, false, List, All, length, take, drop, flat_map}
 use Rattle.rice_bits.specs.Bits.{word}
 use Rattle.rice_samples.specs.{Parameters.Parameters, Parameters.id_len, bytes.Spelling.ordered_bytes}
 
@@ -20,9 +20,3 @@ pub record WordsAhead (buffered : List Bool) (s : Parameters) (width count : ℕ
 -- the bits of a block without compression
 abbrev pub copied_bits : Parameters → ℕ → ℕ
 copied_bits s width = id_len s + 8 * (width * s.block)
-
--- A block without compression is buffered, and the bytes begin with those of its samples.
-pub record CopiedBlock (buffered : List Bool) (s : Parameters) (width : ℕ) (bytes : List ℕ) : Type 0 where
-  pub there : copied_bits s width ≤ length buffered
-  pub id : word (id_len s) (2 ^ id_len s - 1) ≡ take (id_len s) buffered
-  pub words : WordsAhead buffered s width (width * s.block) bytes

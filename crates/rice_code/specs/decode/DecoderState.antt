@@ -1,6 +1,6 @@
 -- The state of a decoder: the place of the next block, the sample before it, and the run that it is in; and samples that are restored one after another.
-use Rattle.std.specs.Prelude.{◌≡◌, ◌≢◌, ℕ, ◌+◌, ◌*◌, ◌<◌, ◌≤◌, ◌==◌, ◌&&◌, if◌then◌else◌, Bool, false, List, All, take, length, slice_index_or, Option, Some, IfSome, is_some, Result, Ok, ℤ}
-use Rattle.rice_samples.specs.{predict.Residuals.last_of, predict.Residuals.rank, predict.Residuals.pattern, predict.Residuals.residuals, Places.blocks_left, Places.begins_segment}
+use Rattle.std.specs.Prelude.{◌≡◌, ◌≢◌, ℕ, ◌+◌, ◌<◌, ◌≤◌, ◌==◌, ◌&&◌, if◌then◌else◌, Bool, false, List, All, length, Option, Some, None, is_some, Result, Ok, ℤ}
+use Rattle.rice_samples.specs.{predict.Residuals.last_of, predict.Residuals.rank, predict.Residuals.pattern, Places.blocks_left, Places.begins_segment}
 use Rattle.rice_samples.specs.Parameters.{Parameters, IsLegal, IsSample}
 use Rattle.rice_code.specs.declared.decode.call_results.{Step.TheVariants.Block, CodeFault.CodeFault, Step.Step}
 use Rattle.rice_code.specs.code.Blocks.{BlockData, block_data}
@@ -26,6 +26,10 @@ pub record IsDecoderState (s : Parameters) (block : ℕ) (before : ℤ) (run : �
   pub run_fits : 0 < run → run ≤ blocks_left s block
   pub no_block : stopped ≢ Some (Ok Block)
 
+-- a decoder that goes on there
+abbrev pub decoder_at : Parameters → (block : ℕ) → (before : ℤ) → (run : ℕ) → DecoderState
+decoder_at s block before run = record { setting = s; block = block; before = before; run = run; stopped = None }
+
 -- the place of the next block
 abbrev pub next_block_place : Parameters → ℕ → ℕ
 next_block_place s b = if b + 1 == s.interval then 0 else b + 1
@@ -49,12 +53,3 @@ pub record RestoresBlock (s : Parameters) (b : ℕ) (p : ℤ) (contents : BlockD
   pub contents_are : block_data s b p samples ≡ contents
   pub last_is : last ≡ last_of p samples
   pub sample : IsSample s last
-
--- the samples of the first i residuals of block b, after the sample p
-pub record IsRestored (s : Parameters) (b : ℕ) (p : ℤ) (reference : Option ℕ) (ds : List ℕ) (i : ℕ) (samples : List ℤ) (last : ℤ) : Type 0 where
-  pub same : residuals s (s.block * b) p samples ≡ take i ds
-  pub len : length samples ≡ i
-  pub legal : All (IsSample s) samples
-  pub last_is : last ≡ last_of p samples
-  pub sample : IsSample s last
-  pub first : 0 < i → IfSome reference (λ v. pattern s (slice_index_or samples 0 p) ≡ v)

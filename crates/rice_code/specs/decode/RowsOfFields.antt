@@ -1,5 +1,5 @@
 -- Rows of fields of a coded data set, as a reader takes them: words, or fundamental sequences, one after another.
-use Rattle.std.specs.Prelude.{◌≡◌, ℕ, suc, All, length, flat_map, sum, ◌+◌, ◌-◌, ◌*◌, ◌^◌, ◌<◌, ◌≤◌, Bool, true, false, List, [], ◌∷◌, ◌++◌}
+use Rattle.std.specs.Prelude.{◌≡◌, ℕ, suc, All, length, flat_map, sum, ◌+◌, ◌-◌, ◌*◌, ◌^◌, ◌<◌, ◌≤◌, Bool, true, false, List, [], ◌∷◌, ◌++◌, None}
 use Rattle.rice_bits.specs.{Limits.step_limit, Limits.most_bits_read, Bits.fundamental_sequence, Bits.word, read.Reader.Reader, read.Reader.Takes}
 use Rattle.rice_samples.specs.blocks.Pairs.{pair_codes}
 
@@ -9,10 +9,11 @@ ones [] = 0
 ones (true ∷ bits) = suc (ones bits)
 ones (false ∷ bits) = ones bits
 
--- A reader that took `taken` bits is within its limit, and a meter has room for the steps of all that may follow.
-pub record HasRoom (steps taken : ℕ) : Type 0 where
-  pub limit : taken ≤ most_bits_read
-  pub room : steps + 2 * (most_bits_read - taken) + 64 < step_limit
+-- A reader has not refused and is within its limit, and a meter has room for the steps of all that may follow.
+pub record CanRead {I : Type 0} (reader : Reader I) (steps : ℕ) : Type 0 where
+  pub going : reader.refusal ≡ None
+  pub limit : reader.taken ≤ most_bits_read
+  pub room : steps + 2 * (most_bits_read - reader.taken) + 64 < step_limit
 
 -- the steps are at least the bits that were taken, and at most twice as many
 pub record AreCounted (old_steps new_steps old_taken new_taken : ℕ) : Type 0 where

@@ -31,10 +31,6 @@ abbrev pub is_empty : List ℕ → Bool
 is_empty [] = true
 is_empty (d ∷ ds) = false
 
--- so many residuals are as many as any segment has
-abbrev pub HoldsAnySegment : ℕ → Parameters → Type 0
-HoldsAnySegment size s = (b : ℕ) → s.block * blocks_left s b ≤ size
-
 -- A coder's sink has room for the code of a segment: it holds less than a byte, or so much is left.
 abbrev pub HasRoomForSegment : Parameters → List Bool → Type 0
 HasRoomForSegment s sink = (length sink ≤ 7) ⊎ (length sink + 64 * block_bound s ≤ sink_bits)
@@ -76,10 +72,6 @@ next_references coder (x ∷ xs) = next_reference coder x
 
 abbrev pub state_after_all : CoderState → List ℤ → CoderState
 state_after_all coder xs = record coder { residuals = coder.residuals ++ next_residuals coder xs; reference = next_references coder xs; previous = last_of coder.previous xs }
-
--- and where the sample before the first of them is p, and none of them is a reference
-abbrev pub state_with_later : CoderState → ℤ → List ℤ → CoderState
-state_with_later coder p xs = record coder { residuals = coder.residuals ++ later_residuals coder.setting p xs; previous = last_of p xs }
 
 -- and when its last block is filled with n samples
 abbrev pub state_with_fill : CoderState → ℕ → CoderState

@@ -1,6 +1,6 @@
 //! Reads one coded data set.
-ghost use Rattle.std.specs.Prelude.{◌≡◌, ◌-◌, ◌<◌, length, None, IfOk, IfErr};
-ghost use Rattle.rice_code.specs.decode.{ReadSets.LowEntropyRead, ReadSets.LowEntropyCut, ReadSets.SetRead, ReadSets.SetCut, RowsOfFields.HasRoom, RowsOfFields.AreCounted};
+ghost use Rattle.std.specs.Prelude.{◌≡◌, ◌-◌, ◌<◌, length, IfOk, IfErr};
+ghost use Rattle.rice_code.specs.decode.{ReadSets.LowEntropyRead, ReadSets.LowEntropyCut, ReadSets.SetRead, ReadSets.SetCut, RowsOfFields.CanRead, RowsOfFields.AreCounted};
 
 use crate::decode::options::{
     SetSummary, read_no_compression, read_run, read_second_extension, read_split,
@@ -16,8 +16,7 @@ fn read_low_entropy<I: Intake>(
     meter: &mut Meter,
     residuals: &mut [u32],
 ) -> Result<SetSummary, BitFault>
-    requires going { reader.old.refusal ≡ None }
-    requires room { HasRoom meter.old reader.old.taken }
+    requires ready { CanRead reader.old meter.old }
     requires size { length residuals.old ≡ setting.now.block }
     ensures ok { IfOk result (λ t. LowEntropyRead reader.old reader.new meter.old meter.new
         setting.now block t residuals.new) }
@@ -42,8 +41,7 @@ pub fn read_set<I: Intake>(
     meter: &mut Meter,
     residuals: &mut [u32],
 ) -> Result<SetSummary, BitFault>
-    requires going { reader.old.refusal ≡ None }
-    requires room { HasRoom meter.old reader.old.taken }
+    requires ready { CanRead reader.old meter.old }
     requires size { length residuals.old ≡ setting.now.block }
     ensures ok { IfOk result (λ t.
         SetRead reader.old reader.new meter.old meter.new setting.now block t residuals.new) }

@@ -103,13 +103,12 @@ impl Model for Decoder {
 }
 
 impl Decoder {
-    ghost use Rattle.rice_code.specs.{decode.DecoderState.IsDecoderState, declared.decode.call_results.Step.TheVariants.Block};
+    ghost use Rattle.rice_code.specs.{decode.DecoderState.IsDecoderState, decode.DecoderState.decoder_at, declared.decode.call_results.Step.TheVariants.Block};
     ghost use Rattle.rice_code.specs.decode.Decoder.{Answers, GivesFromRun, RepeatsBlocks, with_mark};
 
     /// Returns a decoder at the start of a code.
     pub fn new(setting: Setting) -> Self
-        ensures { result
-            ≡ record { setting = setting; block = 0; before = pos 0; run = 0; stopped = None } }
+        ensures { result ≡ decoder_at setting 0 (pos 0) 0 }
     {
         let _bits = setting.bits();
         Decoder::at(setting, 0, 0, 0)
@@ -118,14 +117,7 @@ impl Decoder {
     /// Returns a decoder that continues at block `block` of its interval, after the sample `before`, with `run` zero blocks of a run left.
     pub fn at(setting: Setting, block: u32, before: i64, run: u32) -> Self
         requires { IsDecoderState setting block before run None }
-        ensures { result
-            ≡ record {
-              setting = setting;
-              block = block;
-              before = before;
-              run = run;
-              stopped = None;
-            } }
+        ensures { result ≡ decoder_at setting block before run }
     {
         Decoder {
             setting,

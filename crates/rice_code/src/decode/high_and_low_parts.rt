@@ -1,7 +1,7 @@
 //! Reads the high and the low parts of residuals.
-ghost use Rattle.std.specs.Prelude.{◌≡◌, ◌+◌, ◌-◌, ◌/◌, ◌^◌, ◌≤◌, length, None, IfOk, IfErr};
+ghost use Rattle.std.specs.Prelude.{◌≡◌, ◌+◌, ◌-◌, ◌/◌, ◌^◌, ◌≤◌, length, IfOk, IfErr};
 ghost use Rattle.rice_bits.specs.Limits.{most_bits_read};
-ghost use Rattle.rice_code.specs.{decode.RowsOfFields.HasRoom, decode.ReadSets.PartsRead, decode.ReadSets.PartsCut};
+ghost use Rattle.rice_code.specs.{decode.RowsOfFields.CanRead, decode.ReadSets.PartsRead, decode.ReadSets.PartsCut};
 
 use crate::decode::rows_of_fields::{read_sequences, read_words};
 use crate::decode::sound_residuals::join_all_parts;
@@ -18,8 +18,7 @@ pub fn read_parts<I: Intake>(
     highs: &mut [u32],
     residuals: &mut [u32],
 ) -> Result<bool, BitFault>
-    requires going { reader.old.refusal ≡ None }
-    requires room { HasRoom meter.old reader.old.taken }
+    requires ready { CanRead reader.old meter.old }
     requires k { k ≤ 29 }
     requires most { most ≤ (2 ^ 32 - 1) / 2 ^ k }
     requires same { length highs.old ≡ length residuals.old }

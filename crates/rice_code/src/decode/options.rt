@@ -1,9 +1,9 @@
 //! Reads the fields after an identifier: a block by each option, or a run.
-ghost use Rattle.std.specs.Prelude.{◌≡◌, ℕ, ◌+◌, ◌-◌, ◌/◌, ◌^◌, ◌<◌, ◌≤◌, Bool, true, List, ◌++◌, length, take, drop, Option, None, IfOk, IfErr};
+ghost use Rattle.std.specs.Prelude.{◌≡◌, ℕ, ◌+◌, ◌-◌, ◌/◌, ◌^◌, ◌<◌, ◌≤◌, Bool, true, List, ◌++◌, length, take, drop, Option, IfOk, IfErr};
 ghost use Rattle.rice_bits.specs.{read.Reader.Takes, read.Reader.Stops, Limits.most_bits_read};
 ghost use Rattle.rice_samples.specs.{Places.is_reference, Parameters.k_max};
 ghost use Rattle.rice_code.specs.code.{CodedDataSets.NoCompression, CodedDataSets.SecondExtension, CodedDataSets.Split, CodedDataSets.reference_bits, CodedDataSets.run_tail, Forms.IsReference};
-ghost use Rattle.rice_code.specs.decode.{ReadSets.BlockRead, ReadSets.BlockCut, ReadSets.PartsRead, ReadSets.PartsCut, ReadSets.reference_place, RowsOfFields.HasRoom, RowsOfFields.AreCounted};
+ghost use Rattle.rice_code.specs.decode.{ReadSets.BlockRead, ReadSets.BlockCut, ReadSets.PartsRead, ReadSets.PartsCut, ReadSets.reference_place, RowsOfFields.CanRead, RowsOfFields.AreCounted};
 
 use crate::decode::high_and_low_parts::read_parts;
 use crate::decode::pairs::read_pairs;
@@ -34,8 +34,7 @@ pub fn read_reference<I: Intake>(
     reader: &mut BitReader<I>,
     meter: &mut Meter,
 ) -> Result<Option<u32>, BitFault>
-    requires going { reader.old.refusal ≡ None }
-    requires room { HasRoom meter.old reader.old.taken }
+    requires ready { CanRead reader.old meter.old }
     ensures reference { IfOk result (λ r. IsReference setting.now block r) }
     ensures ok { IfOk result (λ r. Takes reader.old reader.new (reference_bits setting.now r)) }
     ensures err { IfErr result (λ f. (bits : List Bool) × (is_reference setting.now block ≡ true) ×
@@ -72,8 +71,7 @@ pub fn read_run<I: Intake>(
     reader: &mut BitReader<I>,
     meter: &mut Meter,
 ) -> Result<(Option<u32>, u64), BitFault>
-    requires going { reader.old.refusal ≡ None }
-    requires room { HasRoom meter.old reader.old.taken }
+    requires ready { CanRead reader.old meter.old }
     ensures reference { IfOk result (λ r. IsReference setting.now block r.0) }
     ensures ok { IfOk result (λ r. Takes reader.old reader.new (run_tail setting.now r.0 r.1)) }
     ensures err { IfErr result (λ f. (bits : List Bool) × Stops reader.old reader.new bits f
@@ -95,8 +93,7 @@ pub fn read_no_compression<I: Intake>(
     meter: &mut Meter,
     residuals: &mut [u32],
 ) -> Result<BlockSummary, BitFault>
-    requires going { reader.old.refusal ≡ None }
-    requires room { HasRoom meter.old reader.old.taken }
+    requires ready { CanRead reader.old meter.old }
     requires size { length residuals.old ≡ setting.now.block }
     ensures ok { IfOk result (λ h. BlockRead reader.old reader.new meter.old meter.new
         setting.now block NoCompression h residuals.new) }
@@ -121,8 +118,7 @@ pub fn read_second_extension<I: Intake>(
     meter: &mut Meter,
     residuals: &mut [u32],
 ) -> Result<BlockSummary, BitFault>
-    requires going { reader.old.refusal ≡ None }
-    requires room { HasRoom meter.old reader.old.taken }
+    requires ready { CanRead reader.old meter.old }
     requires size { length residuals.old ≡ setting.now.block }
     ensures ok { IfOk result (λ h. BlockRead reader.old reader.new meter.old meter.new
         setting.now block SecondExtension h residuals.new) }
@@ -145,8 +141,7 @@ pub fn read_split<I: Intake>(
     meter: &mut Meter,
     residuals: &mut [u32],
 ) -> Result<BlockSummary, BitFault>
-    requires going { reader.old.refusal ≡ None }
-    requires room { HasRoom meter.old reader.old.taken }
+    requires ready { CanRead reader.old meter.old }
     requires k { k ≤ k_max setting.now }
     requires limit { k ≤ 29 }
     requires size { length residuals.old ≡ setting.now.block }
@@ -179,8 +174,7 @@ fn read_sent<I: Intake>(
     first: usize,
     residuals: &mut [u32],
 ) -> Result<bool, BitFault>
-    requires going { reader.old.refusal ≡ None }
-    requires room { HasRoom meter.old reader.old.taken }
+    requires ready { CanRead reader.old meter.old }
     requires k { k ≤ 29 }
     requires most { most ≤ (2 ^ 32 - 1) / 2 ^ k }
     requires first { first ≤ 1 }

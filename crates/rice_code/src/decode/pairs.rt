@@ -1,8 +1,8 @@
 //! Reads the pairs of second extension.
-ghost use Rattle.std.specs.Prelude.{◌≡◌, ◌+◌, ◌/◌, ◌<◌, ◌≤◌, Bool, List, length, None, IfErr, OnOk};
+ghost use Rattle.std.specs.Prelude.{◌≡◌, ◌+◌, ◌/◌, ◌<◌, ◌≤◌, Bool, List, length, IfErr, OnOk};
 ghost use Rattle.rice_bits.specs.{Limits.most_bits_read, Limits.step_limit, read.Reader.Stops};
 ghost use Rattle.rice_samples.specs.blocks.Pairs.{pair_code};
-ghost use Rattle.rice_code.specs.decode.RowsOfFields.{HasRoom, AreCounted, PairRow, ones};
+ghost use Rattle.rice_code.specs.decode.RowsOfFields.{CanRead, AreCounted, PairRow, ones};
 
 use rice_bits::{BitFault, BitReader, Intake, Meter};
 
@@ -31,8 +31,7 @@ pub fn read_pairs<I: Intake>(
     meter: &mut Meter,
     out: &mut [u32],
 ) -> Result<(), BitFault>
-    requires going { reader.old.refusal ≡ None }
-    requires room { HasRoom meter.old reader.old.taken }
+    requires ready { CanRead reader.old meter.old }
     requires even { length out.old / 2 + length out.old / 2 ≡ length out.old }
     ensures ok { OnOk result
         (PairRow reader.old reader.new (length out.old / 2) out.new meter.old meter.new) }

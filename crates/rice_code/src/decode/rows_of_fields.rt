@@ -1,7 +1,7 @@
 //! Reads rows of words, and rows of the counts of fundamental sequences.
-ghost use Rattle.std.specs.Prelude.{◌≡◌, ◌*◌, ◌+◌, ◌^◌, ◌<◌, ◌≤◌, Bool, List, length, None, IfOk, IfErr, OnOk};
+ghost use Rattle.std.specs.Prelude.{◌≡◌, ◌*◌, ◌+◌, ◌^◌, ◌<◌, ◌≤◌, Bool, List, length, IfOk, IfErr, OnOk};
 ghost use Rattle.rice_bits.specs.{Limits.most_bits_read, read.Reader.Stops};
-ghost use Rattle.rice_code.specs.decode.RowsOfFields.{HasRoom, WordRow, CountRow, ones};
+ghost use Rattle.rice_code.specs.decode.RowsOfFields.{CanRead, WordRow, CountRow, ones};
 
 use rice_bits::{BitFault, BitReader, Intake, Meter};
 
@@ -13,8 +13,7 @@ pub fn read_words<I: Intake>(
     width: u32,
     words: &mut [u32],
 ) -> Result<(), BitFault>
-    requires going { reader.old.refusal ≡ None }
-    requires room { HasRoom meter.old reader.old.taken }
+    requires ready { CanRead reader.old meter.old }
     requires width { width ≤ 32 }
     ensures ok { OnOk result (WordRow width reader.old reader.new (length words.old) words.new) }
     ensures err { IfErr result (λ f. (bits : List Bool) × (length bits < length words.old * width) ×
@@ -37,8 +36,7 @@ pub fn read_sequences<I: Intake>(
     most: u64,
     counts: &mut [u32],
 ) -> Result<bool, BitFault>
-    requires going { reader.old.refusal ≡ None }
-    requires room { HasRoom meter.old reader.old.taken }
+    requires ready { CanRead reader.old meter.old }
     requires most { most < 2 ^ 32 }
     ensures ok { IfOk result (λ small.
         CountRow reader.old reader.new most small (length counts.old) counts.new) }

@@ -4,10 +4,16 @@ use Rattle.rice_fast.proofs.Words.{take-take, length-append, None, ℤ, pos, inl
 use Rattle.rice_fast.proofs.Words.{nat_tests, flat_map-append, drop-drop, drop-take, drop_at, get_or-map, length-map, length-take-le, take_at, All-append, All-cons, All-nil, All-take}
 use Rattle.rice_fast.proofs.Words.{take_more_put_chunk, number_of, word, length-word, number_of-word, Parameters, IsLegal, IsSample, id_len, level, value_at, value_count, values_at, width, place}
 use Rattle.rice_fast.proofs.Words.{last_number, last_of, pattern, OrdersWords, ordered_bytes, spellings, same_pattern, sample_at, pattern_fits, last_at, level_of_value, value_of_level, BlockData}
-use Rattle.rice_fast.proofs.Words.{NoCompression, IsReference, GivesBlock, SpelledAhead, IsCopied, CopiedBlock, WordsAhead, copied_bits, contents_of_patterns}
+use Rattle.rice_fast.proofs.Words.{NoCompression, IsReference, GivesBlock, SpelledAhead, IsCopied, WordsAhead, copied_bits, contents_of_patterns}
 use Rattle.std.proofs.Common.{take-append-drop}
 use Rattle.std.specs.Prelude.{◌&&◌}
 use Rattle.rice_fast.proofs.lemmas.vectors.LanesOfWholeBytes.{SamplesOfWords, samples_of_words}
+
+-- A block without compression is buffered, and the bytes begin with those of its samples.
+pub record CopiedBlock (buffered : List Bool) (s : Parameters) (width : ℕ) (bytes : List ℕ) : Type 0 where
+  pub there : copied_bits s width ≤ length buffered
+  pub id : word (id_len s) (2 ^ id_len s - 1) ≡ take (id_len s) buffered
+  pub words : WordsAhead buffered s width (width * s.block) bytes
 
 -- the width of copied words is that in which their samples are spelled
 pub copied_width : (s : Parameters) (w : ℕ) → IsCopied s w → w ≡ width s

@@ -1,7 +1,16 @@
 -- The samples of a block, restored one after another.
 use Rattle.std.proofs.Common.{◌≡◌, ℕ, suc, ◌+◌, ◌*◌, ◌<◌, ◌==◌, true, List, [], ◌∷◌, ◌++◌, length, take, get_or, refl, sym, ◌∙◌, ap, arith, Option, Some, None, ℤ, length-append, eq-eqb}
-use Rattle.rice_code.proofs.Words.{IfSome, take_more, All-push, Parameters, IsSample, residual, residuals, pattern, last_of, IsReference, residual_at, IsRestored, common_steps}
+use Rattle.rice_code.proofs.Words.{IfSome, All, take_more, All-push, Parameters, IsSample, residual, residuals, pattern, last_of, IsReference, residual_at, slice_index_or, common_steps}
 use Rattle.rice_code.proofs.lemmas.decode.RestoredBlocks.{residual_within}
+
+-- the samples of the first i residuals of block b, after the sample p
+pub record IsRestored (s : Parameters) (b : ℕ) (p : ℤ) (reference : Option ℕ) (ds : List ℕ) (i : ℕ) (samples : List ℤ) (last : ℤ) : Type 0 where
+  pub same : residuals s (s.block * b) p samples ≡ take i ds
+  pub len : length samples ≡ i
+  pub legal : All (IsSample s) samples
+  pub last_is : last ≡ last_of p samples
+  pub sample : IsSample s last
+  pub first : 0 < i → IfSome reference (λ v. pattern s (slice_index_or samples 0 p) ≡ v)
 
 -- the last of some samples and one more
 last_of-push : (p : ℤ) (xs : List ℤ) (x : ℤ) → last_of p (xs ++ x ∷ []) ≡ x

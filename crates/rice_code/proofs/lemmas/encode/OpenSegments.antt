@@ -1,11 +1,15 @@
 -- What an open segment holds, and the room that its code takes.
-use Rattle.std.proofs.Common.{◌≡◌, ℕ, suc, ◌+◌, ◌-◌, ◌*◌, ◌/◌, ◌%◌, ◌^◌, ◌<◌, ◌≤◌, ◌==◌, Bool, true, false}
+use Rattle.std.proofs.Common.{◌≡◌, ℕ, ◌+◌, ◌-◌, ◌*◌, ◌/◌, ◌%◌, ◌^◌, ◌<◌, ◌≤◌, ◌==◌, Bool, false}
 use Rattle.std.proofs.Common.{cond, ◌&&◌, List, ◌++◌, length, replicate, subst, ap, arith, sym, ◌∙◌, inl, inr, append_assoc, length-append}
 use Rattle.rice_code.proofs.Words.{sum_by, cases_lt, nat_tests, length-flat_map, div-add-mod, mod-lt, mod-eq_of_lt, mod_self, mul-le-mul_left, mul-le-mul_right, bits_to_byte, Parameters, IsLegal}
-use Rattle.rice_code.proofs.Words.{id_len, place, blocks_left, zero_is_sample, some_left, le_of_mul-le-mul_left, data_sets, sink_bits, CoderState, IsOpen, HoldsAnySegment, HasRoomForSegment, eqb-true}
+use Rattle.rice_code.proofs.Words.{place, blocks_left, zero_is_sample, some_left, le_of_mul-le-mul_left, data_sets, sink_bits, CoderState, IsOpen, HasRoomForSegment, eqb-true}
 use Rattle.rice_code.proofs.Words.{empty_state, state_after_segment, next_start, blocks_held, contents_held, sets_held, code_held, HoldsSoundBlocks, CodesHeld, bits_of_set, bits_of_sets, held_blocks}
 use Rattle.rice_code.proofs.Words.{code_of_blocks, PutsBlocks, AreSoundBlocks, least_looks, most_looks, block_bound, common_steps}
 use Rattle.rice_code.proofs.lemmas.{cost.BlockBounds.blocks_are_bounded, code.SegmentLayouts.code_lies, code.SegmentPlaces.begins_next, code.SegmentPlaces.next_start_is, encode.PendingRuns.held_len}
+
+-- so many residuals are as many as any segment has
+abbrev pub HoldsAnySegment : ℕ → Parameters → Type 0
+HoldsAnySegment size s = (b : ℕ) → s.block * blocks_left s b ≤ size
 
 -- the room that the residuals of any segment take
 pub holds_any : (s : Parameters) → IsLegal s → HoldsAnySegment 4096 s

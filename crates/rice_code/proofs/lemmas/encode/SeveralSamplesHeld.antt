@@ -1,7 +1,11 @@
 -- What a coder holds when it takes several samples.
 use Rattle.std.proofs.Common.{◌≡◌, suc, ◌+◌, true, false, cond, ◌&&◌, List, [], ◌∷◌, ◌++◌, length, map, refl, ap, arith, sym, ◌∙◌, append_assoc, append-nil, length-append, Some, ℤ}
-use Rattle.rice_code.specs.encode.OpenSegment.{CoderState, is_first, next_residuals, next_references, later_residuals, state_after, state_after_all, state_with_later}
-use Rattle.rice_code.proofs.{Words.and-false, Words.Parameters, Words.pattern, Words.rank, Words.ranks, Words.common_steps, lemmas.code.RepeatedSamples.same_rank}
+use Rattle.rice_code.specs.encode.OpenSegment.{CoderState, is_first, next_residuals, later_residuals, state_after, state_after_all}
+use Rattle.rice_code.proofs.{Words.and-false, Words.Parameters, Words.last_of, Words.pattern, Words.rank, Words.ranks, Words.common_steps, lemmas.code.RepeatedSamples.same_rank}
+
+-- what a coder holds after samples of which the one before the first is p, and none is a reference
+abbrev pub state_with_later : CoderState → ℤ → List ℤ → CoderState
+state_with_later coder p xs = record coder { residuals = coder.residuals ++ later_residuals coder.setting p xs; previous = last_of p xs }
 
 -- samples after others, with preprocessing and without
 pub later_ranks : (s : Parameters) (p : ℤ) (xs : List ℤ) → s.preprocess ≡ true → later_residuals s p xs ≡ ranks s p xs

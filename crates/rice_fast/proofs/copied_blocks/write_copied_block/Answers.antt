@@ -1,5 +1,5 @@
-use Rattle.rice_fast.proofs.Words.{arith, refl, subst, sym, SpelledAhead, CopiedBlock}
-use Rattle.rice_fast.proofs.lemmas.CopiedBlocks.{copied_ahead}
+use Rattle.rice_fast.proofs.Words.{arith, refl, subst, sym, SpelledAhead}
+use Rattle.rice_fast.proofs.lemmas.CopiedBlocks.{CopiedBlock, copied_ahead}
 use Rattle.rice_fast.proofs.copied_blocks.write_copied_block.Goals as goal
 
 pub returns : goal.returns

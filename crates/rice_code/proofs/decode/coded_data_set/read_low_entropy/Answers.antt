@@ -4,7 +4,7 @@ use Rattle.rice_code.proofs.decode.coded_data_set.read_low_entropy.Goals as goal
 
 pub returns-in_err-bit-clause-err : goal.returns-in_err-bit-clause-err
 returns-in_err-bit-clause-err g c =
-    let e = c.in_err-bit.ensures.err c.requires.going in
+    let e = c.in_err-bit.ensures.err c.requires.ready.going in
     let p = err_from_is_err_and c.from_residual.result c.from_residual.ensures.1 in
     rw (p.1, p.2) (low_bit_cut c.args.meter.now c.take.new.meter c.args.setting.now c.args.block e.1 e.2 c.in_err-bit.ensures.steps)
 

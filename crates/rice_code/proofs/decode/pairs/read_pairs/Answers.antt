@@ -4,7 +4,7 @@ use Rattle.rice_code.proofs.lemmas.decode.RowsOfFields.{pairs-none, pairs-more, 
 use Rattle.rice_code.proofs.decode.pairs.read_pairs.Goals as goal
 
 pub loop-done-init : goal.loop-done-init
-loop-done-init g c = record { row = pairs-none c.args.reader.now c.args.meter.now c.requires.going; limit = c.requires.room.limit }
+loop-done-init g c = record { row = pairs-none c.args.reader.now c.args.meter.now c.requires.ready.going; limit = c.requires.ready.limit }
 
 pub returns-in_err-g-clause-err : goal.returns-in_err-g-clause-err
 returns-in_err-g-clause-err g c =

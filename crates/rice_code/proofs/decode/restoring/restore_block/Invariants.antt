@@ -1,4 +1,4 @@
-use Rattle.rice_code.specs.decode.DecoderState.{IsRestored}
+use Rattle.rice_code.proofs.lemmas.decode.SamplesRestored.{IsRestored}
 use Rattle.rice_code.proofs.decode.restoring.restore_block.Given as goal
 
 abbrev pub invariant-loop-i : goal.invariant-loop-i
