@@ -2,9 +2,16 @@
 -- low parts.
 use Rattle.std.specs.Prelude.{◌≡◌, ℕ, ◌+◌, ◌-◌, ◌*◌, ◌^◌, ◌<◌, ◌≤◌, Bool, List, All, drop, flat_map, length, replicate, sum, take, Option, IfSome, IfNone}
 use Rattle.rice_bits.specs.Bits.{fundamental_sequence, word}
-use Rattle.rice_samples.specs.{Parameters.Parameters, Parameters.value_at, Parameters.value_count, blocks.Pairs.pair_codes, predict.Residuals.pattern}
+use Rattle.rice_samples.specs.{Parameters.Parameters, Parameters.value_at, Parameters.value_count, Places.is_reference, blocks.Pairs.pair_codes, predict.Residuals.pattern}
 use Rattle.rice_code.specs.{code.CodedDataSets.reference_bits, code.Forms.IsReference, decode.ReadSets.reference_place}
-use Rattle.rice_fast.specs.{BlocksAhead.BlockAhead, PartsOfResiduals.HaveParts, declared.fields.Fields.Fields}
+use Rattle.rice_fast.specs.{BlocksAhead.BlockAhead, BlocksAhead.HasBits, PartsOfResiduals.HaveParts, declared.fields.Fields.Fields}
+
+-- Block b, of `count` samples after one at this level, has a reference or none. Its samples fit lanes, and have more than `below` bits.
+pub record IsBlockInLanes (below most : ℕ) (s : Parameters) (count b level : ℕ) (has_reference : Bool) : Type 0 where
+  pub bits : HasBits below most s
+  pub size : count ≡ s.block
+  pub reference : has_reference ≡ is_reference s b
+  pub before : level < value_count s
 
 -- After the first `skip` bits, up to bit `len`, stands the reference sample of block b, if it has one. Its first sample is restored after
 -- level `from`, or, without a reference, after the sample at level `before`. The first residuals, `omitted` of them, have no bits.

@@ -8,7 +8,6 @@ mod choice;
 pub mod coder;
 mod cost;
 mod high_parts;
-mod level_lanes;
 mod low_parts;
 mod options;
 mod pairs;

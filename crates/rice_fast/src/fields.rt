@@ -2,7 +2,7 @@
 ghost use Rattle.std.specs.Prelude.{◌≡◌, ◌+◌, ◌-◌, ◌^◌, ◌<◌, ◌≤◌, IfSome, length, take};
 ghost use Rattle.rice_bits.specs.Bits.{word};
 ghost use Rattle.rice_samples.specs.{Parameters.id_len, Parameters.value_count, Places.is_reference};
-ghost use Rattle.rice_fast.specs.{BlocksAhead.HasBits, FieldsAhead.AreFields, FieldsAhead.HeadAhead};
+ghost use Rattle.rice_fast.specs.{FieldsAhead.AreFields, FieldsAhead.HeadAhead, FieldsAhead.IsBlockInLanes};
 
 use crate::ahead::{first_number_ahead, number_ahead};
 use crate::high_parts::high_parts_ahead;
@@ -29,17 +29,6 @@ pub struct Fields {
     pub turns: u64,
 }
 
-/// What stands before the first sequence or word of a block.
-#[derive(Clone, Copy)]
-pub struct Head {
-    /// The level after which the first sample is restored.
-    pub from: u32,
-    /// The number of first residuals that are not sent, one or none.
-    pub omitted: usize,
-    /// The number of bits.
-    pub len: usize,
-}
-
 /// Returns whether the first sample of block `block` of its interval is a reference sample.
 #[inline(always)]
 pub fn has_reference(setting: &Setting, block: u32) -> bool
@@ -51,7 +40,7 @@ pub fn has_reference(setting: &Setting, block: u32) -> bool
 }
 
 /// Returns what stands after the first `skip` bits of a buffered block, after a sample at level `before`: a reference sample, if it is a
-/// block with a `REFERENCE`, or nothing.
+/// block with a `REFERENCE`, or nothing. Low parts and turns are not known yet.
 #[inline(always)]
 fn head_ahead<I: Intake, const REFERENCE: bool>(
     setting: &Setting,
@@ -59,26 +48,30 @@ fn head_ahead<I: Intake, const REFERENCE: bool>(
     before: u32,
     skip: usize,
     reader: &BitReader<I>,
-) -> Head
+) -> Fields
     requires reference { REFERENCE ≡ is_reference setting.now block }
     requires before { before < value_count setting.now }
     requires skip { skip ≤ 6 }
     requires there { 38 ≤ length reader.now.buffered }
-    ensures { HeadAhead reader.now.buffered setting.now block before skip result.from result.omitted result.len }
+    ensures { HeadAhead reader.now.buffered setting.now block before skip result.from result.omitted result.words }
 {
     if REFERENCE {
         let bits = setting.bits();
         let from = level_of_pattern(setting, number_ahead(reader, skip, bits));
-        return Head {
+        return Fields {
             from,
             omitted: 1,
-            len: skip + bits as usize,
+            k: 0,
+            words: skip + bits as usize,
+            turns: 0,
         };
     }
-    Head {
+    Fields {
         from: before,
         omitted: 0,
-        len: skip,
+        k: 0,
+        words: skip,
+        turns: 0,
     }
 }
 
@@ -95,10 +88,7 @@ pub fn fields_ahead<L: SampleLanes, I: Intake, const SIZE: usize, const REFERENC
     reader: &BitReader<I>,
     highs: &mut [u8; 80],
 ) -> Option<Fields>
-    requires bits { HasBits L.below L.bits setting.now }
-    requires size { size ≡ setting.now.block }
-    requires reference { REFERENCE ≡ is_reference setting.now block }
-    requires before { before < value_count setting.now }
+    requires block { IsBlockInLanes L.below L.bits setting.now size block before REFERENCE }
     ensures { IfSome result (λ f. AreFields reader.now.buffered setting.now block before size L.bits highs.new f) }
 {
     if reader.buffered() < LOOK {
@@ -129,10 +119,7 @@ fn split_fields_ahead<L: SampleLanes, I: Intake, const SIZE: usize, const REFERE
     reader: &BitReader<I>,
     highs: &mut [u8; 80],
 ) -> Option<Fields>
-    requires bits { HasBits L.below L.bits setting.now }
-    requires size { size ≡ setting.now.block }
-    requires reference { REFERENCE ≡ is_reference setting.now block }
-    requires before { before < value_count setting.now }
+    requires block { IsBlockInLanes L.below L.bits setting.now size block before REFERENCE }
     requires there { 102 ≤ length reader.now.buffered }
     requires split { k + 2 < 2 ^ L.ID_LEN }
     requires id { word (id_len setting.now) (k + 1) ≡ take (id_len setting.now) reader.now.buffered }
@@ -145,7 +132,7 @@ fn split_fields_ahead<L: SampleLanes, I: Intake, const SIZE: usize, const REFERE
     let len = high_parts_ahead::<I, SIZE, REFERENCE, false>(
         reader,
         size,
-        head.len,
+        head.words,
         head.omitted,
         highs,
     )?;
@@ -153,7 +140,7 @@ fn split_fields_ahead<L: SampleLanes, I: Intake, const SIZE: usize, const REFERE
         from: head.from,
         omitted: head.omitted,
         k,
-        words: head.len + len,
+        words: head.words + len,
         turns: 0,
     })
 }
@@ -168,10 +155,7 @@ fn uncompressed_fields_ahead<L: SampleLanes, I: Intake, const REFERENCE: bool>(
     reader: &BitReader<I>,
     highs: &mut [u8; 80],
 ) -> Fields
-    requires bits { HasBits L.below L.bits setting.now }
-    requires size { size ≡ setting.now.block }
-    requires reference { REFERENCE ≡ is_reference setting.now block }
-    requires before { before < value_count setting.now }
+    requires block { IsBlockInLanes L.below L.bits setting.now size block before REFERENCE }
     requires there { 102 ≤ length reader.now.buffered }
     requires id { word (id_len setting.now) (2 ^ id_len setting.now - 1) ≡ take (id_len setting.now) reader.now.buffered }
     ensures { AreFields reader.now.buffered setting.now block before size L.bits highs.new result }
@@ -183,7 +167,7 @@ fn uncompressed_fields_ahead<L: SampleLanes, I: Intake, const REFERENCE: bool>(
         from: head.from,
         omitted: head.omitted,
         k: setting.bits(),
-        words: head.len,
+        words: head.words,
         turns: 0,
     }
 }
@@ -198,10 +182,7 @@ fn pair_fields_ahead<L: SampleLanes, I: Intake, const SIZE: usize, const REFEREN
     reader: &BitReader<I>,
     highs: &mut [u8; 80],
 ) -> Option<Fields>
-    requires bits { HasBits L.below L.bits setting.now }
-    requires size { size ≡ setting.now.block }
-    requires reference { REFERENCE ≡ is_reference setting.now block }
-    requires before { before < value_count setting.now }
+    requires block { IsBlockInLanes L.below L.bits setting.now size block before REFERENCE }
     requires there { 102 ≤ length reader.now.buffered }
     requires id { word (id_len setting.now) 0 ≡ take (id_len setting.now) reader.now.buffered }
     ensures { IfSome result (λ f. AreFields reader.now.buffered setting.now block before size L.bits highs.new f) }
@@ -213,12 +194,12 @@ fn pair_fields_ahead<L: SampleLanes, I: Intake, const SIZE: usize, const REFEREN
         return None;
     }
     let head = head_ahead::<I, REFERENCE>(setting, block, before, L::ID_LEN as usize + 1, reader);
-    let pairs = pairs_ahead::<I, SIZE, REFERENCE>(reader, size, head.len, head.omitted, highs)?;
+    let pairs = pairs_ahead::<I, SIZE, REFERENCE>(reader, size, head.words, head.omitted, highs)?;
     Some(Fields {
         from: head.from,
         omitted: head.omitted,
         k: 0,
-        words: head.len + pairs.len,
+        words: head.words + pairs.len,
         turns: pairs.turns,
     })
 }

@@ -2,9 +2,8 @@
 ghost use Rattle.std.specs.Prelude.{◌≡◌, ◌+◌, ◌-◌, ◌*◌, ◌<◌, IfSome, None, false, true};
 ghost use Rattle.rice_bits.specs.Limits.{step_limit, most_bits_read};
 ghost use Rattle.rice_samples.specs.Parameters.{value_at, value_count, width as width_of};
-ghost use Rattle.rice_samples.specs.Places.{is_reference};
 ghost use Rattle.rice_code.specs.decode.RowsOfFields.{AreCounted};
-ghost use Rattle.rice_fast.specs.BlocksAhead.{GivesBytes, HasBits, SpelledAhead};
+ghost use Rattle.rice_fast.specs.{BlocksAhead.GivesBytes, BlocksAhead.HasBits, BlocksAhead.SpelledAhead, FieldsAhead.IsBlockInLanes};
 
 use crate::copied_blocks::write_copied_block;
 use crate::fields::{fields_ahead, has_reference};
@@ -40,11 +39,8 @@ fn write_fields_ahead<
     reader: &BitReader<I>,
     bytes: &mut [u8; 320],
 ) -> Option<WrittenBlock>
-    requires bits { HasBits L.below L.bits setting.now }
     requires width { WIDTH ≡ width_of setting.now }
-    requires size { size ≡ setting.now.block }
-    requires reference { REFERENCE ≡ is_reference setting.now block }
-    requires before { before < value_count setting.now }
+    requires block { IsBlockInLanes L.below L.bits setting.now size block before REFERENCE }
     ensures { IfSome result (λ r. SpelledAhead reader.now.buffered setting.now block
         (value_at setting.now before) r.last r.len r.turns bytes.new) }
 {

@@ -4,7 +4,7 @@ ghost use Rattle.rice_samples.specs.Parameters.{value_at, value_count, width as 
 ghost use Rattle.rice_samples.specs.bytes.Spelling.{spellings};
 ghost use Rattle.rice_fast.specs.BlocksAhead.{HasBits};
 
-use crate::encode::level_lanes::LevelLanes;
+use crate::vectors::LevelLanes;
 use rice_code::known_or;
 use rice_samples::Setting;
 

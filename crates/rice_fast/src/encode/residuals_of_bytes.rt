@@ -5,8 +5,7 @@ ghost use Rattle.rice_samples.specs.Parameters.{value_at, value_count, values_at
 ghost use Rattle.rice_code.specs.encode.OpenSegment.{later_residuals};
 ghost use Rattle.rice_fast.specs.{BlocksAhead.HasBits, encode.Standing.HasResidualsOf};
 
-use crate::encode::level_lanes::LevelLanes;
-use crate::vectors::{Bytes, Halves, Lanes, Words, patterns_of_levels, ranks};
+use crate::vectors::{Bytes, Halves, Lanes, LevelLanes, Words, patterns_of_levels, ranks};
 use rice_code::known_or;
 use rice_samples::Setting;
 

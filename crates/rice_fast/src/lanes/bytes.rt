@@ -4,7 +4,7 @@ ghost use Rattle.rice_samples.proofs.lemmas.setting.BitsOfLanes.{byte_id, byte_s
 
 use crate::ahead::words_ahead;
 use crate::lanes::SampleLanes;
-use crate::vectors::{Bytes, bytes_in_turn, spelled_in_one_byte};
+use crate::vectors::{Bytes, bytes_in_turn};
 use rice_bits::{BitReader, Intake};
 use rice_samples::Setting;
 use std::simd::prelude::*;
@@ -70,6 +70,7 @@ impl SampleLanes for Bytes {
 
     #[inline(always)]
     fn write_bytes(self, setting: &Setting, bytes: &mut [u8]) {
-        spelled_in_one_byte(setting, self).copy_to_slice(bytes);
+        let words = self.lanes - u8x16::splat(setting.offset() as u8);
+        words.copy_to_slice(bytes);
     }
 }

@@ -4,7 +4,7 @@ ghost use Rattle.rice_samples.proofs.lemmas.setting.BitsOfLanes.{half_id, half_s
 
 use crate::ahead::{eight_words_ahead, wide_words_ahead};
 use crate::lanes::SampleLanes;
-use crate::vectors::{Halves, halves_in_turn, spelled_in_two_bytes};
+use crate::vectors::{Halves, Lanes, byte_pairs, half_ranks, near_ways, write_selected};
 use rice_bits::{BitReader, Intake};
 use rice_samples::Setting;
 use std::simd::prelude::*;
@@ -70,11 +70,21 @@ impl SampleLanes for Halves {
 
     #[inline(always)]
     fn in_turn(self, greatest: u32, before: u32) -> Self {
-        halves_in_turn(greatest, before, self)
+        // So it is after a block of eight.
+        if self.is_zero() {
+            return Halves::splat(before);
+        }
+        let ways = near_ways(self).lanes.to_array();
+        let half_ranks = half_ranks(self).lanes.to_array();
+        let all = self.lanes.to_array();
+        let mut numbers = [0; 8];
+        write_selected::<Halves, 8>(greatest, before, &all, &ways, &half_ranks, &mut numbers);
+        Halves::of(u16x8::from_array(numbers))
     }
 
     #[inline(always)]
     fn write_bytes(self, setting: &Setting, bytes: &mut [u8]) {
-        spelled_in_two_bytes(setting, self).copy_to_slice(bytes);
+        let words = self.lanes - u16x8::splat(setting.offset() as u16);
+        byte_pairs(words.to_le_bytes(), setting.msb()).copy_to_slice(bytes);
     }
 }

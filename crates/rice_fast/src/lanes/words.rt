@@ -6,7 +6,9 @@ ghost use Rattle.rice_samples.proofs.lemmas.setting.BitsOfLanes.{word_id, word_s
 
 use crate::ahead::{number_ahead, wide_words_ahead};
 use crate::lanes::SampleLanes;
-use crate::vectors::{Words, spelled_in_four_bytes, spelled_in_three_bytes, words_in_turn};
+use crate::vectors::{
+    Words, byte_fours, half_ranks, near_ways, spelled_in_three_bytes, write_selected,
+};
 use rice_bits::{BitReader, Intake};
 use rice_samples::Setting;
 use std::simd::prelude::*;
@@ -89,7 +91,12 @@ impl SampleLanes for Words {
 
     #[inline(always)]
     fn in_turn(self, greatest: u32, before: u32) -> Self {
-        words_in_turn(greatest, before, self)
+        let ways = near_ways(self).lanes.to_array();
+        let half_ranks = half_ranks(self).lanes.to_array();
+        let all = self.lanes.to_array();
+        let mut numbers = [0; 8];
+        write_selected::<Words, 8>(greatest, before, &all, &ways, &half_ranks, &mut numbers);
+        Words::of(u32x8::from_array(numbers))
     }
 
     #[inline(always)]
@@ -97,7 +104,8 @@ impl SampleLanes for Words {
         if setting.width() == 3 {
             spelled_in_three_bytes(setting, self).copy_to_slice(bytes);
         } else {
-            spelled_in_four_bytes(setting, self).copy_to_slice(bytes);
+            let words = self.lanes - u32x8::splat(setting.offset() as u32);
+            byte_fours(words.to_le_bytes(), setting.msb()).copy_to_slice(bytes);
         }
     }
 }

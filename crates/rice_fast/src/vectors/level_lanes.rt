@@ -5,6 +5,7 @@ ghost use Rattle.rice_samples.specs.Parameters.{value_count, values_at, width as
 ghost use Rattle.rice_samples.specs.predict.Residuals.{pattern as pattern_of};
 ghost use Rattle.rice_samples.specs.bytes.PatternLanes.{words_in_order};
 ghost use Rattle.rice_samples.specs.bytes.Spelling.{ordered_bytes, spellings};
+ghost use Rattle.rice_fast.specs.BlocksAhead.{HasBits};
 
 use crate::vectors::lanes::Lanes;
 use crate::vectors::lanes::bytes::Bytes;
@@ -15,53 +16,57 @@ use rice_samples::Setting;
 use rice_samples::setting::greatest_level;
 use std::simd::prelude::*;
 
-/// Returns the levels of the values of at most 8 bits that sixteen bytes spell, of which not all need be samples.
-#[inline(always)]
-pub fn levels_in_bytes(setting: &Setting, bytes: &[u8]) -> Bytes
-    requires narrow { setting.now.bits ≤ 8 }
-    requires len { length bytes.now ≡ 16 }
-    ensures { bytes.now ≡ spellings setting.now (values_at setting.now result.lanes) }
-{
-    levels_of_words(setting, 1, Bytes::read(bytes))
+/// The lanes in which the levels of samples of some numbers of bits are read from their bytes.
+pub trait LevelLanes: Lanes {
+    // Samples have more bits than these.
+    ghost fewer: { ℕ };
+
+    /// Returns the levels of the values that the bytes spell, one for each lane. Not all need be samples.
+    fn levels_in(setting: &Setting, bytes: &[u8]) -> Self
+        requires bits { HasBits fewer Self.bits setting.now }
+        requires len { length bytes.now ≡ width_of setting.now * Self.COUNT }
+        ensures { bytes.now ≡ spellings setting.now (values_at setting.now (Self.numbers result)) };
 }
 
-/// Returns the levels of the values of at most 8 bits that eight bytes spell, of which not all need be samples.
-#[inline(always)]
-pub fn levels_of_bytes_in_halves(setting: &Setting, bytes: &[u8]) -> Halves
-    requires narrow { setting.now.bits ≤ 8 }
-    requires len { length bytes.now ≡ 8 }
-    ensures { bytes.now ≡ spellings setting.now (values_at setting.now result.lanes) }
-{
-    let words = Halves::of(u8x8::from_slice(bytes).cast::<u16>());
-    levels_of_words(setting, 1, words)
+impl LevelLanes for Bytes {
+    ghost fewer = { 0 };
+
+    #[inline(always)]
+    fn levels_in(setting: &Setting, bytes: &[u8]) -> Self {
+        levels_of_words(setting, 1, Bytes::read(bytes))
+    }
 }
 
-/// Returns the levels of the eight values of 9 to 16 bits that sixteen bytes spell, of which not all need be samples.
-#[inline(always)]
-pub fn levels_in_halves(setting: &Setting, bytes: &[u8]) -> Halves
-    requires wide { 8 < setting.now.bits }
-    requires narrow { setting.now.bits ≤ 16 }
-    requires len { length bytes.now ≡ 16 }
-    ensures { bytes.now ≡ spellings setting.now (values_at setting.now result.lanes) }
-{
-    let pairs = byte_pairs(u8x16::from_slice(bytes), setting.msb());
-    levels_of_words(setting, 2, Halves::of(u16x8::from_le_bytes(pairs)))
+impl LevelLanes for Halves {
+    ghost fewer = { 0 };
+
+    #[inline(always)]
+    fn levels_in(setting: &Setting, bytes: &[u8]) -> Self {
+        if setting.bits() <= 8 {
+            let words = Halves::of(u8x8::from_slice(bytes).cast::<u16>());
+            return levels_of_words(setting, 1, words);
+        }
+        let pairs = byte_pairs(u8x16::from_slice(bytes), setting.msb());
+        levels_of_words(setting, 2, Halves::of(u16x8::from_le_bytes(pairs)))
+    }
 }
 
-/// Returns the levels of the eight values that 32 bytes spell, in four each, of which not all need be samples.
-#[inline(always)]
-pub fn levels_in_words(setting: &Setting, bytes: &[u8]) -> Words
-    requires four { width_of setting.now ≡ 4 }
-    requires len { length bytes.now ≡ 32 }
-    ensures { bytes.now ≡ spellings setting.now (values_at setting.now result.lanes) }
-{
-    let fours = byte_fours(u8x32::from_slice(bytes), setting.msb());
-    levels_of_words(setting, 4, Words::of(u32x8::from_le_bytes(fours)))
+impl LevelLanes for Words {
+    ghost fewer = { 16 };
+
+    #[inline(always)]
+    fn levels_in(setting: &Setting, bytes: &[u8]) -> Self {
+        if setting.width() == 3 {
+            return levels_of_threes_in_words(setting, bytes);
+        }
+        let fours = byte_fours(u8x32::from_slice(bytes), setting.msb());
+        levels_of_words(setting, 4, Words::of(u32x8::from_le_bytes(fours)))
+    }
 }
 
 /// Returns the levels of the eight values that 24 bytes spell, in three each, of which not all need be samples.
 #[inline(always)]
-pub fn levels_of_threes_in_words(setting: &Setting, bytes: &[u8]) -> Words
+fn levels_of_threes_in_words(setting: &Setting, bytes: &[u8]) -> Words
     requires three { width_of setting.now ≡ 3 }
     requires len { length bytes.now ≡ 24 }
     ensures { bytes.now ≡ spellings setting.now (values_at setting.now result.lanes) }

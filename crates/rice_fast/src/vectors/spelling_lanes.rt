@@ -1,5 +1,5 @@
 //! The bytes of samples in lanes, from their levels, and from patterns that use all their bits.
-ghost use Rattle.std.specs.Prelude.{◌≡◌, ◌⊎◌, ◌^◌, ◌<◌, ◌≤◌, All, length, take};
+ghost use Rattle.std.specs.Prelude.{◌≡◌, ◌⊎◌, ◌^◌, ◌<◌, All, length, take};
 ghost use Rattle.rice_samples.specs.Parameters.{value_count, values_at, width as width_of};
 ghost use Rattle.rice_samples.specs.{bytes.Spelling.spellings, bytes.PatternLanes.OrdersWords, bytes.PatternLanes.words_in_order};
 
@@ -8,30 +8,6 @@ use crate::vectors::lanes::halves::Halves;
 use crate::vectors::lanes::words::Words;
 use rice_samples::Setting;
 use std::simd::prelude::*;
-
-/// Returns the bytes of the sixteen samples of at most 8 bits with these levels.
-#[inline(always)]
-pub fn spelled_in_one_byte(setting: &Setting, levels: Bytes) -> u8x16
-    requires narrow { setting.now.bits ≤ 8 }
-    requires legal { All (λ l. l < value_count setting.now) levels.lanes }
-    ensures value { result ≡ spellings setting.now (values_at setting.now levels.lanes) }
-    ensures len { length result ≡ 16 }
-{
-    levels.lanes - u8x16::splat(setting.offset() as u8)
-}
-
-/// Returns the bytes of the eight samples of 9 to 16 bits with these levels.
-#[inline(always)]
-pub fn spelled_in_two_bytes(setting: &Setting, levels: Halves) -> u8x16
-    requires wide { 8 < setting.now.bits }
-    requires narrow { setting.now.bits ≤ 16 }
-    requires legal { All (λ l. l < value_count setting.now) levels.lanes }
-    ensures value { result ≡ spellings setting.now (values_at setting.now levels.lanes) }
-    ensures len { length result ≡ 16 }
-{
-    let words = levels.lanes - u16x8::splat(setting.offset() as u16);
-    byte_pairs(words.to_le_bytes(), setting.msb())
-}
 
 /// Returns the bytes of the eight samples of three bytes with these levels, in the first lanes.
 #[inline(always)]
@@ -58,18 +34,6 @@ pub fn spelled_in_three_bytes(setting: &Setting, levels: Words) -> u8x32
             0, 0, 0, 0, 0, 0, 0, 0,
         ],
     )
-}
-
-/// Returns the bytes of the eight samples of four bytes with these levels.
-#[inline(always)]
-pub fn spelled_in_four_bytes(setting: &Setting, levels: Words) -> u8x32
-    requires four { width_of setting.now ≡ 4 }
-    requires legal { All (λ l. l < value_count setting.now) levels.lanes }
-    ensures value { result ≡ spellings setting.now (values_at setting.now levels.lanes) }
-    ensures len { length result ≡ 32 }
-{
-    let words = levels.lanes - u32x8::splat(setting.offset() as u32);
-    byte_fours(words.to_le_bytes(), setting.msb())
 }
 
 /// Returns the bytes of samples of `WIDTH` bytes that use all bits of these. `patterns` has their patterns in sixteen bytes, each with its
@@ -99,7 +63,7 @@ pub fn bytes_of_patterns<const WIDTH: usize>(setting: &Setting, patterns: u8x16)
 
 /// Returns the bytes of words of two bytes, or those of each in the opposite order.
 #[inline(always)]
-pub(crate) fn byte_pairs(bytes: u8x16, turned: bool) -> u8x16
+pub fn byte_pairs(bytes: u8x16, turned: bool) -> u8x16
     requires { length bytes ≡ 16 }
     ensures { result ≡ words_in_order turned 2 0 8 bytes }
 {
@@ -114,7 +78,7 @@ pub(crate) fn byte_pairs(bytes: u8x16, turned: bool) -> u8x16
 
 /// Returns the bytes of words of four bytes, or those of each in the opposite order.
 #[inline(always)]
-pub(crate) fn byte_fours(bytes: u8x32, turned: bool) -> u8x32
+pub fn byte_fours(bytes: u8x32, turned: bool) -> u8x32
     requires { length bytes ≡ 32 }
     ensures { result ≡ words_in_order turned 4 0 8 bytes }
 {

@@ -11,10 +11,10 @@ returns g c =
     let places = fields.places in
     let legal = c.block-block.ensures.legal.block in
     let part : (size - f.omitted) * f.k ≤ size * f.k = mul-le-mul_right f.k (omega arith) in
-    let len : length rows.levels ≡ size = rows.near.len ∙ length-take-le size c.fields_ahead.new.highs (omega (arith, places, legal, c.requires.size)) in
+    let len : length rows.levels ≡ size = rows.near.len ∙ length-take-le size c.fields_ahead.new.highs (omega (arith, places, legal, c.requires.block.size)) in
     record {
       levels = rows.levels;
-      ahead = fields.block rows.lows rows.levels rows.len (rows.words (omega (arith, legal, c.requires.size))) rows.near (omega (arith, part, c.if-buffered-fields.false, c.buffered.ensures));
+      ahead = fields.block rows.lows rows.levels rows.len (rows.words (omega (arith, legal, c.requires.block.size))) rows.near (omega (arith, part, c.if-buffered-fields.false, c.buffered.ensures));
       from = f.from;
       last_is = rows.last_is;
       legal = rows.legal;

@@ -62,46 +62,9 @@ fn last_eight_widened(numbers: u8x16) -> Halves
     )
 }
 
-/// Returns eight numbers up to `greatest` with these ranks: the first from `p`, and each other from the one before it.
-#[inline(always)]
-pub fn halves_in_turn(greatest: u32, p: u32, ranks: Halves) -> Halves
-    requires greatest { greatest < 2 ^ 16 }
-    requires before { p ≤ greatest }
-    requires ranks { All (λ d. d ≤ greatest) ranks.lanes }
-    ensures fit { All (λ x. x ≤ greatest) result.lanes }
-    ensures ranks { ranks_below (greatest + 1) p result.lanes ≡ ranks.lanes }
-{
-    // So it is after a block of eight.
-    if ranks.is_zero() {
-        return Halves::splat(p);
-    }
-    let ways = near_ways(ranks).lanes.to_array();
-    let half_ranks = half_ranks(ranks).lanes.to_array();
-    let all = ranks.lanes.to_array();
-    let mut numbers = [0; 8];
-    write_selected::<Halves, 8>(greatest, p, &all, &ways, &half_ranks, &mut numbers);
-    Halves::of(u16x8::from_array(numbers))
-}
-
-/// Returns eight numbers up to `greatest` with these ranks: the first from `p`, and each other from the one before it.
-#[inline(always)]
-pub fn words_in_turn(greatest: u32, p: u32, ranks: Words) -> Words
-    requires before { p ≤ greatest }
-    requires ranks { All (λ d. d ≤ greatest) ranks.lanes }
-    ensures fit { All (λ x. x ≤ greatest) result.lanes }
-    ensures ranks { ranks_below (greatest + 1) p result.lanes ≡ ranks.lanes }
-{
-    let ways = near_ways(ranks).lanes.to_array();
-    let half_ranks = half_ranks(ranks).lanes.to_array();
-    let all = ranks.lanes.to_array();
-    let mut numbers = [0; 8];
-    write_selected::<Words, 8>(greatest, p, &all, &ways, &half_ranks, &mut numbers);
-    Words::of(u32x8::from_array(numbers))
-}
-
 /// Returns half of each rank, up.
 #[inline(always)]
-fn half_ranks<L: Lanes>(ranks: L) -> L
+pub fn half_ranks<L: Lanes>(ranks: L) -> L
     ensures { L.numbers result ≡ map (λ d. (d + 1) / 2) (L.numbers ranks) }
 {
     ranks.half().plus(ranks.and(L::splat(1)))
@@ -111,7 +74,7 @@ fn half_ranks<L: Lanes>(ranks: L) -> L
 /// are the way to a number that is near, and half of it. Returns the last number. It is never inlined: in a loop, branches would be made
 /// of its selections.
 #[inline(never)]
-fn write_selected<L: Lanes, const N: usize>(
+pub fn write_selected<L: Lanes, const N: usize>(
     greatest: u32,
     p: u32,
     ranks: &[L::Number],
