@@ -34,11 +34,12 @@ pub use Rattle.rice_samples.specs.Parameters.{IsLegal, IsSample, Parameters, id_
 pub use Rattle.rice_samples.specs.bytes.Spelling.{AtEnd, EndsSpelling, IsNoSpelling, NoSpelling, Reads, Spells, TooFew, spelling, spellings}
 pub use Rattle.rice_samples.specs.{Places.block_count, Places.cut, Places.interval_count, Places.place, predict.Residuals.filled_samples, predict.Residuals.last_of}
 pub use Rattle.rice_stream.specs.Decodes.{CountsSteps, DecodesBetween, DecodesBytes, DecodesWithin, EndsDecoding, EndsInTurns, Reports, RunsOut, at_most, ended_fault, refusal_fault, wanted_of}
-pub use Rattle.rice_stream.specs.DecodingState.{Advances, AnswersBytes, AreOfRun, DecodedSoFar, DecodingProgress, FailsInRun, Gains, HasRead, HasSets, HasSteps, WritesRun, repeated}
+pub use Rattle.rice_stream.proofs.Progress.{DecodingProgress, EncodingProgress, Gains, HasRead, HoldsCode, TakesSamples}
+pub use Rattle.rice_stream.specs.DecodingState.{Advances, AnswersBytes, AreOfRun, DecodedSoFar, FailsInRun, HasSets, HasSteps, WritesRun, repeated}
 pub use Rattle.rice_stream.specs.DevicesInCalls.{Call, Fails, IsWithinLimit, PassesLimit, StopsBetween, TakesPart}
 pub use Rattle.rice_stream.specs.Encodes.{EncodesBetween, EncodesWithin, EndsEncoding, LeavesEarly, ReportsAll, ReportsTaken, SpellsSoFar}
-pub use Rattle.rice_stream.specs.EncodingState.{Beginning, CountsSamples, EncodingProgress, EncodingValue, FailsAt, Follows, FollowsBetween, HoldsCode, IsEncodingOf, MeetsFailure, PushFails, Pushes}
-pub use Rattle.rice_stream.specs.EncodingState.{Sees, TakesAll, TakesSamples, WritesRest, afresh, whole_part}
+pub use Rattle.rice_stream.specs.EncodingState.{Beginning, CountsSamples, EncodingValue, FailsAt, Follows, FollowsBetween, IsEncodingOf, MeetsFailure, PushFails, Pushes}
+pub use Rattle.rice_stream.specs.EncodingState.{Sees, TakesAll, WritesRest, afresh, whole_part}
 pub use Rattle.rice_stream.specs.Feeding.{AreAll, EncodesMore, EncodesRest, IsSeam, TakesPiece, after, bytes_in_all, encoding_at, samples_to_take}
 pub use Rattle.rice_stream.specs.Laws.{AreFed, ArePulled, EndsCode, EnoughAfterIsDecoding, EnoughIsDecoding, FeedingIsEncoding, FrontIsPlace, GiveInParts, IsPlace, IsPulled, Piece, Pull}
 pub use Rattle.rice_stream.specs.Laws.{PullsAreDecoding, ReturnsBytes, ReturnsBytesAndFill, SeamsTellPlaces, SeekingIsDecoding, StandsTellPlaces, TakeInParts, last_seam, last_stand, place_after}

@@ -1,5 +1,4 @@
 -- A coder at work: which samples it has taken, and what is written of their code.
-use Rattle.std.specs.Io.KnownBytes.{Consumes}
 use Rattle.std.specs.Prelude.{◌≡◌, ℕ, ◌+◌, ◌*◌, ◌<◌, ◌≤◌, Bool, List, [], ◌∷◌, ◌++◌, length, take, drop, Option, Some, None, Result, Ok, Err, ℤ}
 use Rattle.rice_bits.specs.{Bits.bits_in_bytes, device.OutletRoom.Room, device.OutletRoom.Appends}
 use Rattle.rice_code.specs.code.Code.{code_bits, output, early_output, complete_samples}
@@ -7,7 +6,7 @@ use Rattle.rice_code.specs.{encode.Coder.HasTaken, encode.Coder.complete_code, C
 use Rattle.rice_samples.specs.{Limits.most_input, Parameters.Parameters, Parameters.width, bytes.Spelling.Reads, bytes.Spelling.EndsSpelling, bytes.Spelling.IsNoSpelling, bytes.Spelling.NoSpelling}
 use Rattle.rice_fast.specs.encode.Standing.{Standing}
 use Rattle.rice_stream.specs.declared.outcome.Fault.TheVariants.{Write, SampleOutOfRange}
-use Rattle.rice_stream.specs.{BufferedBytes.BufferedBytes, DevicesInCalls.StopsBetween, declared.encoding.Encoding.Encoding, declared.outcome.Fault.Fault}
+use Rattle.rice_stream.specs.{DevicesInCalls.StopsBetween, declared.encoding.Encoding.Encoding, declared.outcome.Fault.Fault}
 
 -- An encoding whose coder puts the code of a segment only when it is whole.
 pub record EncodingValue : Type 0 where
@@ -56,19 +55,6 @@ pub record IsEncodingOf (s : Parameters) (old : Beginning) (new : Option Room) (
   pub counts : CountsSamples s e xs
   pub sink : e.sink ≡ drop (bits_in_bytes (length (complete_code s xs))) (complete_code s xs)
   pub took : Follows old new (early_output s xs)
-
--- An encoding has taken the samples ys. Its sink holds their code from the byte on that the code of xs, which is written, leaves unfinished.
-pub record HoldsCode (s : Parameters) (e : EncodingValue) (xs ys : List ℤ) : Type 0 where
-  pub counts : CountsSamples s e ys
-  pub code_is : complete_code s ys ≡ whole_part (complete_code s xs) ++ e.sink
-
--- It has taken these samples too, and their code goes on from that of those before. Only the last of them can have made a segment whole.
-pub record TakesSamples (s : Parameters) (e : EncodingValue) (xs ys more : List ℤ) : Type 0 where
-  pub counts : CountsSamples s e (ys ++ more)
-  pub code_is : complete_code s (ys ++ more) ≡ whole_part (complete_code s xs) ++ e.sink
-  pub bits : List Bool
-  pub goes_on : complete_code s (ys ++ more) ≡ complete_code s ys ++ bits
-  pub before_last : (m : ℕ) → m < length more → complete_samples s (ys ++ take m more) ≡ complete_samples s ys
 
 -- what an outlet takes that stops between two lists of bytes, of which some were written before
 pub record FollowsBetween (old : Beginning) (new : Option Room) (from to : List ℕ) : Type 0 where
@@ -153,12 +139,3 @@ PushesFirst stands s taken taken_new e e_new bytes result = (v : EncodingValue) 
 abbrev pub PushesBytes : {C T : Type 0} → (C → List Bool → ℕ → Standing → Type 0) → Parameters → (taken taken_new : Option Room) → (e e_new : Encoding C) → List ℕ → Result T Fault → Type 0
 PushesBytes stands s taken taken_new e e_new bytes result = (v : EncodingValue) (old : Beginning) (xs : List ℤ) → Sees stands e v → IsEncodingOf s old taken v xs
     → (v_new : EncodingValue) × Sees stands e_new v_new × Pushes s old taken_new v_new xs bytes result
-
--- Bytes were given so far: those of samples, whose code is written as far as it is whole, and those that are buffered.
-pub record EncodingProgress (s : Parameters) (left_old left : Option (List ℕ)) (taken_old taken : Option Room) (v : EncodingValue) (r : BufferedBytes) : Type 0 where
-  pub bytes : List ℕ
-  pub samples : List ℤ
-  pub reads : Reads s bytes samples r.buffered
-  pub count : r.given ≡ length bytes
-  pub gave : Consumes left_old left bytes
-  pub holds : IsEncodingOf s (afresh taken_old) taken v samples
