@@ -1,4 +1,4 @@
-//! Encodes samples, from an intake to an outlet.
+//! An encoding at work: its coder, sink, meter and counts; and the call that encodes all samples of an intake.
 ghost use Rattle.std.specs.Prelude.{◌≡◌, ◌+◌, ◌*◌, ◌^◌, ◌<◌, ◌≤◌, List, ◌++◌, length, Option, Some, OnOk, OnErr, IfOk, ℤ};
 ghost use Rattle.rice_bits.specs.{device.OutletRoom.Room, Bits.padded_bits};
 ghost use Rattle.rice_samples.specs.{Limits.most_input, Parameters.Parameters, Parameters.width, Places.cut};
@@ -7,14 +7,13 @@ ghost use Rattle.rice_stream.specs.EncodingState.{EncodingValue, Sees, Beginning
 ghost use Rattle.rice_stream.specs.{DevicesInCalls.Fails, Feeding.IsSeam, Feeding.IsSomeSeam, Feeding.StandsAt, Feeding.encoding_at};
 ghost use Rattle.rice_code.specs.{code.Code.code, encode.Coder.complete_code};
 
-use crate::input::Input;
+use crate::engines::{Engines, Fast};
 use crate::outcome::{Fault, Outcome, Report};
 use crate::seam::{Seam, take_waiting_number};
 use crate::takes::TakesBytes;
 use crate::write::write_whole;
 use rice_bits::{BitSink, Intake, Meter, Outlet, WriteFault};
 use rice_code::SegmentSink;
-use rice_fast::BlockCoder;
 use rice_samples::Setting;
 
 /// A coder, its sink, its meter, and the counts for the report.
@@ -212,43 +211,5 @@ pub fn encode<I: Intake, O: Outlet>(setting: &Setting, intake: &mut I, outlet: &
         (O.failed outlet.old) (O.failed outlet.new) }
     ensures bounds { EncodesWithin setting.now result.report }
 {
-    encode_by::<BlockCoder, I, O>(setting, intake, outlet)
-}
-
-/// Encodes by this coder, as `encode` does.
-pub(crate) fn encode_by<C: TakesBytes, I: Intake, O: Outlet>(
-    setting: &Setting,
-    intake: &mut I,
-    outlet: &mut O,
-) -> Outcome
-    requires reads { I.failed intake.old + 1 < 2 ^ 64 }
-    requires writes { O.failed outlet.old + 1 < 2 ^ 64 }
-    ensures call { EncodesBetween setting.now (I.left intake.old) (I.left intake.new)
-        (O.taken outlet.old) (O.taken outlet.new) result.report result.fault }
-    ensures failures { Fails result.fault (I.failed intake.old) (I.failed intake.new)
-        (O.failed outlet.old) (O.failed outlet.new) }
-    ensures bounds { EncodesWithin setting.now result.report }
-{
-    let width = setting.width() as usize;
-    let seam = Seam::new(setting);
-    let mut encoding = Encoding::<C>::resume(*setting, &seam);
-    encoding.put_bits_of_seam(&seam);
-    let mut input = Input::new();
-    'encode_all: loop {
-        let count = match input.refill(intake) {
-            Ok(count) => count,
-            Err(fault) => return encoding.stopped(fault),
-        };
-        if count == 0 {
-            if input.buffered().is_empty() {
-                return encoding.finish(outlet);
-            }
-            let index = encoding.taken();
-            return encoding.stopped(Fault::SampleCut { index });
-        }
-        if let Err(fault) = encoding.push_bytes(setting, input.buffered(), outlet) {
-            return encoding.stopped(fault);
-        }
-        input.keep_last(input.buffered().len() % width);
-    }
+    Fast::encode(setting, intake, outlet)
 }

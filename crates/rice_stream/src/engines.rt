@@ -5,10 +5,11 @@ ghost use Rattle.rice_stream.specs.{Pulling.DecodesOn, Feeding.IsSomeSeam, Feedi
 
 use crate::block_pass::NoPass;
 use crate::decoding::{decode, decode_blocks};
-use crate::encoding::encode_by;
-use crate::feeding::{encode_more_by, encode_rest_by};
+use crate::encoding::Encoding;
+use crate::feeding::{bytes_left, in_whole_segments};
+use crate::input::Input;
 use crate::outcome::{Fault, Outcome};
-use crate::pulling::{decode_more, decode_more_by_one_loop};
+use crate::pulling::{decode_more, decode_piece, is_too_long};
 use crate::seam::Seam;
 use crate::stand::{Pause, Stand};
 use crate::takes::{OneByOne, TakesBytes};
@@ -22,7 +23,6 @@ pub trait Engines {
     type Coder: TakesBytes;
 
     /// Encodes the samples whose bytes the intake gives, and writes their code to the outlet.
-    #[inline(always)]
     fn encode<I: Intake, O: Outlet>(setting: &Setting, intake: &mut I, outlet: &mut O) -> Outcome
         requires reads { I.failed intake.old + 1 < 2 ^ 64 }
         requires writes { O.failed outlet.old + 1 < 2 ^ 64 }
@@ -32,11 +32,31 @@ pub trait Engines {
             (O.failed outlet.old) (O.failed outlet.new) }
         ensures bounds { EncodesWithin setting.now result.report }
     {
-        encode_by::<Self::Coder, I, O>(setting, intake, outlet)
+        let width = setting.width() as usize;
+        let seam = Seam::new(setting);
+        let mut encoding = Encoding::<Self::Coder>::resume(*setting, &seam);
+        encoding.put_bits_of_seam(&seam);
+        let mut input = Input::new();
+        'encode_all: loop {
+            let count = match input.refill(intake) {
+                Ok(count) => count,
+                Err(fault) => return encoding.stopped(fault),
+            };
+            if count == 0 {
+                if input.buffered().is_empty() {
+                    return encoding.finish(outlet);
+                }
+                let index = encoding.taken();
+                return encoding.stopped(Fault::SampleCut { index });
+            }
+            if let Err(fault) = encoding.push_bytes(setting, input.buffered(), outlet) {
+                return encoding.stopped(fault);
+            }
+            input.keep_last(input.buffered().len() % width);
+        }
     }
 
     /// Encodes the next samples, whose bytes are `bytes`, and returns the end of their code.
-    #[inline(always)]
     fn encode_more<O: Outlet>(
         setting: &Setting,
         seam: &Seam,
@@ -49,11 +69,20 @@ pub trait Engines {
             (O.taken outlet.old) (O.taken outlet.new) result }
         ensures failures { PushFails (O.failed outlet.old) (O.failed outlet.new) result }
     {
-        encode_more_by::<Self::Coder, O>(setting, seam, bytes, outlet)
+        let width = setting.width() as usize;
+        if bytes.len() as u64 > bytes_left(width, seam.samples) {
+            return Err(Fault::TooLong);
+        }
+        let all = seam.samples + (bytes.len() / width) as u64;
+        let count = in_whole_segments(setting, all) - seam.samples;
+        let part = &bytes[..width * count as usize];
+        let mut encoding = Encoding::<Self::Coder>::resume(*setting, seam);
+        encoding.put_bits_of_seam(seam);
+        encoding.push_bytes(setting, part, outlet)?;
+        Ok(encoding.seam())
     }
 
     /// Encodes the last samples, whose bytes are `bytes`, and writes the remainder of the code. The report counts all samples.
-    #[inline(always)]
     fn encode_rest<O: Outlet>(
         setting: &Setting,
         seam: &Seam,
@@ -67,7 +96,21 @@ pub trait Engines {
         ensures failures { Fails result.fault 0 0 (O.failed outlet.old) (O.failed outlet.new) }
         ensures bounds { EncodesWithin setting.now result.report }
     {
-        encode_rest_by::<Self::Coder, O>(setting, seam, bytes, outlet)
+        let width = setting.width() as usize;
+        let mut encoding = Encoding::<Self::Coder>::resume(*setting, seam);
+        encoding.put_bits_of_seam(seam);
+        if bytes.len() as u64 > bytes_left(width, seam.samples) {
+            return encoding.stopped(Fault::TooLong);
+        }
+        match encoding.push_bytes(setting, bytes, outlet) {
+            Ok(()) => {}
+            Err(fault) => return encoding.stopped(fault),
+        }
+        if bytes.len() % width > 0 {
+            let index = encoding.taken();
+            return encoding.stopped(Fault::SampleCut { index });
+        }
+        encoding.finish(outlet)
     }
 
     /// Decodes the code from `intake`, and writes its samples to `outlet`: `asked` of them, or all. Returns the outcome and the intake.
@@ -147,6 +190,9 @@ impl Engines for Plain {
         piece: &[u8],
         samples: &mut [u8],
     ) -> (Stand, Pause) {
-        decode_more_by_one_loop::<NoPass>(setting, stand, piece, samples)
+        if !is_too_long(stand.bits, piece.len()) {
+            return decode_piece::<NoPass, 0, 0>(setting, stand, piece, samples);
+        }
+        (*stand, Pause::TooLong)
     }
 }

@@ -42,22 +42,6 @@ pub fn decode_more(
     }
 }
 
-/// Does what `decode_more` does, by one loop for all shapes of blocks.
-pub(crate) fn decode_more_by_one_loop<P: BlockPass<0, 0>>(
-    setting: &Setting,
-    stand: &Stand,
-    piece: &[u8],
-    samples: &mut [u8],
-) -> (Stand, Pause)
-    requires { IsSomeStand setting.now stand.now }
-    ensures { DecodesOn setting.now stand.now piece.now samples.old samples.new result.0 result.1 }
-{
-    if !is_too_long(stand.bits, piece.len()) {
-        return decode_piece::<P, 0, 0>(setting, stand, piece, samples);
-    }
-    (*stand, Pause::TooLong)
-}
-
 /// Decodes a piece that does not pass the limit of a code, of blocks of samples of `WIDTH` bytes, by the loop for their size.
 #[inline(always)]
 fn decode_piece_of_sizes<const WIDTH: usize>(
@@ -83,7 +67,7 @@ fn decode_piece_of_sizes<const WIDTH: usize>(
 /// Decodes a piece that does not pass the limit of a code, by a loop for blocks of `SIZE` samples of `WIDTH` bytes, or of any where
 /// these are 0.
 #[inline(never)]
-fn decode_piece<P: BlockPass<SIZE, WIDTH>, const SIZE: usize, const WIDTH: usize>(
+pub(crate) fn decode_piece<P: BlockPass<SIZE, WIDTH>, const SIZE: usize, const WIDTH: usize>(
     setting: &Setting,
     stand: &Stand,
     piece: &[u8],
@@ -154,7 +138,7 @@ pub(crate) fn copy_at(bytes: &[u8], at: usize, samples: &mut [u8])
 }
 
 /// Returns whether `bits` bits of code and `bytes` bytes after them pass the limit of a code.
-fn is_too_long(bits: u64, bytes: usize) -> bool
+pub(crate) fn is_too_long(bits: u64, bytes: usize) -> bool
     requires { bits ≤ most_bits_read }
     ensures long { result ≡ true → most_bits_read < bits + 8 * bytes }
     ensures fits { result ≡ false → bits + 8 * bytes ≤ most_bits_read }

@@ -4,7 +4,7 @@ use Rattle.rice_stream.proofs.Words.{encoding_at, Seam}
 use Rattle.rice_stream.proofs.lemmas.{EncodingLemmas.nothing_early, EncodingLemmas.settled_by, Seams.encoding_is_resumed}
 use Rattle.rice_stream.proofs.lemmas.EncodingEnds.{within_early, within_all, few_given, refills_on, takes_on, rest_is}
 use Rattle.rice_stream.proofs.lemmas.EncodingEnds.{drawing_ends, drawing_fails, cut_ends, finish_ends, pushing_ends, push_fails, push_within}
-use Rattle.rice_stream.proofs.encoding.encode_by.Goals as goal
+use Rattle.rice_stream.proofs.engines.Engines.encode.Goals as goal
 
 -- bytes of which there are none,
 empty : (l : List ℕ) → true ≡ (length l == 0) → l ≡ []

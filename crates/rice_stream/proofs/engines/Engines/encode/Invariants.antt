@@ -1,11 +1,11 @@
 use Rattle.std.proofs.Common.{◌≡◌, ◌-◌, ◌^◌, ◌<◌, length}
 use Rattle.rice_stream.proofs.Words.{width, EncodingValue, Sees, EncodingProgress}
-use Rattle.rice_stream.proofs.encoding.encode_by.Given as goal
+use Rattle.rice_stream.proofs.engines.Engines.encode.Given as goal
 
 abbrev pub invariant-encode_all : goal.invariant-encode_all
 invariant-encode_all g l = record {
   value : EncodingValue;
-  sees : Sees g.C.TakesBytes.stands l.encoding value;
+  sees : Sees g.Self.Coder.TakesBytes.stands l.encoding value;
   runs : EncodingProgress l.setting (g.I.Intake.left l.fn.intake) (g.I.Intake.left l.intake) (g.O.Outlet.taken l.fn.outlet) (g.O.Outlet.taken l.outlet) value l.input;
   few : length l.input.buffered < width l.setting;
   reads : g.I.Intake.failed l.intake ≡ g.I.Intake.failed l.fn.intake;

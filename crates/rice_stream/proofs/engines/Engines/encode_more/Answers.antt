@@ -1,7 +1,7 @@
 use Rattle.std.proofs.Common.{arith, ◌≡◌, ◌+◌, ◌-◌, ◌*◌, ◌/◌, ◌≤◌, ◌++◌, length, take, subst, ℕ, Err}
 use Rattle.rice_stream.proofs.Words.{length-take, err_from_is_err_and, width, cut, some_width, TakesAll, Pushes, after, encoding_at}
 use Rattle.rice_stream.proofs.lemmas.Seams.{all_whole, cut_grows, encoding_is_resumed, few_all, fit_in, goes_on, more_stops}
-use Rattle.rice_stream.proofs.feeding.encode_more_by.Goals as goal
+use Rattle.rice_stream.proofs.engines.Engines.encode_more.Goals as goal
 
 pub overflow_sub-count : goal.overflow_sub-count
 overflow_sub-count g c =

@@ -2,7 +2,7 @@ use Rattle.std.proofs.Common.{arith, refl, ◌≡◌, ◌+◌, ◌*◌, ◌≤�
 use Rattle.rice_stream.proofs.Words.{width, some_width, after, encoding_at, EncodesRest}
 use Rattle.rice_stream.proofs.lemmas.Seams.{encoding_is_resumed, few_all, rest_stops, rest_cut, rest_all, takes_few}
 use Rattle.rice_stream.proofs.lemmas.{EncodingEnds.push_fails, EncodingEnds.push_within, EncodingEnds.within_early, EncodingEnds.within_all, EncodingLemmas.settled_by}
-use Rattle.rice_stream.proofs.feeding.encode_rest_by.Goals as goal
+use Rattle.rice_stream.proofs.engines.Engines.encode_rest.Goals as goal
 
 pub bytes_left-requires-clause-samples : goal.bytes_left-requires-clause-samples
 bytes_left-requires-clause-samples g c =
