@@ -7,11 +7,11 @@ mod ends;
 pub mod sequences;
 mod tables_of_ends;
 mod wide_words;
-mod words;
+pub mod words;
 
 use crate::ahead::sequences::{Sequences, first_sequences};
 use crate::ahead::wide_words::wide_words_from;
-use crate::ahead::words::{eight_words_from, sixteen_words_from};
+use crate::ahead::words::sixteen_words_from;
 use rice_bits::{BitReader, Intake, at_least_57_bits_from, front_digits, number_from};
 use std::simd::prelude::*;
 
@@ -71,20 +71,6 @@ pub fn words_ahead<I: Intake>(reader: &BitReader<I>, skip: usize, width: u32) ->
 {
     let (buffer, at) = reader.ahead(skip);
     sixteen_words_from(buffer, at, width)
-}
-
-/// Returns the eight words of `width` bits after the first `skip` buffered bits. It takes none.
-#[inline(always)]
-pub fn eight_words_ahead<I: Intake>(reader: &BitReader<I>, skip: usize, width: u32) -> u16x8
-    requires width { width ≤ 9 }
-    requires there { skip + 128 ≤ length reader.now.buffered }
-    ensures len { length result ≡ 8 }
-    ensures fit { All (λ v. v < 2 ^ width) result }
-    ensures bits { flat_map (word width) result
-        ≡ take (8 * width) (drop skip reader.now.buffered) }
-{
-    let (buffer, at) = reader.ahead(skip);
-    eight_words_from(buffer, at, width)
 }
 
 /// Returns the eight words of `width` bits after the first `skip` buffered bits. It takes none.

@@ -1,5 +1,13 @@
 -- What joins the lowest digits of several numbers.
-use Rattle.std.specs.Prelude.{ℕ, ◌+◌, ◌*◌, ◌%◌, ◌^◌, List, [], ◌∷◌, map}
+use Rattle.std.specs.Prelude.{ℕ, ◌+◌, ◌*◌, ◌%◌, ◌^◌, ◌≤◌, Bool, List, [], ◌∷◌, drop, flat_map, length, map}
+use Rattle.rice_bits.specs.Bits.{word}
+use Rattle.rice_code.specs.encode.BitBuffer.{HasRoomForBits}
+
+-- there is room for the `digits` lowest digits of each number from number `first`, 0 or 1, on
+pub record CanAddLow (first digits : ℕ) (numbers : List ℕ) (sink fields : List Bool) (meter : ℕ) : Type 0 where
+  pub width : digits ≤ 32
+  pub from : first ≤ 1
+  pub room : HasRoomForBits (flat_map (word digits) (drop first numbers)) (length sink + length fields) (meter + length fields)
 
 -- the `width` lowest digits of each number
 abbrev pub low_digits_of_each : ℕ → List ℕ → List ℕ

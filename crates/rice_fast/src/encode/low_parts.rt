@@ -2,7 +2,7 @@
 ghost use Rattle.std.specs.Prelude.{◌≡◌, ◌+◌, ◌-◌, ◌*◌, ◌^◌, ◌<◌, ◌≤◌, [], All, drop, false, flat_map, length};
 ghost use Rattle.rice_bits.specs.Bits.{word, put_width};
 ghost use Rattle.rice_code.specs.encode.BitBuffer.{HasRoomFor, HasRoomForBits, AddsBits, AddsFields};
-ghost use Rattle.rice_fast.specs.encode.LowParts.{low_digits_of_each, joined_in_pairs};
+ghost use Rattle.rice_fast.specs.encode.LowParts.{CanAddLow, low_digits_of_each, joined_in_pairs};
 
 use crate::encode::bit_buffer::BitBuffer;
 use rice_bits::{Meter, join, low_digits};
@@ -20,12 +20,9 @@ pub fn put_words(
     sink: &mut SegmentSink,
     meter: &mut Meter,
 )
-    requires width { width ≤ 32 }
-    requires from { from ≤ 1 }
+    requires low { CanAddLow from width items.now sink.old fields meter.old }
     requires long { 8 ≤ length items.now }
     requires some { from ≡ 0 → (1 ≤ length fields) × (length fields ≤ 48) }
-    requires room { HasRoomForBits (flat_map (word width) (drop from items.now))
-        (length sink.old + length fields) (meter.old + length fields) }
     ensures { AddsBits (flat_map (word width) (drop from items.now))
         sink.old fields sink.new [] meter.old meter.new }
 {
@@ -48,11 +45,8 @@ fn put_other_words(
     sink: &mut SegmentSink,
     meter: &mut Meter,
 )
-    requires width { width ≤ 32 }
-    requires from { from ≤ 1 }
+    requires low { CanAddLow from width items.now sink.old fields meter.old }
     requires long { 8 ≤ length items.now }
-    requires room { HasRoomForBits (flat_map (word width) (drop from items.now))
-        (length sink.old + length fields) (meter.old + length fields) }
     ensures { AddsBits (flat_map (word width) (drop from items.now))
         sink.old fields sink.new [] meter.old meter.new }
 {
@@ -70,11 +64,8 @@ pub fn put_low(
     sink: &mut SegmentSink,
     meter: &mut Meter,
 )
-    requires width { width ≤ 32 }
-    requires from { from ≤ 1 }
+    requires low { CanAddLow from width items.now sink.old fields.old meter.old }
     requires long { 8 ≤ length items.now }
-    requires room { HasRoomForBits (flat_map (word width) (drop from items.now))
-        (length sink.old + length fields.old) (meter.old + length fields.old) }
     ensures { AddsBits (flat_map (word width) (drop from items.now))
         sink.old fields.old sink.new fields.new meter.old meter.new }
 {
@@ -101,11 +92,8 @@ fn put_wide(
     sink: &mut SegmentSink,
     meter: &mut Meter,
 ) -> BitBuffer
-    requires width { width ≤ 32 }
-    requires from { from ≤ 1 }
+    requires low { CanAddLow from width items.now sink.old fields meter.old }
     requires long { 8 ≤ length items.now }
-    requires room { HasRoomForBits (flat_map (word width) (drop from items.now))
-        (length sink.old + length fields) (meter.old + length fields) }
     ensures { AddsBits (flat_map (word width) (drop from items.now))
         sink.old fields sink.new result meter.old meter.new }
 {
@@ -124,11 +112,8 @@ fn put_eights<const WIDE: bool>(
     meter: &mut Meter,
 )
     requires narrow { WIDE ≡ false → width ≤ 14 }
-    requires width { width ≤ 32 }
-    requires from { from ≤ 1 }
+    requires low { CanAddLow from width items.now sink.old fields.old meter.old }
     requires long { 8 ≤ length items.now }
-    requires room { HasRoomForBits (flat_map (word width) (drop from items.now))
-        (length sink.old + length fields.old) (meter.old + length fields.old) }
     ensures { AddsBits (flat_map (word width) (drop from items.now))
         sink.old fields.old sink.new fields.new meter.old meter.new }
 {
@@ -153,11 +138,8 @@ fn put_eight<const WIDE: bool>(
     meter: &mut Meter,
 )
     requires narrow { WIDE ≡ false → width ≤ 14 }
-    requires width { width ≤ 32 }
-    requires from { from ≤ 1 }
+    requires low { CanAddLow from width eight.now sink.old fields.old meter.old }
     requires eight { length eight.now ≡ 8 }
-    requires room { HasRoomForBits (flat_map (word width) (drop from eight.now))
-        (length sink.old + length fields.old) (meter.old + length fields.old) }
     ensures { AddsBits (flat_map (word width) (drop from eight.now))
         sink.old fields.old sink.new fields.new meter.old meter.new }
 {
@@ -185,10 +167,8 @@ fn put_eight_short(
     meter: &mut Meter,
 )
     requires width { width ≤ 14 }
-    requires from { from ≤ 1 }
+    requires low { CanAddLow from width eight.now sink.old fields.old meter.old }
     requires eight { length eight.now ≡ 8 }
-    requires room { HasRoomForBits (flat_map (word width) (drop from eight.now))
-        (length sink.old + length fields.old) (meter.old + length fields.old) }
     ensures { AddsBits (flat_map (word width) (drop from eight.now))
         sink.old fields.old sink.new fields.new meter.old meter.new }
 {

@@ -4,7 +4,7 @@ ghost use Rattle.rice_samples.proofs.lemmas.setting.BitsOfLanes.{byte_id, byte_s
 
 use crate::ahead::words_ahead;
 use crate::lanes::SampleLanes;
-use crate::vectors::{Bytes, bytes_in_turn};
+use crate::vectors::{Bytes, half_ranks, last_eight_are_zeros, near_ways, write_selected};
 use rice_bits::{BitReader, Intake};
 use rice_samples::Setting;
 use std::simd::prelude::*;
@@ -65,7 +65,26 @@ impl SampleLanes for Bytes {
 
     #[inline(always)]
     fn in_turn(self, greatest: u32, before: u32) -> Self {
-        bytes_in_turn(greatest, before, self)
+        let all = self.lanes.to_array();
+        let ways = near_ways(self).lanes.to_array();
+        let half_ranks = half_ranks(self).lanes.to_array();
+        if !last_eight_are_zeros(self) {
+            let mut numbers = [0; 16];
+            write_selected::<Bytes, 16>(greatest, before, &all, &ways, &half_ranks, &mut numbers);
+            return Bytes::of(u8x16::from_array(numbers));
+        }
+        let mut first = [0; 8];
+        let last = write_selected::<Bytes, 8>(
+            greatest,
+            before,
+            &all[..8],
+            &ways[..8],
+            &half_ranks[..8],
+            &mut first,
+        );
+        let mut numbers = [last as u8; 16];
+        numbers[..8].copy_from_slice(&first);
+        Bytes::of(u8x16::from_array(numbers))
     }
 
     #[inline(always)]

@@ -2,7 +2,8 @@
 ghost use Rattle.std.proofs.Common.{rules};
 ghost use Rattle.rice_samples.proofs.lemmas.setting.BitsOfLanes.{half_id, half_splits, half_row};
 
-use crate::ahead::{eight_words_ahead, wide_words_ahead};
+use crate::ahead::wide_words_ahead;
+use crate::ahead::words::eight_words_from;
 use crate::lanes::SampleLanes;
 use crate::vectors::{Halves, Lanes, byte_pairs, half_ranks, near_ways, write_selected};
 use rice_bits::{BitReader, Intake};
@@ -45,7 +46,8 @@ impl SampleLanes for Halves {
     #[inline(always)]
     fn words_ahead<I: Intake>(reader: &BitReader<I>, skip: usize, width: u32) -> Self {
         if width <= MOST_OF_ONE_LOAD {
-            return Halves::of(eight_words_ahead(reader, skip, width));
+            let (buffer, at) = reader.ahead(skip);
+            return Halves::of(eight_words_from(buffer, at, width));
         }
         Halves::of(wide_words_ahead(reader, skip, width).cast::<u16>())
     }

@@ -10,40 +10,9 @@ use crate::vectors::lanes::words::Words;
 use crate::vectors::restoring::near::near_ways;
 use std::simd::prelude::*;
 
-/// Returns sixteen numbers up to `greatest` with these ranks: the first from `p`, and each other from the one before it.
-#[inline(always)]
-pub fn bytes_in_turn(greatest: u32, p: u32, ranks: Bytes) -> Bytes
-    requires greatest { greatest < 2 ^ 8 }
-    requires before { p ≤ greatest }
-    requires ranks { All (λ d. d ≤ greatest) ranks.lanes }
-    ensures fit { All (λ x. x ≤ greatest) result.lanes }
-    ensures ranks { ranks_below (greatest + 1) p result.lanes ≡ ranks.lanes }
-{
-    let all = ranks.lanes.to_array();
-    let ways = near_ways(ranks).lanes.to_array();
-    let half_ranks = half_ranks(ranks).lanes.to_array();
-    if !last_eight_are_zeros(ranks) {
-        let mut numbers = [0; 16];
-        write_selected::<Bytes, 16>(greatest, p, &all, &ways, &half_ranks, &mut numbers);
-        return Bytes::of(u8x16::from_array(numbers));
-    }
-    let mut first = [0; 8];
-    let last = write_selected::<Bytes, 8>(
-        greatest,
-        p,
-        &all[..8],
-        &ways[..8],
-        &half_ranks[..8],
-        &mut first,
-    );
-    let mut numbers = [last as u8; 16];
-    numbers[..8].copy_from_slice(&first);
-    Bytes::of(u8x16::from_array(numbers))
-}
-
 /// Returns whether the last eight numbers are zeros, as they are after a block of eight.
 #[inline(always)]
-fn last_eight_are_zeros(numbers: Bytes) -> bool
+pub fn last_eight_are_zeros(numbers: Bytes) -> bool
     ensures { result ≡ true → drop 8 numbers.lanes ≡ replicate 8 0 }
 {
     last_eight_widened(numbers.lanes).is_zero()

@@ -16,9 +16,9 @@ add_numbers-requires-clause-fit g c =
 pub add_numbers-requires-clause-room : goal.add_numbers-requires-clause-room
 add_numbers-requires-clause-room g c =
     let spelled = pairs_of_eight c.args.width c.args.eight.now c.requires.eight c.lowest_digits-low.ensures.value c.lowest_digits-low.ensures.len c.joined_pairs.ensures.value in
-    same_room (sym (spelled_from c.args.from spelled refl c.requires.from (omega (arith, c.requires.eight)))) c.requires.room
+    same_room (sym (spelled_from c.args.from spelled refl c.requires.low.from (omega (arith, c.requires.eight)))) c.requires.low.room
 
 pub returns : goal.returns
 returns g c =
     let spelled = pairs_of_eight c.args.width c.args.eight.now c.requires.eight c.lowest_digits-low.ensures.value c.lowest_digits-low.ensures.len c.joined_pairs.ensures.value in
-    same_added (spelled_from c.args.from spelled refl c.requires.from (omega (arith, c.requires.eight))) c.add_numbers.ensures
+    same_added (spelled_from c.args.from spelled refl c.requires.low.from (omega (arith, c.requires.eight))) c.add_numbers.ensures

@@ -23,13 +23,13 @@ pub add_numbers-requires-clause-room : goal.add_numbers-requires-clause-room
 add_numbers-requires-clause-room c =
     let low = c.lowest_digits-low.ensures in
     let spelled = fours_of_eight c.args.width c.args.eight.now c.requires.eight low.value low.len c.joined_short_pairs.ensures.value c.joined_short_pairs.ensures.len c.joined_fours.ensures.value in
-    same_room (sym (spelled_from c.args.from spelled refl c.requires.from (omega (arith, c.requires.eight)))) c.requires.room
+    same_room (sym (spelled_from c.args.from spelled refl c.requires.low.from (omega (arith, c.requires.eight)))) c.requires.low.room
 
 pub returns-then-width-gt7 : goal.returns-then-width-gt7
 returns-then-width-gt7 c =
     let low = c.lowest_digits-low.ensures in
     let spelled = fours_of_eight c.args.width c.args.eight.now c.requires.eight low.value low.len c.joined_short_pairs.ensures.value c.joined_short_pairs.ensures.len c.joined_fours.ensures.value in
-    same_added (spelled_from c.args.from spelled refl c.requires.from (omega (arith, c.requires.eight))) c.add_numbers.ensures
+    same_added (spelled_from c.args.from spelled refl c.requires.low.from (omega (arith, c.requires.eight))) c.add_numbers.ensures
 
 pub join-all-requires-clause-high : goal.join-all-requires-clause-high
 join-all-requires-clause-high c =
@@ -55,11 +55,11 @@ add_numbers-requires-2-clause-room c =
     let low = c.lowest_digits-low.ensures in
     let fours = fours_of_eight c.args.width c.args.eight.now c.requires.eight low.value low.len c.joined_short_pairs.ensures.value c.joined_short_pairs.ensures.len c.joined_fours.ensures.value in
     let spelled = all_spelled c.joined_fours.result (8 * c.args.width) c.joined_fours.ensures.len (omega arith) fours c.join-all.ensures in
-    same_room (sym (spelled_from c.args.from spelled refl c.requires.from (omega (arith, c.requires.eight)))) c.requires.room
+    same_room (sym (spelled_from c.args.from spelled refl c.requires.low.from (omega (arith, c.requires.eight)))) c.requires.low.room
 
 pub returns : goal.returns
 returns c =
     let low = c.lowest_digits-low.ensures in
     let fours = fours_of_eight c.args.width c.args.eight.now c.requires.eight low.value low.len c.joined_short_pairs.ensures.value c.joined_short_pairs.ensures.len c.joined_fours.ensures.value in
     let spelled = all_spelled c.joined_fours.result (8 * c.args.width) c.joined_fours.ensures.len (omega arith) fours c.join-all.ensures in
-    same_added (spelled_from c.args.from spelled refl c.requires.from (omega (arith, c.requires.eight))) c.add_numbers-2.ensures
+    same_added (spelled_from c.args.from spelled refl c.requires.low.from (omega (arith, c.requires.eight))) c.add_numbers-2.ensures

@@ -17,13 +17,13 @@ are_put s r {w} {from} {items} {ds} same coded bits some =
     let words = (sent_are (sent_from r ds) ds items from w 0 coded same).bits (word w) ∙ ap (λ n. flat_map (word n) (sent_from r ds)) bits in
     record { len = ap length same; words = words; digits = omega (arith, ap length words, length_words s.bits (sent_from r ds), coded_and_reference s r ds some) }
 
-pub put_words-requires-clause-room : goal.put_words-requires-clause-room
-put_words-requires-clause-room c =
+pub put_words-requires-clause-low : goal.put_words-requires-clause-low
+put_words-requires-clause-low c =
     let s = c.args.setting.now in
     let b = c.args.block.now in
     let put = are_put s b.reference (c.items-residuals.ensures.value ∙ c.residuals.ensures) c.first_coded-from.ensures.coded c.bits-bits.ensures.value (omega arith) in
     let ref = ap (reference_len s) c.reference.ensures in
-    record { room = omega (arith, put, ref); steps = omega (arith, put, ref, c.requires.sound.len) }
+    record { width = omega (arith, c.bits-bits.ensures.range); from = c.first_coded-from.ensures.limit; room = record { room = omega (arith, put, ref); steps = omega (arith, put, ref, c.requires.sound.len) } }
 
 pub returns : goal.returns
 returns c =
