@@ -1,6 +1,6 @@
 -- The bytes that are buffered for a coder, and what a read adds to them.
 use Rattle.std.specs.Io.KnownBytes.{Consumes}
-use Rattle.std.specs.Prelude.{◌≡◌, ℕ, ◌+◌, ◌-◌, List, [], ◌∷◌, ◌++◌, length, take, drop, Option, Result, Err}
+use Rattle.std.specs.Prelude.{◌≡◌, ℕ, ◌+◌, ◌-◌, List, [], ◌∷◌, ◌++◌, length, drop, Option, Result, Err}
 use Rattle.rice_samples.specs.Limits.{most_input}
 use Rattle.rice_stream.specs.{declared.outcome.Fault.Fault, declared.outcome.Fault.TheVariants.Read, declared.outcome.Fault.TheVariants.TooLong}
 
@@ -42,10 +42,3 @@ StopsRefilling _ old new left left_new = ⊥
 abbrev pub CountsReads : {T : Type 0} → ℕ → ℕ → Result T Fault → Type 0
 CountsReads old new (Err Read) = new ≡ old + 1
 CountsReads old new _ = new ≡ old
-
--- Bytes were put after those that are buffered in a buffer.
-pub record FillsBuffer (left left_new : Option (List ℕ)) (old new : List ℕ) (buffered count : ℕ) : Type 0 where
-  pub given : List ℕ
-  pub length_is : length given ≡ count
-  pub gave : Consumes left left_new given
-  pub front : take (buffered + count) new ≡ take buffered old ++ given

@@ -1,11 +1,10 @@
 //! An encoding at work: its coder, sink, meter and counts; and the call that encodes all samples of an intake.
-ghost use Rattle.std.specs.Prelude.{◌≡◌, ◌+◌, ◌*◌, ◌^◌, ◌<◌, ◌≤◌, List, ◌++◌, length, Option, Some, OnOk, OnErr, IfOk, ℤ};
-ghost use Rattle.rice_bits.specs.{device.OutletRoom.Room, Bits.padded_bits};
+ghost use Rattle.std.specs.Prelude.{◌≡◌, ◌+◌, ◌*◌, ◌^◌, ◌<◌, ◌≤◌, List, length, Option, Some, OnOk, OnErr, IfOk, ℤ};
+ghost use Rattle.rice_bits.specs.{device.OutletRoom.Room};
 ghost use Rattle.rice_samples.specs.{Limits.most_input, Parameters.Parameters, Parameters.width, Places.cut};
 ghost use Rattle.rice_stream.specs.Encodes.{EncodesBetween, EncodesWithin, ReportsTaken, ReportsAll};
-ghost use Rattle.rice_stream.specs.EncodingState.{EncodingValue, Sees, Beginning, whole_part, CountsSamples, IsEncodingOf, WritesRest, CanPush, PushesFirst, PushesBytes, PushFails};
+ghost use Rattle.rice_stream.specs.EncodingState.{EncodingValue, Sees, Beginning, CountsSamples, IsEncodingOf, WritesRest, CanPush, PushesFirst, PushesBytes, PushFails};
 ghost use Rattle.rice_stream.specs.{DevicesInCalls.Fails, Feeding.IsSeam, Feeding.IsSomeSeam, Feeding.StandsAt, Feeding.encoding_at};
-ghost use Rattle.rice_code.specs.{code.Code.code, encode.Coder.complete_code};
 
 use crate::engines::{Engines, Fast};
 use crate::outcome::{Fault, Outcome, Report};
@@ -144,24 +143,6 @@ impl<C: TakesBytes> Encoding<C> {
         Ok(())
     }
 
-    /// Codes the pending samples, fills the last byte, and returns the report. The sink then holds the rest of the code.
-    fn code_rest_and_fill(&mut self) -> Report
-        requires { (v : EncodingValue) × Sees C.stands self.old v × (s : Parameters) × (old : Beginning) × (now : Option Room) ×
-            (xs : List ℤ) × IsEncodingOf s old now v xs × (length xs ≤ most_input) }
-        ensures { (v : EncodingValue) (s : Parameters) (old : Beginning) (now : Option Room) (xs : List ℤ) →
-            Sees C.stands self.old v → IsEncodingOf s old now v xs →
-            ReportsAll s result xs × (padded_bits (code s xs) ≡ whole_part (complete_code s xs) ++ self.new.sink) }
-    {
-        let bits = self.coder.finish(&mut self.sink, &mut self.meter);
-        let report = Report {
-            samples: self.samples,
-            bits: self.bits + bits,
-            steps: self.meter.steps(),
-        };
-        self.sink.pad();
-        report
-    }
-
     /// Codes the pending samples, fills the last byte, and writes the rest of the code.
     pub(crate) fn finish<O: Outlet>(&mut self, outlet: &mut O) -> Outcome
         requires ready { (v : EncodingValue) × Sees C.stands self.old v × (s : Parameters) × (old : Beginning) × (xs : List ℤ) ×
@@ -172,7 +153,13 @@ impl<C: TakesBytes> Encoding<C> {
             ReportsAll s result.report xs × WritesRest s old (O.taken outlet.new) xs result.fault }
         ensures failures { Fails result.fault 0 0 (O.failed outlet.old) (O.failed outlet.new) }
     {
-        let report = self.code_rest_and_fill();
+        let bits = self.coder.finish(&mut self.sink, &mut self.meter);
+        let report = Report {
+            samples: self.samples,
+            bits: self.bits + bits,
+            steps: self.meter.steps(),
+        };
+        self.sink.pad();
         let fault = match write_whole(&mut self.sink, outlet) {
             Ok(()) => None,
             Err(_) => Some(Fault::Write),

@@ -1,12 +1,12 @@
 //! The bytes of samples that are buffered for a coder.
-ghost use Rattle.std.specs.Io.KnownBytes.{IsAtEnd, Keeps};
-ghost use Rattle.std.specs.Prelude.{◌≡◌, ◌+◌, ◌-◌, ◌^◌, ◌<◌, ◌≤◌, length, take, drop, IfOk, IfErr, OnErr};
-ghost use Rattle.rice_bits.specs.{Limits.most_at_once, device.Failures.CountsFailure};
+ghost use Rattle.std.specs.Io.KnownBytes.{IsAtEnd};
+ghost use Rattle.std.specs.Prelude.{◌≡◌, ◌+◌, ◌-◌, ◌^◌, ◌<◌, ◌≤◌, length, take, IfOk, IfErr};
+ghost use Rattle.rice_bits.specs.{Limits.most_at_once};
 ghost use Rattle.rice_samples.specs.Limits.{most_input};
-ghost use Rattle.rice_stream.specs.BufferedBytes.{nothing_buffered, with_last, Refills, StopsRefilling, CountsReads, FillsBuffer};
+ghost use Rattle.rice_stream.specs.BufferedBytes.{nothing_buffered, with_last, Refills, StopsRefilling, CountsReads};
 
 use crate::outcome::Fault;
-use rice_bits::{Intake, ReadFault};
+use rice_bits::Intake;
 use std::marker::Model;
 
 /// The greatest number of bytes of samples that are read.
@@ -55,38 +55,6 @@ fn bytes_to_ask_for(given: u64, buffered: usize) -> usize
     }
 }
 
-/// Puts the next bytes, at most `most`, after those that are buffered in the buffer, and returns their number.
-fn fill_after_buffered<I: Intake>(
-    intake: &mut I,
-    buffer: &mut [u8],
-    buffered: usize,
-    most: usize,
-) -> Result<usize, ReadFault>
-    requires some { 0 < most }
-    requires room { buffered + most ≤ length buffer.old }
-    requires countable { I.failed intake.old + 1 < 2 ^ 64 }
-    ensures count { IfOk result (λ n. n ≤ most) }
-    ensures bytes { IfOk result (λ n.
-        FillsBuffer (I.left intake.old) (I.left intake.new) buffer.old buffer.new buffered n) }
-    ensures end { IfOk result (λ n. n ≡ 0 → IsAtEnd (I.left intake.new)) }
-    ensures err { OnErr result (Keeps (I.left intake.old) (I.left intake.new)) }
-    ensures kept { take buffered buffer.new ≡ take buffered buffer.old }
-    ensures len { length buffer.new ≡ length buffer.old }
-    ensures failures { CountsFailure (I.failed intake.old) (I.failed intake.new) result }
-{
-    intake.fill(&mut buffer[buffered..buffered + most])
-}
-
-/// Moves the last `count` bytes before `end` to the front.
-fn move_to_front(buffer: &mut [u8], end: usize, count: usize)
-    requires order { count ≤ end }
-    requires within { end ≤ length buffer.old }
-    ensures front { take count buffer.new ≡ drop (end - count) (take end buffer.old) }
-    ensures len { length buffer.new ≡ length buffer.old }
-{
-    buffer.copy_within(end - count..end, 0);
-}
-
 impl Input {
     /// Returns an input that was given nothing.
     pub fn new() -> Self
@@ -112,7 +80,7 @@ impl Input {
         requires { count ≤ length self.old.buffered }
         ensures { self.new ≡ with_last count self.old }
     {
-        move_to_front(&mut self.buffer, self.end, count);
+        self.buffer.copy_within(self.end - count..self.end, 0);
         self.end = count;
     }
 
@@ -133,7 +101,7 @@ impl Input {
         ensures failures { CountsReads (I.failed intake.old) (I.failed intake.new) result }
     {
         let most = bytes_to_ask_for(self.given, self.end);
-        let count = match fill_after_buffered(intake, &mut self.buffer, self.end, most) {
+        let count = match intake.fill(&mut self.buffer[self.end..self.end + most]) {
             Ok(count) => count,
             Err(_) => return Err(Fault::Read),
         };
