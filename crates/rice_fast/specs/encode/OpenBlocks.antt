@@ -8,7 +8,7 @@ use Rattle.rice_code.specs.encode.HeldBlocks.{held_blocks, pending_zeros, refere
 use Rattle.rice_code.specs.encode.OpenSegment.{CoderState, IsOpen, state_after_all}
 use Rattle.rice_code.specs.{CoderSteps.least_looks, CoderSteps.most_looks, CoderSteps.coding_steps, code.Blocks.BlockData, code.Code.data_sets, code.CodedDataSets.bits_of_sets}
 use Rattle.rice_code.specs.{code.SoundBlocks.AreSoundBlocks, code.SoundBlocks.block_with, encode.Coder.IsCoder, encode.Coder.PushesSamples}
-use Rattle.rice_fast.specs.{encode.Standing.Standing, declared.encode.coder.BlockCoder.BlockCoder}
+use Rattle.rice_fast.specs.{encode.Standing.HasRoomAt, encode.Standing.Standing, encode.Standing.TakesSpelled, declared.encode.coder.BlockCoder.BlockCoder}
 
 -- what is still to be put, where `run` zero blocks before block n of the segment are pending, and these blocks follow
 abbrev pub to_follow : Parameters → ℕ → Option ℕ → ℕ → ℕ → List BlockData → List Bool
@@ -119,3 +119,17 @@ pub record PushesOpen (m m_new : Standing) (samples : List ℤ) (bits : ℕ) : T
   pub pushes : PushesSamples m.coder m_new.coder samples m.sink m_new.sink bits m.meter m_new.meter
   pub whole : 0 < bits → m_new.coder.residuals ≡ []
   pub buffered : bits ≡ 0 → m_new.sink ≡ m.sink
+
+-- What the coder stands for after samples has room for the code of a segment,
+abbrev pub CanEnd : BlockCoder → List Bool → ℕ → Type 0
+CanEnd c sink meter = (m : Standing) × (xs : List ℤ) × StandsAfter c sink meter m xs × HasRoomAt m
+
+-- and the samples are pushed, whatever they are, with `bits` bits where they make the segment whole.
+abbrev pub EndsPart : (old new : BlockCoder) → (sink_old sink_new : List Bool) → (meter_old meter_new bits : ℕ) → Type 0
+EndsPart old new sink_old sink_new meter_old meter_new bits =
+    (m : Standing) (xs : List ℤ) → StandsAfter old sink_old meter_old m xs → HasRoomAt m → (m_new : Standing) × StandsFor new sink_new meter_new m_new × PushesOpen m m_new xs bits
+
+-- Whatever the coder stands for, the first samples that the bytes spell are taken.
+abbrev pub TakesFrom : (old new : BlockCoder) → (sink_old sink_new : List Bool) → (meter_old meter_new : ℕ) → List ℕ → (count bits : ℕ) → Type 0
+TakesFrom old new sink_old sink_new meter_old meter_new bytes count bits =
+    (m : Standing) → StandsFor old sink_old meter_old m → HasRoomAt m → (m_new : Standing) × StandsFor new sink_new meter_new m_new × TakesSpelled m m_new bytes count bits

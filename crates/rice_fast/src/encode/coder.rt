@@ -6,8 +6,8 @@ ghost use Rattle.rice_samples.specs.{Places.blocks_left, bytes.Spelling.IsNoSpel
 ghost use Rattle.rice_code.specs.code.Blocks.{fill_count, fill_count_of};
 ghost use Rattle.rice_code.specs.encode.OpenSegment.{CodesHeld, IsOpen, empty_state, next_start, state_after_all, state_between};
 ghost use Rattle.rice_code.specs.{code.Code.complete_samples, code.SoundBlocks.block_with, encode.Coder.AddsCode, encode.Coder.HasTaken, encode.HeldBlocks.reference_at};
-ghost use Rattle.rice_fast.specs.encode.OpenBlocks.{GoesOn, HasRoomForBlock, IsAhead, IsBefore, PushesOpen, StandsAfter, StandsFor, coder_between, coder_with, is_at_first, whole_part};
-ghost use Rattle.rice_fast.specs.encode.Standing.{HasRoomAt, Standing, TakesSpelled};
+ghost use Rattle.rice_fast.specs.encode.OpenBlocks.{CanEnd, EndsPart, GoesOn, HasRoomForBlock, IsAhead, IsBefore, StandsAfter, StandsFor, TakesFrom, coder_between, coder_with, is_at_first, whole_part};
+ghost use Rattle.rice_fast.specs.encode.Standing.{HasRoomAt, Standing};
 
 use crate::encode::blocks::code_next_or_add_to_run;
 use crate::encode::repeats::repeat_sample;
@@ -130,9 +130,8 @@ impl BlockCoder {
         requires some { width_of self.old.setting ≤ length bytes.now }
         requires stands { (m : Standing) × StandsFor self.old sink.old meter.old m × HasRoomAt m }
         ensures count { width_of self.old.setting * result.samples ≤ length bytes.now }
-        ensures takes { (m : Standing) → StandsFor self.old sink.old meter.old m → HasRoomAt m →
-            (m_new : Standing) × StandsFor self.new sink.new meter.new m_new ×
-            TakesSpelled m m_new bytes.now result.samples result.bits }
+        ensures takes { TakesFrom self.old self.new sink.old sink.new meter.old meter.new
+            bytes.now result.samples result.bits }
         ensures none { result.samples ≡ 0 → IsNoSpelling self.old.setting bytes.now }
     {
         if self.held > 0 {
@@ -174,12 +173,10 @@ impl BlockCoder {
         requires stands { (m : Standing) × StandsFor self.old sink.old meter.old m × HasRoomAt m }
         ensures setting { self.new.setting ≡ self.old.setting }
         ensures count { width_of self.old.setting * result.samples ≤ length bytes.now }
-        ensures takes { (m : Standing) → StandsFor self.old sink.old meter.old m → HasRoomAt m →
-            (m_new : Standing) × StandsFor self.new sink.new meter.new m_new ×
-            TakesSpelled m m_new bytes.now result.samples result.bits }
-        ensures kept { result.samples ≡ 0 → (m : Standing) →
-            StandsFor self.old sink.old meter.old m → HasRoomAt m →
-            StandsFor self.new sink.new meter.new m }
+        ensures takes { TakesFrom self.old self.new sink.old sink.new meter.old meter.new
+            bytes.now result.samples result.bits }
+        ensures kept { result.samples ≡ 0 → (m : Standing) → StandsFor self.old sink.old meter.old m →
+            HasRoomAt m → StandsFor self.new sink.new meter.new m }
     {
         // The loop is laid out for each size of blocks.
         match self.setting.block() {
@@ -204,12 +201,10 @@ impl BlockCoder {
         requires stands { (m : Standing) × StandsFor self.old sink.old meter.old m × HasRoomAt m }
         ensures setting { self.new.setting ≡ self.old.setting }
         ensures count { width_of self.old.setting * result.samples ≤ length bytes.now }
-        ensures takes { (m : Standing) → StandsFor self.old sink.old meter.old m → HasRoomAt m →
-            (m_new : Standing) × StandsFor self.new sink.new meter.new m_new ×
-            TakesSpelled m m_new bytes.now result.samples result.bits }
-        ensures kept { result.samples ≡ 0 → (m : Standing) →
-            StandsFor self.old sink.old meter.old m → HasRoomAt m →
-            StandsFor self.new sink.new meter.new m }
+        ensures takes { TakesFrom self.old self.new sink.old sink.new meter.old meter.new
+            bytes.now result.samples result.bits }
+        ensures kept { result.samples ≡ 0 → (m : Standing) → StandsFor self.old sink.old meter.old m →
+            HasRoomAt m → StandsFor self.new sink.new meter.new m }
     {
         let known = known_or::<SIZE>(self.setting.block() as usize);
         let len = self.setting.width() as usize * known;
@@ -247,8 +242,7 @@ impl BlockCoder {
         requires len { length bytes.now ≡ width_of self.old.setting * self.old.setting.block }
         requires between { self.old.held ≡ 0 }
         requires inside { self.old.blocks < self.old.end }
-        requires stands { (m : Standing) × (xs : List ℤ) ×
-            StandsAfter self.old sink.old meter.old m xs × HasRoomAt m }
+        requires stands { CanEnd self.old sink.old meter.old }
         ensures setting { self.new.setting ≡ self.old.setting }
         ensures end { self.new.end ≡ self.old.end }
         ensures held { self.new.held ≡ 0 }
@@ -391,9 +385,8 @@ impl BlockCoder {
     fn hold_some(&mut self, bytes: &[u8], sink: &mut SegmentSink, meter: &mut Meter) -> Pushed
         requires stands { (m : Standing) × StandsFor self.old sink.old meter.old m × HasRoomAt m }
         ensures count { width_of self.old.setting * result.samples ≤ length bytes.now }
-        ensures takes { (m : Standing) → StandsFor self.old sink.old meter.old m → HasRoomAt m →
-            (m_new : Standing) × StandsFor self.new sink.new meter.new m_new ×
-            TakesSpelled m m_new bytes.now result.samples result.bits }
+        ensures takes { TakesFrom self.old self.new sink.old sink.new meter.old meter.new
+            bytes.now result.samples result.bits }
         ensures none { width_of self.old.setting ≤ length bytes.now → result.samples ≡ 0 →
             IsNoSpelling self.old.setting bytes.now }
     {
@@ -447,8 +440,7 @@ impl BlockCoder {
     fn put_part(&mut self, sink: &mut SegmentSink, meter: &mut Meter)
         requires whole { self.old.held ≡ self.old.setting.block }
         requires inside { self.old.blocks < self.old.end }
-        requires stands { (m : Standing) × (xs : List ℤ) ×
-            StandsAfter self.old sink.old meter.old m xs × HasRoomAt m }
+        requires stands { CanEnd self.old sink.old meter.old }
         ensures setting { self.new.setting ≡ self.old.setting }
         ensures held { self.new.held ≡ 0 }
         ensures stands { (m : Standing) (xs : List ℤ) →
@@ -463,12 +455,8 @@ impl BlockCoder {
     /// the segment, or 0.
     fn end_part(&mut self, sink: &mut SegmentSink, meter: &mut Meter) -> u64
         requires inside { self.old.blocks < self.old.end }
-        requires stands { (m : Standing) × (xs : List ℤ) ×
-            StandsAfter self.old sink.old meter.old m xs × HasRoomAt m }
-        ensures { (m : Standing) (xs : List ℤ) →
-            StandsAfter self.old sink.old meter.old m xs → HasRoomAt m →
-            (m_new : Standing) × StandsFor self.new sink.new meter.new m_new ×
-            PushesOpen m m_new xs result }
+        requires stands { CanEnd self.old sink.old meter.old }
+        ensures { EndsPart self.old self.new sink.old sink.new meter.old meter.new result }
     {
         if self.held < self.setting.block() as usize {
             return 0;
@@ -480,13 +468,9 @@ impl BlockCoder {
     /// Ends the segment if it is whole, and begins the next. Returns the number of bits of the code of the segment, or 0.
     fn end_if_whole(&mut self, sink: &mut SegmentSink, meter: &mut Meter) -> u64
         requires between { self.old.held ≡ 0 }
-        requires stands { (m : Standing) × (xs : List ℤ) ×
-            StandsAfter self.old sink.old meter.old m xs × HasRoomAt m }
+        requires stands { CanEnd self.old sink.old meter.old }
         ensures setting { self.new.setting ≡ self.old.setting }
-        ensures stands { (m : Standing) (xs : List ℤ) →
-            StandsAfter self.old sink.old meter.old m xs → HasRoomAt m →
-            (m_new : Standing) × StandsFor self.new sink.new meter.new m_new ×
-            PushesOpen m m_new xs result }
+        ensures stands { EndsPart self.old self.new sink.old sink.new meter.old meter.new result }
     {
         if self.blocks < self.end {
             return 0;
@@ -501,8 +485,7 @@ impl BlockCoder {
     /// code of the segment, without padding.
     fn put_end(&self, sink: &mut SegmentSink, meter: &mut Meter) -> u64
         requires between { self.now.held ≡ 0 }
-        requires stands { (m : Standing) × (xs : List ℤ) ×
-            StandsAfter self.now sink.old meter.old m xs × HasRoomAt m }
+        requires stands { CanEnd self.now sink.old meter.old }
         ensures { (m : Standing) (xs : List ℤ) →
             StandsAfter self.now sink.old meter.old m xs → HasRoomAt m →
             CodesHeld (state_after_all m.coder xs) m.sink sink.new result

@@ -57,26 +57,16 @@ impl LevelLanes for Words {
     #[inline(always)]
     fn levels_in(setting: &Setting, bytes: &[u8]) -> Self {
         if setting.width() == 3 {
-            return levels_of_threes_in_words(setting, bytes);
+            let msb = setting.msb();
+            let low = first_threes(u8x16::from_slice(bytes), msb);
+            let high = last_threes(u8x16::from_slice(&bytes[8..]), msb);
+            let (low, high) = (u32x4::from_le_bytes(low), u32x4::from_le_bytes(high));
+            let words = Words::of(low.shuffle(high, [0, 1, 2, 3, 4, 5, 6, 7]));
+            return levels_of_words(setting, 3, words);
         }
         let fours = byte_fours(u8x32::from_slice(bytes), setting.msb());
         levels_of_words(setting, 4, Words::of(u32x8::from_le_bytes(fours)))
     }
-}
-
-/// Returns the levels of the eight values that 24 bytes spell, in three each, of which not all need be samples.
-#[inline(always)]
-fn levels_of_threes_in_words(setting: &Setting, bytes: &[u8]) -> Words
-    requires three { width_of setting.now ≡ 3 }
-    requires len { length bytes.now ≡ 24 }
-    ensures { bytes.now ≡ spellings setting.now (values_at setting.now result.lanes) }
-{
-    let msb = setting.msb();
-    let low = first_threes(u8x16::from_slice(bytes), msb);
-    let high = last_threes(u8x16::from_slice(&bytes[8..]), msb);
-    let (low, high) = (u32x4::from_le_bytes(low), u32x4::from_le_bytes(high));
-    let words = Words::of(low.shuffle(high, [0, 1, 2, 3, 4, 5, 6, 7]));
-    levels_of_words(setting, 3, words)
 }
 
 /// Returns the levels of the values that are spelled as these words of `width` bytes, of which not all need be samples. It is laid out for
