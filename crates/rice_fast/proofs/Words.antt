@@ -39,13 +39,13 @@ pub use Rattle.rice_fast.specs.FieldsAhead.{AreFields, HeadAhead, HighsAhead, Lo
 pub use Rattle.rice_fast.specs.encode.OpenBlocks.{GoesOn, HasRoomForBlock, HoldsOpen, IsAhead, IsBefore, PushesOpen, StandsAfter, StandsFor, StandsWith, coder_between, coder_with, is_at_first}
 pub use Rattle.rice_fast.specs.encode.OpenBlocks.{to_follow, whole_part}
 pub use Rattle.rice_fast.specs.encode.Standing.{HasResidualsOf, HasRoomAt, Standing, TakesSpelled}
-pub use Rattle.rice_fast.specs.{BlocksAhead.BlockAhead, BlocksAhead.GivesBytes, BlocksAhead.HasBits, BlocksAhead.SpelledAhead, LevelsOfParts.AreLevelsOfParts, PartsOfResiduals.HaveParts}
-pub use Rattle.rice_fast.specs.{PartsOfResiduals.residuals_at, RowsAhead.RowsAhead, RowsAhead.SpellsParts, RunningSums.running_sums, ahead.Ends.in_lanes, ahead.Ends.places_after}
-pub use Rattle.rice_fast.specs.{ahead.Ends.row_of_place, ahead.EndsAndGaps.ends_after, ahead.EndsAndGaps.gaps, ahead.Sequences.BeginWithSequences, declared.ahead.ends.TheConstants.SLIDE}
+pub use Rattle.rice_fast.specs.{BlocksAhead.BlockAhead, BlocksAhead.GivesBytes, BlocksAhead.HasBits, BlocksAhead.SpelledAhead, LevelsOfParts.AreLevelsOfParts, LevelsOfParts.HaveParts}
+pub use Rattle.rice_fast.specs.{LevelsOfParts.residuals_at, FieldsAhead.RowsAhead, FieldsAhead.SpellsParts, LevelsOfParts.running_sums, ahead.in_lanes, ahead.places_after}
+pub use Rattle.rice_fast.specs.{ahead.row_of_place, ahead.ends_after, ahead.gaps, ahead.BeginWithSequences, declared.ahead.ends.TheConstants.SLIDE}
 pub use Rattle.rice_fast.specs.{declared.ahead.sequences.Sequences.Sequences, declared.ahead.tables_of_ends.TheConstants.ROWS, declared.ahead.words.TheConstants.FACTORS}
 pub use Rattle.rice_fast.specs.{declared.ahead.words.TheConstants.PLACES, declared.encode.coder.BlockCoder.BlockCoder, declared.encode.sequences_by_products.TheConstants.WEIGHTS}
-pub use Rattle.rice_fast.specs.{declared.fields.Fields.Fields, declared.pairs.TheConstants.FIRSTS, declared.pairs.TheConstants.SECONDS, encode.HighParts.with_zeros, encode.LowParts.joined_in_pairs}
-pub use Rattle.rice_fast.specs.{encode.LowParts.low_digits_of_each, encode.Sequences.HasDigits, encode.Sequences.joined_values, encode.Sequences.joined_weights, encode.Stops.IsFirstStop}
+pub use Rattle.rice_fast.specs.{declared.fields.Fields.Fields, declared.pairs.TheConstants.FIRSTS, declared.pairs.TheConstants.SECONDS, encode.Parts.with_zeros, encode.Parts.joined_in_pairs}
+pub use Rattle.rice_fast.specs.{encode.Parts.low_digits_of_each, encode.Parts.HasDigits, encode.Parts.joined_values, encode.Parts.joined_weights, encode.Parts.IsFirstStop}
 pub use Rattle.rice_samples.proofs.lemmas.blocks.EightsInLanes.{lanes_added, lanes_below_digits, no_digits, sum_added, sum_map, sums_below, total_below, whole_sum}
 pub use Rattle.rice_samples.proofs.lemmas.bytes.SpellingLemmas.{level_from_pattern, level_spelled, mod_once, wider_value}
 pub use Rattle.rice_samples.proofs.lemmas.bytes.SpellingLengths.{length-spelling, length-spellings, some_width, spellings-append}

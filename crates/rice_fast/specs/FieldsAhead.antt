@@ -1,10 +1,11 @@
--- The fields of a buffered block, looked at before they are taken: its head, the sequences of its high parts, the words of its
--- low parts.
-use Rattle.std.specs.Prelude.{◌≡◌, ℕ, ◌+◌, ◌-◌, ◌*◌, ◌^◌, ◌<◌, ◌≤◌, Bool, List, All, drop, flat_map, length, replicate, sum, take, Option, IfSome, IfNone}
+-- The fields of a buffered block, looked at before they are taken: its head, the sequences of its high parts, the words of its low parts;
+-- and rows of its samples, restored and spelled one after another.
+use Rattle.std.specs.Prelude.{◌≡◌, ℕ, ◌+◌, ◌-◌, ◌*◌, ◌^◌, ◌<◌, ◌≤◌, Bool, List, All, drop, flat_map, length, replicate, sum, take, Option, IfSome, IfNone, slice_index_or}
 use Rattle.rice_bits.specs.Bits.{fundamental_sequence, word}
-use Rattle.rice_samples.specs.{Parameters.Parameters, Parameters.value_at, Parameters.value_count, Places.is_reference, blocks.Pairs.pair_codes, predict.Residuals.pattern}
+use Rattle.rice_samples.specs.{Parameters.Parameters, Parameters.value_at, Parameters.value_count, Places.is_reference, blocks.Pairs.pair_codes, predict.Residuals.pattern, Parameters.values_at}
+use Rattle.rice_samples.specs.{Parameters.width, bytes.Spelling.spellings, predict.Residuals.last_number}
 use Rattle.rice_code.specs.{code.CodedDataSets.reference_bits, code.Forms.IsReference, decode.ReadSets.reference_place}
-use Rattle.rice_fast.specs.{BlocksAhead.BlockAhead, BlocksAhead.HasBits, PartsOfResiduals.HaveParts, declared.fields.Fields.Fields}
+use Rattle.rice_fast.specs.{BlocksAhead.BlockAhead, BlocksAhead.HasBits, LevelsOfParts.HaveParts, declared.fields.Fields.Fields}
 
 -- Block b, of `count` samples after one at this level, has a reference or none. Its samples fit lanes, and have more than `below` bits.
 pub record IsBlockInLanes (below most : ℕ) (s : Parameters) (count b level : ℕ) (has_reference : Bool) : Type 0 where
@@ -68,3 +69,23 @@ pub record AreFields (buffered : List Bool) (s : Parameters) (b before size bits
   pub there : f.words ≤ length buffered
   pub block : (lows levels : List ℕ) → length lows ≡ size → LowsAhead buffered f.words f.omitted f.k lows → HaveParts s f.from f.k (take size highs) lows levels
       → len_of size f ≤ length buffered → BlockAhead buffered s b (value_at s before) levels (len_of size f) f.turns
+
+-- The bytes begin with the spellings of `count` samples, the first after one at level p, whose residuals have these parts. The last of them
+-- has level `last`.
+pub record SpellsParts (s : Parameters) (p k count : ℕ) (highs lows : List ℕ) (last : ℕ) (bytes : List ℕ) : Type 0 where
+  pub levels : List ℕ
+  pub near : HaveParts s p k highs lows levels
+  pub last_is : last ≡ slice_index_or levels (count - 1) 0
+  pub spelled : take (width s * count) bytes ≡ spellings s (values_at s (take count levels))
+
+-- The bytes begin with the spellings of the first `count` samples of a block with these fields and high parts. The last of them has level
+-- `last`.
+pub record RowsAhead (buffered : List Bool) (s : Parameters) (f : Fields) (highs : List ℕ) (count last : ℕ) (bytes : List ℕ) : Type 0 where
+  pub levels : List ℕ
+  pub lows : List ℕ
+  pub len : length lows ≡ count
+  pub words : 0 < count → LowsAhead buffered f.words f.omitted f.k lows
+  pub near : HaveParts s f.from f.k (take count highs) lows levels
+  pub last_is : last ≡ last_number f.from levels
+  pub legal : last < value_count s
+  pub spelled : take (width s * count) bytes ≡ spellings s (values_at s levels)

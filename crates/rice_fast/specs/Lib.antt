@@ -4,7 +4,4 @@ pub mod CopiedBlocks
 pub mod FieldsAhead
 pub mod LevelsOfParts
 pub mod encode
-pub mod PartsOfResiduals
-pub mod RowsAhead
-pub mod RunningSums
 pub mod ahead

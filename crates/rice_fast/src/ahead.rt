@@ -1,7 +1,7 @@
 //! Looks at buffered bits: at one word, or at up to sixteen fundamental sequences or words at a time, in the lanes of a vector.
 ghost use Rattle.std.specs.Prelude.{◌≡◌, ◌+◌, ◌*◌, ◌^◌, ◌<◌, ◌≤◌, length, All, drop, flat_map, take, IfSome};
 ghost use Rattle.rice_bits.specs.Bits.{word};
-ghost use Rattle.rice_fast.specs.ahead.Sequences.{BeginWithSequences};
+ghost use Rattle.rice_fast.specs.ahead.{BeginWithSequences};
 
 mod ends;
 pub mod sequences;

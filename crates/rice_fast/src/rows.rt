@@ -3,7 +3,7 @@ ghost use Rattle.std.specs.Prelude.{◌≡◌, ◌+◌, ◌-◌, ◌*◌, ◌^�
 ghost use Rattle.rice_bits.specs.read.JoinedParts.{joined_parts};
 ghost use Rattle.rice_samples.specs.Parameters.{value_count, values_at, width as width_of};
 ghost use Rattle.rice_samples.specs.bytes.Spelling.{spellings};
-ghost use Rattle.rice_fast.specs.{BlocksAhead.HasBits, FieldsAhead.LowsAhead, PartsOfResiduals.HaveResiduals, RowsAhead.RowsAhead, RowsAhead.SpellsParts};
+ghost use Rattle.rice_fast.specs.{BlocksAhead.HasBits, FieldsAhead.LowsAhead, LevelsOfParts.HaveResiduals, FieldsAhead.RowsAhead, FieldsAhead.SpellsParts};
 
 use crate::fields::Fields;
 use crate::lanes::SampleLanes;

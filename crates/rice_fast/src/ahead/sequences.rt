@@ -2,7 +2,7 @@
 ghost use Rattle.std.specs.Prelude.{◌*◌, ◌≤◌, IfSome, ◌≡◌, ◌-◌, ◌∷◌, length, take, flat_map};
 ghost use Rattle.std.specs.Simd.Lanes.{zip2};
 ghost use Rattle.rice_bits.specs.Bits.{word, fundamental_sequence};
-ghost use Rattle.rice_fast.specs.{ahead.EndsAndGaps.ends_after, ahead.EndsAndGaps.gaps, ahead.Ends.in_lanes, ahead.Sequences.BeginWithSequences};
+ghost use Rattle.rice_fast.specs.{ahead.ends_after, ahead.gaps, ahead.in_lanes, ahead.BeginWithSequences};
 
 use crate::ahead::ends::{count_ones_in_first_bytes, first_ends};
 use std::simd::prelude::*;

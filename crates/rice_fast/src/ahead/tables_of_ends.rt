@@ -1,6 +1,6 @@
 //! Tables of the ends of the fundamental sequences in a byte, one for each place of the byte in a word.
 ghost use Rattle.std.specs.Prelude.{◌≡◌, ◌<◌};
-ghost use Rattle.rice_fast.specs.ahead.Ends.{row_of_place};
+ghost use Rattle.rice_fast.specs.ahead.{row_of_place};
 
 /// A row for each byte, in order, of the places of its ones: bit by bit, each row so far goes on without the bit's place, and with it.
 macro_rules! rows_by_byte {

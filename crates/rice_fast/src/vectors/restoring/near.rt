@@ -1,6 +1,6 @@
 //! Near numbers from their ranks, in lanes.
 ghost use Rattle.std.specs.Prelude.{◌≡◌, ◌+◌, ◌^◌, ◌<◌, ◌≤◌, All, map, replicate};
-ghost use Rattle.rice_fast.specs.RunningSums.{running_sums as running_sums_of};
+ghost use Rattle.rice_fast.specs.LevelsOfParts.{running_sums as running_sums_of};
 ghost use Rattle.rice_samples.specs.predict.Residuals.{ranks_below};
 ghost use Rattle.rice_samples.specs.predict.NearNumbers.{near_numbers as near_numbers_of, way};
 
