@@ -48,14 +48,14 @@ pub use Rattle.rice_code.specs.code.Code.{bits_from, code, code_bits, code_from,
 pub use Rattle.rice_code.specs.decode.Decoder.{Answers, GivesFromRun, GivesSet, RepeatsBlocks, SetEnds, Skips, StopsBy, TakesSet, answer_to, with_mark}
 pub use Rattle.rice_code.specs.code.Blocks.{BlockData, block_data, blocks_from, blocks_of, fill_count, fill_count_of, is_zero_block, zero_block}
 pub use Rattle.rice_code.specs.CoderSteps.{coding_steps, least_looks, least_looks_at, most_looks, most_looks_at, most_steps, segment_steps}
-pub use Rattle.rice_code.specs.decode.DecoderState.{DecoderState, IsDecoderState, next_block_place, place_after, residual_at}
+pub use Rattle.rice_code.specs.decode.Decoder.{DecoderState, IsDecoderState, next_block_place, place_after, residual_at}
 pub use Rattle.rice_code.specs.Laws.{RefusedBytesAreNoOutput, RunIsNeverLonger, SetsAreBounded, SplitIsPaid, count_after}
 pub use Rattle.rice_code.specs.Bounds.{amortised_step_bound, bit_bound, block_bound, padding_bound, set_bound, step_bound}
 pub use Rattle.rice_code.specs.encode.{Coder.AddsCode, Coder.HasCodedBefore, Coder.HasTaken, Coder.IsCoder, Coder.PushesSamples, Coder.reference_in, OpenSegment.state_between, SetOfChoice.chosen_set}
 pub use Rattle.rice_code.specs.code.{Layout.Lies, Layout.bits_with_padding, Layout.block_after, Layout.layout, Layout.padding, Runs.run_len, Runs.run_of_blocks, Runs.zero_run}
 pub use Rattle.rice_code.specs.code.SoundBlocks.{AreSoundBlocks, IsSoundBlock, IsSoundData, block_with}
 pub use Rattle.rice_code.specs.code.Choice.{IsBestSplit, best_split, other_options, shortest}
-pub use Rattle.rice_code.specs.decode.RowsOfFields.{CountRow, PairRow, Row, WordRow, ones}
-pub use Rattle.rice_code.specs.encode.{BitBuffer.HasRoomFor, BitBuffer.PutsSet, BitBuffer.sink_bits, SentParts.pairs_len}
+pub use Rattle.rice_code.specs.decode.ReadSets.{CountRow, PairRow, Row, WordRow, ones}
+pub use Rattle.rice_code.specs.encode.{BitBuffer.HasRoomFor, BitBuffer.PutsSet, BitBuffer.sink_bits, BitBuffer.pairs_len}
 pub use Rattle.rice_code.specs.declared.decode.options.{SetSummary.TheVariants.Residuals, SetSummary.TheVariants.Zeros, BlockSummary.BlockSummary}
 pub use Rattle.rice_code.specs.declared.decode.call_results.{Step.TheVariants.Block, Step.TheVariants.Done, CodeFault.CodeFault, Step.Step}

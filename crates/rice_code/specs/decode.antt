@@ -1,5 +1,3 @@
 -- What contracts see of the decoder, and what its parts say to each other.
 pub mod Decoder
-pub mod DecoderState
-pub mod RowsOfFields
 pub mod ReadSets

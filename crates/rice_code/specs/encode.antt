@@ -4,4 +4,3 @@ pub mod SetOfChoice
 pub mod Coder
 pub mod HeldBlocks
 pub mod OpenSegment
-pub mod SentParts

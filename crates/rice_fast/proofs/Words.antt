@@ -32,8 +32,8 @@ pub use Rattle.rice_code.specs.{Bounds.block_bound, CoderSteps.coding_steps, Cod
 pub use Rattle.rice_code.specs.{code.Choice.shortest, code.Code.complete_samples, code.Code.data_sets, code.Forms.AllFit, code.Forms.IsBlock, code.Forms.IsReference, code.Forms.IsZeroAtReference}
 pub use Rattle.rice_code.specs.{code.Layout.padding, code.Runs.zero_run, code.SoundBlocks.AreSoundBlocks, code.SoundBlocks.IsSoundBlock, code.SoundBlocks.IsSoundData, code.SoundBlocks.block_with}
 pub use Rattle.rice_code.specs.{declared.encode.choice.Choice.Choice, decode.Decoder.GivesBlock, decode.Decoder.Skips, decode.Decoder.TakesSet, decode.Decoder.with_mark}
-pub use Rattle.rice_code.specs.{decode.DecoderState.DecoderState, decode.DecoderState.next_block_place, decode.ReadSets.reference_place, encode.Coder.AddsCode, encode.Coder.CompletesNone}
-pub use Rattle.rice_code.specs.{encode.Coder.HasTaken, encode.Coder.IsCoder, encode.Coder.PushesSamples, encode.SentParts.AddsSequences, encode.SentParts.pairs_len, encode.SetOfChoice.chosen_set}
+pub use Rattle.rice_code.specs.{decode.Decoder.DecoderState, decode.Decoder.next_block_place, decode.ReadSets.reference_place, encode.Coder.AddsCode, encode.Coder.CompletesNone}
+pub use Rattle.rice_code.specs.{encode.Coder.HasTaken, encode.Coder.IsCoder, encode.Coder.PushesSamples, encode.BitBuffer.AddsSequences, encode.BitBuffer.pairs_len, encode.SetOfChoice.chosen_set}
 pub use Rattle.rice_fast.specs.CopiedBlocks.{IsCopied, WordsAhead, copied_bits}
 pub use Rattle.rice_fast.specs.FieldsAhead.{AreFields, HeadAhead, HighsAhead, LowsAhead, PairsAhead, rows_len}
 pub use Rattle.rice_fast.specs.encode.OpenBlocks.{GoesOn, HasRoomForBlock, HoldsOpen, IsAhead, IsBefore, PushesOpen, StandsAfter, StandsFor, StandsWith, coder_between, coder_with, is_at_first}

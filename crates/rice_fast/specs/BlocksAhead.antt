@@ -3,8 +3,8 @@ use Rattle.std.specs.Prelude.{◌≡◌, ℕ, ◌+◌, ◌-◌, ◌*◌, ◌<◌
 use Rattle.rice_bits.specs.read.Reader.{Reader}
 use Rattle.rice_samples.specs.{Parameters.Parameters, Parameters.value_count, Parameters.values_at, Parameters.width, bytes.Spelling.spellings, predict.Residuals.last_number}
 use Rattle.rice_code.specs.code.Forms.{IsForm, RunIsSound, ResidualsAreSound, blocks_in}
-use Rattle.rice_code.specs.{Limits.most_samples_of_bit, code.CodedDataSets.CodedDataSet, code.CodedDataSets.bits_of_set, code.CodedDataSets.turns, decode.Decoder.Answers, decode.Decoder.GivesBlock}
-use Rattle.rice_code.specs.{decode.Decoder.with_mark, decode.DecoderState.DecoderState, declared.decode.call_results.Step.TheVariants.Block}
+use Rattle.rice_code.specs.{Bounds.most_samples_of_bit, code.CodedDataSets.CodedDataSet, code.CodedDataSets.bits_of_set, code.CodedDataSets.turns, decode.Decoder.Answers, decode.Decoder.GivesBlock}
+use Rattle.rice_code.specs.{decode.Decoder.with_mark, decode.Decoder.DecoderState, declared.decode.call_results.Step.TheVariants.Block}
 
 -- Samples of more than `below` and at most `bits` bits.
 pub record HasBits (below bits : ℕ) (s : Parameters) : Type 0 where

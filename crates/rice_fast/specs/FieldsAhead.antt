@@ -2,8 +2,8 @@
 -- and rows of its samples, restored and spelled one after another.
 use Rattle.std.specs.Prelude.{◌≡◌, ℕ, ◌+◌, ◌-◌, ◌*◌, ◌^◌, ◌<◌, ◌≤◌, Bool, List, All, drop, flat_map, length, replicate, sum, take, Option, IfSome, IfNone, slice_index_or}
 use Rattle.rice_bits.specs.Bits.{fundamental_sequence, word}
-use Rattle.rice_samples.specs.{Parameters.Parameters, Parameters.value_at, Parameters.value_count, Places.is_reference, blocks.Pairs.pair_codes, predict.Residuals.pattern, Parameters.values_at}
-use Rattle.rice_samples.specs.{Parameters.width, bytes.Spelling.spellings, predict.Residuals.last_number}
+use Rattle.rice_samples.specs.Parameters.{Parameters, value_at, value_count, values_at, width}
+use Rattle.rice_samples.specs.{Places.is_reference, blocks.Pairs.pair_codes, predict.Residuals.pattern, predict.Residuals.last_number, bytes.Spelling.spellings}
 use Rattle.rice_code.specs.{code.CodedDataSets.reference_bits, code.Forms.IsReference, decode.ReadSets.reference_place}
 use Rattle.rice_fast.specs.{BlocksAhead.BlockAhead, BlocksAhead.HasBits, LevelsOfParts.HaveParts, declared.fields.Fields.Fields}
 

@@ -4,7 +4,7 @@ use Rattle.std.specs.Prelude.{◌≡◌, ℕ, ◌+◌, ◌*◌, ◌<◌, ◌≤�
 use Rattle.rice_bits.specs.{Limits.most_bits_read, device.OutletRoom.Room, device.OutletRoom.Appends, read.Reader.Reader, read.Reader.Refills, Bits.bits_of}
 use Rattle.rice_samples.specs.{Parameters.Parameters, Places.place, bytes.Spelling.Reads, bytes.Spelling.spellings, predict.Residuals.last_of}
 use Rattle.rice_code.specs.{code.CodedDataSets.CodedDataSet, code.CodedDataSets.turns, code.Code.complete_samples, code.Decoded.IsWanted, code.Decoded.cut_to}
-use Rattle.rice_code.specs.{decode.DecoderState.DecoderState, encode.Coder.complete_code}
+use Rattle.rice_code.specs.{decode.Decoder.DecoderState, encode.Coder.complete_code}
 use Rattle.rice_stream.specs.{BufferedBytes.BufferedBytes, DecodingState.DecodedSoFar, DecodingState.HasSets, DecodingState.HasSteps}
 use Rattle.rice_stream.specs.EncodingState.{CountsSamples, EncodingValue, IsEncodingOf, afresh, whole_part}
 

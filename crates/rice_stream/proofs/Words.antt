@@ -23,8 +23,8 @@ pub use Rattle.rice_code.specs.{code.Blocks.blocks_from, code.Blocks.fill_count_
 pub use Rattle.rice_code.specs.{code.Code.early_output, code.Code.output, code.CodedDataSets.CodedDataSet, code.CodedDataSets.bits_of_set, code.CodedDataSets.turns, code.Forms.IsForm}
 pub use Rattle.rice_code.specs.{code.Forms.ResidualsAreSound, code.Forms.RunIsSound, code.Forms.blocks_in, code.Forms.blocks_in_all, code.Layout.Lies, code.Layout.block_after, code.Layout.layout}
 pub use Rattle.rice_code.specs.{code.Layout.padding, code.SoundBlocks.AreSoundBlocks, declared.decode.call_results.CodeFault.CodeFault, declared.decode.call_results.Step.TheVariants.Block}
-pub use Rattle.rice_code.specs.{declared.decode.call_results.Step.TheVariants.Done, decode.DecoderState.DecoderState, decode.DecoderState.IsDecoderState, decode.DecoderState.next_block_place}
-pub use Rattle.rice_code.specs.{decode.DecoderState.state_after_block, decode.ReadSets.SetCut, decode.RowsOfFields.AreCounted, encode.OpenSegment.CoderState, encode.OpenSegment.state_between}
+pub use Rattle.rice_code.specs.{declared.decode.call_results.Step.TheVariants.Done, decode.Decoder.DecoderState, decode.Decoder.IsDecoderState, decode.Decoder.next_block_place}
+pub use Rattle.rice_code.specs.{decode.Decoder.state_after_block, decode.ReadSets.SetCut, decode.ReadSets.AreCounted, encode.OpenSegment.CoderState, encode.OpenSegment.state_between}
 pub use Rattle.rice_fast.proofs.lemmas.{encode.StandingCoders.setting_of, encode.StandingCoders.stands_between, encode.TakenBytes.one_sample}
 pub use Rattle.rice_fast.specs.{declared.encode.coder.BlockCoder.BlockCoder, encode.OpenBlocks.StandsFor, encode.Standing.HasRoomAt, encode.Standing.Standing}
 pub use Rattle.rice_samples.proofs.lemmas.bytes.SpellingLengths.{length-spelling, length-spellings, narrow_width, some_width, spellings-append}

@@ -3,9 +3,9 @@ use Rattle.std.specs.Prelude.{◌≡◌, ℕ, ◌+◌, ◌*◌, ◌<◌, ◌≤�
 use Rattle.rice_bits.specs.{device.OutletRoom.Room, device.OutletRoom.Appends, read.Reader.Reader}
 use Rattle.rice_code.specs.code.Decoded.{AreTaken, Decoded, DecodedFrom, Ending, IsWanted, cut_to}
 use Rattle.rice_code.specs.decode.Decoder.{RepeatsBlocks, Answers, GivesFromRun, with_mark}
-use Rattle.rice_code.specs.{Limits.most_samples_of_bit, code.Blocks.blocks_from, code.Blocks.zero_block, code.CodedDataSets.CodedDataSet, code.CodedDataSets.turns, code.Forms.blocks_in_all}
+use Rattle.rice_code.specs.{Bounds.most_samples_of_bit, code.Blocks.blocks_from, code.Blocks.zero_block, code.CodedDataSets.CodedDataSet, code.CodedDataSets.turns, code.Forms.blocks_in_all}
 use Rattle.rice_code.specs.{code.Layout.Lies, code.SoundBlocks.AreSoundBlocks, declared.decode.call_results.CodeFault.CodeFault, declared.decode.call_results.Step.Step}
-use Rattle.rice_code.specs.{declared.decode.call_results.Step.TheVariants.Block, decode.DecoderState.DecoderState, decode.RowsOfFields.AreCounted}
+use Rattle.rice_code.specs.{declared.decode.call_results.Step.TheVariants.Block, decode.Decoder.DecoderState, decode.ReadSets.AreCounted}
 use Rattle.rice_samples.specs.{Parameters.Parameters, Parameters.IsSample, Parameters.width, bytes.Spelling.spellings, predict.Residuals.last_of}
 use Rattle.rice_stream.specs.DevicesInCalls.{TakesPart}
 

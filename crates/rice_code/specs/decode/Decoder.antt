@@ -1,13 +1,64 @@
--- What a contract sees of a decoder, and what a call of it says.
-use Rattle.std.specs.Prelude.{◌≡◌, ℕ, zero, suc, ◌+◌, Bool, true, false, List, [], ◌∷◌, ◌++◌, length, replicate, All, Some, None, Result, Ok, Err, ℤ}
+-- The state of a decoder, the samples that it restores, and what a call of it says.
+use Rattle.std.specs.Prelude.{◌≡◌, ◌≢◌, ℕ, ◌+◌, ◌<◌, ◌≤◌, ◌==◌, ◌&&◌, if◌then◌else◌, Bool, false, List, All, length, Option, Some, None, is_some, Result, Ok, ℤ, zero, suc, true, [], ◌∷◌, ◌++◌}
+use Rattle.std.specs.Prelude.{replicate, Err}
 use Rattle.rice_bits.specs.{declared.read.fault.BitFault.BitFault, read.Reader.Reader, read.Reader.Takes, read.Reader.is_blank}
-use Rattle.rice_samples.specs.Parameters.{Parameters, IsSample}
-use Rattle.rice_code.specs.code.{Forms.IsForm, Forms.RunIsSound, Forms.ResidualsAreSound, Forms.blocks_in, CodedDataSets.CodedDataSet, CodedDataSets.bits_of_set, CodedDataSets.turns}
-use Rattle.rice_code.specs.declared.decode.call_results.{Step.TheVariants.Block, Step.TheVariants.Done, CodeFault.CodeFault, Step.Step}
-use Rattle.rice_code.specs.{decode.DecoderState.DecoderState, decode.DecoderState.state_after_block, code.Blocks.BlockData, code.Blocks.block_data, code.Blocks.zero_block, decode.ReadSets.SetCut}
-use Rattle.rice_code.specs.code.Layout.{block_after, padding}
+use Rattle.rice_samples.specs.{predict.Residuals.last_of, predict.Residuals.rank, predict.Residuals.pattern, Places.blocks_left, Places.begins_segment, Parameters.Parameters, Parameters.IsLegal}
+use Rattle.rice_samples.specs.{Parameters.IsSample}
+use Rattle.rice_code.specs.code.Forms.{IsForm, RunIsSound, ResidualsAreSound, blocks_in}
+use Rattle.rice_code.specs.{declared.decode.call_results.Step.TheVariants.Block, declared.decode.call_results.Step.TheVariants.Done, declared.decode.call_results.CodeFault.CodeFault}
+use Rattle.rice_code.specs.{declared.decode.call_results.Step.Step, code.Blocks.BlockData, code.Blocks.block_data, code.Blocks.zero_block, code.CodedDataSets.CodedDataSet}
+use Rattle.rice_code.specs.{code.CodedDataSets.bits_of_set, code.CodedDataSets.turns, decode.ReadSets.SetCut, code.Layout.block_after, code.Layout.padding}
 use Rattle.rice_bits.specs.declared.read.fault.BitFault.TheVariants as bit_faults
 use Rattle.rice_code.specs.declared.decode.call_results.CodeFault.TheVariants as faults
+
+-- The state of a decoder.
+pub record DecoderState : Type 0 where
+  pub setting : Parameters
+  -- the block that comes next, by its place in its reference interval
+  pub block : ℕ
+  -- the sample before it
+  pub before : ℤ
+  -- the zero blocks of a run that are still to come
+  pub run : ℕ
+  -- what the decoder returns from now on
+  pub stopped : Option (Result Step CodeFault)
+
+-- what holds of the fields of each decoder
+pub record IsDecoderState (s : Parameters) (block : ℕ) (before : ℤ) (run : ℕ) (stopped : Option (Result Step CodeFault)) : Type 0 where
+  pub legal : IsLegal s
+  pub within : block < s.interval
+  pub sample : IsSample s before
+  pub run_begun : 0 < run → begins_segment s block ≡ false
+  pub run_fits : 0 < run → run ≤ blocks_left s block
+  pub no_block : stopped ≢ Some (Ok Block)
+
+-- a decoder that goes on there
+abbrev pub decoder_at : Parameters → (block : ℕ) → (before : ℤ) → (run : ℕ) → DecoderState
+decoder_at s block before run = record { setting = s; block = block; before = before; run = run; stopped = None }
+
+-- the place of the next block
+abbrev pub next_block_place : Parameters → ℕ → ℕ
+next_block_place s b = if b + 1 == s.interval then 0 else b + 1
+
+-- the place of the block that stands `count` blocks further on in the interval, or begins the next one
+abbrev pub place_after : Parameters → ℕ → ℕ → ℕ
+place_after s b count = if b + count == s.interval then 0 else b + count
+
+-- the state after a block with these samples, which `run` zero blocks follow
+abbrev pub state_after_block : DecoderState → List ℤ → ℕ → DecoderState
+state_after_block p samples run = record p { block = next_block_place p.setting p.block; before = last_of p.before samples; run = run }
+
+-- the residual of a sample that is restored, by whether it is the first of a block with a reference
+abbrev pub residual_at : Parameters → Option ℕ → Bool → ℤ → ℤ → ℕ
+residual_at s reference first p x = if s.preprocess then (if first && is_some reference then 0 else rank s p x) else pattern s x
+
+-- these are the samples of a block with these contents after the sample p, and `last` is the last of them
+pub record RestoresBlock (s : Parameters) (b : ℕ) (p : ℤ) (contents : BlockData) (samples : List ℤ) (last : ℤ) : Type 0 where
+  pub len : length samples ≡ s.block
+  pub legal : All (IsSample s) samples
+  pub contents_are : block_data s b p samples ≡ contents
+  pub last_is : last ≡ last_of p samples
+  pub sample : IsSample s last
 
 -- These are the samples, after sample p, of the first of these blocks, which begin at block b; `run` zero blocks follow it.
 pub record GivesBlock (s : Parameters) (b : ℕ) (p : ℤ) (samples : List ℤ) (run : ℕ) (blocks : List BlockData) : Type 0 where

@@ -1,12 +1,60 @@
--- What a reader took of a coded data set.
-use Rattle.std.specs.Prelude.{◌≡◌, ℕ, ◌+◌, ◌/◌, ◌^◌, ◌<◌, ◌≤◌, Bool, true, false, List, [], ◌∷◌, ◌++◌, All, length, flat_map, Option, Some, None, ⊤}
-use Rattle.rice_code.specs.code.CodedDataSets.{CodedDataSet, NoCompression, SecondExtension, Split, ZeroBlocks, RemainderOfSegment, bits_of_set, turns, run_with_zeros, run_number, no_compression_tail}
-use Rattle.rice_bits.specs.{read.Reader.Reader, read.Reader.Takes, read.Reader.Stops, read.Reader.is_blank, declared.read.fault.BitFault.BitFault, Bits.word, Bits.fundamental_sequence}
-use Rattle.rice_bits.specs.read.JoinedParts.{joined_parts}
-use Rattle.rice_samples.specs.Parameters.{Parameters}
-use Rattle.rice_code.specs.code.{Forms.IsForm, Forms.IsBlock, Forms.IsZeroAtReference, Forms.RunIsSound, Forms.ResidualsAreSound, Forms.AllFit, Forms.blocks_in, Blocks.BlockData}
-use Rattle.rice_code.specs.declared.decode.options.{SetSummary.TheVariants.Residuals, SetSummary.TheVariants.Zeros, BlockSummary.BlockSummary, SetSummary.SetSummary}
-use Rattle.rice_code.specs.code.CodedDataSets.{second_extension_tail, split_tail, run_tail}
+-- What a reader took: rows of fields, words or fundamental sequences one after another, and coded data sets.
+use Rattle.std.specs.Prelude.{◌≡◌, ℕ, suc, All, length, flat_map, sum, ◌+◌, ◌-◌, ◌*◌, ◌^◌, ◌<◌, ◌≤◌, Bool, true, false, List, [], ◌∷◌, ◌++◌, None, ◌/◌, Option, Some, ⊤}
+use Rattle.rice_bits.specs.read.Reader.{Reader, Takes, Stops, is_blank}
+use Rattle.rice_bits.specs.{Limits.step_limit, Limits.most_bits_read, Bits.fundamental_sequence, Bits.word, declared.read.fault.BitFault.BitFault, read.JoinedParts.joined_parts}
+use Rattle.rice_samples.specs.{blocks.Pairs.pair_codes, Parameters.Parameters}
+use Rattle.rice_code.specs.code.CodedDataSets.{CodedDataSet, NoCompression, SecondExtension, Split, ZeroBlocks, RemainderOfSegment, bits_of_set, turns, run_with_zeros, run_number}
+use Rattle.rice_code.specs.code.CodedDataSets.{no_compression_tail, second_extension_tail, split_tail, run_tail}
+use Rattle.rice_code.specs.code.Forms.{IsForm, IsBlock, IsZeroAtReference, RunIsSound, ResidualsAreSound, AllFit, blocks_in}
+use Rattle.rice_code.specs.{code.Blocks.BlockData, declared.decode.options.SetSummary.TheVariants.Residuals, declared.decode.options.SetSummary.TheVariants.Zeros}
+use Rattle.rice_code.specs.{declared.decode.options.BlockSummary.BlockSummary, declared.decode.options.SetSummary.SetSummary}
+
+-- how many of the bits are 1
+abbrev pub ones : List Bool → ℕ
+ones [] = 0
+ones (true ∷ bits) = suc (ones bits)
+ones (false ∷ bits) = ones bits
+
+-- A reader has not refused and is within its limit, and a meter has room for the steps of all that may follow.
+pub record CanRead {I : Type 0} (reader : Reader I) (steps : ℕ) : Type 0 where
+  pub going : reader.refusal ≡ None
+  pub limit : reader.taken ≤ most_bits_read
+  pub room : steps + 2 * (most_bits_read - reader.taken) + 64 < step_limit
+
+-- the steps are at least the bits that were taken, and at most twice as many
+pub record AreCounted (old_steps new_steps old_taken new_taken : ℕ) : Type 0 where
+  pub forward : old_taken ≤ new_taken
+  pub limit : new_taken ≤ most_bits_read
+  pub least : old_steps + new_taken ≤ new_steps + old_taken
+  pub most : new_steps + 2 * old_taken ≤ old_steps + 2 * new_taken
+
+-- A reader took a piece for each of `count` numbers, which were appended to those before.
+pub record Row {I : Type 0} (piece : ℕ → List Bool) (P : ℕ → Type 0) (old new : Reader I) (count : ℕ) (before after : List ℕ) : Type 0 where
+  pub values : List ℕ
+  pub len : length values ≡ count
+  pub each : All P values
+  pub appended : after ≡ before ++ values
+  pub takes : Takes old new (flat_map piece values)
+
+-- A reader took words of this width, which spell these numbers.
+abbrev pub WordRow : {I : Type 0} → ℕ → Reader I → Reader I → ℕ → List ℕ → Type 0
+WordRow width old new count numbers = Row (word width) (λ v. v < 2 ^ width) old new count [] numbers
+
+-- A reader took a fundamental sequence for each of `count` numbers. If `small`, all are at most `most` and known.
+pub record CountRow {I : Type 0} (old new : Reader I) (most : ℕ) (small : Bool) (count : ℕ) (reported : List ℕ) : Type 0 where
+  pub values : List ℕ
+  pub len : length values ≡ count
+  pub reported_are : small ≡ true → (reported ≡ values) × All (λ m. m ≤ most) values
+  pub refused : small ≡ false → All (λ m. m ≤ most) values → ⊥
+  pub takes : Takes old new (flat_map fundamental_sequence values)
+
+-- A reader took the codewords of `count` pairs, which have these numbers.
+pub record PairRow {I : Type 0} (old new : Reader I) (count : ℕ) (values : List ℕ) (old_steps new_steps : ℕ) : Type 0 where
+  pub len : length values ≡ count + count
+  pub takes : Takes old new (flat_map fundamental_sequence (pair_codes values))
+  -- each bit and each turn of the search is a step
+  pub steps : new_steps + old.taken ≡ old_steps + new.taken + sum values
+  pub turns : sum values ≤ length (flat_map fundamental_sequence (pair_codes values))
 
 -- A reader took the fundamental sequences of the high parts of `count` residuals, and then their low parts, words of k bits.
 -- `small` says that no high part is above `most`: then the residuals are these.

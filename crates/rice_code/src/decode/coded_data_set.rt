@@ -1,6 +1,6 @@
 //! Reads one coded data set.
 ghost use Rattle.std.specs.Prelude.{◌≡◌, ◌-◌, ◌<◌, length, IfOk, IfErr};
-ghost use Rattle.rice_code.specs.decode.{ReadSets.LowEntropyRead, ReadSets.LowEntropyCut, ReadSets.SetRead, ReadSets.SetCut, RowsOfFields.CanRead, RowsOfFields.AreCounted};
+ghost use Rattle.rice_code.specs.decode.{ReadSets.LowEntropyRead, ReadSets.LowEntropyCut, ReadSets.SetRead, ReadSets.SetCut, ReadSets.CanRead, ReadSets.AreCounted};
 
 use crate::decode::options::{
     SetSummary, read_no_compression, read_run, read_second_extension, read_split,

@@ -3,7 +3,7 @@ ghost use Rattle.std.specs.Prelude.{◌≡◌, ℕ, ◌+◌, ◌-◌, ◌/◌, �
 ghost use Rattle.rice_bits.specs.{read.Reader.Takes, read.Reader.Stops, Limits.most_bits_read};
 ghost use Rattle.rice_samples.specs.{Places.is_reference, Parameters.k_max};
 ghost use Rattle.rice_code.specs.code.{CodedDataSets.NoCompression, CodedDataSets.SecondExtension, CodedDataSets.Split, CodedDataSets.reference_bits, CodedDataSets.run_tail, Forms.IsReference};
-ghost use Rattle.rice_code.specs.decode.{ReadSets.BlockRead, ReadSets.BlockCut, ReadSets.PartsRead, ReadSets.PartsCut, ReadSets.reference_place, RowsOfFields.CanRead, RowsOfFields.AreCounted};
+ghost use Rattle.rice_code.specs.decode.{ReadSets.BlockRead, ReadSets.BlockCut, ReadSets.PartsRead, ReadSets.PartsCut, ReadSets.reference_place, ReadSets.CanRead, ReadSets.AreCounted};
 
 use crate::decode::high_and_low_parts::read_parts;
 use crate::decode::pairs::read_pairs;
