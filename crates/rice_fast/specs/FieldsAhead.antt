@@ -54,10 +54,6 @@ pub record PairsAhead (buffered : List Bool) (skip references : ℕ) (numbers : 
 abbrev pub rows_len : (size rows : ℕ) → ℕ
 rows_len size rows = size - (size - 16 * rows)
 
--- The bits of the fields of a block of `size` samples.
-abbrev pub len_of : ℕ → Fields → ℕ
-len_of size f = f.words + (size - f.omitted) * f.k
-
 -- A buffered block has these fields. Its residuals have these high parts, and low parts that are buffered and fit in lanes of `bits` bits: levels
 -- with these are the block's.
 pub record AreFields (buffered : List Bool) (s : Parameters) (b before size bits : ℕ) (highs : List ℕ) (f : Fields) : Type 0 where
@@ -68,7 +64,7 @@ pub record AreFields (buffered : List Bool) (s : Parameters) (b before size bits
   pub places : length highs ≡ 80
   pub there : f.words ≤ length buffered
   pub block : (lows levels : List ℕ) → length lows ≡ size → LowsAhead buffered f.words f.omitted f.k lows → HaveParts s f.from f.k (take size highs) lows levels
-      → len_of size f ≤ length buffered → BlockAhead buffered s b (value_at s before) levels (len_of size f) f.turns
+      → f.words + (size - f.omitted) * f.k ≤ length buffered → BlockAhead buffered s b (value_at s before) levels (f.words + (size - f.omitted) * f.k) f.turns
 
 -- The bytes begin with the spellings of `count` samples, the first after one at level p, whose residuals have these parts. The last of them
 -- has level `last`.

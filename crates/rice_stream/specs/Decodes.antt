@@ -3,7 +3,7 @@ use Rattle.std.specs.Io.KnownBytes.{IsAtEnd}
 use Rattle.std.specs.Prelude.{◌≡◌, ◌≢◌, ℕ, ◌+◌, ◌-◌, ◌*◌, ◌/◌, ◌≤◌, ◌⊎◌, Bool, List, [], ◌++◌, length, sum_by, take, min, Option, Some, None, IfSome, IsSome, ℤ}
 use Rattle.rice_bits.specs.{Limits.most_bits_read, Limits.most_bytes_read, Limits.most_at_once, device.OutletRoom.Room, read.Reader.Reader, read.Window.most_buffered, Bits.bits_of}
 use Rattle.rice_code.specs.code.Decoded.{Decoded, AreTaken, BeginsUnsound, EndsWith, Ending, Reached, Ended, CutOff, Past, Large}
-use Rattle.rice_code.specs.{Bounds.decoder_step_bound, Bounds.most_samples_of_bit, code.CodedDataSets.CodedDataSet, code.CodedDataSets.turns, code.Forms.RunIsSound, code.Forms.ResidualsAreSound}
+use Rattle.rice_code.specs.{Bounds.most_samples_of_bit, code.CodedDataSets.CodedDataSet, code.CodedDataSets.turns, code.Forms.RunIsSound, code.Forms.ResidualsAreSound}
 use Rattle.rice_code.specs.{code.Forms.blocks_in_all, code.Layout.Lies, declared.decode.call_results.CodeFault.CodeFault}
 use Rattle.rice_samples.specs.{Parameters.Parameters, bytes.Spelling.spellings}
 use Rattle.rice_stream.specs.DevicesInCalls.{Call, Happens, WritesAndReports, StopsBetween, PassesLimit}
@@ -88,7 +88,8 @@ pub record DecodesWithin (asked : Option ℕ) (r : Report) : Type 0 where
   -- a bit brings at most 456 samples
   pub by_bits : r.samples ≤ most_samples_of_bit * r.bits
   pub at_least : r.bits + r.samples ≤ r.steps
-  pub at_most : r.steps ≤ decoder_step_bound r.bits r.samples
+  -- a step is a bit taken, a turn of the search for the sum of a pair, or a sample written
+  pub at_most : r.steps ≤ 2 * r.bits + r.samples
 
 -- What is reported where decoding ends with this reader: its bits, and what its intake tells.
 pub record Reports {I : Type 0} (r : Report) (f : Option Fault) (left : Option (List ℕ)) (failed : ℕ) (reader : Reader I) (samples steps : ℕ) (fault : Option Fault) : Type 0 where

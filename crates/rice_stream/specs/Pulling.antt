@@ -17,15 +17,12 @@ pub record Origin : Type 0 where
 abbrev pub at_front : Origin
 at_front = record { bits = 0; samples = 0 }
 
--- an interval can begin there: on a byte, where intervals are padded
-abbrev pub MayBegin : Parameters → Origin → Type 0
-MayBegin s o = s.pad ≡ true → o.bits % 8 ≡ 0
-
 -- These bits, from where decoding began, are whole coded data sets with their padding. Their samples are `given`, and `stand.run`
 -- blocks of zeros that are still to come. The stand counts from the beginning of the code.
 pub record IsStand (s : Parameters) (o : Origin) (stand : Stand) (front : List Bool) (given : List ℤ) : Type 0 where
   pub state : IsDecoderState s stand.block stand.previous stand.run None
-  pub begins : MayBegin s o
+  -- an interval can begin there: on a byte, where intervals are padded
+  pub begins : s.pad ≡ true → o.bits % 8 ≡ 0
   pub early : o.samples ≤ most_samples_counted
   pub blocks : ℕ
   pub begun : ℕ

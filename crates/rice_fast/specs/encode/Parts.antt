@@ -2,7 +2,7 @@
 use Rattle.std.specs.Prelude.{◌≡◌, ℕ, ◌-◌, ◌/◌, ◌^◌, List, ◌++◌, length, map, replicate, ⊤, ◌+◌, ◌*◌, ◌%◌, ◌≤◌, Bool, [], ◌∷◌, drop, flat_map, ◌<◌, sum_by}
 use Rattle.rice_bits.specs.Bits.{word}
 use Rattle.rice_code.specs.{declared.encode.choice.Choice.Choice, declared.encode.choice.Choice.TheVariants.NoCompression, declared.encode.choice.Choice.TheVariants.SecondExtension}
-use Rattle.rice_code.specs.{declared.encode.choice.Choice.TheVariants.Split, encode.BitBuffer.HasRoomForBits}
+use Rattle.rice_code.specs.{declared.encode.choice.Choice.TheVariants.Split, encode.BitBuffer.AddsBits, encode.BitBuffer.HasRoomForBits}
 
 -- numbers, and zeros after them up to 64
 abbrev pub with_zeros : List ℕ → List ℕ
@@ -19,6 +19,10 @@ pub record CanAddLow (first digits : ℕ) (numbers : List ℕ) (sink fields : Li
   pub width : digits ≤ 32
   pub from : first ≤ 1
   pub room : HasRoomForBits (flat_map (word digits) (drop first numbers)) (length sink + length fields) (meter + length fields)
+
+-- and these digits are added
+abbrev pub AddsLow : (first digits : ℕ) → List ℕ → (sink_old fields_old sink_new fields_new : List Bool) → (meter_old meter_new : ℕ) → Type 0
+AddsLow first digits numbers sink_old fields_old sink_new fields_new meter_old meter_new = AddsBits (flat_map (word digits) (drop first numbers)) sink_old fields_old sink_new fields_new meter_old meter_new
 
 -- the `width` lowest digits of each number
 abbrev pub low_digits_of_each : ℕ → List ℕ → List ℕ

@@ -2,7 +2,7 @@
 ghost use Rattle.std.specs.Prelude.{◌≡◌, ◌+◌, ◌-◌, ◌*◌, ◌^◌, ◌<◌, ◌≤◌, [], All, drop, false, flat_map, length};
 ghost use Rattle.rice_bits.specs.Bits.{word, put_width};
 ghost use Rattle.rice_code.specs.encode.BitBuffer.{HasRoomFor, HasRoomForBits, AddsBits, AddsFields};
-ghost use Rattle.rice_fast.specs.encode.Parts.{CanAddLow, low_digits_of_each, joined_in_pairs};
+ghost use Rattle.rice_fast.specs.encode.Parts.{AddsLow, CanAddLow, low_digits_of_each, joined_in_pairs};
 
 use crate::encode::bit_buffer::BitBuffer;
 use rice_bits::{Meter, join, low_digits};
@@ -23,8 +23,7 @@ pub fn put_words(
     requires low { CanAddLow from width items.now sink.old fields meter.old }
     requires long { 8 ≤ length items.now }
     requires some { from ≡ 0 → (1 ≤ length fields) × (length fields ≤ 48) }
-    ensures { AddsBits (flat_map (word width) (drop from items.now))
-        sink.old fields sink.new [] meter.old meter.new }
+    ensures { AddsLow from width items.now sink.old fields sink.new [] meter.old meter.new }
 {
     if from == 0 && items.len() % 8 == 0 && (width == 8 || width == 16 || width == 32) {
         fields.put_then_whole_words(items, width, sink, meter);
@@ -47,8 +46,7 @@ fn put_other_words(
 )
     requires low { CanAddLow from width items.now sink.old fields meter.old }
     requires long { 8 ≤ length items.now }
-    ensures { AddsBits (flat_map (word width) (drop from items.now))
-        sink.old fields sink.new [] meter.old meter.new }
+    ensures { AddsLow from width items.now sink.old fields sink.new [] meter.old meter.new }
 {
     put_low(items, from, width, &mut fields, sink, meter);
     fields.put(sink, meter);
@@ -66,7 +64,7 @@ pub fn put_low(
 )
     requires low { CanAddLow from width items.now sink.old fields.old meter.old }
     requires long { 8 ≤ length items.now }
-    ensures { AddsBits (flat_map (word width) (drop from items.now))
+    ensures { AddsLow from width items.now
         sink.old fields.old sink.new fields.new meter.old meter.new }
 {
     if width == 0 {
@@ -94,8 +92,7 @@ fn put_wide(
 ) -> BitBuffer
     requires low { CanAddLow from width items.now sink.old fields meter.old }
     requires long { 8 ≤ length items.now }
-    ensures { AddsBits (flat_map (word width) (drop from items.now))
-        sink.old fields sink.new result meter.old meter.new }
+    ensures { AddsLow from width items.now sink.old fields sink.new result meter.old meter.new }
 {
     put_eights::<true>(items, from, width, &mut fields, sink, meter);
     fields
@@ -114,7 +111,7 @@ fn put_eights<const WIDE: bool>(
     requires narrow { WIDE ≡ false → width ≤ 14 }
     requires low { CanAddLow from width items.now sink.old fields.old meter.old }
     requires long { 8 ≤ length items.now }
-    ensures { AddsBits (flat_map (word width) (drop from items.now))
+    ensures { AddsLow from width items.now
         sink.old fields.old sink.new fields.new meter.old meter.new }
 {
     put_eight::<WIDE>(&items[..8], from, width, fields, sink, meter);
@@ -140,7 +137,7 @@ fn put_eight<const WIDE: bool>(
     requires narrow { WIDE ≡ false → width ≤ 14 }
     requires low { CanAddLow from width eight.now sink.old fields.old meter.old }
     requires eight { length eight.now ≡ 8 }
-    ensures { AddsBits (flat_map (word width) (drop from eight.now))
+    ensures { AddsLow from width eight.now
         sink.old fields.old sink.new fields.new meter.old meter.new }
 {
     if !WIDE {
@@ -169,7 +166,7 @@ fn put_eight_short(
     requires width { width ≤ 14 }
     requires low { CanAddLow from width eight.now sink.old fields.old meter.old }
     requires eight { length eight.now ≡ 8 }
-    ensures { AddsBits (flat_map (word width) (drop from eight.now))
+    ensures { AddsLow from width eight.now
         sink.old fields.old sink.new fields.new meter.old meter.new }
 {
     let low = lowest_digits(u32x8::from_slice(eight), width);
@@ -246,7 +243,7 @@ fn put_some(
     requires few { length some.now ≤ 8 }
     requires room { HasRoomForBits (flat_map (word width) (drop from some.now))
         (length sink.old + length fields.old) (meter.old + length fields.old) }
-    ensures { AddsBits (flat_map (word width) (drop from some.now))
+    ensures { AddsLow from width some.now
         sink.old fields.old sink.new fields.new meter.old meter.new }
 {
     let held = std::mem::replace(fields, BitBuffer::new());
@@ -268,8 +265,7 @@ fn put_in_turn(
     requires few { length some.now ≤ 8 }
     requires room { HasRoomForBits (flat_map (word width) (drop from some.now))
         (length sink.old + length fields) (meter.old + length fields) }
-    ensures { AddsBits (flat_map (word width) (drop from some.now))
-        sink.old fields sink.new result meter.old meter.new }
+    ensures { AddsLow from width some.now sink.old fields sink.new result meter.old meter.new }
 {
     for i in from..some.len() {
         fields.add(low_digits(some[i], width), width, sink, meter);

@@ -3,7 +3,7 @@ use Rattle.std.proofs.Common.{◌≡◌, ℕ, ◌+◌, ◌-◌, ◌*◌, ◌%◌
 use Rattle.std.proofs.Common.{length, refl, ap, arith, sym, ◌∙◌, inl, inr, subst, append_assoc, append-nil, length-append, Option, Some, None, ℤ, pos}
 use Rattle.rice_stream.proofs.Words.{IsSome, Ok, Err, Consumes, IsAtEnd, Reader, Refills, bits_of-nil, bits_of-append, length-bits_of, Parameters, place, last_of, CodedDataSet, bits_of_set}
 use Rattle.rice_stream.proofs.Words.{BeginsUnsound, EndsWith, Ended, CutOff, padding, SetEnds, SetRefused, StopsBy, with_mark, DecoderState, IsDecoderState, AreCounted, SetCut, CodeFault, Block, Done}
-use Rattle.rice_stream.proofs.Words.{last_append, bits_of, DecodedSoFar, Gains, HasSets, Origin, IsStand, MayBegin, GivesNext, GoesOnAt, IsReadFrom, TakesNext, ahead, bytes_reported, state_of, Stand}
+use Rattle.rice_stream.proofs.Words.{last_append, bits_of, DecodedSoFar, Gains, HasSets, Origin, IsStand, GivesNext, GoesOnAt, IsReadFrom, TakesNext, ahead, bytes_reported, state_of, Stand}
 use Rattle.rice_stream.proofs.Words.{Advances}
 use Rattle.rice_bits.specs.declared.read.fault.BitFault.TheVariants as bit_faults
 use Rattle.rice_code.specs.declared.decode.call_results.CodeFault.TheVariants as faults
@@ -34,7 +34,7 @@ all_refilled old mid new buffered bits reported d c e =
     (refills_ahead old mid buffered [] bits reported d).1 ∙ ap (λ l. bits ++ bits_of l) (nothing_left mid new c e) ∙ ap (λ l. bits ++ l) bits_of-nil ∙ append-nil bits
 
 -- the padding is that of the same place in a byte
-pads_as : (s : Parameters) (o : Origin) (taken : ℕ) {bits : ℕ} (len b n : ℕ) → MayBegin s o → taken % 8 ≡ bits % 8 → bits ≡ o.bits + len → padding s b (taken + n) ≡ padding s b (len + n)
+pads_as : (s : Parameters) (o : Origin) (taken : ℕ) {bits : ℕ} (len b n : ℕ) → (s.pad ≡ true → o.bits % 8 ≡ 0) → taken % 8 ≡ bits % 8 → bits ≡ o.bits + len → padding s b (taken + n) ≡ padding s b (len + n)
 pads_as s o taken len b n begins e f = by_pad s.pad (place s b == 0)
     (λ pad. let g : o.bits % 8 ≡ 0 = begins pad in let same : (taken + n) % 8 ≡ (len + n) % 8 = omega arith in ap (λ v. (8 - v) % 8) same)
   where
