@@ -117,16 +117,28 @@ pub trait Lanes: Copy {
     }
 
     /// Returns two zeros, and all but the last two numbers.
+    #[inline(always)]
     fn moved_by_two(self) -> Self
-        ensures { numbers result ≡ take COUNT (replicate 2 0 ++ numbers self) };
+        ensures { numbers result ≡ take COUNT (replicate 2 0 ++ numbers self) }
+    {
+        self.moved_by_one().moved_by_one()
+    }
 
     /// Returns four zeros, and all but the last four numbers.
+    #[inline(always)]
     fn moved_by_four(self) -> Self
-        ensures { numbers result ≡ take COUNT (replicate 4 0 ++ numbers self) };
+        ensures { numbers result ≡ take COUNT (replicate 4 0 ++ numbers self) }
+    {
+        self.moved_by_two().moved_by_two()
+    }
 
     /// Returns eight zeros, and the numbers before the last eight.
+    #[inline(always)]
     fn moved_by_eight(self) -> Self
-        ensures { numbers result ≡ take COUNT (replicate 8 0 ++ numbers self) };
+        ensures { numbers result ≡ take COUNT (replicate 8 0 ++ numbers self) }
+    {
+        self.moved_by_four().moved_by_four()
+    }
 
     ghost len: { (v : Self) → length (numbers v) ≡ COUNT };
 

@@ -1,7 +1,18 @@
 -- Ranks in the lanes of vectors.
 use Rattle.rice_fast.proofs.Words.{◌≡◌, ℕ, zero, suc, ◌+◌, ◌-◌, ◌≤◌, List, [], ◌∷◌, ◌++◌, get_or, take, drop, length, refl, ap, arith, sym, ◌∙◌, slice_range, range_with_len, pick_l, length-drop}
-use Rattle.rice_fast.proofs.Words.{length-take-le, pick_l-range_with_len, ranks_below, last_number}
-use Rattle.std.proofs.lemmas.List.{length-append}
+use Rattle.rice_fast.proofs.Words.{append_assoc, length-take-le, replicate, take-take, pick_l-range_with_len, ranks_below, last_number}
+use Rattle.std.proofs.lemmas.List.{length-append, replicate-append-replicate}
+
+take_kept : (n k : ℕ) (ys zs : List ℕ) → n ≤ k → take n (ys ++ take k zs) ≡ take n (ys ++ zs)
+take_kept zero k ys zs h = refl
+take_kept (suc n) k [] zs h = take-take (suc n) k zs h
+take_kept (suc n) k (y ∷ ys) zs h = ap (λ l. y ∷ l) (take_kept n k ys zs (omega arith))
+
+-- numbers that are moved twice
+pub moved_twice : (n a b : ℕ) (xs : List ℕ) → take n (replicate a 0 ++ take n (replicate b 0 ++ xs)) ≡ take n (replicate (a + b) 0 ++ xs)
+moved_twice n a b xs =
+    take_kept n n (replicate a 0) (replicate b 0 ++ xs) (omega arith)
+    ∙ ap (take n) (sym (append_assoc (replicate a 0) (replicate b 0) xs) ∙ ap (λ l. l ++ xs) (replicate-append-replicate a b 0))
 
 -- the last of two rows of numbers is the last of the second, or if it has none the last of the first
 pub last-append : (p : ℕ) (xs ys : List ℕ) → last_number p (xs ++ ys) ≡ last_number (last_number p xs) ys

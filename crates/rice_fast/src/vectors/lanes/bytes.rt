@@ -152,32 +152,4 @@ impl Lanes for Bytes {
             ),
         )
     }
-
-    #[inline(always)]
-    fn moved_by_two(self) -> Self {
-        Bytes::of(u8x16::splat(0).shuffle(
-            self.lanes,
-            [
-                14, 15, 16, 17, 18, 19, 20, 21, 22, 23, 24, 25, 26, 27, 28, 29,
-            ],
-        ))
-    }
-
-    #[inline(always)]
-    fn moved_by_four(self) -> Self {
-        Bytes::of(u8x16::splat(0).shuffle(
-            self.lanes,
-            [
-                12, 13, 14, 15, 16, 17, 18, 19, 20, 21, 22, 23, 24, 25, 26, 27,
-            ],
-        ))
-    }
-
-    #[inline(always)]
-    fn moved_by_eight(self) -> Self {
-        Bytes::of(u8x16::splat(0).shuffle(
-            self.lanes,
-            [8, 9, 10, 11, 12, 13, 14, 15, 16, 17, 18, 19, 20, 21, 22, 23],
-        ))
-    }
 }

@@ -148,19 +148,4 @@ impl Lanes for Halves {
                 .shuffle(self.lanes, [7, 8, 9, 10, 11, 12, 13, 14]),
         )
     }
-
-    #[inline(always)]
-    fn moved_by_two(self) -> Self {
-        Halves::of(u16x8::splat(0).shuffle(self.lanes, [6, 7, 8, 9, 10, 11, 12, 13]))
-    }
-
-    #[inline(always)]
-    fn moved_by_four(self) -> Self {
-        Halves::of(u16x8::splat(0).shuffle(self.lanes, [4, 5, 6, 7, 8, 9, 10, 11]))
-    }
-
-    #[inline(always)]
-    fn moved_by_eight(self) -> Self {
-        Halves::of(u16x8::splat(0))
-    }
 }

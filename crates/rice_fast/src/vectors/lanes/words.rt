@@ -148,19 +148,4 @@ impl Lanes for Words {
                 .shuffle(self.lanes, [7, 8, 9, 10, 11, 12, 13, 14]),
         )
     }
-
-    #[inline(always)]
-    fn moved_by_two(self) -> Self {
-        Words::of(u32x8::splat(0).shuffle(self.lanes, [6, 7, 8, 9, 10, 11, 12, 13]))
-    }
-
-    #[inline(always)]
-    fn moved_by_four(self) -> Self {
-        Words::of(u32x8::splat(0).shuffle(self.lanes, [4, 5, 6, 7, 8, 9, 10, 11]))
-    }
-
-    #[inline(always)]
-    fn moved_by_eight(self) -> Self {
-        Words::of(u32x8::splat(0))
-    }
 }

@@ -1,0 +1,6 @@
+use Rattle.rice_fast.proofs.Words.{◌++◌, ◌∙◌, ap, replicate, take}
+use Rattle.rice_fast.proofs.lemmas.vectors.LaneRanks.{moved_twice}
+use Rattle.rice_fast.proofs.vectors.lanes.Lanes.moved_by_two.Goals as goal
+
+pub returns : goal.returns
+returns g c = c.moved_by_one-2.ensures ∙ (ap (λ v. take g.Self.Lanes.COUNT (replicate 1 0 ++ v)) c.moved_by_one.ensures ∙ moved_twice g.Self.Lanes.COUNT 1 1 (g.Self.Lanes.numbers c.args.self))
