@@ -14,5 +14,5 @@ pub use level_lanes::{LevelLanes, patterns_of_levels};
 pub use rank_lanes::ranks;
 pub use restoring::near::{near_ways, running_sums};
 pub use restoring::parts::{join_parts, near_levels_of_parts};
-pub use restoring::turns::{half_ranks, last_eight_are_zeros, write_selected};
+pub use restoring::turns::{half_ranks, last_eight_are_zeros, tops, write_selected};
 pub use spelling_lanes::{byte_fours, byte_pairs, bytes_of_patterns, spelled_in_three_bytes};

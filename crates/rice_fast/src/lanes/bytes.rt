@@ -4,7 +4,7 @@ ghost use Rattle.rice_samples.proofs.lemmas.setting.BitsOfLanes.{byte_id, byte_s
 
 use crate::ahead::words_ahead;
 use crate::lanes::SampleLanes;
-use crate::vectors::{Bytes, half_ranks, last_eight_are_zeros, near_ways, write_selected};
+use crate::vectors::{Bytes, half_ranks, last_eight_are_zeros, near_ways, tops, write_selected};
 use rice_bits::{BitReader, Intake};
 use rice_samples::Setting;
 use std::simd::prelude::*;
@@ -67,10 +67,12 @@ impl SampleLanes for Bytes {
     fn in_turn(self, greatest: u32, before: u32) -> Self {
         let all = self.lanes.to_array();
         let ways = near_ways(self).lanes.to_array();
-        let half_ranks = half_ranks(self).lanes.to_array();
+        let halves = half_ranks(self);
+        let tops = tops(greatest, self, halves).lanes.to_array();
+        let half_ranks = halves.lanes.to_array();
         if !last_eight_are_zeros(self) {
             let mut numbers = [0; 16];
-            write_selected::<Bytes, 16>(greatest, before, &all, &ways, &half_ranks, &mut numbers);
+            write_selected::<Bytes, 16>(greatest, before, &all, &ways, &half_ranks, &tops, &mut numbers);
             return Bytes::of(u8x16::from_array(numbers));
         }
         let mut first = [0; 8];
@@ -80,6 +82,7 @@ impl SampleLanes for Bytes {
             &all[..8],
             &ways[..8],
             &half_ranks[..8],
+            &tops[..8],
             &mut first,
         );
         let mut numbers = [last as u8; 16];

@@ -5,7 +5,7 @@ ghost use Rattle.rice_samples.proofs.lemmas.setting.BitsOfLanes.{half_id, half_s
 use crate::ahead::wide_words_ahead;
 use crate::ahead::words::eight_words_from;
 use crate::lanes::SampleLanes;
-use crate::vectors::{Halves, Lanes, byte_pairs, half_ranks, near_ways, write_selected};
+use crate::vectors::{Halves, Lanes, byte_pairs, half_ranks, near_ways, tops, write_selected};
 use rice_bits::{BitReader, Intake};
 use rice_samples::Setting;
 use std::simd::prelude::*;
@@ -77,10 +77,12 @@ impl SampleLanes for Halves {
             return Halves::splat(before);
         }
         let ways = near_ways(self).lanes.to_array();
-        let half_ranks = half_ranks(self).lanes.to_array();
+        let halves = half_ranks(self);
+        let tops = tops(greatest, self, halves).lanes.to_array();
+        let half_ranks = halves.lanes.to_array();
         let all = self.lanes.to_array();
         let mut numbers = [0; 8];
-        write_selected::<Halves, 8>(greatest, before, &all, &ways, &half_ranks, &mut numbers);
+        write_selected::<Halves, 8>(greatest, before, &all, &ways, &half_ranks, &tops, &mut numbers);
         Halves::of(u16x8::from_array(numbers))
     }
 

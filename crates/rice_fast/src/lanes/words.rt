@@ -7,7 +7,7 @@ ghost use Rattle.rice_samples.proofs.lemmas.setting.BitsOfLanes.{word_id, word_s
 use crate::ahead::{number_ahead, wide_words_ahead};
 use crate::lanes::SampleLanes;
 use crate::vectors::{
-    Words, byte_fours, half_ranks, near_ways, spelled_in_three_bytes, write_selected,
+    Words, byte_fours, half_ranks, near_ways, spelled_in_three_bytes, tops, write_selected,
 };
 use rice_bits::{BitReader, Intake};
 use rice_samples::Setting;
@@ -92,10 +92,12 @@ impl SampleLanes for Words {
     #[inline(always)]
     fn in_turn(self, greatest: u32, before: u32) -> Self {
         let ways = near_ways(self).lanes.to_array();
-        let half_ranks = half_ranks(self).lanes.to_array();
+        let halves = half_ranks(self);
+        let tops = tops(greatest, self, halves).lanes.to_array();
+        let half_ranks = halves.lanes.to_array();
         let all = self.lanes.to_array();
         let mut numbers = [0; 8];
-        write_selected::<Words, 8>(greatest, before, &all, &ways, &half_ranks, &mut numbers);
+        write_selected::<Words, 8>(greatest, before, &all, &ways, &half_ranks, &tops, &mut numbers);
         Words::of(u32x8::from_array(numbers))
     }
 

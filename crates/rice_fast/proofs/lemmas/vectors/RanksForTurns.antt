@@ -21,6 +21,15 @@ lanes_halved m (suc n) (d ∷ ds) some e fits =
         let sum : d / 2 + d % 2 ≡ (d + 1) / 2 = omega arith in
         ap (λ x. (d / 2 + x) % m) odd ∙ (ap (λ x. x % m) sum ∙ mod-eq_of_lt (omega (arith, lt, some)))
 
+-- the least number that is too high for each rank
+pub lanes_topped : (f : ℕ → ℕ) (g n : ℕ) (ds : List ℕ) → length ds ≡ n → zip2 (λ a b. a - b) (replicate n g) (zip2 (λ a b. a - b) (map f ds) (replicate n 1)) ≡ map (λ d. g - (f d - 1)) ds
+lanes_topped f g zero [] e = refl
+lanes_topped f g zero (d ∷ ds) e = absurd (omega arith)
+lanes_topped f g (suc n) [] e = absurd (omega arith)
+lanes_topped f g (suc n) (d ∷ ds) e =
+    let others = lanes_topped f g n ds (omega arith) in
+    λ j. (g - (f d - 1)) ∷ others j
+
 -- an element of a list, by what is made of it
 pub element : {X : Type 0} (f : X → ℕ) (xs : List X) (i : ℕ) (x : X) {v : ℕ} → i < length xs → x ≡ get_or xs i x → v ≡ f x → v ≡ get_or (map f xs) i 0
 element f xs i x h is e = e ∙ (ap f is ∙ sym (get_or-map f xs i x 0 h))

@@ -21,6 +21,11 @@ selected-number-requires-clause-half g c =
     made g.L.Lanes.number (λ d. (d + 1) / 2) c.args.ranks.now c.args.half_ranks.now c.loop-i.i c.index-ranks-i.result c.index-half_ranks-i.result
     (omega (arith, c.loop-i-test.true, c.requires.count)) c.index-ranks-i.is c.value.ensures c.index-half_ranks-i.is c.value-in-loop-i.ensures c.requires.half_ranks
 
+pub selected-number-requires-clause-top : goal.selected-number-requires-clause-top
+selected-number-requires-clause-top g c =
+    made g.L.Lanes.number (λ d. c.args.greatest - ((d + 1) / 2 - 1)) c.args.ranks.now c.args.tops.now c.loop-i.i c.index-ranks-i.result c.index-tops-i.result
+    (omega (arith, c.loop-i-test.true, c.requires.count)) c.index-ranks-i.is c.value.ensures c.index-tops-i.is c.value-in-loop-i-2.ensures c.requires.tops
+
 pub selected-number-requires-clause-rank : goal.selected-number-requires-clause-rank
 selected-number-requires-clause-rank g c =
     let f = g.L.Lanes.number in
