@@ -4,7 +4,7 @@ ghost use Rattle.std.proofs.Common.{rules};
 ghost use Rattle.rice_bits.specs.Bits.{word};
 ghost use Rattle.rice_samples.proofs.lemmas.setting.BitsOfLanes.{word_id, word_splits, word_row};
 
-use crate::ahead::{number_ahead, wide_words_ahead};
+use crate::ahead::{number_ahead, wide_words_ahead, words_ahead};
 use crate::lanes::SampleLanes;
 use crate::vectors::{
     Words, byte_fours, half_ranks, near_ways, spelled_in_three_bytes, tops, write_selected,
@@ -22,8 +22,9 @@ static ONES: [u32; 16] = [
     0, 0, 0, 0, 0, 0, 0, 0,
 ];
 
-/// Returns the eight words of `width` bits after the first `skip` buffered bits, read one by one.
-#[inline(always)]
+/// Returns the eight words of `width` bits after the first `skip` buffered bits, read one by one. A call: in a caller's loop, the compiler
+/// would compute all their places before it.
+#[inline(never)]
 fn words_one_by_one<I: Intake>(reader: &BitReader<I>, skip: usize, width: u32) -> Words
     requires width { width ≤ 32 }
     requires there { skip + 256 ≤ length reader.now.buffered }
@@ -36,6 +37,26 @@ fn words_one_by_one<I: Intake>(reader: &BitReader<I>, skip: usize, width: u32) -
         words[i] = number_ahead(reader, skip + i * width as usize, width);
     }
     Words::of(u32x8::from_array(words))
+}
+
+/// Returns the eight words of 32 bits after the first `skip` buffered bits.
+#[inline(always)]
+fn whole_words_ahead<I: Intake>(reader: &BitReader<I>, skip: usize) -> Words
+    requires { skip + 256 ≤ length reader.now.buffered }
+    ensures fit { All (λ v. v < 2 ^ 32) result.lanes }
+    ensures bits { flat_map (word 32) result.lanes ≡ take 256 (drop skip reader.now.buffered) }
+{
+    let _taken = reader.taken();
+    let first = words_ahead(reader, skip, 8);
+    let second = words_ahead(reader, skip + 128, 8);
+    let bytes = first.shuffle(
+        second,
+        [
+            0, 1, 2, 3, 4, 5, 6, 7, 8, 9, 10, 11, 12, 13, 14, 15, 16, 17, 18, 19, 20, 21, 22, 23,
+            24, 25, 26, 27, 28, 29, 30, 31,
+        ],
+    );
+    Words::of(u32x8::from_le_bytes(byte_fours(bytes, true)))
 }
 
 impl SampleLanes for Words {
@@ -65,6 +86,9 @@ impl SampleLanes for Words {
 
     #[inline(always)]
     fn words_ahead<I: Intake>(reader: &BitReader<I>, skip: usize, width: u32) -> Self {
+        if width == Self::BITS {
+            return whole_words_ahead(reader, skip);
+        }
         if width == 0 || width > MOST_IN_LANES {
             return words_one_by_one(reader, skip, width);
         }

@@ -85,6 +85,11 @@ single_words msb w bs e len fit = rw e (subst (OrdersWords msb 1 bs) (by_order (
 pub turned_words : (msb : Bool) (w n : ℕ) (bs ordered : List ℕ) → msb ≡ false → length bs ≡ n * w → All (λ v. v < 2 ^ 8) bs → ordered ≡ words_in_order true w 0 n bs → OrdersWords msb w bs ordered
 turned_words msb w n bs ordered m len fit is = subst (OrdersWords msb w bs) (ap (λ t. words_in_order (not t) w 0 n bs) m ∙ sym is) (words_ordered msb w n bs len fit)
 
+-- words of four bytes that are turned around as lanes take them
+pub words_of_turned : (n : ℕ) (bs vs : List ℕ) → length bs ≡ n * 4 → All (λ v. v < 2 ^ 8) bs → vs ≡ digits_l 4294967296 n (number_l 256 (words_in_order true 4 0 n bs)) → flat_map (word 32) vs ≡ flat_map (word 8) bs
+unfolding words_ordered
+words_of_turned n bs vs len fit is = ap (flat_map (word 32)) is ∙ (words_ordered false 4 n bs len fit).bits
+
 -- samples that have words of all their bits as patterns
 pub record SamplesOfWords (s : Parameters) (w : ℕ) (words : List ℕ) : Type 0 where
   pub samples : List ℤ

@@ -1,4 +1,4 @@
-use Rattle.std.proofs.Common.{◌+◌, ◌/◌, ◌^◌}
+use Rattle.std.proofs.Common.{◌+◌, ◌/◌}
 use Rattle.rice_fast.proofs.lemmas.vectors.RanksForTurns.{lanes_topped}
 use Rattle.rice_fast.proofs.vectors.restoring.turns.tops.Goals as goal
 
