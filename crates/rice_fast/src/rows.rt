@@ -168,7 +168,7 @@ fn write_row<L: SampleLanes>(
     if k == L::BITS {
         return write_parts_in_turn(setting, before, lows, L::splat(0), 0, count, at, bytes);
     }
-    if setting.preprocess() && (before >= FEW_NEAR || setting.bits() <= FEW_BITS) {
+    if setting.preprocess() && (before >= FEW_NEAR || L::BITS == 8 && setting.bits() <= FEW_BITS) {
         if let Some(levels) = near_levels_of_parts(setting, before, highs, lows, k) {
             return Some(write_levels(setting, levels, count, at, bytes));
         }
