@@ -1,4 +1,5 @@
-//! Tests of bits, devices and samples, worked examples of the definitions of samples, and the means of the tests of all libraries: tables of cases, and counted cases.
+//! Tests of bits, devices and samples, and worked examples of the definitions of samples. Also the means of the tests of all libraries:
+//! tables of cases, and counted cases.
 //!
 //! They are a crate of their own, since a crate with tests is proved twice: with them and without. Tests of the crates above `rice_samples`
 //! are another, `rice_tests`, so that these need not wait for the proofs of those crates.

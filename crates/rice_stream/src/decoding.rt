@@ -92,8 +92,7 @@ pub fn decode<I: Intake, O: Outlet>(
     // With a count of 0 the intake is not called.
     ensures idle { asked ≡ Some 0 → result.1 ≡ intake }
 {
-    // Each of these loops is laid out for what is known of its blocks. They are calls, so that only one of them takes room on the
-    // stack.
+    // Each loop is laid out for what is known of its blocks. They are calls, so that only one takes room on the stack.
     match setting.width() {
         1 => decode_sizes::<I, O, 1>(setting, asked, intake, outlet),
         2 => decode_sizes::<I, O, 2>(setting, asked, intake, outlet),
@@ -197,7 +196,6 @@ pub(crate) fn decode_blocks<
     ensures failures { Fails result.0.fault (I.failed intake) (I.failed result.1)
         (O.failed outlet.old) (O.failed outlet.new) }
     ensures bounds { DecodesWithin asked result.0.report }
-    // With a count of 0 the intake is not called.
     ensures idle { asked ≡ Some 0 → result.1 ≡ intake }
 {
     // A copy stays in registers from block to block.

@@ -22,7 +22,8 @@ pub record CanAddLow (first digits : ℕ) (numbers : List ℕ) (sink fields : Li
 
 -- and these digits are added
 abbrev pub AddsLow : (first digits : ℕ) → List ℕ → (sink_old fields_old sink_new fields_new : List Bool) → (meter_old meter_new : ℕ) → Type 0
-AddsLow first digits numbers sink_old fields_old sink_new fields_new meter_old meter_new = AddsBits (flat_map (word digits) (drop first numbers)) sink_old fields_old sink_new fields_new meter_old meter_new
+AddsLow first digits numbers sink_old fields_old sink_new fields_new meter_old meter_new =
+    AddsBits (flat_map (word digits) (drop first numbers)) sink_old fields_old sink_new fields_new meter_old meter_new
 
 -- the `width` lowest digits of each number
 abbrev pub low_digits_of_each : ℕ → List ℕ → List ℕ

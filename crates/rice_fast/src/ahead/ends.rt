@@ -1,8 +1,7 @@
 //! The ends of the fundamental sequences in a word, in lanes.
 ghost use Rattle.std.specs.Prelude.{◌≡◌, ◌+◌, ◌-◌, ◌*◌, ◌<◌, ◌≤◌, ◌++◌, length, replicate, take, drop};
 ghost use Rattle.rice_bits.specs.Bits.{word};
-ghost use Rattle.rice_fast.specs.ahead.{ends_after};
-ghost use Rattle.rice_fast.specs.ahead.{in_lanes, places_after as places_after_of};
+ghost use Rattle.rice_fast.specs.ahead.{ends_after, in_lanes, places_after as places_after_of};
 
 use crate::ahead::tables_of_ends::row_of_byte_at;
 use std::simd::prelude::*;

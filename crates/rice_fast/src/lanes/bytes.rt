@@ -67,12 +67,12 @@ impl SampleLanes for Bytes {
     fn in_turn(self, greatest: u32, before: u32) -> Self {
         let all = self.lanes.to_array();
         let ways = near_ways(self).lanes.to_array();
-        let halves = half_ranks(self);
-        let tops = tops(greatest, self, halves).lanes.to_array();
-        let half_ranks = halves.lanes.to_array();
+        let half = half_ranks(self);
+        let tops = tops(greatest, self, half).lanes.to_array();
+        let half = half.lanes.to_array();
         if !last_eight_are_zeros(self) {
             let mut numbers = [0; 16];
-            write_selected::<Bytes, 16>(greatest, before, &all, &ways, &half_ranks, &tops, &mut numbers);
+            write_selected::<Bytes, 16>(greatest, before, &all, &ways, &half, &tops, &mut numbers);
             return Bytes::of(u8x16::from_array(numbers));
         }
         let mut first = [0; 8];
@@ -81,7 +81,7 @@ impl SampleLanes for Bytes {
             before,
             &all[..8],
             &ways[..8],
-            &half_ranks[..8],
+            &half[..8],
             &tops[..8],
             &mut first,
         );

@@ -116,12 +116,12 @@ impl SampleLanes for Words {
     #[inline(always)]
     fn in_turn(self, greatest: u32, before: u32) -> Self {
         let ways = near_ways(self).lanes.to_array();
-        let halves = half_ranks(self);
-        let tops = tops(greatest, self, halves).lanes.to_array();
-        let half_ranks = halves.lanes.to_array();
+        let half = half_ranks(self);
+        let tops = tops(greatest, self, half).lanes.to_array();
+        let half = half.lanes.to_array();
         let all = self.lanes.to_array();
         let mut numbers = [0; 8];
-        write_selected::<Words, 8>(greatest, before, &all, &ways, &half_ranks, &tops, &mut numbers);
+        write_selected::<Words, 8>(greatest, before, &all, &ways, &half, &tops, &mut numbers);
         Words::of(u32x8::from_array(numbers))
     }
 

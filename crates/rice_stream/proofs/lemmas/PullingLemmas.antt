@@ -34,7 +34,8 @@ all_refilled old mid new buffered bits reported d c e =
     (refills_ahead old mid buffered [] bits reported d).1 ∙ ap (λ l. bits ++ bits_of l) (nothing_left mid new c e) ∙ ap (λ l. bits ++ l) bits_of-nil ∙ append-nil bits
 
 -- the padding is that of the same place in a byte
-pads_as : (s : Parameters) (o : Origin) (taken : ℕ) {bits : ℕ} (len b n : ℕ) → (s.pad ≡ true → o.bits % 8 ≡ 0) → taken % 8 ≡ bits % 8 → bits ≡ o.bits + len → padding s b (taken + n) ≡ padding s b (len + n)
+pads_as : (s : Parameters) (o : Origin) (taken : ℕ) {bits : ℕ} (len b n : ℕ) → (s.pad ≡ true → o.bits % 8 ≡ 0) → taken % 8 ≡ bits % 8 → bits ≡ o.bits + len
+    → padding s b (taken + n) ≡ padding s b (len + n)
 pads_as s o taken len b n begins e f = by_pad s.pad (place s b == 0)
     (λ pad. let g : o.bits % 8 ≡ 0 = begins pad in let same : (taken + n) % 8 ≡ (len + n) % 8 = omega arith in ap (λ v. (8 - v) % 8) same)
   where

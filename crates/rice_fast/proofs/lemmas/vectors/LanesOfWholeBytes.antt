@@ -86,7 +86,8 @@ pub turned_words : (msb : Bool) (w n : ℕ) (bs ordered : List ℕ) → msb ≡ 
 turned_words msb w n bs ordered m len fit is = subst (OrdersWords msb w bs) (ap (λ t. words_in_order (not t) w 0 n bs) m ∙ sym is) (words_ordered msb w n bs len fit)
 
 -- words of four bytes that are turned around as lanes take them
-pub words_of_turned : (n : ℕ) (bs vs : List ℕ) → length bs ≡ n * 4 → All (λ v. v < 2 ^ 8) bs → vs ≡ digits_l 4294967296 n (number_l 256 (words_in_order true 4 0 n bs)) → flat_map (word 32) vs ≡ flat_map (word 8) bs
+pub words_of_turned : (n : ℕ) (bs vs : List ℕ) → length bs ≡ n * 4 → All (λ v. v < 2 ^ 8) bs → vs ≡ digits_l 4294967296 n (number_l 256 (words_in_order true 4 0 n bs))
+    → flat_map (word 32) vs ≡ flat_map (word 8) bs
 unfolding words_ordered
 words_of_turned n bs vs len fit is = ap (flat_map (word 32)) is ∙ (words_ordered false 4 n bs len fit).bits
 

@@ -23,7 +23,11 @@ put_words-requires-clause-low c =
     let b = c.args.block.now in
     let put = are_put s b.reference (c.items-residuals.ensures.value ∙ c.residuals.ensures) c.first_coded-from.ensures.coded c.bits-bits.ensures.value (omega arith) in
     let ref = ap (reference_len s) c.reference.ensures in
-    record { width = omega (arith, c.bits-bits.ensures.range); from = c.first_coded-from.ensures.limit; room = record { room = omega (arith, put, ref); steps = omega (arith, put, ref, c.requires.sound.len) } }
+    record {
+      width = omega (arith, c.bits-bits.ensures.range);
+      from = c.first_coded-from.ensures.limit;
+      room = record { room = omega (arith, put, ref); steps = omega (arith, put, ref, c.requires.sound.len) };
+    }
 
 pub returns : goal.returns
 returns c =

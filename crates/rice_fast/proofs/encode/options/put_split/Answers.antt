@@ -36,7 +36,11 @@ pub put_low-requires-clause-low : goal.put_low-requires-clause-low
 put_low-requires-clause-low g c =
     let put = are_put {k = c.args.k} (c.items-residuals.ensures.value ∙ c.residuals.ensures) c.first_coded-from.ensures.coded (omega arith) c.requires.high in
     let ref = ap (reference_len c.args.setting.now) c.reference.ensures in
-    record { width = omega (arith, c.requires.split, c.k_max-limit.ensures.value, c.k_max-limit.ensures.range); from = c.first_coded-from.ensures.limit; room = record { room = omega (arith, put, ref, c.requires.sound.len); steps = omega (arith, put, ref, c.requires.sound.len) } }
+    record {
+      width = omega (arith, c.requires.split, c.k_max-limit.ensures.value, c.k_max-limit.ensures.range);
+      from = c.first_coded-from.ensures.limit;
+      room = record { room = omega (arith, put, ref, c.requires.sound.len); steps = omega (arith, put, ref, c.requires.sound.len) };
+    }
 
 pub put-requires : goal.put-requires
 put-requires g c =
