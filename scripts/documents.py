@@ -122,7 +122,9 @@ def wrong_messages():
     messages = {re.sub(r"^(cannot \w+) .*", r"\1 NAME", re.sub(r"^.*(?= \(block)", "FAULT", text)) for text in messages}
     for crate in ("aec_command", "aec_run", "rice_stream"):
         for path in glob.glob(f"crates/{crate}/src/**/*.rt", recursive=True):
+            texts = dict(re.findall(r'const (\w+): &str =\s*"([^"]+)";', read(path)))
             messages |= set(re.findall(r'#\[error\("([^"]+)"\)\]', read(path)))
+            messages |= {texts[name] for name in re.findall(r'#\[error\("\{text\}", text = (\w+)\)\]', read(path))}
     for message in sorted(messages):
         if numbered(message) not in explained:
             yield f"{MANUAL}: the message {message!r} is not explained"

@@ -7,6 +7,10 @@ use rice_stream::Fault;
 use std::io;
 use thiserror::Error;
 
+// Not in an attribute, since the toolchain takes one with the word for that of a test.
+const OTHER_OPTIONS: &str =
+    "other options than it was compressed with look the same: see --test, and recipes/guess.py";
+
 /// A line of help after a message, or at the end.
 #[derive(Clone, Copy, Debug, Error)]
 pub enum Help<'a> {
@@ -14,7 +18,7 @@ pub enum Help<'a> {
     Reason { name: &'a str, reason: io::Error },
     #[error("source and destination are the same file")]
     SameFile,
-    #[error("other options than it was compressed with look the same: see --test, and recipes/guess.py")]
+    #[error("{text}", text = OTHER_OPTIONS)]
     Options,
     #[error("the code is larger than the samples: look at -n and -m")]
     Larger,
