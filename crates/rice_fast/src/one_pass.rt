@@ -39,6 +39,7 @@ fn write_fields_ahead<
     reader: &BitReader<I>,
     bytes: &mut [u8; 320],
 ) -> Option<WrittenBlock>
+    requires known { 0 < SIZE → SIZE ≡ size }
     requires width { WIDTH ≡ width_of setting.now }
     requires block { IsBlockInLanes L.below L.bits setting.now size block before REFERENCE }
     ensures { IfSome result (λ r. SpelledAhead reader.now.buffered setting.now block
@@ -74,6 +75,7 @@ fn write_block_ahead<L: SampleLanes, I: Intake, const SIZE: usize, const WIDTH: 
     bytes: &mut [u8; 320],
 ) -> Option<WrittenBlock>
     requires bits { HasBits L.below L.bits setting.now }
+    requires known { 0 < SIZE → SIZE ≡ size }
     requires width { WIDTH ≡ width_of setting.now }
     requires size { size ≡ setting.now.block }
     requires place { block < setting.now.interval }
@@ -101,7 +103,7 @@ fn write_block_ahead<L: SampleLanes, I: Intake, const SIZE: usize, const WIDTH: 
 ///
 /// Returns whether it took the block. Otherwise nothing has happened, and [`next_block`](Decoder::next_block) gives it. It may write more
 /// after these bytes.
-#[inline(never)]
+#[inline(always)]
 pub fn pass<L: SampleLanes, I: Intake, const SIZE: usize, const WIDTH: usize>(
     decoder: &mut Decoder,
     setting: &Setting,
@@ -140,7 +142,6 @@ pub fn pass<L: SampleLanes, I: Intake, const SIZE: usize, const WIDTH: usize>(
         Some(spelled) => spelled,
         None => return false,
     };
-    reader.mark();
     reader.pass(spelled.len, meter);
     meter.tick(spelled.turns);
     let last = setting.value_at(spelled.last as u64);

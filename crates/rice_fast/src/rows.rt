@@ -1,5 +1,5 @@
 //! Restores the samples of a buffered block, and writes their bytes, a row of lanes at a time.
-ghost use Rattle.std.specs.Prelude.{◌≡◌, ◌+◌, ◌-◌, ◌*◌, ◌^◌, ◌<◌, ◌≤◌, ◌++◌, All, IfSome, drop, get_or, length, replicate, take};
+ghost use Rattle.std.specs.Prelude.{◌≡◌, ◌+◌, ◌-◌, ◌*◌, ◌%◌, ◌^◌, ◌<◌, ◌≤◌, ◌++◌, All, IfSome, drop, get_or, length, min, replicate, take, true};
 ghost use Rattle.rice_bits.specs.read.JoinedParts.{joined_parts};
 ghost use Rattle.rice_samples.specs.Parameters.{value_count, values_at, width as width_of};
 ghost use Rattle.rice_samples.specs.bytes.Spelling.{spellings};
@@ -12,7 +12,7 @@ use rice_bits::{BitReader, Intake};
 use rice_samples::{Setting, level_of_pattern};
 
 /// The least level that so many others are near to that near ones are expected after it.
-const FEW_NEAR: u32 = 8;
+const FEW_NEAR: u64 = 8;
 
 /// The number of bits of samples that have few levels that are not near.
 const FEW_BITS: u32 = 4;
@@ -140,6 +140,18 @@ fn write_parts_in_turn<L: SampleLanes>(
     Some(write_levels(setting, levels, count, at, bytes))
 }
 
+/// Returns the least level after which near samples are expected, which is above all levels where samples are not predicted.
+#[inline(always)]
+fn least_near<L: SampleLanes>(setting: &Setting) -> u64
+    ensures { result < 2 ^ 32 → setting.now.preprocess ≡ true }
+{
+    match setting.preprocess() {
+        false => 1 << 32,
+        true if L::BITS == 8 && setting.bits() <= FEW_BITS => 0,
+        true => FEW_NEAR,
+    }
+}
+
 /// Does what `write_parts_in_turn` does, all at once where samples are near to those before them. Near ones are not expected after a level
 /// that few others are near to, and without compression. There, a low part is a whole residual.
 #[inline(always)]
@@ -168,12 +180,27 @@ fn write_row<L: SampleLanes>(
     if k == L::BITS {
         return write_parts_in_turn(setting, before, lows, L::splat(0), 0, count, at, bytes);
     }
-    if setting.preprocess() && (before >= FEW_NEAR || L::BITS == 8 && setting.bits() <= FEW_BITS) {
+    if before as u64 >= least_near::<L>(setting) {
         if let Some(levels) = near_levels_of_parts(setting, before, highs, lows, k) {
             return Some(write_levels(setting, levels, count, at, bytes));
         }
     }
     write_parts_in_turn(setting, before, highs, lows, k, count, at, bytes)
+}
+
+/// Returns the number of samples of the row that begins with sample `at` of a block. The compiler knows it where all rows are whole.
+#[inline(always)]
+fn row_len<L: SampleLanes, const SIZE: usize>(size: usize, at: usize) -> usize
+    requires known { 0 < SIZE → SIZE ≡ size }
+    requires begins { at % L.COUNT ≡ 0 }
+    requires within { at < size }
+    ensures { result ≡ min (size - at) L.COUNT }
+{
+    if SIZE > 0 && SIZE % L::COUNT == 0 {
+        L::COUNT
+    } else {
+        (size - at).min(L::COUNT)
+    }
 }
 
 /// Writes the bytes of the samples of the block with these fields and high parts, `WIDTH` each, to the front of `bytes`. Returns the level
@@ -195,6 +222,7 @@ pub fn write_rows<
 ) -> Option<u32>
     requires bits { HasBits L.below L.bits setting.now }
     requires width { WIDTH ≡ width_of setting.now }
+    requires known { 0 < SIZE → SIZE ≡ size }
     requires size { (2 ≤ size) × (size ≤ 64) }
     requires begins { fields.now.from < value_count setting.now }
     requires few { fields.now.omitted ≤ 1 }
@@ -209,7 +237,7 @@ pub fn write_rows<
     let mut place = fields.words;
     let mut at = 0;
     while at < size {
-        let count = (size - at).min(L::COUNT);
+        let count = row_len::<L, SIZE>(size, at);
         let lows: L = low_parts_of_row(reader, place, omitted, count, fields.k);
         let highs = L::of_bytes(&highs[at..]);
         last = write_row(

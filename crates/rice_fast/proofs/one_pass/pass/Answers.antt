@@ -18,7 +18,6 @@ returns-clause-some g c _ =
     let moves = rw (to_z-of_z w64 c.value_at-last.result f) at c.go_to_next_block-answer.ensures.moves in (
       omega (arith, c.if-run-gt0.false, c.run.ensures),
       bytes_given block.state.legal spelled (record {
-        mark = c.mark.ensures.going c.requires.going;
         bits = c.pass.ensures.takes;
         steps_are = omega (arith, c.pass.ensures.steps, c.tick.ensures);
         filled = c.go_to_next_block-answer.ensures.skips;

@@ -19,7 +19,7 @@ returns-in-Some-clause-some g c =
     let a = c.args in
     let n = g.L.Lanes.numbers in
     let levels = c.in-Some.levels in
-    let have : HaveParts a.setting.now a.before a.k (n a.highs) (n a.lows) (n levels) = predicted_parts (sym c.preprocess.ensures ∙ c.if-preprocess.true) c.in-Some.ensures in
+    let have : HaveParts a.setting.now a.before a.k (n a.highs) (n a.lows) (n levels) = predicted_parts (c.least_near.ensures (omega (arith, c.if-before-least_near.true))) c.in-Some.ensures in
     let spelled = row_spelled a.count {highs = n a.highs} {lows = n a.lows} {levels = n levels} {bytes = drop a.at c.write_levels.new.bytes} c.requires.count.0 c.requires.count.1
     (g.met.L.Lanes.len a.highs) have c.write_levels.ensures.spelled in
     rw (c.write_levels.ensures.last) (grind (arith, common_steps))
