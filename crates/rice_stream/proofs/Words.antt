@@ -43,7 +43,7 @@ pub use Rattle.rice_stream.specs.EncodingState.{Sees, TakesAll, WritesRest, afre
 pub use Rattle.rice_stream.specs.Feeding.{AreAll, EncodesMore, EncodesRest, IsSeam, TakesPiece, after, bytes_in_all, encoding_at, samples_to_take}
 pub use Rattle.rice_stream.specs.Laws.{AreFed, ArePulled, EndsCode, EnoughAfterIsDecoding, EnoughIsDecoding, FeedingIsEncoding, FrontIsPlace, GiveInParts, IsPlace, IsPulled, Piece, Pull}
 pub use Rattle.rice_stream.specs.Laws.{PullsAreDecoding, ReturnsBytes, ReturnsBytesAndFill, SeamsTellPlaces, SeekingIsDecoding, StandsTellPlaces, TakeInParts, last_seam, last_stand, place_after}
-pub use Rattle.rice_stream.specs.Pulling.{DecodesMore, GivesMore, GivesNext, GoesOnAt, HasRoomForBlock, IsReadFrom, IsStand, Origin, PausesAt, TakesNext, WritesRunAt, ahead, bits_ahead}
+pub use Rattle.rice_stream.specs.Pulling.{DecodesMore, GivesMore, GivesNext, GoesOnAt, HasRoomForBlock, IsReadFrom, IsStand, Origin, PausesAt, TakesNext, WritesBlocksAt, ahead, bits_ahead}
 pub use Rattle.rice_stream.specs.Pulling.{bytes_reported, pause_for, stand_at, state_of}
 pub use Rattle.rice_stream.specs.declared.outcome.Fault.TheVariants.{CodeEnds, Read, ResidualTooLarge, RunPastSegment, SampleCut, SampleOutOfRange, TooLong, Write}
 pub use Rattle.rice_stream.specs.{BufferedBytes.with_last, TakenBytes.ShowsCode, TakenBytes.TakesSpelled, TakenBytes.standing_between, declared.outcome.Fault.Fault}

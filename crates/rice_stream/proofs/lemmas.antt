@@ -18,4 +18,5 @@ pub mod Seams
 pub mod SetsRead
 pub mod PulledRuns
 pub mod BytesOfBlocks
+pub mod BlocksPassed
 pub mod BytesOfGrowingCode

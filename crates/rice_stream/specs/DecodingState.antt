@@ -1,9 +1,9 @@
 -- A decoder at work: how far it has come, what is written of its samples, and what the next block or the blocks of a run bring.
 use Rattle.std.specs.Prelude.{◌≡◌, ℕ, ◌+◌, ◌*◌, ◌<◌, ◌≤◌, Bool, List, ◌++◌, length, replicate, All, Option, None, IfSome, ℤ, pos, zero, suc, [], ◌-◌, take, Result, Ok}
-use Rattle.rice_bits.specs.{device.OutletRoom.Room, device.OutletRoom.Appends, read.Reader.Reader}
+use Rattle.rice_bits.specs.{Limits.most_bits_read, Limits.step_limit, device.OutletRoom.Room, device.OutletRoom.Appends, read.Reader.Reader}
 use Rattle.rice_code.specs.code.Decoded.{AreTaken, Decoded, DecodedFrom, Ending, IsWanted, cut_to}
-use Rattle.rice_code.specs.decode.Decoder.{RepeatsBlocks, Answers, GivesFromRun, with_mark}
-use Rattle.rice_code.specs.{Bounds.most_samples_of_bit, code.Blocks.blocks_from, code.Blocks.zero_block, code.CodedDataSets.CodedDataSet, code.CodedDataSets.turns, code.Forms.blocks_in_all}
+use Rattle.rice_code.specs.decode.Decoder.{RepeatsBlocks, Answers, GivesFromRun, IsDecoderState, with_mark}
+use Rattle.rice_code.specs.{Bounds.most_samples_of_bit, code.Blocks.blocks_from, code.Blocks.zero_block, code.CodedDataSets.CodedDataSet, code.Forms.blocks_in_all}
 use Rattle.rice_code.specs.{code.Layout.Lies, code.SoundBlocks.AreSoundBlocks, declared.decode.call_results.CodeFault.CodeFault, declared.decode.call_results.Step.Step}
 use Rattle.rice_code.specs.{declared.decode.call_results.Step.TheVariants.Block, decode.Decoder.DecoderState, decode.ReadSets.AreCounted}
 use Rattle.rice_samples.specs.{Parameters.Parameters, Parameters.IsSample, Parameters.width, bytes.Spelling.spellings, predict.Residuals.last_of}
@@ -87,3 +87,52 @@ pub record AnswersBytes {I : Type 0} (old new : Reader I) (steps steps_new : ℕ
   pub counted : AreCounted steps steps_new old.taken new.taken
   -- the samples that are given and those that are then pending are bounded by the bits
   pub by_bits : length samples + q.run * q.setting.block ≤ p.run * p.setting.block + most_samples_of_bit * (new.taken - old.taken)
+
+-- A decoder at work: its reader, the steps so far, its state, and what an outlet has taken of its samples.
+pub record AtWork (I : Type 0) : Type 0 where
+  pub reader : Reader I
+  pub steps : ℕ
+  pub decoder : DecoderState
+  pub taken : Option Room
+
+abbrev pub at_work : {I : Type 0} → Reader I → ℕ → DecoderState → Option Room → AtWork I
+at_work reader steps decoder taken = record { reader = reader; steps = steps; decoder = decoder; taken = taken }
+
+-- A decoder of this setting can go on, and its steps stay below their limit, whatever it reads.
+pub record IsReady {I : Type 0} (s : Parameters) (reader : Reader I) (steps : ℕ) (p : DecoderState) : Type 0 where
+  pub setting : p.setting ≡ s
+  pub stopped : p.stopped ≡ None
+  pub going : reader.refusal ≡ None
+  pub limit : reader.taken ≤ most_bits_read
+  pub room : steps + 458 * (most_bits_read - reader.taken) + 64 < step_limit
+
+-- It answered a block outside a run, all of which was written.
+pub record WritesBlock {I : Type 0} (s : Parameters) (a b : AtWork I) : Type 0 where
+  pub bytes : List ℕ
+  pub steps : ℕ
+  pub no_run : a.decoder.run ≡ 0
+  pub answers : AnswersBytes a.reader b.reader a.steps steps a.decoder b.decoder bytes (Ok Block)
+  pub state : IsDecoderState b.decoder.setting b.decoder.block b.decoder.before b.decoder.run b.decoder.stopped
+  pub put : Appends a.taken b.taken (take (width s * s.block) bytes)
+  pub ticked : b.steps ≡ steps + s.block
+
+-- and so many, one after another
+abbrev pub WritesEach : {I : Type 0} → ℕ → Parameters → AtWork I → AtWork I → Type 0
+WritesEach zero s a b = b ≡ a
+WritesEach {I} (suc n) s a b = (m : AtWork I) × WritesEach n s a m × WritesBlock s m b
+
+-- It answered blocks with so many samples, at most `most`, and each was written before the next.
+pub record WritesBlocks {I : Type 0} (s : Parameters) (most : ℕ) (a b : AtWork I) (count : ℕ) : Type 0 where
+  pub blocks : ℕ
+  pub count_is : count ≡ s.block * blocks
+  pub within : count ≤ most
+  pub each : WritesEach blocks s a b
+
+-- The outlet failed in the block after these.
+pub record FailsInBlocks {I : Type 0} (s : Parameters) (most : ℕ) (a b : AtWork I) (count : ℕ) : Type 0 where
+  pub middle : AtWork I
+  pub before : WritesBlocks s most a middle count
+  pub bytes : List ℕ
+  pub answers : AnswersBytes middle.reader b.reader middle.steps b.steps middle.decoder b.decoder bytes (Ok Block)
+  pub wanted : count + s.block ≤ most
+  pub part : TakesPart middle.taken b.taken (take (width s * s.block) bytes)

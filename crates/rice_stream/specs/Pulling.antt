@@ -138,11 +138,10 @@ pub record GivesMore {I : Type 0} (s : Parameters) (stand next : Stand) (q : Dec
   pub goes_on : GoesOnAt s stand next q old new
   pub gives : (o : Origin) (front : List Bool) (given : List ℤ) → IsStand s o stand front given → GivesNext s o front given next old new samples
 
--- It gave blocks of a run, and their `len` bytes were written at this place.
-pub record WritesRunAt {I : Type 0} (s : Parameters) (stand next : Stand) (q : DecoderState) (old new : Reader I) (len at : ℕ) (out_old out : List ℕ) : Type 0 where
+-- It gave blocks, or none, and their `len` bytes were written at this place.
+pub record WritesBlocksAt {I : Type 0} (s : Parameters) (stand next : Stand) (q : DecoderState) (old new : Reader I) (len at : ℕ) (out_old out : List ℕ) : Type 0 where
   pub samples : List ℤ
   pub more : GivesMore s stand next q old new samples
-  pub some : 1 ≤ len
   pub len_is : len ≡ width s * length samples
   pub wrote : out ≡ take at out_old ++ (spellings s samples ++ drop (at + len) out_old)
 

@@ -6,7 +6,6 @@ ghost use Rattle.rice_samples.specs.Parameters.{IsSample, value_count, values_at
 ghost use Rattle.rice_samples.specs.bytes.Spelling.{spellings};
 ghost use Rattle.rice_stream.specs.DecodingState.{AnswersBytes};
 
-use crate::block_pass::BlockPass;
 use arrayvec::ArrayVec;
 use rice_bits::{BitReader, Intake, Meter};
 use rice_code::{CodeFault, Decoder, Step};
@@ -61,36 +60,4 @@ pub(crate) fn bytes_of_next<I: Intake>(
     let answer = decoder.next_block(reader, meter, &mut samples);
     write_samples(setting, samples.as_slice(), bytes);
     answer
-}
-
-/// Reads the next block, by a pass or else without, as `bytes_of_next` does.
-#[inline(always)]
-pub(crate) fn next_bytes<
-    P: BlockPass<SIZE, WIDTH>,
-    I: Intake,
-    const SIZE: usize,
-    const WIDTH: usize,
->(
-    decoder: &mut Decoder,
-    setting: &Setting,
-    reader: &mut BitReader<I>,
-    meter: &mut Meter,
-    bytes: &mut [u8; 320],
-) -> Result<Step, CodeFault>
-    requires setting { decoder.old.setting ≡ setting.now }
-    requires size { 0 < SIZE → SIZE ≡ setting.now.block }
-    requires width { 0 < WIDTH → WIDTH ≡ width_of setting.now }
-    requires stopped { decoder.old.stopped ≡ None }
-    requires going { reader.old.refusal ≡ None }
-    requires room { meter.old + 2 * (most_bits_read - reader.old.taken) + 64 < step_limit }
-    ensures gives { AnswersBytes reader.old reader.new meter.old meter.new decoder.old decoder.new
-        bytes.new result }
-    ensures going { decoder.new.stopped ≡ None → reader.new.refusal ≡ None }
-    ensures block { result ≡ Ok Block → decoder.new.stopped ≡ None }
-{
-    let _taken = reader.taken();
-    if P::pass(decoder, setting, reader, meter, bytes) {
-        return Ok(Step::Block);
-    }
-    bytes_of_next(decoder, setting, reader, meter, bytes)
 }

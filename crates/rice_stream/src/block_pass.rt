@@ -1,93 +1,157 @@
-//! What the engines of decoding try before the decoder reads a block.
-ghost use Rattle.std.specs.Prelude.{◌≡◌, ◌+◌, ◌-◌, ◌*◌, ◌<◌, None, Ok, true, false};
-ghost use Rattle.rice_bits.specs.Limits.{step_limit, most_bits_read};
-ghost use Rattle.rice_code.specs.declared.decode.call_results.Step.TheVariants.{Block};
+//! What the engines of decoding do before the decoder reads a block.
+ghost use Rattle.std.specs.Prelude.{◌≡◌, ◌+◌, ◌^◌, ◌<◌, IfErr, IfOk, OnErr, OnOk, true};
 ghost use Rattle.rice_samples.specs.Parameters.{width as width_of};
-ghost use Rattle.rice_stream.specs.DecodingState.{AnswersBytes};
+ghost use Rattle.rice_fast.specs.BlocksAhead.{HasBits};
+ghost use Rattle.rice_stream.specs.DecodingState.{FailsInBlocks, IsReady, WritesBlocks, at_work};
 
-use rice_bits::{BitReader, Intake, Meter};
-use rice_code::Decoder;
+use crate::write::write_all;
+use rice_bits::{BitReader, Intake, Meter, Outlet};
+use rice_code::{Decoder, known_or};
+use rice_fast::lanes::SampleLanes;
 use rice_fast::pass;
 use rice_fast::vectors::{Bytes, Halves, Words};
 use rice_samples::Setting;
 
-/// A pass over a block. `SIZE`, unless it is 0, is the number of samples of a block. `WIDTH`, unless it is 0, is the number of bytes of a
-/// sample.
-pub trait BlockPass<const SIZE: usize, const WIDTH: usize> {
+/// What is tried before the decoder reads a block: nothing, unless an implementation says more.
+pub trait BlockPass {
     /// Returns whether the next block repeats the sample before it, and is written without the decoder.
     fn is_repeating(decoder: &Decoder, setting: &Setting) -> bool
         requires { decoder.now.setting ≡ setting.now }
-        ensures { result ≡ true → (0 < decoder.now.run) × (decoder.now.setting.preprocess ≡ true) };
+        ensures { result ≡ true → (0 < decoder.now.run) × (decoder.now.setting.preprocess ≡ true) }
+    {
+        false
+    }
 
-    /// Reads the next block, and writes the bytes of its samples to the front of `bytes`, if it can. Returns whether it did;
-    /// otherwise nothing has happened. It may write more after these bytes, for which there is room after 64 samples of four bytes.
-    fn pass<I: Intake>(
-        decoder: &mut Decoder,
+    /// Decodes blocks by passes, while all samples of the next are among the next `most` ones and a pass takes it, and writes each before
+    /// the next. Returns the number of their samples. If the outlet fails, the error is the number of samples before the block in which it
+    /// fails.
+    fn write_blocks<I: Intake, O: Outlet>(
         setting: &Setting,
+        most: u64,
+        decoder: &mut Decoder,
         reader: &mut BitReader<I>,
         meter: &mut Meter,
         bytes: &mut [u8; 320],
-    ) -> bool
-        requires setting { decoder.old.setting ≡ setting.now }
-        requires size { 0 < SIZE → SIZE ≡ setting.now.block }
-        requires width { 0 < WIDTH → WIDTH ≡ width_of setting.now }
-        requires stopped { decoder.old.stopped ≡ None }
-        requires going { reader.old.refusal ≡ None }
-        requires room { meter.old + 2 * (most_bits_read - reader.old.taken) + 64 < step_limit }
-        ensures some { result ≡ true → AnswersBytes reader.old reader.new meter.old meter.new decoder.old
-            decoder.new bytes.new (Ok Block) }
-        ensures none { result ≡ false → (decoder.new ≡ decoder.old) × (reader.new ≡ reader.old) ×
-            (meter.new ≡ meter.old) }
-        ensures going { reader.new.refusal ≡ None }
-        ensures stopped { decoder.new.stopped ≡ None };
+        outlet: &mut O,
+    ) -> Result<u64, u64>
+        requires ready { IsReady setting.now reader.old meter.old decoder.old }
+        requires counted { O.failed outlet.old + 1 < 2 ^ 64 }
+        ensures ok { OnOk result (O.failed outlet.new ≡ O.failed outlet.old) }
+        ensures written { IfOk result (λ n. WritesBlocks setting.now most (at_work reader.old meter.old decoder.old (O.taken outlet.old))
+            (at_work reader.new meter.new decoder.new (O.taken outlet.new)) n) }
+        ensures err { OnErr result (O.failed outlet.new ≡ O.failed outlet.old + 1) }
+        ensures fails { IfErr result (λ n. FailsInBlocks setting.now most (at_work reader.old meter.old decoder.old (O.taken outlet.old))
+            (at_work reader.new meter.new decoder.new (O.taken outlet.new)) n) }
+        ensures ready { IsReady setting.now reader.new meter.new decoder.new }
+    {
+        Ok(0)
+    }
 }
 
 /// No pass: the decoder reads each block.
 pub struct NoPass;
 
-impl<const SIZE: usize, const WIDTH: usize> BlockPass<SIZE, WIDTH> for NoPass {
-    #[inline(always)]
-    fn is_repeating(decoder: &Decoder, setting: &Setting) -> bool {
-        false
-    }
+impl BlockPass for NoPass {}
 
-    #[inline(always)]
-    fn pass<I: Intake>(
-        decoder: &mut Decoder,
-        setting: &Setting,
-        reader: &mut BitReader<I>,
-        meter: &mut Meter,
-        bytes: &mut [u8; 320],
-    ) -> bool {
-        false
-    }
-}
-
-/// The pass in lanes, where `WIDTH` is not 0.
+/// The pass in lanes.
 pub struct FastPass;
 
-impl<const SIZE: usize, const WIDTH: usize> BlockPass<SIZE, WIDTH> for FastPass {
+impl BlockPass for FastPass {
     #[inline(always)]
     fn is_repeating(decoder: &Decoder, setting: &Setting) -> bool {
         decoder.run() > 0 && setting.preprocess()
     }
 
+    // Each loop is laid out for what is known of its blocks.
     #[inline(always)]
-    fn pass<I: Intake>(
-        decoder: &mut Decoder,
+    fn write_blocks<I: Intake, O: Outlet>(
         setting: &Setting,
+        most: u64,
+        decoder: &mut Decoder,
         reader: &mut BitReader<I>,
         meter: &mut Meter,
         bytes: &mut [u8; 320],
-    ) -> bool {
-        let _taken = reader.taken();
+        outlet: &mut O,
+    ) -> Result<u64, u64> {
         let _bits = setting.bits();
-        if WIDTH == 1 {
-            return pass::<Bytes, I, SIZE, WIDTH>(decoder, setting, reader, meter, bytes);
+        match (setting.width(), setting.block()) {
+            (1, 8) => write_passed_blocks::<Bytes, I, O, 8, 1>(
+                setting, most, decoder, reader, meter, bytes, outlet,
+            ),
+            (1, 16) => write_passed_blocks::<Bytes, I, O, 16, 1>(
+                setting, most, decoder, reader, meter, bytes, outlet,
+            ),
+            (1, 32) => write_passed_blocks::<Bytes, I, O, 32, 1>(
+                setting, most, decoder, reader, meter, bytes, outlet,
+            ),
+            (1, 64) => write_passed_blocks::<Bytes, I, O, 64, 1>(
+                setting, most, decoder, reader, meter, bytes, outlet,
+            ),
+            (1, _) => write_passed_blocks::<Bytes, I, O, 0, 1>(
+                setting, most, decoder, reader, meter, bytes, outlet,
+            ),
+            (2, 8) => write_passed_blocks::<Halves, I, O, 8, 2>(
+                setting, most, decoder, reader, meter, bytes, outlet,
+            ),
+            (2, 16) => write_passed_blocks::<Halves, I, O, 16, 2>(
+                setting, most, decoder, reader, meter, bytes, outlet,
+            ),
+            (2, 32) => write_passed_blocks::<Halves, I, O, 32, 2>(
+                setting, most, decoder, reader, meter, bytes, outlet,
+            ),
+            (2, 64) => write_passed_blocks::<Halves, I, O, 64, 2>(
+                setting, most, decoder, reader, meter, bytes, outlet,
+            ),
+            (2, _) => write_passed_blocks::<Halves, I, O, 0, 2>(
+                setting, most, decoder, reader, meter, bytes, outlet,
+            ),
+            (3, _) => write_passed_blocks::<Words, I, O, 0, 3>(
+                setting, most, decoder, reader, meter, bytes, outlet,
+            ),
+            _ => write_passed_blocks::<Words, I, O, 0, 4>(
+                setting, most, decoder, reader, meter, bytes, outlet,
+            ),
         }
-        if WIDTH == 2 {
-            return pass::<Halves, I, SIZE, WIDTH>(decoder, setting, reader, meter, bytes);
-        }
-        WIDTH > 2 && pass::<Words, I, SIZE, WIDTH>(decoder, setting, reader, meter, bytes)
     }
+}
+
+/// Does what [`BlockPass::write_blocks`] says, by the loop for blocks of `SIZE` samples, or of any where this is 0.
+#[inline(never)]
+fn write_passed_blocks<L: SampleLanes, I: Intake, O: Outlet, const SIZE: usize, const WIDTH: usize>(
+    setting: &Setting,
+    most: u64,
+    decoder: &mut Decoder,
+    reader: &mut BitReader<I>,
+    meter: &mut Meter,
+    bytes: &mut [u8; 320],
+    outlet: &mut O,
+) -> Result<u64, u64>
+    requires size { 0 < SIZE → SIZE ≡ setting.now.block }
+    requires bits { HasBits L.below L.bits setting.now }
+    requires width { WIDTH ≡ width_of setting.now }
+    requires ready { IsReady setting.now reader.old meter.old decoder.old }
+    requires counted { O.failed outlet.old + 1 < 2 ^ 64 }
+    ensures ok { OnOk result (O.failed outlet.new ≡ O.failed outlet.old) }
+    ensures written { IfOk result (λ n. WritesBlocks setting.now most (at_work reader.old meter.old decoder.old (O.taken outlet.old))
+        (at_work reader.new meter.new decoder.new (O.taken outlet.new)) n) }
+    ensures err { OnErr result (O.failed outlet.new ≡ O.failed outlet.old + 1) }
+    ensures fails { IfErr result (λ n. FailsInBlocks setting.now most (at_work reader.old meter.old decoder.old (O.taken outlet.old))
+        (at_work reader.new meter.new decoder.new (O.taken outlet.new)) n) }
+    ensures ready { IsReady setting.now reader.new meter.new decoder.new }
+{
+    let block = known_or::<SIZE>(setting.block() as usize);
+    let mut written = 0;
+    'pass_over: while most - written >= block as u64 {
+        if !pass::<L, I, SIZE, WIDTH>(decoder, setting, reader, meter, bytes) {
+            return Ok(written);
+        }
+        let _place = decoder.block();
+        match write_all(outlet, &bytes[..WIDTH * block]) {
+            Ok(()) => {}
+            Err(_) => return Err(written),
+        }
+        written += block as u64;
+        meter.tick(block as u64);
+    }
+    Ok(written)
 }

@@ -1,17 +1,15 @@
 //! Decodes a code to its samples.
-ghost use Rattle.std.specs.Prelude.{◌≡◌, ◌+◌, ◌^◌, ◌<◌, ◌≤◌, OnErr, OnOk, Option, Some, take, true};
-ghost use Rattle.rice_bits.specs.device.OutletRoom.{Appends};
-ghost use Rattle.rice_samples.specs.Parameters.{width as width_of};
-ghost use Rattle.rice_stream.specs.DevicesInCalls.{Fails, TakesPart};
+ghost use Rattle.std.specs.Prelude.{◌≡◌, ◌+◌, ◌-◌, ◌^◌, ◌<◌, ◌≤◌, IfSome, Option, Some};
+ghost use Rattle.rice_stream.specs.DevicesInCalls.{Fails};
 ghost use Rattle.rice_stream.specs.Decodes.{DecodesBetween, DecodesWithin, Reports, wanted_of, ended_fault, refusal_fault};
 
-use crate::block_bytes::next_bytes;
+use crate::block_bytes::bytes_of_next;
 use crate::block_pass::{BlockPass, FastPass};
 use crate::outcome::{Fault, Outcome, Report};
 use crate::runs::write_run;
 use crate::write::write_all;
-use rice_bits::{BitReader, Intake, Meter, Outlet, WriteFault};
-use rice_code::{CodeFault, Decoder, Step, known_or};
+use rice_bits::{BitReader, Intake, Meter, Outlet};
+use rice_code::{CodeFault, Decoder, Step};
 use rice_samples::Setting;
 
 /// Returns how many samples of the next block are wanted after the first `written`.
@@ -92,24 +90,27 @@ pub fn decode<I: Intake, O: Outlet>(
     // With a count of 0 the intake is not called.
     ensures idle { asked ≡ Some 0 → result.1 ≡ intake }
 {
-    // Each loop is laid out for what is known of its blocks. They are calls, so that only one takes room on the stack.
-    match setting.width() {
-        1 => decode_sizes::<I, O, 1>(setting, asked, intake, outlet),
-        2 => decode_sizes::<I, O, 2>(setting, asked, intake, outlet),
-        3 => decode_blocks::<FastPass, I, O, 0, 3>(setting, asked, intake, outlet),
-        _ => decode_blocks::<FastPass, I, O, 0, 4>(setting, asked, intake, outlet),
+    decode_blocks::<FastPass, I, O>(setting, asked, intake, outlet)
+}
+
+/// Returns how many samples more than the first `written` are wanted, or the greatest number, if all are.
+fn more_wanted(asked: Option<u64>, written: u64) -> u64
+    ensures { IfSome asked (λ n. result ≡ n - written) }
+{
+    match asked {
+        None => u64::MAX,
+        Some(count) => count.saturating_sub(written),
     }
 }
 
-/// Decodes blocks of samples of `WIDTH` bytes, by the loop for their size.
-#[inline(always)]
-fn decode_sizes<I: Intake, O: Outlet, const WIDTH: usize>(
+/// Decodes a code as [`decode`] does, by passes of this kind, and by the decoder where these take no block.
+#[inline(never)]
+pub(crate) fn decode_blocks<P: BlockPass, I: Intake, O: Outlet>(
     setting: &Setting,
     asked: Option<u64>,
     intake: I,
     outlet: &mut O,
 ) -> (Outcome, I)
-    requires width { WIDTH ≡ width_of setting.now }
     requires reads { I.failed intake + 1 < 2 ^ 64 }
     requires writes { O.failed outlet.old + 1 < 2 ^ 64 }
     ensures call { DecodesBetween setting.now asked (I.left intake) (I.left result.1)
@@ -119,90 +120,9 @@ fn decode_sizes<I: Intake, O: Outlet, const WIDTH: usize>(
     ensures bounds { DecodesWithin asked result.0.report }
     ensures idle { asked ≡ Some 0 → result.1 ≡ intake }
 {
-    match setting.block() {
-        8 => decode_blocks::<FastPass, I, O, 8, WIDTH>(setting, asked, intake, outlet),
-        16 => decode_blocks::<FastPass, I, O, 16, WIDTH>(setting, asked, intake, outlet),
-        32 => decode_blocks::<FastPass, I, O, 32, WIDTH>(setting, asked, intake, outlet),
-        64 => decode_blocks::<FastPass, I, O, 64, WIDTH>(setting, asked, intake, outlet),
-        _ => decode_blocks::<FastPass, I, O, 0, WIDTH>(setting, asked, intake, outlet),
-    }
-}
-
-/// Returns whether all samples of the next block are wanted, of `count` that are, and it is in a run that repeats the sample before.
-fn repeats<P: BlockPass<SIZE, WIDTH>, const SIZE: usize, const WIDTH: usize>(
-    decoder: &Decoder,
-    setting: &Setting,
-    count: usize,
-) -> bool
-    requires { decoder.now.setting ≡ setting.now }
-    ensures { result ≡ true → (count ≡ setting.now.block) × (0 < decoder.now.run) ×
-        (decoder.now.setting.preprocess ≡ true) }
-{
-    count == setting.block() as usize && P::is_repeating(decoder, setting)
-}
-
-/// Returns the number of bytes of a sample, which the compiler knows where it is laid out for `WIDTH`.
-#[inline(always)]
-pub(crate) fn known_width<const WIDTH: usize>(setting: &Setting) -> usize
-    requires { 0 < WIDTH → WIDTH ≡ width_of setting.now }
-    ensures value { result ≡ width_of setting.now }
-    ensures range { (1 ≤ result) × (result ≤ 4) }
-{
-    if WIDTH > 0 {
-        WIDTH
-    } else {
-        setting.width() as usize
-    }
-}
-
-/// Writes the first `len` bytes, which are all `size` bytes of a block, or those of its samples that are wanted.
-#[inline(always)]
-fn write_block<O: Outlet>(
-    outlet: &mut O,
-    bytes: &[u8; 320],
-    size: usize,
-    len: usize,
-) -> Result<(), WriteFault>
-    requires len { len ≤ 320 }
-    requires counted { O.failed outlet.old + 1 < 2 ^ 64 }
-    ensures ok { OnOk result (Appends (O.taken outlet.old) (O.taken outlet.new) (take len bytes.now) ×
-        (O.failed outlet.new ≡ O.failed outlet.old)) }
-    ensures err { OnErr result (TakesPart (O.taken outlet.old) (O.taken outlet.new)
-        (take len bytes.now) ×
-        (O.failed outlet.new ≡ O.failed outlet.old + 1)) }
-{
-    // The compiler knows the size of most blocks.
-    if len == size {
-        return write_all(outlet, &bytes[..size]);
-    }
-    write_all(outlet, &bytes[..len])
-}
-
-/// Decodes, by a loop for blocks of `SIZE` samples of `WIDTH` bytes, or of any where these are 0.
-#[inline(never)]
-pub(crate) fn decode_blocks<
-    P: BlockPass<SIZE, WIDTH>,
-    I: Intake,
-    O: Outlet,
-    const SIZE: usize,
-    const WIDTH: usize,
->(setting: &Setting, asked: Option<u64>, intake: I, outlet: &mut O) -> (Outcome, I)
-    requires size { 0 < SIZE → SIZE ≡ setting.now.block }
-    requires width { 0 < WIDTH → WIDTH ≡ width_of setting.now }
-    requires reads { I.failed intake + 1 < 2 ^ 64 }
-    requires writes { O.failed outlet.old + 1 < 2 ^ 64 }
-    ensures call { DecodesBetween setting.now asked (I.left intake) (I.left result.1)
-        (O.taken outlet.old) (O.taken outlet.new) result.0.report result.0.fault }
-    ensures failures { Fails result.0.fault (I.failed intake) (I.failed result.1)
-        (O.failed outlet.old) (O.failed outlet.new) }
-    ensures bounds { DecodesWithin asked result.0.report }
-    ensures idle { asked ≡ Some 0 → result.1 ≡ intake }
-{
-    // A copy stays in registers from block to block.
     let own = *setting;
     let block = own.block();
-    let width = known_width::<WIDTH>(&own);
-    let size = width * known_or::<SIZE>(block as usize);
+    let width = own.width() as usize;
     let mut decoder = Decoder::new(own);
     let mut reader = BitReader::new(intake);
     let mut meter = Meter::new();
@@ -214,7 +134,7 @@ pub(crate) fn decode_blocks<
         if count == 0 {
             return ended(None, written, reader, &meter);
         }
-        if repeats::<P, SIZE, WIDTH>(&decoder, &own, count) {
+        if count == block as usize && P::is_repeating(&decoder, &own) {
             match write_run(&own, asked, written, &mut decoder, &mut bytes, outlet) {
                 Ok(samples) => {
                     written += samples;
@@ -228,13 +148,24 @@ pub(crate) fn decode_blocks<
                 }
             }
         }
-        let answer = next_bytes::<P, I, SIZE, WIDTH>(
-            &mut decoder,
+        let most = more_wanted(asked, written);
+        match P::write_blocks(
             &own,
+            most,
+            &mut decoder,
             &mut reader,
             &mut meter,
             &mut bytes,
-        );
+            outlet,
+        ) {
+            Ok(samples) => written += samples,
+            Err(samples) => return ended(Some(Fault::Write), written + samples, reader, &meter),
+        }
+        let count = wanted(asked, written, block);
+        if count == 0 {
+            continue 'decode_all;
+        }
+        let answer = bytes_of_next(&mut decoder, &own, &mut reader, &mut meter, &mut bytes);
         let step = match answer {
             Ok(step) => step,
             Err(fault) => {
@@ -246,7 +177,7 @@ pub(crate) fn decode_blocks<
             Step::Block => {}
             Step::Done => return ended(end_of(asked, written), written, reader, &meter),
         }
-        match write_block(outlet, &bytes, size, width * count) {
+        match write_all(outlet, &bytes[..width * count]) {
             Ok(()) => {}
             Err(_) => return ended(Some(Fault::Write), written, reader, &meter),
         }

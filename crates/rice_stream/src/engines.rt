@@ -181,7 +181,7 @@ impl Engines for Plain {
         intake: I,
         outlet: &mut O,
     ) -> (Outcome, I) {
-        decode_blocks::<NoPass, I, O, 0, 0>(setting, asked, intake, outlet)
+        decode_blocks::<NoPass, I, O>(setting, asked, intake, outlet)
     }
 
     fn decode_more(
@@ -191,7 +191,7 @@ impl Engines for Plain {
         samples: &mut [u8],
     ) -> (Stand, Pause) {
         if !is_too_long(stand.bits, piece.len()) {
-            return decode_piece::<NoPass, 0, 0>(setting, stand, piece, samples);
+            return decode_piece::<NoPass>(setting, stand, piece, samples);
         }
         (*stand, Pause::TooLong)
     }

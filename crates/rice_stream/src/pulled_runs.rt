@@ -2,7 +2,7 @@
 ghost use Rattle.std.specs.Prelude.{◌≡◌, ◌+◌, ◌-◌, ◌*◌, ◌^◌, ◌<◌, ◌≤◌, true, length};
 ghost use Rattle.rice_code.specs.decode.Decoder.{IsDecoderState};
 ghost use Rattle.rice_samples.specs.Parameters.{width as width_of};
-ghost use Rattle.rice_stream.specs.Pulling.{HasComeTo, WritesRunAt, stand_at};
+ghost use Rattle.rice_stream.specs.Pulling.{HasComeTo, WritesBlocksAt, stand_at};
 
 use crate::runs::{blocks_at_once, spell_copies_of_sample};
 use crate::stand::Stand;
@@ -10,8 +10,8 @@ use rice_bits::{BitReader, Meter, SliceIn};
 use rice_code::Decoder;
 use rice_samples::Setting;
 
-/// Returns where decoding stands after `samples` samples more. The reader had taken `before` bits at `stand`, and the steps of those
-/// that it took since are ticked.
+/// Returns where decoding stands after `samples` samples more. The reader had taken `before` bits at `stand`, and all steps since are
+/// ticked.
 #[inline(always)]
 pub(crate) fn stand_after(
     stand: &Stand,
@@ -24,9 +24,8 @@ pub(crate) fn stand_after(
     requires samples { stand.now.samples + samples < 2 ^ 64 }
     requires before { before ≤ reader.now.taken }
     requires bits { stand.now.bits + (reader.now.taken - before) < 2 ^ 64 }
-    requires steps { meter.now + samples < 2 ^ 64 }
     ensures numbers { result ≡ stand_at (stand.now.samples + samples)
-        (stand.now.bits + (reader.now.taken - before)) (meter.now + samples) decoder.now }
+        (stand.now.bits + (reader.now.taken - before)) meter.now decoder.now }
     // What is known of each decoder.
     ensures state { IsDecoderState decoder.now.setting decoder.now.block decoder.now.before
         decoder.now.run decoder.now.stopped }
@@ -34,7 +33,7 @@ pub(crate) fn stand_after(
     Stand {
         samples: stand.samples + samples,
         bits: stand.bits + (reader.taken() - before),
-        steps: meter.steps() + samples,
+        steps: meter.steps(),
         previous: decoder.before(),
         block: decoder.block(),
         run: decoder.run(),
@@ -55,8 +54,9 @@ pub(crate) fn write_next_of_run(
     requires run { 0 < decoder.old.run }
     requires preprocess { decoder.old.setting.preprocess ≡ true }
     requires room { at + width_of setting.now * setting.now.block ≤ length samples.old }
-    ensures gives { WritesRunAt setting.now stand.now result.0 decoder.new
+    ensures gives { WritesBlocksAt setting.now stand.now result.0 decoder.new
         reader.now reader.now result.1 at samples.old samples.new }
+    ensures some { 1 ≤ result.1 }
     ensures room { at + result.1 ≤ length samples.old }
     ensures len { length samples.new ≡ length samples.old }
 {
@@ -70,6 +70,7 @@ pub(crate) fn write_next_of_run(
     let blocks = blocks_at_once(setting, Some(fit), 0, decoder.run());
     decoder.pass_blocks_of_run(blocks);
     let count = block * blocks as u64;
+    meter.tick(count);
     let stand = stand_after(stand, count, reader.taken(), decoder, reader, &meter);
     let len = width * count as usize;
     spell_copies_of_sample(setting, sample, count as usize, &mut samples[at..at + len]);

@@ -1,17 +1,15 @@
 //! Decodes a code piece by piece, for a caller that has not all of it, or no room for all samples. Nothing but a `Stand` is kept.
 ghost use Rattle.std.specs.Prelude.{◌≡◌, ◌≢◌, ◌+◌, ◌*◌, ◌<◌, ◌≤◌, ◌++◌, true, false, IsSome, None, Some, drop, length, take};
 ghost use Rattle.rice_bits.specs.{Bits.bits_of, Limits.most_bits_read, read.Reader.new_reader};
-ghost use Rattle.rice_samples.specs.Parameters.{width as width_of};
 ghost use Rattle.rice_code.specs.declared.decode.call_results.CodeFault.TheVariants as faults;
-ghost use Rattle.rice_stream.specs.Pulling.{DecodesOn, GivesAtStand, HasComeTo, IsSomeStand, ahead, pause_for};
+ghost use Rattle.rice_stream.specs.Pulling.{DecodesOn, GivesAtStand, HasComeTo, IsSomeStand, WritesBlocksAt, ahead, pause_for};
 
-use crate::block_bytes::next_bytes;
+use crate::block_bytes::bytes_of_next;
 use crate::block_pass::{BlockPass, FastPass};
-use crate::decoding::known_width;
 use crate::pulled_runs::{stand_after, write_next_of_run};
 use crate::stand::{Pause, Stand};
-use rice_bits::{BitReader, Meter, SliceIn};
-use rice_code::{CodeFault, Decoder, Step, known_or};
+use rice_bits::{BitReader, Meter, SliceIn, SliceOut};
+use rice_code::{CodeFault, Decoder, Step};
 use rice_samples::Setting;
 
 /// The most bits of a code.
@@ -33,55 +31,22 @@ pub fn decode_more(
     if is_too_long(stand.bits, piece.len()) {
         return (*stand, Pause::TooLong);
     }
-    // As `decode`, it has a loop for each shape of blocks.
-    match setting.width() {
-        1 => decode_piece_of_sizes::<1>(setting, stand, piece, samples),
-        2 => decode_piece_of_sizes::<2>(setting, stand, piece, samples),
-        3 => decode_piece::<FastPass, 0, 3>(setting, stand, piece, samples),
-        _ => decode_piece::<FastPass, 0, 4>(setting, stand, piece, samples),
-    }
+    decode_piece::<FastPass>(setting, stand, piece, samples)
 }
 
-/// Decodes a piece that does not pass the limit of a code, of blocks of samples of `WIDTH` bytes, by the loop for their size.
-#[inline(always)]
-fn decode_piece_of_sizes<const WIDTH: usize>(
-    setting: &Setting,
-    stand: &Stand,
-    piece: &[u8],
-    samples: &mut [u8],
-) -> (Stand, Pause)
-    requires width { WIDTH ≡ width_of setting.now }
-    requires fits { stand.now.bits + 8 * length piece.now ≤ most_bits_read }
-    requires stand { IsSomeStand setting.now stand.now }
-    ensures { DecodesOn setting.now stand.now piece.now samples.old samples.new result.0 result.1 }
-{
-    match setting.block() {
-        8 => decode_piece::<FastPass, 8, WIDTH>(setting, stand, piece, samples),
-        16 => decode_piece::<FastPass, 16, WIDTH>(setting, stand, piece, samples),
-        32 => decode_piece::<FastPass, 32, WIDTH>(setting, stand, piece, samples),
-        64 => decode_piece::<FastPass, 64, WIDTH>(setting, stand, piece, samples),
-        _ => decode_piece::<FastPass, 0, WIDTH>(setting, stand, piece, samples),
-    }
-}
-
-/// Decodes a piece that does not pass the limit of a code, by a loop for blocks of `SIZE` samples of `WIDTH` bytes, or of any where
-/// these are 0.
+/// Decodes a piece that does not pass the limit of a code, by passes of this kind, and by the decoder where these take no block.
 #[inline(never)]
-pub(crate) fn decode_piece<P: BlockPass<SIZE, WIDTH>, const SIZE: usize, const WIDTH: usize>(
+pub(crate) fn decode_piece<P: BlockPass>(
     setting: &Setting,
     stand: &Stand,
     piece: &[u8],
     samples: &mut [u8],
 ) -> (Stand, Pause)
-    requires size { 0 < SIZE → SIZE ≡ setting.now.block }
-    requires width { 0 < WIDTH → WIDTH ≡ width_of setting.now }
     requires fits { stand.now.bits + 8 * length piece.now ≤ most_bits_read }
     requires stand { IsSomeStand setting.now stand.now }
     ensures { DecodesOn setting.now stand.now piece.now samples.old samples.new result.0 result.1 }
 {
-    let width = known_width::<WIDTH>(setting);
-    let block = known_or::<SIZE>(setting.block() as usize);
-    let size = width * block;
+    let size = setting.width() as usize * setting.block() as usize;
     let mut decoder = Decoder::at(*setting, stand.block, stand.previous, stand.run);
     let mut reader = BitReader::new(SliceIn::new(piece));
     if !skip_bits(&mut reader, piece, (stand.bits % 8) as u32) {
@@ -102,13 +67,22 @@ pub(crate) fn decode_piece<P: BlockPass<SIZE, WIDTH>, const SIZE: usize, const W
             at += len;
             continue 'decode_all;
         }
-        let found = match give_next_block::<P, SIZE, WIDTH>(
+        let room = &mut samples[at..];
+        let (next, len) = write_blocks_to::<P>(
             setting,
             &here,
             &mut decoder,
             &mut reader,
             &mut bytes,
-        ) {
+            room,
+        );
+        here = next;
+        at += len;
+        if samples.len() - at < size {
+            continue 'decode_all;
+        }
+        let given = give_next_block(setting, &here, &mut decoder, &mut reader, &mut bytes);
+        let found = match given {
             Ok(found) => found,
             Err(fault) => {
                 let _intake = reader.into_inner();
@@ -125,6 +99,42 @@ pub(crate) fn decode_piece<P: BlockPass<SIZE, WIDTH>, const SIZE: usize, const W
         }
     }
     (here, Pause::Full)
+}
+
+/// Decodes blocks by passes, and writes their samples to the front of `room`. Returns where decoding stands after them, and the number of
+/// their bytes.
+#[inline(always)]
+fn write_blocks_to<P: BlockPass>(
+    setting: &Setting,
+    stand: &Stand,
+    decoder: &mut Decoder,
+    reader: &mut BitReader<SliceIn<'_>>,
+    bytes: &mut [u8; 320],
+    room: &mut [u8],
+) -> (Stand, usize)
+    requires { HasComeTo setting.now stand.now decoder.old reader.old }
+    ensures gives { WritesBlocksAt setting.now stand.now result.0 decoder.new
+        reader.old reader.new result.1 0 room.old room.new }
+    ensures come { HasComeTo setting.now result.0 decoder.new reader.new }
+    ensures room { result.1 ≤ length room.old }
+    ensures len { length room.new ≡ length room.old }
+{
+    let width = setting.width() as usize;
+    let most = (room.len() / width) as u64;
+    let before = reader.taken();
+    let mut meter = Meter::new();
+    meter.tick(stand.steps);
+    let mut out = SliceOut::new(room);
+    match P::write_blocks(setting, most, decoder, reader, &mut meter, bytes, &mut out) {
+        Ok(count) => {
+            let next = stand_after(stand, count, before, decoder, reader, &meter);
+            (next, width * count as usize)
+        }
+        Err(_) => {
+            let _taken = out.taken();
+            unreachable!()
+        }
+    }
 }
 
 /// Copies these bytes to this place.
@@ -171,15 +181,13 @@ fn skip_bits(reader: &mut BitReader<SliceIn<'_>>, piece: &[u8], skipped: u32) ->
 /// Writes the bytes of the samples of the next block to the front of `bytes`, and returns where decoding stands after it, or `None` if no 1
 /// is left.
 #[inline(always)]
-fn give_next_block<P: BlockPass<SIZE, WIDTH>, const SIZE: usize, const WIDTH: usize>(
+fn give_next_block(
     setting: &Setting,
     stand: &Stand,
     decoder: &mut Decoder,
     reader: &mut BitReader<SliceIn<'_>>,
     bytes: &mut [u8; 320],
 ) -> Result<Option<Stand>, CodeFault>
-    requires size { 0 < SIZE → SIZE ≡ setting.now.block }
-    requires width { 0 < WIDTH → WIDTH ≡ width_of setting.now }
     requires come { HasComeTo setting.now stand.now decoder.old reader.old }
     ensures { GivesAtStand setting.now stand.now decoder.new reader.old reader.new bytes.new result }
 {
@@ -187,10 +195,11 @@ fn give_next_block<P: BlockPass<SIZE, WIDTH>, const SIZE: usize, const WIDTH: us
     let before = reader.taken();
     let mut meter = Meter::new();
     meter.tick(stand.steps);
-    match next_bytes::<P, _, SIZE, WIDTH>(decoder, setting, reader, &mut meter, bytes)? {
+    match bytes_of_next(decoder, setting, reader, &mut meter, bytes)? {
         Step::Block => {}
         Step::Done => return Ok(None),
     }
+    meter.tick(size);
     let next = stand_after(stand, size, before, decoder, reader, &meter);
     Ok(Some(next))
 }

@@ -1,7 +1,7 @@
 -- Blocks that the decoder gives, one or those of a run, and where decoding stands after them.
 use Rattle.std.proofs.Common.{◌≡◌, ℕ, zero, suc, ◌+◌, ◌-◌, ◌*◌, ◌<◌, ◌≤◌, List, [], ◌++◌, Bool, take, drop, replicate, refl, sym, ◌∙◌, ap, subst, arith, append_assoc, append-nil, None, ℤ}
-use Rattle.rice_stream.proofs.Words.{Ok, length-replicate, replicate-append-replicate, mul-pos, Reader, Parameters, IsSample, width, spellings, RepeatsBlocks, DecoderState, IsDecoderState, Block}
-use Rattle.rice_stream.proofs.Words.{last_replicate, place_moves, Origin, IsStand, GivesMore, WritesRunAt, IsReadFrom, ahead, stand_at, state_of, Stand, Advances}
+use Rattle.rice_stream.proofs.Words.{Ok, length-replicate, replicate-append-replicate, Reader, Parameters, IsSample, width, spellings, RepeatsBlocks, DecoderState, IsDecoderState, Block}
+use Rattle.rice_stream.proofs.Words.{last_replicate, place_moves, Origin, IsStand, GivesMore, WritesBlocksAt, IsReadFrom, ahead, stand_at, state_of, Stand, Advances}
 use Rattle.rice_stream.proofs.lemmas.{PullingLemmas.Steps, PullingLemmas.gives_next, PullingLemmas.goes_on_at, RunsWritten.advances_in_run, RunsWritten.run_is_more}
 
 -- one call of the decoder
@@ -112,7 +112,7 @@ pub record BlocksOf (s : Parameters) (w b n : ℕ) : Type 0 where
 pub run_written : {I : Type 0} {s : Parameters} {stand next : Stand} {p q : DecoderState} {r : Reader I} {w b n at : ℕ} {x : ℤ} {out out_new : List ℕ} {o : Origin} {front : List Bool} {given : List ℤ}
     → IsStand s o stand front given → IsReadFrom stand r → p ≡ state_of s stand → RepeatsBlocks n p q → BlocksOf s w b n
     → next ≡ stand_at (stand.samples + b * n) (stand.bits + (r.taken - r.taken)) (stand.steps + b * n) q → x ≡ p.before
-    → out_new ≡ take at out ++ (spellings s (replicate (b * n) x) ++ drop (at + width s * (b * n)) out) → WritesRunAt s stand next q r r (w * (b * n)) at out out_new
+    → out_new ≡ take at out ++ (spellings s (replicate (b * n) x) ++ drop (at + width s * (b * n)) out) → WritesBlocksAt s stand next q r r (w * (b * n)) at out out_new
 run_written {s} {stand} {next} {q} {r} {w} {b} {n} {at} {x} {out} {o} {front} {given} h reads state passes sizes is same wrote =
     let count : b * n ≡ s.block * n = ap (λ k. k * n) sizes.block_is in
     let size : w * (b * n) ≡ width s * (s.block * n) = (λ i. sizes.width_is i * count i) in
@@ -123,7 +123,6 @@ run_written {s} {stand} {next} {q} {r} {w} {b} {n} {at} {x} {out} {o} {front} {g
     record {
       samples = replicate (s.block * n) stand.previous;
       more = subst (λ (t : Stand). GivesMore s stand t q r r (replicate (s.block * n) stand.previous)) (sym there) on;
-      some = mul-pos sizes.width_some (mul-pos sizes.block_some sizes.some);
       len_is = size ∙ ap (λ k. width s * k) (sym (length-replicate (s.block * n) stand.previous));
       wrote = wrote ∙ (λ i. take at out ++ (spellings s (replicate (count i) (before i)) ++ drop (at + sym sizes.width_is i * (b * n)) out));
     }

@@ -32,7 +32,7 @@ returns-clause-gives c =
     let n = c.block-block.result * blocks.result in
     let same : to_z w64 (of_z w64 z) ≡ p.before = to_z-of_z {w = w64} {z = z} (record { sfits = c.before-sample.type_inv }) ∙ c.before-sample.ensures in
     let taken : r.taken - c.taken.result ≡ r.taken - r.taken = omega (arith, c.taken.ensures.value) in
-    let steps : c.tick.new.self + n ≡ stand.steps + n = omega (arith, c.tick.ensures, c.new-meter.ensures) in
+    let steps : c.tick-2.new.self ≡ stand.steps + n = omega (arith, c.tick-2.ensures, c.tick.ensures, c.new-meter.ensures) in
     run_written know.3 c.requires.come.reads c.requires.come.state c.pass_blocks_of_run.ensures.gives (record {
       width_is = c.width-width.ensures.value;
       block_is = c.block-block.ensures.value;
