@@ -6,7 +6,7 @@ use Rattle.std.specs.Io.KnownBytes.{Consumes, IsAtEnd}
 use Rattle.std.proofs.lemmas.Bool.{cases_lt}
 use Rattle.std.proofs.lemmas.List.{drop-drop, length-take-le}
 use Rattle.rice_bits.specs.Bits.{bits_of, fundamental_sequence, word}
-use Rattle.rice_bits.specs.read.Reader.{Reader, Refills, Stops, Takes, is_blank, new_reader}
+use Rattle.rice_bits.specs.Reader.{Reader, Refills, Stops, Takes, is_blank, new_reader}
 use Rattle.rice_bits.specs.declared.read.fault.BitFault.{BitFault}
 use Rattle.rice_bits.specs.declared.read.fault.BitFault.TheVariants as bit_faults
 use Rattle.rice_bits.proofs.lemmas.bits.BytesAndBits.{length-bits_of}

@@ -2,7 +2,7 @@
 use Rattle.std.proofs.Common.{◌≡◌, ◌∙◌, ℕ, Bool, true, false, List, [], ◌++◌, Option, Some, None, Result, Ok, Err, refl, ap, subst, sym}
 use Rattle.std.specs.Prelude.{is_ok}
 use Rattle.rice_bits.specs.declared.device.WriteFault.{WriteFault}
-use Rattle.rice_bits.specs.device.OutletRoom.{Room, Appends}
+use Rattle.rice_bits.specs.OutletRoom.{Room, Appends}
 use Rattle.rice_stream.specs.DevicesInCalls.{Call, Happens, Fails}
 use Rattle.rice_stream.specs.Encodes.{EncodesBetween}
 use Rattle.rice_stream.specs.Decodes.{DecodesBetween}

@@ -1,7 +1,7 @@
 -- What a test of a code comes to.
 use Rattle.std.proofs.Common.{◌≡◌, ℕ, Bool, true, false, List, Option, Some, None, Result, Ok, Err, inl, inr}
 use Rattle.std.specs.Prelude.{is_some, ◌&&◌}
-use Rattle.rice_bits.specs.device.OutletRoom.{Room}
+use Rattle.rice_bits.specs.OutletRoom.{Room}
 use Rattle.rice_stream.specs.DevicesInCalls.{Fails}
 use Rattle.rice_stream.specs.Decodes.{DecodesBetween}
 use Rattle.rice_stream.specs.declared.outcome.Outcome.{Outcome}

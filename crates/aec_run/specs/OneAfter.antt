@@ -2,7 +2,7 @@
 use Rattle.std.specs.Prelude.{◌≡◌, ℕ, ◌+◌, ◌<◌, Bool, false, not, List, length, drop, Option, Some, None, Result, Ok, Err}
 use Rattle.rice_bits.specs.Limits.{most_bytes_read}
 use Rattle.rice_bits.specs.Bits.{bits_of}
-use Rattle.rice_bits.specs.read.Reader.{is_blank}
+use Rattle.rice_bits.specs.Reader.{is_blank}
 use Rattle.rice_bits.specs.declared.read.fault.BitFault.{BitFault}
 use Rattle.rice_bits.specs.declared.read.fault.BitFault.TheVariants as bit_faults
 use Rattle.rice_stream.specs.declared.outcome.Fault.{Fault}

@@ -3,7 +3,7 @@ use Rattle.std.specs.Prelude.{◌≡◌, ℕ, ◌+◌, Bool, true, false, not, �
 use Rattle.std.specs.Option.{option_map_or}
 use Rattle.std.specs.Str.{bytes_eq}
 use Rattle.clap.specs.declared.error.kind.ErrorKind.{ErrorKind}
-use Rattle.rice_bits.specs.device.OutletRoom.{Room}
+use Rattle.rice_bits.specs.OutletRoom.{Room}
 use Rattle.rice_stream.specs.declared.outcome.Fault.{Fault}
 use Rattle.aec_run.specs.declared.finding.Finding.{Finding}
 use Rattle.aec_command.specs.declared.plan.PlanFault.{PlanFault}

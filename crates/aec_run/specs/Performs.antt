@@ -1,6 +1,6 @@
 -- What the command has done for a plan, by what the system tells before and after.
 use Rattle.std.specs.Prelude.{◌≡◌, ℕ, ◌+◌, ◌-◌, ◌/◌, Bool, true, false, ◌&&◌, List, ◌++◌, Option, Some, None, is_some, Result, Ok, Err, ◌⊎◌}
-use Rattle.rice_bits.specs.device.OutletRoom.{Room}
+use Rattle.rice_bits.specs.OutletRoom.{Room}
 use Rattle.rice_samples.specs.Parameters.{Parameters}
 use Rattle.rice_stream.specs.DevicesInCalls.{Call, Happens, Fails}
 use Rattle.rice_stream.specs.Encodes.{Encodes}

@@ -5,7 +5,7 @@ use Rattle.clap.specs.declared.parser.matches.ArgMatches.{ArgMatches}
 use Rattle.clap.specs.declared.parser.matches.Found.{Found}
 use Rattle.clap.specs.declared.error.kind.ErrorKind.{ErrorKind}
 use Rattle.clap.specs.declared.error.kind.ErrorKind.TheVariants as kind
-use Rattle.rice_bits.specs.device.OutletRoom.{Room}
+use Rattle.rice_bits.specs.OutletRoom.{Room}
 use Rattle.aec_command.specs.declared.plan.PlanFault.{PlanFault}
 use Rattle.aec_command.specs.declared.test_plan.TestFault.{TestFault}
 use Rattle.aec_command.specs.CommandLine.{AreParsedTo, AreRefusedFor}

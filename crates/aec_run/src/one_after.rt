@@ -1,6 +1,6 @@
 //! Whether a 1 follows the first bits of a code.
 ghost use Rattle.std.specs.Prelude.{◌≡◌, ℕ, ◌+◌, ◌^◌, ◌<◌, List, drop, Some, OnOk};
-ghost use Rattle.rice_bits.specs.device.Failures.{CountsFailure};
+ghost use Rattle.rice_bits.specs.OutletRoom.{CountsFailure};
 ghost use Rattle.aec_run.specs.OneAfter.{LooksAfter, StoppedBy};
 
 use rice_bits::{BitFault, BitReader, Intake, Meter, ReadFault};

@@ -1,7 +1,7 @@
 //! The system that the command runs on.
 ghost use Rattle.std.specs.Prelude.{◌≡◌, true, Option, Some, None, IfOk};
 ghost use Rattle.clap.specs.Words.{kind_of};
-ghost use Rattle.rice_bits.specs.device.OutletRoom.{Room};
+ghost use Rattle.rice_bits.specs.OutletRoom.{Room};
 
 use crate::finding::Finding;
 use crate::help::Job;

@@ -1,8 +1,8 @@
 //! Worked examples of the definitions, which the check computes.
 ghost use Rattle.std.specs.Prelude.{◌≡◌, ◌≢◌, [], ◌∷◌, ℤ, pos, negsuc, true, false};
 ghost use Rattle.rice_base_tests.specs.Examples.{defaults, signed_defaults, unprocessed_defaults, one_bit_defaults};
-ghost use Rattle.rice_samples.specs.{bytes.Spelling.spelling, blocks.Pairs.pair_code};
-ghost use Rattle.rice_samples.specs.{Places.segment_blocks, Places.blocks_left, Places.is_reference, Places.cut, predict.Residuals.rank, predict.Residuals.pattern, predict.Residuals.residual_list};
+ghost use Rattle.rice_samples.specs.{Spelling.spelling, Pairs.pair_code};
+ghost use Rattle.rice_samples.specs.{Places.segment_blocks, Places.blocks_left, Places.is_reference, Places.cut, Residuals.rank, Residuals.pattern, Residuals.residual_list};
 ghost use Rattle.rice_samples.specs.Parameters.{IsSample, id_len, k_max, width};
 
 /// Identifiers have 3, 4 or 5 bits.

@@ -1,7 +1,7 @@
 -- The words and lemmas of std, of the crates below and of the specs of this crate that proofs cite.
 pub use Rattle.rice_bits.proofs.lemmas.bits.BytesAndBits.{bits_of-append, bits_of-whole_bytes, length-bits_of}
 pub use Rattle.rice_bits.specs.Bits.{bits_in_bytes, bits_of, bits_to_byte, padded_bits, whole_bytes}
-pub use Rattle.rice_bits.specs.{device.OutletRoom.Fills, device.OutletRoom.Room, device.OutletRoom.begun, device.Slice.slice_left, device.Slice.slice_state}
+pub use Rattle.rice_bits.specs.{OutletRoom.Fills, OutletRoom.Room, OutletRoom.begun, Devices.slice_left, Devices.slice_state}
 pub use Rattle.rice_calls.specs.Calls.{DecodesInto, EncodesInto, ReportsCall, StandsInFront, TakesInput, WritesFront}
 pub use Rattle.rice_calls.specs.Laws.{AreFed, ArePulled, DrainsTellPlaces, EndsAll, EnoughIsDecoding, FeedsTellPlaces, IsPulled, Pull, PullsAreDecoding, Push, PushRoomSuffices, ReturnsBytes}
 pub use Rattle.rice_calls.specs.Laws.{ReturnsBytesAndFill, RoomSuffices, WriteInParts, last_drain, last_feed, place_all, written_by}
@@ -14,7 +14,7 @@ pub use Rattle.rice_code.proofs.lemmas.{code.SoundBlocks.code_is_bounded, cost.P
 pub use Rattle.rice_code.specs.code.Decoded.{CutOff, Decoded, Ended, Ending, Large, Past, Reached}
 pub use Rattle.rice_code.specs.{Bounds.added_bound, Bounds.bit_bound, Bounds.block_bound, Bounds.padded_bound, Bounds.padding_bound, code.Code.code, code.Code.early_output, code.Code.output}
 pub use Rattle.rice_samples.proofs.lemmas.{bytes.SpellingLengths.length-spellings, bytes.SpellingLengths.narrow_width, bytes.SpellingLengths.spellings-append, setting.LevelsOfSamples.zero_is_sample}
-pub use Rattle.rice_samples.specs.bytes.Spelling.{AtEnd, NoSpelling, Spells, spellings}
+pub use Rattle.rice_samples.specs.Spelling.{AtEnd, NoSpelling, Spells, spellings}
 pub use Rattle.rice_samples.specs.{Limits.most_input, Parameters.IsLegal, Parameters.IsSample, Parameters.Parameters, Parameters.width, Places.block_count, Places.cut, Places.interval_count}
 pub use Rattle.rice_stream.proofs.lemmas.{CallsDecodeAsDefined.FaultOf, CallsDecodeAsDefined.decodes_as, CallsDecodeAsDefined.never_reached, FedPieces.code_of_seam, FedPieces.nothing_early}
 pub use Rattle.rice_stream.proofs.lemmas.{FedPieces.place_of_seam, PulledPieces.seek_all, PulledPieces.seek_enough, PulledPieces.stands_tell_places, ReturnedBytes.decoded_before, Seams.cut_grows}

@@ -1,6 +1,6 @@
 -- What each call does, whatever becomes of its setting. The first argument of each is what the setting asks for, or why it is refused.
 use Rattle.std.specs.Prelude.{◌≡◌, ◌≢◌, ℕ, ◌*◌, ◌/◌, ◌<◌, ◌≤◌, Bool, List, length, Some, None, Result, IfOk, IfErr, ℤ}
-use Rattle.rice_samples.specs.{Limits.most_input, Parameters.Parameters, Parameters.width, bytes.UnusedBits.SpellsPatterns, declared.setting.SettingFault.SettingFault}
+use Rattle.rice_samples.specs.{Limits.most_input, Parameters.Parameters, Parameters.width, UnusedBits.SpellsPatterns, declared.setting.SettingFault.SettingFault}
 use Rattle.rice_code.specs.Bounds.{step_bound}
 use Rattle.rice_stream.specs.{Feeding.IsSeam, Feeding.IsSomeSeam, Pulling.Origin, Pulling.IsStand, Pulling.IsSomeStand, Pulling.at_front}
 use Rattle.rice_calls.specs.declared.status.Status.TheVariants.{Done, NoRoom, BadPlace}

@@ -1,6 +1,6 @@
 -- What the calls that feed a coder do with their caller's memory.
 use Rattle.std.specs.Prelude.{◌≡◌, ℕ, List, [], Option, Some, None, Result, Ok, Err, ℤ}
-use Rattle.rice_bits.specs.device.OutletRoom.{Room, begun}
+use Rattle.rice_bits.specs.OutletRoom.{Room, begun}
 use Rattle.rice_samples.specs.Parameters.{Parameters}
 use Rattle.rice_stream.specs.{Encodes.EncodesWithin, Feeding.IsSeam, Feeding.EncodesMore, Feeding.EncodesRest, declared.outcome.Fault.Fault, declared.outcome.Report.Report, declared.seam.Seam.Seam}
 use Rattle.rice_calls.specs.{declared.feeding.RiceFeed.RiceFeed, declared.report.RiceReport.RiceReport, declared.setting.RiceSetting.RiceSetting, declared.status.Status.TheVariants.Done}

@@ -1,6 +1,6 @@
 -- What joins the calls that encode and decode.
 use Rattle.std.specs.Prelude.{◌≡◌, ◌≢◌, ◌⊎◌, ℕ, ◌+◌, ◌*◌, ◌/◌, ◌<◌, ◌≤◌, Bool, List, [], ◌∷◌, ◌++◌, length, take, drop, sum_by, Some, None, ℤ, ⊤}
-use Rattle.rice_samples.specs.{Parameters.Parameters, Parameters.IsLegal, Parameters.width, bytes.Spelling.spellings}
+use Rattle.rice_samples.specs.{Parameters.Parameters, Parameters.IsLegal, Parameters.width, Spelling.spellings}
 use Rattle.rice_stream.specs.{Feeding.IsSeam, Laws.IsPlace, Laws.place_at, Laws.place_after, Pulling.Origin, Pulling.IsStand, declared.seam.Seam.Seam}
 use Rattle.rice_code.specs.code.Code.{output}
 use Rattle.rice_calls.specs.declared.status.Status.TheVariants.{Done, NoRoom, CodeEnds, RunPastSegment, ResidualTooLarge, OnlyZeros, MoreCode}

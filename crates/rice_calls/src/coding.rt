@@ -1,6 +1,6 @@
 //! Encodes and decodes, from memory to memory.
 ghost use Rattle.std.specs.Prelude.{◌≡◌, Option, Some};
-ghost use Rattle.rice_bits.specs.device.Slice.{slice_left, slice_state, slice_failures};
+ghost use Rattle.rice_bits.specs.Devices.{slice_left, slice_state, slice_failures};
 ghost use Rattle.rice_stream.specs.{DevicesInCalls.Fails, Encodes.EncodesBetween, Encodes.EncodesWithin, Decodes.DecodesBetween, Decodes.DecodesWithin};
 ghost use Rattle.rice_calls.specs.{AsAsked.DecodesAllAsAsked, AsAsked.DecodesAsAsked, AsAsked.EncodesAsAsked, AskedSetting.setting_asked, Calls.EncodesInto, Calls.DecodesInto};
 

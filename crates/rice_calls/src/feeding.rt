@@ -1,6 +1,6 @@
 //! Encodes piece by piece, for a caller that has no room for all samples. The caller's memory holds all state.
 ghost use Rattle.std.specs.Prelude.{◌≡◌, List, Some, ℤ};
-ghost use Rattle.rice_bits.specs.device.Slice.{slice_state, slice_failures};
+ghost use Rattle.rice_bits.specs.Devices.{slice_state, slice_failures};
 ghost use Rattle.rice_stream.specs.{DevicesInCalls.Fails, Encodes.EncodesWithin, EncodingState.PushFails, Feeding.IsSeam, Feeding.IsSomeSeam, Feeding.EncodesOn, Feeding.EncodesToEnd};
 ghost use Rattle.rice_calls.specs.AsAsked.{BeginsAsAsked, FinishesAsAsked, IsFeed, PushesAsAsked, TellsPushRoom};
 ghost use Rattle.rice_calls.specs.{AskedSetting.setting_asked, Feeding.PushesInto, Feeding.FinishesInto, Feeding.report_of_seam};

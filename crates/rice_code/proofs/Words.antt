@@ -7,10 +7,10 @@ pub use Rattle.std.proofs.lemmas.List.Elements.{All-append, All-cons, All-contai
 pub use Rattle.std.specs.Prelude.{All, Contains, Err, IfNone, IfSome, IsSomeAnd, None, Ok, OnSome, Option, Result, Some, cond, flat_map, if◌then◌else◌, is_some, nat_lt, slice_index, slice_index_or}
 pub use Rattle.rice_bits.proofs.lemmas.bits.WordsAndNumbers.{word-zero, followed_by, high-followed_by, length-fundamental_sequence, length-word, word-cat, word-followed_by, word-fs, word-low}
 pub use Rattle.rice_code.specs.Laws.{AddedCodeIsBounded, AreIntervals, BeginsInterval, CodesDiffer, DamageStaysInItsInterval, DecodingBeginsAfresh, IntervalsAreDecodedAlone, IntervalsAreJoined}
-pub use Rattle.rice_code.specs.Laws.{IntervalsBeginAfresh, IsOutputOf, IsWantedSet, MakeBlocks, NoCodeIsShorter, NoOutputIsShorter, NoSetsAreShorter, OwnBytesAreRecognised, PaddedIntervalsAreJoined}
+pub use Rattle.rice_code.specs.Laws.{IntervalsBeginAfresh, IsOutputOf, MakeBlocks, NoCodeIsShorter, NoOutputIsShorter, NoSetsAreShorter, OwnBytesAreRecognised, PaddedIntervalsAreJoined}
 pub use Rattle.rice_code.specs.code.CodedDataSets.{CodedDataSet, NoCompression, RemainderOfSegment, SecondExtension, Split, ZeroBlocks, bits_of_set, bits_of_sets, cost, no_compression_tail}
 pub use Rattle.rice_code.specs.encode.OpenSegment.{state_with_fill, CoderState, CodesHeld, HasRoomForSegment, HoldsSoundBlocks, IsOpen, IsWhole, bits_held, blocks_held, code_held}
-pub use Rattle.rice_code.specs.encode.OpenSegment.{contents_held, empty_state, is_empty, next_reference, next_residual, next_start, sets_held, state_after, state_after_all, state_after_segment}
+pub use Rattle.rice_code.specs.encode.OpenSegment.{contents_held, is_empty, next_reference, next_residual, next_start, sets_held, state_after, state_after_all, state_after_segment}
 pub use Rattle.std.proofs.Math.{Seq.drop-append_seam, Seq.take-append-add, Seq.take-append_seam, Seq.take-length, Seq.take-suc, Seq.take-nil, Bool.and-false, Bool.and-true, Bool.and-false}
 pub use Rattle.std.proofs.lemmas.{Bool.cases_lt, Bool.iff_false, Bool.leb-false, Bool.leb-true, Bool.true_from_ne_false, Bool.eqb-true, Bool.ltb-true, Int.ints, Int.to_z-of_z, List.Folds.flat_map-map}
 pub use Rattle.std.proofs.lemmas.{Grind.common_steps, Grind.div_ceil_times, Grind.flat_map-append, Grind.get_or_default_zero, Grind.get_or_head, List.Concat.length-flat_map, Bool.Decides.nat_tests}
@@ -25,8 +25,8 @@ pub use Rattle.rice_bits.proofs.lemmas.bits.WordsReadInOneWay.{bits_read, digit_
 pub use Rattle.rice_bits.proofs.lemmas.{bits.BytesAndBits.bits_of-append, bits.BytesAndBits.bits_of-padded, bits.BytesAndBits.length-bits_of, read.JoinedPartsLemmas.length-joined}
 pub use Rattle.rice_bits.proofs.lemmas.read.{ReaderLemmas.stops-append, ReaderLemmas.takes-append, ReaderLemmas.takes-none, BlankBits.blank-append, BlankBits.blank-word_positive}
 pub use Rattle.rice_bits.proofs.lemmas.{read.WindowLemmas.length-words, bits.JoinedBits.low_word, bits.WordsAndNumbers.word-nil}
-pub use Rattle.rice_bits.specs.{Bits.bits_to_byte, Bits.fundamental_sequence, Bits.padded_bits, read.Reader.Reader, read.Reader.Stops, read.Reader.Takes, read.Reader.is_blank}
-pub use Rattle.rice_bits.specs.{read.JoinedParts.joined_parts, declared.read.fault.BitFault.BitFault}
+pub use Rattle.rice_bits.specs.{Bits.bits_to_byte, Bits.fundamental_sequence, Bits.padded_bits, Reader.Reader, Reader.Stops, Reader.Takes, Reader.is_blank}
+pub use Rattle.rice_bits.specs.{Bits.joined_parts, declared.read.fault.BitFault.BitFault}
 unfoldable pub use Rattle.rice_bits.specs.Bits.{bits_of, whole_bytes, word}
 pub use Rattle.rice_samples.proofs.lemmas.blocks.PairNumbers.{codes_of_unpaired, count_pairs, length-pair_codes, length-unpaired, same_pairs, unpaired}
 pub use Rattle.rice_samples.proofs.lemmas.predict.DistinctPatternsAndResiduals.{inside_block, no_reference_at, same_pattern, same_residual, same_residuals}
@@ -36,26 +36,26 @@ pub use Rattle.rice_samples.proofs.lemmas.{setting.LevelsOfSamples.pattern_fits,
 pub use Rattle.rice_samples.proofs.lemmas.{predict.InverseRanksAndPatterns.has_pattern, predict.InverseRanksAndPatterns.has_rank, blocks.FallingSums.cut_sum, blocks.FallingSums.sum_halves}
 pub use Rattle.rice_samples.proofs.lemmas.setting.CutLemmas.{cut_is_start}
 pub use Rattle.rice_samples.specs.Places.{begins_segment, block_count, blocks_left, cut, interval_count, is_padded, is_reference, is_reference_sample, place, segment_start}
-pub use Rattle.rice_samples.specs.predict.Residuals.{filled_samples, last_of, pattern, rank, rank_below, ranks, residual, residuals}
+pub use Rattle.rice_samples.specs.Residuals.{filled_samples, last_of, pattern, rank, rank_below, ranks, residual, residuals}
 pub use Rattle.rice_samples.specs.Parameters.{IsBlockSize, IsLegal, IsSample, Parameters, id_len, k_max, level, value_count}
-pub use Rattle.rice_samples.specs.{blocks.Pairs.pair_code, blocks.Pairs.pair_codes}
-pub use Rattle.rice_code.specs.decode.ReadSets.{BlockCut, BlockRead, IsLowEntropy, LowEntropyCut, LowEntropyRead, PartsCut, PartsRead, SetCut, SetRead, low_entropy_tail, reference_place, set_tail}
+pub use Rattle.rice_samples.specs.Pairs.{pair_code, pair_codes}
+pub use Rattle.rice_code.specs.ReadSets.{BlockCut, BlockRead, PartsCut, PartsRead, SetCut, SetRead, reference_place, set_tail}
 pub use Rattle.rice_code.specs.code.CodedDataSets.{reference_bits, reference_len, run_number, run_tail, run_with_zeros, second_extension_tail, sent_from, sent_residuals, split_tail, turns}
 pub use Rattle.rice_code.specs.code.Forms.{AllFit, IsBlock, IsForm, IsReference, IsZeroAtReference, ResidualsAreSound, RunIsSound, blocks_in, blocks_in_all, zero_blocks}
 pub use Rattle.rice_code.specs.encode.HeldBlocks.{PutsBlocks, PutsShortest, code_of_blocks, held_blocks, pending_bits, pending_run, pending_zeros, reference_at, zeros_of_run}
 pub use Rattle.rice_code.specs.code.Decoded.{AreTaken, BeginsUnsound, CutOff, Decoded, DecodedFrom, Ended, Ending, EndsWith, IsWanted, Large, Past, Reached, cut_to}
 pub use Rattle.rice_code.specs.code.Code.{bits_from, code, code_bits, code_from, complete_samples, data_set_at, data_sets, output, sets_from, sets_of}
-pub use Rattle.rice_code.specs.decode.Decoder.{Answers, GivesFromRun, GivesSet, RepeatsBlocks, SetEnds, Skips, StopsBy, TakesSet, answer_to, with_mark}
-pub use Rattle.rice_code.specs.code.Blocks.{BlockData, block_data, blocks_from, blocks_of, fill_count, fill_count_of, is_zero_block, zero_block}
+pub use Rattle.rice_code.specs.Decoder.{Answers, GivesFromRun, GivesSet, RepeatsBlocks, SetEnds, Skips, StopsBy, TakesSet, answer_to, with_mark}
+pub use Rattle.rice_code.specs.code.Blocks.{BlockData, block_data, blocks_from, blocks_of, fill_count, is_zero_block, zero_block}
 pub use Rattle.rice_code.specs.CoderSteps.{coding_steps, least_looks, least_looks_at, most_looks, most_looks_at, most_steps, segment_steps}
-pub use Rattle.rice_code.specs.decode.Decoder.{DecoderState, IsDecoderState, next_block_place, place_after, residual_at}
+pub use Rattle.rice_code.specs.Decoder.{DecoderState, IsDecoderState, place_after, residual_at}
 pub use Rattle.rice_code.specs.Laws.{RefusedBytesAreNoOutput, RunIsNeverLonger, SetsAreBounded, SplitIsPaid, count_after}
 pub use Rattle.rice_code.specs.Bounds.{amortised_step_bound, bit_bound, block_bound, padding_bound, set_bound, step_bound}
 pub use Rattle.rice_code.specs.encode.{Coder.AddsCode, Coder.HasCodedBefore, Coder.HasTaken, Coder.IsCoder, Coder.PushesSamples, Coder.reference_in, OpenSegment.state_between, SetOfChoice.chosen_set}
-pub use Rattle.rice_code.specs.code.{Layout.Lies, Layout.bits_with_padding, Layout.block_after, Layout.layout, Layout.padding, Runs.run_len, Runs.run_of_blocks, Runs.zero_run}
+pub use Rattle.rice_code.specs.code.{Layout.Lies, Layout.bits_with_padding, Layout.block_after, Layout.layout, Layout.padding, Code.run_len, Code.run_of_blocks, Code.zero_run}
 pub use Rattle.rice_code.specs.code.SoundBlocks.{AreSoundBlocks, IsSoundBlock, IsSoundData, block_with}
 pub use Rattle.rice_code.specs.code.Choice.{IsBestSplit, best_split, other_options, shortest}
-pub use Rattle.rice_code.specs.decode.ReadSets.{CountRow, PairRow, Row, WordRow, ones}
+pub use Rattle.rice_code.specs.ReadSets.{CountRow, PairRow, Row, WordRow, ones}
 pub use Rattle.rice_code.specs.encode.{BitBuffer.HasRoomFor, BitBuffer.PutsSet, BitBuffer.sink_bits, BitBuffer.pairs_len}
 pub use Rattle.rice_code.specs.declared.decode.options.{SetSummary.TheVariants.Residuals, SetSummary.TheVariants.Zeros, BlockSummary.BlockSummary}
 pub use Rattle.rice_code.specs.declared.decode.call_results.{Step.TheVariants.Block, Step.TheVariants.Done, CodeFault.CodeFault, Step.Step}

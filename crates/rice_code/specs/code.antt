@@ -7,5 +7,4 @@ pub mod CodedDataSets
 pub mod Decoded
 pub mod Forms
 pub mod Layout
-pub mod Runs
 pub mod SoundBlocks

@@ -4,7 +4,7 @@ pub use Rattle.rice_bits.proofs.lemmas.bits.WordsAndNumbers.{join_below, length-
 pub use Rattle.rice_bits.proofs.lemmas.bits.WordsAndNumbers.{word-split}
 pub use Rattle.rice_bits.proofs.lemmas.read.WindowLemmas.{drop-bits_of, drop-seam, first-ahead, front-ahead, length-words, take-bits_of}
 pub use Rattle.rice_bits.proofs.lemmas.{bits.EightBytes.bits_of-eight, bits.EightBytes.bits_of-high_first, bits.EightBytes.pow_bytes, bits.EightBytes.word-mod, bits.JoinedBits.low_word}
-pub use Rattle.rice_bits.specs.{Bits.bits_to_byte, Bits.fundamental_sequence, read.Ahead.AreBitsFrom, read.JoinedParts.joined_parts, read.Reader.Reader, read.Reader.Takes}
+pub use Rattle.rice_bits.specs.{Bits.bits_to_byte, Bits.fundamental_sequence, Window.AreBitsFrom, Bits.joined_parts, Reader.Reader, Reader.Takes}
 pub use Rattle.rice_code.proofs.lemmas.encode.ChoiceLemmas.{all_sent, best_split_is, few_bits, small_sum, takes_no_compression, takes_second_extension, takes_split}
 pub use Rattle.rice_code.proofs.lemmas.encode.OpenSegments.{codes_held, next_is_open, next_of_whole, segment_room}
 pub use Rattle.rice_code.proofs.lemmas.encode.OptionTexts.{append_flagged, pairs_left, sent_are, split_is_joined, word_flag}
@@ -21,31 +21,31 @@ pub use Rattle.rice_code.proofs.lemmas.{cost.SplitSavings.coded_sum, cost.SplitS
 pub use Rattle.rice_code.proofs.lemmas.{decode.JoinedResiduals.high_pieces, decode.JoinedResiduals.low_pieces, decode.OptionsRead.coded-placed, decode.OptionsRead.zero-placed}
 pub use Rattle.rice_code.proofs.lemmas.{decode.RestoredBlocks.contents_of_patterns, decode.RestoredBlocks.contents_restored, decode.RowsOfFields.pair_codes-push, decode.RowsOfFields.sum-push2}
 pub use Rattle.rice_code.proofs.lemmas.{decode.RowsOfFields.two_more, decode.SetsRead.one_bit, encode.ChosenSets.puts_chosen, encode.ChosenSets.where_set, encode.ChosenSets.where_unset}
-pub use Rattle.rice_code.specs.code.Blocks.{BlockData, block_data, fill_count, fill_count_of, is_zero_block}
+pub use Rattle.rice_code.specs.code.Blocks.{BlockData, block_data, fill_count, is_zero_block}
 pub use Rattle.rice_code.specs.code.CodedDataSets.{CodedDataSet, NoCompression, RemainderOfSegment, SecondExtension, Split, ZeroBlocks, bits_of_set, bits_of_sets, cost, no_compression_tail}
 pub use Rattle.rice_code.specs.code.CodedDataSets.{reference_bits, reference_len, run_number, run_tail, second_extension_tail, sent_from, sent_residuals, split_tail}
 pub use Rattle.rice_code.specs.encode.BitBuffer.{AddsBits, AddsFields, HasRoomFor, HasRoomForBits, IsShort, PutsSet}
 pub use Rattle.rice_code.specs.encode.HeldBlocks.{EndsRun, JoinsRun, PutsBlocks, PutsShortest, code_of_blocks, held_blocks, pending_bits, pending_run, pending_zeros, reference_at}
-pub use Rattle.rice_code.specs.encode.OpenSegment.{CoderState, CodesHeld, HoldsSoundBlocks, IsOpen, IsWhole, bits_held, blocks_held, contents_held, empty_state, is_empty, is_first, later_residuals}
+pub use Rattle.rice_code.specs.encode.OpenSegment.{CoderState, CodesHeld, HoldsSoundBlocks, IsOpen, IsWhole, bits_held, blocks_held, contents_held, is_empty, is_first, later_residuals}
 pub use Rattle.rice_code.specs.encode.OpenSegment.{next_reference, next_residual, next_start, state_after, state_after_all, state_after_segment, state_between, state_with_fill}
 pub use Rattle.rice_code.specs.{Bounds.block_bound, CoderSteps.coding_steps, CoderSteps.least_looks, CoderSteps.most_looks, CoderSteps.segment_steps, code.Choice.IsBestSplit, code.Choice.best_split}
 pub use Rattle.rice_code.specs.{code.Choice.shortest, code.Code.complete_samples, code.Code.data_sets, code.Forms.AllFit, code.Forms.IsBlock, code.Forms.IsReference, code.Forms.IsZeroAtReference}
-pub use Rattle.rice_code.specs.{code.Layout.padding, code.Runs.zero_run, code.SoundBlocks.AreSoundBlocks, code.SoundBlocks.IsSoundBlock, code.SoundBlocks.IsSoundData, code.SoundBlocks.block_with}
-pub use Rattle.rice_code.specs.{declared.encode.choice.Choice.Choice, decode.Decoder.GivesBlock, decode.Decoder.Skips, decode.Decoder.TakesSet, decode.Decoder.with_mark}
-pub use Rattle.rice_code.specs.{decode.Decoder.DecoderState, decode.Decoder.next_block_place, decode.ReadSets.reference_place, encode.Coder.AddsCode, encode.Coder.CompletesNone}
+pub use Rattle.rice_code.specs.code.{Layout.padding, Code.zero_run, SoundBlocks.AreSoundBlocks, SoundBlocks.IsSoundBlock, SoundBlocks.IsSoundData, SoundBlocks.block_with}
+pub use Rattle.rice_code.specs.{declared.encode.choice.Choice.Choice, Decoder.GivesBlock, Decoder.Skips, Decoder.TakesSet, Decoder.with_mark}
+pub use Rattle.rice_code.specs.{Decoder.DecoderState, Decoder.place_after, ReadSets.reference_place, encode.Coder.AddsCode, encode.Coder.CompletesNone}
 pub use Rattle.rice_code.specs.{encode.Coder.HasTaken, encode.Coder.IsCoder, encode.Coder.PushesSamples, encode.BitBuffer.AddsSequences, encode.BitBuffer.pairs_len, encode.SetOfChoice.chosen_set}
 pub use Rattle.rice_fast.specs.CopiedBlocks.{IsCopied, WordsAhead, copied_bits}
 pub use Rattle.rice_fast.specs.FieldsAhead.{AreFields, HeadAhead, HighsAhead, LowsAhead, PairsAhead, rows_len}
-pub use Rattle.rice_fast.specs.encode.OpenBlocks.{GoesOn, HasRoomForBlock, HoldsOpen, IsAhead, IsBefore, PushesOpen, StandsAfter, StandsFor, StandsWith, coder_between, coder_with, is_at_first}
-pub use Rattle.rice_fast.specs.encode.OpenBlocks.{to_follow, whole_part}
-pub use Rattle.rice_fast.specs.encode.Standing.{HasResidualsOf, HasRoomAt, Standing, TakesSpelled}
+pub use Rattle.rice_fast.specs.OpenBlocks.{GoesOn, HasRoomForBlock, HoldsOpen, IsAhead, IsBefore, PushesOpen, StandsAfter, StandsFor, StandsWith, coder_between, coder_with, is_at_first}
+pub use Rattle.rice_fast.specs.OpenBlocks.{to_follow, whole_part}
+pub use Rattle.rice_fast.specs.Standing.{HasResidualsOf, HasRoomAt, Standing, TakesSpelled}
 pub use Rattle.rice_fast.specs.{BlocksAhead.BlockAhead, BlocksAhead.GivesBytes, BlocksAhead.HasBits, BlocksAhead.SpelledAhead, LevelsOfParts.AreLevelsOfParts, LevelsOfParts.HaveParts}
 pub use Rattle.rice_fast.specs.{LevelsOfParts.residuals_at, FieldsAhead.RowsAhead, FieldsAhead.SpellsParts, LevelsOfParts.running_sums, ahead.in_lanes, ahead.places_after}
 pub use Rattle.rice_fast.specs.{ahead.row_of_place, ahead.ends_after, ahead.gaps, ahead.BeginWithSequences, declared.ahead.ends.TheConstants.SLIDE}
 pub use Rattle.rice_fast.specs.{declared.ahead.sequences.Sequences.Sequences, declared.ahead.tables_of_ends.TheConstants.ROWS, declared.ahead.words.TheConstants.FACTORS}
 pub use Rattle.rice_fast.specs.{declared.ahead.words.TheConstants.PLACES, declared.encode.coder.BlockCoder.BlockCoder, declared.encode.sequences_by_products.TheConstants.WEIGHTS}
-pub use Rattle.rice_fast.specs.{declared.fields.Fields.Fields, declared.pairs.TheConstants.FIRSTS, declared.pairs.TheConstants.SECONDS, encode.Parts.with_zeros, encode.Parts.joined_in_pairs}
-pub use Rattle.rice_fast.specs.{encode.Parts.low_digits_of_each, encode.Parts.HasDigits, encode.Parts.joined_values, encode.Parts.joined_weights, encode.Parts.IsFirstStop}
+pub use Rattle.rice_fast.specs.{declared.fields.Fields.Fields, declared.pairs.TheConstants.FIRSTS, declared.pairs.TheConstants.SECONDS, Parts.with_zeros, Parts.joined_in_pairs}
+pub use Rattle.rice_fast.specs.Parts.{low_digits_of_each, HasDigits, joined_values, joined_weights, IsFirstStop}
 pub use Rattle.rice_samples.proofs.lemmas.blocks.EightsInLanes.{lanes_added, lanes_below_digits, no_digits, sum_added, sum_map, sums_below, total_below, whole_sum}
 pub use Rattle.rice_samples.proofs.lemmas.bytes.SpellingLemmas.{level_from_pattern, level_spelled, mod_once, wider_value}
 pub use Rattle.rice_samples.proofs.lemmas.bytes.SpellingLengths.{length-spelling, length-spellings, some_width, spellings-append}
@@ -56,11 +56,11 @@ pub use Rattle.rice_samples.proofs.lemmas.{bytes.BytesOfWords.in_order-twice, by
 pub use Rattle.rice_samples.proofs.lemmas.{predict.InverseRanksAndPatterns.has_pattern, predict.Ranks.rank_fits, predict.Ways.way_lane, setting.BitsOfLanes.byte_id, setting.BitsOfLanes.half_id}
 pub use Rattle.rice_samples.proofs.lemmas.{setting.BitsOfLanes.word_id, setting.PlaceLemmas.some_left, setting.ValuesAboveLeast.gap_above, setting.ValuesAboveLeast.sample_at}
 pub use Rattle.rice_samples.specs.Parameters.{IsBlockSize, IsLegal, IsSample, Parameters, id_len, k_max, least, level, value_at, value_count, values_at, width}
-pub use Rattle.rice_samples.specs.bytes.Spelling.{IsNoSpelling, Reads, ordered_bytes, spelling, spellings}
-pub use Rattle.rice_samples.specs.predict.NearNumbers.{bound, near_numbers, reach, way}
-pub use Rattle.rice_samples.specs.predict.Residuals.{last_number, last_of, pattern, rank, rank_below, ranks_below, twos_complement}
-pub use Rattle.rice_samples.specs.{Places.begins_segment, Places.blocks_left, Places.is_reference, Places.place, blocks.Pairs.pair_code, blocks.Pairs.pair_codes, bytes.PatternLanes.OrdersWords}
-pub use Rattle.rice_samples.specs.{bytes.PatternLanes.in_order, bytes.PatternLanes.words_in_order, bytes.ValueRange.IsValue, bytes.ValueRange.offset}
+pub use Rattle.rice_samples.specs.Spelling.{IsNoSpelling, Reads, ordered_bytes, spelling, spellings}
+pub use Rattle.rice_samples.specs.NearNumbers.{bound, near_numbers, reach, way}
+pub use Rattle.rice_samples.specs.Residuals.{last_number, last_of, pattern, rank, rank_below, ranks_below, twos_complement}
+pub use Rattle.rice_samples.specs.{Places.begins_segment, Places.blocks_left, Places.is_reference, Places.place, Pairs.pair_code, Pairs.pair_codes, PatternLanes.OrdersWords}
+pub use Rattle.rice_samples.specs.{PatternLanes.in_order, PatternLanes.words_in_order, Parameters.IsValue, Parameters.offset}
 pub use Rattle.std.proofs.Common.{Bool, Fits, FitsSigned, List, None, Option, SFits, Some, [], ap, append-nil, append_assoc, arith, cond, drop, eq-eqb, false, get_or, if◌then◌else◌, inl, inr, length}
 pub use Rattle.std.proofs.Common.{length-append, length-set, map, map-id, max, min, nat_eq, nat_lt, neg_ℤ, negsuc, not, pos, refl, replicate, reverse, rules, set, subst, suc, sum, sum_by, sym, take}
 pub use Rattle.std.proofs.Common.{take-take, true, w16, w32, w64, w8, zero, ℕ, ℤ, ◌%◌, ◌&&◌, ◌*◌, ◌++◌, ◌+ℤ◌, ◌+◌, ◌-◌, ◌/◌, ◌<◌, ◌==◌, ◌^◌, ◌||◌, ◌∙◌, ◌∷◌, ◌≡◌, ◌≢◌, ◌≤◌, ◌⊎◌}

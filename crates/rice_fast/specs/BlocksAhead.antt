@@ -1,10 +1,10 @@
 -- Buffered blocks that are decoded in one pass from their bits to the bytes of their samples.
 use Rattle.std.specs.Prelude.{◌≡◌, ℕ, ◌+◌, ◌-◌, ◌*◌, ◌<◌, ◌≤◌, Bool, List, All, length, take, Ok, ℤ}
-use Rattle.rice_bits.specs.read.Reader.{Reader}
-use Rattle.rice_samples.specs.{Parameters.Parameters, Parameters.value_count, Parameters.values_at, Parameters.width, bytes.Spelling.spellings, predict.Residuals.last_number}
+use Rattle.rice_bits.specs.Reader.{Reader}
+use Rattle.rice_samples.specs.{Parameters.Parameters, Parameters.value_count, Parameters.values_at, Parameters.width, Spelling.spellings, Residuals.last_number}
 use Rattle.rice_code.specs.code.Forms.{IsForm, RunIsSound, ResidualsAreSound, blocks_in}
-use Rattle.rice_code.specs.{Bounds.most_samples_of_bit, code.CodedDataSets.CodedDataSet, code.CodedDataSets.bits_of_set, code.CodedDataSets.turns, decode.Decoder.Answers, decode.Decoder.GivesBlock}
-use Rattle.rice_code.specs.{decode.Decoder.with_mark, decode.Decoder.DecoderState, declared.decode.call_results.Step.TheVariants.Block}
+use Rattle.rice_code.specs.{Bounds.most_samples_of_bit, code.CodedDataSets.CodedDataSet, code.CodedDataSets.bits_of_set, code.CodedDataSets.turns, Decoder.Answers, Decoder.GivesBlock}
+use Rattle.rice_code.specs.{Decoder.with_mark, Decoder.DecoderState, declared.decode.call_results.Step.TheVariants.Block}
 
 -- Samples of more than `below` and at most `bits` bits.
 pub record HasBits (below bits : ℕ) (s : Parameters) : Type 0 where

@@ -1,7 +1,7 @@
 -- Blocks without compression that have the bytes of their samples as they are.
 use Rattle.std.specs.Prelude.{◌≡◌, ◌⊎◌, ℕ, ◌+◌, ◌*◌, ◌^◌, ◌<◌, Bool, false, List, All, length, take, drop, flat_map}
 use Rattle.rice_bits.specs.Bits.{word}
-use Rattle.rice_samples.specs.{Parameters.Parameters, Parameters.id_len, bytes.Spelling.ordered_bytes}
+use Rattle.rice_samples.specs.{Parameters.Parameters, Parameters.id_len, Spelling.ordered_bytes}
 
 -- Samples are not predicted, and use all bits of 1, 2 or 4 bytes.
 pub record IsCopied (s : Parameters) (width : ℕ) : Type 0 where

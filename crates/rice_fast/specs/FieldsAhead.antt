@@ -3,8 +3,8 @@
 use Rattle.std.specs.Prelude.{◌≡◌, ℕ, ◌+◌, ◌-◌, ◌*◌, ◌^◌, ◌<◌, ◌≤◌, Bool, List, All, drop, flat_map, length, replicate, sum, take, Option, IfSome, IfNone, slice_index_or}
 use Rattle.rice_bits.specs.Bits.{fundamental_sequence, word}
 use Rattle.rice_samples.specs.Parameters.{Parameters, value_at, value_count, values_at, width}
-use Rattle.rice_samples.specs.{Places.is_reference, blocks.Pairs.pair_codes, predict.Residuals.pattern, predict.Residuals.last_number, bytes.Spelling.spellings}
-use Rattle.rice_code.specs.{code.CodedDataSets.reference_bits, code.Forms.IsReference, decode.ReadSets.reference_place}
+use Rattle.rice_samples.specs.{Places.is_reference, Pairs.pair_codes, Residuals.pattern, Residuals.last_number, Spelling.spellings}
+use Rattle.rice_code.specs.{code.CodedDataSets.reference_bits, code.Forms.IsReference, ReadSets.reference_place}
 use Rattle.rice_fast.specs.{BlocksAhead.BlockAhead, BlocksAhead.HasBits, LevelsOfParts.HaveParts, declared.fields.Fields.Fields}
 
 -- Block b, of `count` samples after one at this level, has a reference or none. Its samples fit lanes, and have more than `below` bits.

@@ -1,7 +1,7 @@
 -- Levels of samples whose residuals have these high and low parts, and the sums by which they are restored in the lanes of a vector.
 use Rattle.std.specs.Prelude.{◌≡◌, ℕ, ◌<◌, List, All, length, cond, map, ◌+◌, ◌%◌, [], ◌∷◌}
-use Rattle.rice_bits.specs.read.JoinedParts.{joined_parts}
-use Rattle.rice_samples.specs.{Parameters.Parameters, Parameters.value_count, predict.Residuals.ranks_below, Parameters.values_at, predict.Residuals.pattern}
+use Rattle.rice_bits.specs.Bits.{joined_parts}
+use Rattle.rice_samples.specs.{Parameters.Parameters, Parameters.value_count, Residuals.ranks_below, Parameters.values_at, Residuals.pattern}
 
 -- Levels of samples, the first after one at level p, have residuals with these high parts and these low parts of `width` bits.
 pub record AreLevelsOfParts (s : Parameters) (p width : ℕ) (highs lows levels : List ℕ) : Type 0 where

@@ -1,7 +1,7 @@
 //! Blocks without compression whose samples are not predicted, and use all bits of 1, 2 or 4 bytes: these bytes stand in the code.
 ghost use Rattle.std.specs.Prelude.{◌≡◌, ℕ, ℤ, ◌+◌, ◌-◌, ◌*◌, ◌^◌, ◌<◌, ◌≤◌, IfSome, true, length, take, drop};
 ghost use Rattle.rice_bits.specs.Bits.{word};
-ghost use Rattle.rice_samples.specs.{Parameters.id_len, Parameters.value_at, Parameters.value_count, predict.Residuals.pattern};
+ghost use Rattle.rice_samples.specs.{Parameters.id_len, Parameters.value_at, Parameters.value_count, Residuals.pattern};
 ghost use Rattle.rice_fast.specs.{BlocksAhead.SpelledAhead, CopiedBlocks.IsCopied, CopiedBlocks.WordsAhead, CopiedBlocks.copied_bits};
 
 use crate::ahead::{first_number_ahead, number_ahead, words_ahead};

@@ -2,7 +2,7 @@
 ghost use Rattle.std.specs.Prelude.{◌≡◌, ℕ, ◌+◌, ◌-◌, ◌*◌, ◌^◌, ◌<◌, ◌≤◌, ◌++◌, All, drop, flat_map, get_or, length, replicate, take};
 ghost use Rattle.rice_bits.specs.Bits.{word};
 ghost use Rattle.rice_samples.specs.Parameters.{Parameters, id_len, k_max, value_count, values_at, width as width_of};
-ghost use Rattle.rice_samples.specs.{bytes.Spelling.spellings, predict.Residuals.ranks_below};
+ghost use Rattle.rice_samples.specs.{Spelling.spellings, Residuals.ranks_below};
 ghost use Rattle.rice_fast.specs.BlocksAhead.{HasBits};
 
 mod bytes;

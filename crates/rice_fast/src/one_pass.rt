@@ -2,7 +2,7 @@
 ghost use Rattle.std.specs.Prelude.{◌≡◌, ◌+◌, ◌-◌, ◌*◌, ◌<◌, IfSome, None, false, true};
 ghost use Rattle.rice_bits.specs.Limits.{step_limit, most_bits_read};
 ghost use Rattle.rice_samples.specs.Parameters.{value_at, value_count, width as width_of};
-ghost use Rattle.rice_code.specs.decode.ReadSets.{AreCounted};
+ghost use Rattle.rice_code.specs.ReadSets.{AreCounted};
 ghost use Rattle.rice_fast.specs.{BlocksAhead.GivesBytes, BlocksAhead.HasBits, BlocksAhead.SpelledAhead, FieldsAhead.IsBlockInLanes};
 
 use crate::copied_blocks::write_copied_block;

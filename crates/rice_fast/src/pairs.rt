@@ -1,6 +1,6 @@
 //! The pairs of a buffered block by second extension.
 ghost use Rattle.std.specs.Prelude.{◌≡◌, ◌-◌, ◌*◌, ◌%◌, ◌<◌, ◌≤◌, IfSome, length, sum, take};
-ghost use Rattle.rice_samples.specs.blocks.Pairs.{pair_code, pair_codes};
+ghost use Rattle.rice_samples.specs.Pairs.{pair_code, pair_codes};
 ghost use Rattle.rice_fast.specs.FieldsAhead.{PairsAhead};
 
 use crate::high_parts::high_parts_ahead;

@@ -1,8 +1,8 @@
 //! Restores the samples of a buffered block, and writes their bytes, a row of lanes at a time.
 ghost use Rattle.std.specs.Prelude.{◌≡◌, ◌+◌, ◌-◌, ◌*◌, ◌%◌, ◌^◌, ◌<◌, ◌≤◌, ◌++◌, All, IfSome, drop, get_or, length, min, replicate, take, true};
-ghost use Rattle.rice_bits.specs.read.JoinedParts.{joined_parts};
+ghost use Rattle.rice_bits.specs.Bits.{joined_parts};
 ghost use Rattle.rice_samples.specs.Parameters.{value_count, values_at, width as width_of};
-ghost use Rattle.rice_samples.specs.bytes.Spelling.{spellings};
+ghost use Rattle.rice_samples.specs.Spelling.{spellings};
 ghost use Rattle.rice_fast.specs.{BlocksAhead.HasBits, FieldsAhead.LowsAhead, LevelsOfParts.HaveResiduals, FieldsAhead.RowsAhead, FieldsAhead.SpellsParts};
 
 use crate::fields::Fields;

@@ -1,6 +1,6 @@
 //! Numbers as patterns of bits, and patterns as bytes.
 ghost use Rattle.std.specs.Prelude.{◌≡◌, ◌-◌, ◌*◌, ◌^◌, ◌<◌, ◌≤◌, length, ℤ, pos, neg_ℤ, ◌≤ℤ◌, ◌<ℤ◌};
-ghost use Rattle.rice_samples.specs.{predict.Residuals.twos_complement, bytes.Spelling.ordered_bytes, bytes.ValueRange.IsValue};
+ghost use Rattle.rice_samples.specs.{Residuals.twos_complement, Spelling.ordered_bytes, Parameters.IsValue};
 
 use arrayvec::ArrayVec;
 

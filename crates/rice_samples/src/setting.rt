@@ -1,8 +1,7 @@
 //! The setting of a coder and a decoder.
-ghost use Rattle.std.specs.Prelude.{◌≡◌, ◌+◌, ◌-◌, if◌then◌else◌, ◌*◌, ◌%◌, ◌^◌, ◌<◌, ◌≤◌, ◌↔◌, IsTrue, IsOk, IfErr};
-ghost use Rattle.rice_samples.specs.Parameters.{Parameters, IsLegal, IsSample, id_len, k_max, width, value_at as value_at_level, value_count, least, level, level as level_of, IsBlockSize};
-ghost use Rattle.rice_samples.specs.{Settings.parameters, Settings.setting_of, Settings.any_setting_of, Settings.IsRefused, Settings.IsRefusedOfAny, Parameters.IsStandardSize};
-ghost use Rattle.rice_samples.specs.{Places.segment_blocks, Places.blocks_left, Places.is_reference, Limits.longest_interval, bytes.ValueRange.offset};
+ghost use Rattle.std.specs.Prelude.{◌≡◌, ◌+◌, ◌-◌, if◌then◌else◌, ◌*◌, ◌%◌, ◌^◌, ◌<◌, ◌≤◌, ◌↔◌, IsTrue, IsOk};
+ghost use Rattle.rice_samples.specs.Parameters.{Parameters, IsLegal, IsSample, id_len, k_max, width, value_at as value_at_level, value_count, least, level, level as level_of, offset, IsBlockSize, IsStandardSize};
+ghost use Rattle.rice_samples.specs.{Settings.parameters, Settings.setting_of, Settings.any_setting_of, Places.segment_blocks, Places.blocks_left, Places.is_reference, Limits.longest_interval};
 
 use std::marker::Model;
 use thiserror::Error;
@@ -42,7 +41,7 @@ pub struct Setting {
 
 impl Model for Setting {
     ghost use Rattle.std.specs.Prelude.{◌-◌};
-    ghost use Rattle.rice_samples.specs.{Parameters.Parameters, Parameters.IsLegal, Parameters.value_count, bytes.ValueRange.offset as offset_of, Settings.parameters, Settings.HasLevels};
+    ghost use Rattle.rice_samples.specs.{Parameters.Parameters, Parameters.IsLegal, Parameters.value_count, Parameters.offset as offset_of, Settings.parameters, Settings.HasLevels};
 
     ghost Value = { Parameters };
 
@@ -102,8 +101,6 @@ impl Setting {
         ensures legal { IsOk result ↔
             IsLegal (parameters bits block interval signed msb three preprocess pad) ×
             IsStandardSize block }
-        ensures refused { IfErr result (IsRefused
-            (parameters bits block interval signed msb three preprocess pad)) }
     {
         let is_standard = block == 8 || block == 16 || block == 32 || block == 64;
         if 1 <= bits && bits <= 32 && !is_standard {
@@ -131,8 +128,6 @@ impl Setting {
             any_setting_of (parameters bits block interval signed msb three preprocess pad) }
         ensures legal { IsOk result ↔
             IsLegal (parameters bits block interval signed msb three preprocess pad) }
-        ensures refused { IfErr result (IsRefusedOfAny
-            (parameters bits block interval signed msb three preprocess pad)) }
     {
         if bits < 1 || bits > 32 {
             return Err(SettingFault::BadBits);

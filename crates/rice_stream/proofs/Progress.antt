@@ -1,12 +1,12 @@
 -- How far encoding and decoding have come: what the invariants of their loops say.
 use Rattle.std.specs.Io.KnownBytes.{Consumes}
 use Rattle.std.specs.Prelude.{◌≡◌, ℕ, ◌+◌, ◌*◌, ◌<◌, ◌≤◌, Bool, List, ◌++◌, length, sum_by, take, Option, None, Some, IfSome, ℤ, pos}
-use Rattle.rice_bits.specs.{Limits.most_bits_read, device.OutletRoom.Room, device.OutletRoom.Appends, read.Reader.Reader, read.Reader.Refills, Bits.bits_of}
-use Rattle.rice_samples.specs.{Parameters.Parameters, Places.place, bytes.Spelling.Reads, bytes.Spelling.spellings, predict.Residuals.last_of}
+use Rattle.rice_bits.specs.{Limits.most_bits_read, OutletRoom.Room, OutletRoom.Appends, Reader.Reader, Reader.Refills, Bits.bits_of}
+use Rattle.rice_samples.specs.{Parameters.Parameters, Parameters.width, Places.place, Spelling.Reads, Spelling.spellings, Residuals.last_of}
 use Rattle.rice_code.specs.{code.CodedDataSets.CodedDataSet, code.CodedDataSets.turns, code.Code.complete_samples, code.Decoded.IsWanted, code.Decoded.cut_to}
-use Rattle.rice_code.specs.{decode.Decoder.DecoderState, encode.Coder.complete_code}
+use Rattle.rice_code.specs.{Decoder.DecoderState, encode.Coder.complete_code}
 use Rattle.rice_stream.specs.{BufferedBytes.BufferedBytes, DecodingState.DecodedSoFar, DecodingState.HasSets, DecodingState.HasSteps}
-use Rattle.rice_stream.specs.EncodingState.{CountsSamples, EncodingValue, IsEncodingOf, afresh, whole_part}
+use Rattle.rice_stream.specs.EncodingState.{Beginning, CountsSamples, EncodingValue, IsEncodingOf, TakesUpTo, afresh, whole_part}
 
 -- The decoder goes on at this block, after these samples.
 pub record IsAtBlock (s : Parameters) (p : DecoderState) (blocks : ℕ) (given : List ℤ) : Type 0 where
@@ -84,3 +84,7 @@ pub record EncodingProgress (s : Parameters) (left_old left : Option (List ℕ))
   pub count : r.given ≡ length bytes
   pub gave : Consumes left_old left bytes
   pub holds : IsEncodingOf s (afresh taken_old) taken v samples
+
+-- an encoding that held xs takes all samples that the bytes spell
+abbrev pub TakesAll : Parameters → Beginning → Option Room → EncodingValue → List ℤ → List ℕ → Type 0
+TakesAll s = TakesUpTo (λ rest. length rest < width s) s

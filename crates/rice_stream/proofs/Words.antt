@@ -2,9 +2,9 @@
 pub use Rattle.rice_bits.proofs.lemmas.bits.BytesAndBits.{bits_of-append, bits_of-nil, bits_of-padded, bits_of-whole_bytes, length-bits_of, whole_short}
 pub use Rattle.rice_bits.proofs.lemmas.bits.WordsAndNumbers.{length-word, word-nil, word-split}
 pub use Rattle.rice_bits.proofs.lemmas.device.OutletLemmas.{Appends-kept, Appends-nil, Appends-trans}
-pub use Rattle.rice_bits.specs.read.Reader.{Reader, Refills, Stops, Takes, is_blank, new_reader}
+pub use Rattle.rice_bits.specs.Reader.{Reader, Refills, Stops, Takes, is_blank, new_reader}
 pub use Rattle.rice_bits.specs.{Bits.bits_in_bytes, Bits.bits_to_byte, Bits.padded_bits, Bits.word, Limits.most_at_once, declared.device.slice.SliceIn.SliceIn, declared.read.fault.BitFault.BitFault}
-pub use Rattle.rice_bits.specs.{device.OutletRoom.Appends, device.OutletRoom.Room, read.Window.most_buffered}
+pub use Rattle.rice_bits.specs.{OutletRoom.Appends, OutletRoom.Room, Window.most_buffered}
 pub use Rattle.rice_code.proofs.lemmas.code.BlocksByPlaceAlone.{place_step, same_blocks_in, same_contents}
 pub use Rattle.rice_code.proofs.lemmas.encode.PushedCode.{between_all, complete_are_coded, holds_nothing, none_taken, segment_steps_few}
 pub use Rattle.rice_code.proofs.lemmas.meaning.DecodingByPlacesAlone.{end_there, ends_there, form_there, next_place, run_there}
@@ -16,30 +16,30 @@ pub use Rattle.rice_code.proofs.lemmas.{meaning.DecodedInOneWay.decoded_is_one, 
 pub use Rattle.rice_code.proofs.lemmas.{meaning.DecodingGoesOn.decoding_goes_on, meaning.IntervalsStandAlone.intervals_are_decoded_alone, meaning.IntervalsStandAlone.intervals_are_joined}
 pub use Rattle.rice_code.specs.CoderSteps.{least_looks, least_looks_at, least_steps, most_looks, most_looks_at, most_steps, segment_steps}
 pub use Rattle.rice_code.specs.code.Decoded.{AreTaken, BeginsUnsound, CutOff, Decoded, DecodedFrom, Ended, Ending, EndsWith, IsWanted, Large, Past, Reached, cut_to}
-pub use Rattle.rice_code.specs.decode.Decoder.{GivesBlock, GivesFromRun, GivesSet, RepeatsBlocks, SetEnds, SetRefused, StopsBy, with_mark}
+pub use Rattle.rice_code.specs.Decoder.{GivesBlock, GivesFromRun, GivesSet, RepeatsBlocks, SetEnds, SetRefused, StopsBy, with_mark}
 pub use Rattle.rice_code.specs.encode.Coder.{AddsCode, CompletesNone, HasTaken, IsAlignedWith, PushesSamples, complete_code}
 pub use Rattle.rice_code.specs.{Bounds.amortised_step_bound, Bounds.bit_bound, Bounds.block_bound, Bounds.step_bound, Laws.AreIntervals, code.Blocks.BlockData, code.Blocks.block_data}
-pub use Rattle.rice_code.specs.{code.Blocks.blocks_from, code.Blocks.fill_count_of, code.Blocks.zero_block, code.Code.code, code.Code.code_bits, code.Code.complete_samples, code.Code.data_sets}
+pub use Rattle.rice_code.specs.{code.Blocks.blocks_from, code.Blocks.fill_count, code.Blocks.zero_block, code.Code.code, code.Code.code_bits, code.Code.complete_samples, code.Code.data_sets}
 pub use Rattle.rice_code.specs.{code.Code.early_output, code.Code.output, code.CodedDataSets.CodedDataSet, code.CodedDataSets.bits_of_set, code.CodedDataSets.turns, code.Forms.IsForm}
 pub use Rattle.rice_code.specs.{code.Forms.ResidualsAreSound, code.Forms.RunIsSound, code.Forms.blocks_in, code.Forms.blocks_in_all, code.Layout.Lies, code.Layout.block_after, code.Layout.layout}
 pub use Rattle.rice_code.specs.{code.Layout.padding, code.SoundBlocks.AreSoundBlocks, declared.decode.call_results.CodeFault.CodeFault, declared.decode.call_results.Step.TheVariants.Block}
-pub use Rattle.rice_code.specs.{declared.decode.call_results.Step.TheVariants.Done, decode.Decoder.DecoderState, decode.Decoder.IsDecoderState, decode.Decoder.next_block_place}
-pub use Rattle.rice_code.specs.{decode.Decoder.state_after_block, decode.ReadSets.SetCut, decode.ReadSets.AreCounted, encode.OpenSegment.CoderState, encode.OpenSegment.state_between}
+pub use Rattle.rice_code.specs.{declared.decode.call_results.Step.TheVariants.Done, Decoder.DecoderState, Decoder.IsDecoderState, Decoder.place_after as block_place_after}
+pub use Rattle.rice_code.specs.{Decoder.state_after_block, ReadSets.SetCut, ReadSets.AreCounted, encode.OpenSegment.CoderState, encode.OpenSegment.state_between}
 pub use Rattle.rice_fast.proofs.lemmas.{encode.StandingCoders.setting_of, encode.StandingCoders.stands_between, encode.TakenBytes.one_sample}
-pub use Rattle.rice_fast.specs.{declared.encode.coder.BlockCoder.BlockCoder, encode.OpenBlocks.StandsFor, encode.Standing.HasRoomAt, encode.Standing.Standing}
+pub use Rattle.rice_fast.specs.{declared.encode.coder.BlockCoder.BlockCoder, OpenBlocks.StandsFor, Standing.HasRoomAt, Standing.Standing}
 pub use Rattle.rice_samples.proofs.lemmas.bytes.SpellingLengths.{length-spelling, length-spellings, narrow_width, some_width, spellings-append}
 pub use Rattle.rice_samples.proofs.lemmas.setting.CutLemmas.{cut_is_greatest, cut_is_start}
 pub use Rattle.rice_samples.proofs.lemmas.{bytes.ReadSamples.reads_before, bytes.ReadSamples.reads_then, setting.LevelsOfSamples.zero_is_sample}
 pub use Rattle.rice_samples.specs.Parameters.{IsLegal, IsSample, Parameters, id_len, k_max, width}
-pub use Rattle.rice_samples.specs.bytes.Spelling.{AtEnd, EndsSpelling, IsNoSpelling, NoSpelling, Reads, Spells, TooFew, spelling, spellings}
-pub use Rattle.rice_samples.specs.{Places.block_count, Places.cut, Places.interval_count, Places.place, predict.Residuals.filled_samples, predict.Residuals.last_of}
+pub use Rattle.rice_samples.specs.Spelling.{AtEnd, EndsSpelling, IsNoSpelling, NoSpelling, Reads, Spells, TooFew, spelling, spellings}
+pub use Rattle.rice_samples.specs.{Places.block_count, Places.cut, Places.interval_count, Places.place, Residuals.filled_samples, Residuals.last_of}
 pub use Rattle.rice_stream.specs.Decodes.{CountsSteps, DecodesBetween, DecodesBytes, DecodesWithin, EndsDecoding, EndsInTurns, Reports, RunsOut, at_most, ended_fault, refusal_fault, wanted_of}
-pub use Rattle.rice_stream.proofs.Progress.{DecodingProgress, EncodingProgress, Gains, HasRead, HoldsCode, TakesSamples}
+pub use Rattle.rice_stream.proofs.Progress.{DecodingProgress, EncodingProgress, Gains, HasRead, HoldsCode, TakesAll, TakesSamples}
 pub use Rattle.rice_stream.specs.DecodingState.{Advances, AnswersBytes, AreOfRun, DecodedSoFar, FailsInRun, HasSets, HasSteps, WritesRun, repeated}
 pub use Rattle.rice_stream.specs.DevicesInCalls.{Call, Fails, IsWithinLimit, PassesLimit, StopsBetween, TakesPart}
 pub use Rattle.rice_stream.specs.Encodes.{EncodesBetween, EncodesWithin, EndsEncoding, LeavesEarly, ReportsAll, ReportsTaken, SpellsSoFar}
 pub use Rattle.rice_stream.specs.EncodingState.{Beginning, CountsSamples, EncodingValue, FailsAt, Follows, FollowsBetween, IsEncodingOf, MeetsFailure, PushFails, Pushes}
-pub use Rattle.rice_stream.specs.EncodingState.{Sees, TakesAll, WritesRest, afresh, whole_part}
+pub use Rattle.rice_stream.specs.EncodingState.{Sees, WritesRest, afresh, whole_part}
 pub use Rattle.rice_stream.specs.Feeding.{AreAll, EncodesMore, EncodesRest, IsSeam, TakesPiece, after, bytes_in_all, encoding_at, samples_to_take}
 pub use Rattle.rice_stream.specs.Laws.{AreFed, ArePulled, EndsCode, EnoughAfterIsDecoding, EnoughIsDecoding, FeedingIsEncoding, FrontIsPlace, GiveInParts, IsPlace, IsPulled, Piece, Pull}
 pub use Rattle.rice_stream.specs.Laws.{PullsAreDecoding, ReturnsBytes, ReturnsBytesAndFill, SeamsTellPlaces, SeekingIsDecoding, StandsTellPlaces, TakeInParts, last_seam, last_stand, place_after}

@@ -1,11 +1,11 @@
 -- What decoding does: each way in which it ends.
 use Rattle.std.specs.Io.KnownBytes.{IsAtEnd}
 use Rattle.std.specs.Prelude.{◌≡◌, ◌≢◌, ℕ, ◌+◌, ◌-◌, ◌*◌, ◌/◌, ◌≤◌, ◌⊎◌, Bool, List, [], ◌++◌, length, sum_by, take, min, Option, Some, None, IfSome, IsSome, ℤ}
-use Rattle.rice_bits.specs.{Limits.most_bits_read, Limits.most_bytes_read, Limits.most_at_once, device.OutletRoom.Room, read.Reader.Reader, read.Window.most_buffered, Bits.bits_of}
+use Rattle.rice_bits.specs.{Limits.most_bits_read, Limits.most_bytes_read, Limits.most_at_once, OutletRoom.Room, Reader.Reader, Window.most_buffered, Bits.bits_of}
 use Rattle.rice_code.specs.code.Decoded.{Decoded, AreTaken, BeginsUnsound, EndsWith, Ending, Reached, Ended, CutOff, Past, Large}
 use Rattle.rice_code.specs.{Bounds.most_samples_of_bit, code.CodedDataSets.CodedDataSet, code.CodedDataSets.turns, code.Forms.RunIsSound, code.Forms.ResidualsAreSound}
 use Rattle.rice_code.specs.{code.Forms.blocks_in_all, code.Layout.Lies, declared.decode.call_results.CodeFault.CodeFault}
-use Rattle.rice_samples.specs.{Parameters.Parameters, bytes.Spelling.spellings}
+use Rattle.rice_samples.specs.{Parameters.Parameters, Spelling.spellings}
 use Rattle.rice_stream.specs.DevicesInCalls.{Call, Happens, WritesAndReports, StopsBetween, PassesLimit}
 use Rattle.rice_stream.specs.declared.outcome.Fault.TheVariants.{Read, Write, TooLong, CodeEnds, RunPastSegment, ResidualTooLarge}
 use Rattle.rice_stream.specs.{declared.outcome.Report.Report, declared.outcome.Fault.Fault}

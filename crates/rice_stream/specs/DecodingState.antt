@@ -1,12 +1,12 @@
 -- A decoder at work: how far it has come, what is written of its samples, and what the next block or the blocks of a run bring.
 use Rattle.std.specs.Prelude.{◌≡◌, ℕ, ◌+◌, ◌*◌, ◌<◌, ◌≤◌, Bool, List, ◌++◌, length, replicate, All, Option, None, IfSome, ℤ, pos, zero, suc, [], ◌-◌, take, Result, Ok}
-use Rattle.rice_bits.specs.{Limits.most_bits_read, Limits.step_limit, device.OutletRoom.Room, device.OutletRoom.Appends, read.Reader.Reader}
+use Rattle.rice_bits.specs.{Limits.most_bits_read, Limits.step_limit, OutletRoom.Room, OutletRoom.Appends, Reader.Reader}
 use Rattle.rice_code.specs.code.Decoded.{AreTaken, Decoded, DecodedFrom, Ending, IsWanted, cut_to}
-use Rattle.rice_code.specs.decode.Decoder.{RepeatsBlocks, Answers, GivesFromRun, IsDecoderState, with_mark}
+use Rattle.rice_code.specs.Decoder.{RepeatsBlocks, Answers, GivesFromRun, IsDecoderState, with_mark}
 use Rattle.rice_code.specs.{Bounds.most_samples_of_bit, code.Blocks.blocks_from, code.Blocks.zero_block, code.CodedDataSets.CodedDataSet, code.Forms.blocks_in_all}
 use Rattle.rice_code.specs.{code.Layout.Lies, code.SoundBlocks.AreSoundBlocks, declared.decode.call_results.CodeFault.CodeFault, declared.decode.call_results.Step.Step}
-use Rattle.rice_code.specs.{declared.decode.call_results.Step.TheVariants.Block, decode.Decoder.DecoderState, decode.ReadSets.AreCounted}
-use Rattle.rice_samples.specs.{Parameters.Parameters, Parameters.IsSample, Parameters.width, bytes.Spelling.spellings, predict.Residuals.last_of}
+use Rattle.rice_code.specs.{declared.decode.call_results.Step.TheVariants.Block, Decoder.DecoderState, ReadSets.AreCounted}
+use Rattle.rice_samples.specs.{Parameters.Parameters, Parameters.IsSample, Parameters.width, Spelling.spellings, Residuals.last_of}
 use Rattle.rice_stream.specs.DevicesInCalls.{TakesPart}
 
 -- The samples of `run` zero blocks from this block on, after sample p.

@@ -1,7 +1,7 @@
 -- What passes between an engine and its devices in one call, and what the engine says of it.
 use Rattle.std.specs.Io.KnownBytes.{Consumes}
 use Rattle.std.specs.Prelude.{◌≡◌, ◌≢◌, ℕ, ◌+◌, ◌≤◌, List, [], ◌∷◌, ◌++◌, length, Option, Some, ⊤}
-use Rattle.rice_bits.specs.device.OutletRoom.{Room, Appends}
+use Rattle.rice_bits.specs.OutletRoom.{Room, Appends}
 use Rattle.rice_stream.specs.{declared.outcome.Report.Report, declared.outcome.Fault.Fault}
 use Rattle.rice_stream.specs.declared.outcome.Fault.TheVariants.{Read, Write, TooLong}
 

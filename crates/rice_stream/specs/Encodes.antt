@@ -1,20 +1,14 @@
 -- What encoding does: each way in which it ends.
 use Rattle.std.specs.Io.KnownBytes.{IsAtEnd}
-use Rattle.std.specs.Prelude.{◌≡◌, ◌≢◌, ℕ, ◌+◌, ◌-◌, ◌*◌, ◌<◌, ◌≤◌, ◌⊎◌, List, ◌++◌, length, take, All, Option, Some, None, ℤ}
-use Rattle.rice_bits.specs.{Limits.most_at_once, device.OutletRoom.Room}
-use Rattle.rice_samples.specs.bytes.Spelling.{Spells, spellings, SpellingEnd, AtEnd, NoSpelling, TooFew}
-use Rattle.rice_samples.specs.{Limits.most_input, Parameters.Parameters, Parameters.IsSample, Parameters.width}
+use Rattle.std.specs.Prelude.{◌≡◌, ◌≢◌, ℕ, ◌+◌, ◌-◌, ◌*◌, ◌<◌, ◌≤◌, ◌⊎◌, List, length, take, Option, Some, None, ℤ}
+use Rattle.rice_bits.specs.{Limits.most_at_once, OutletRoom.Room}
+use Rattle.rice_samples.specs.Spelling.{Reads, Spells, SpellingEnd, AtEnd, NoSpelling, TooFew}
+use Rattle.rice_samples.specs.{Limits.most_input, Parameters.Parameters, Parameters.width}
 use Rattle.rice_code.specs.code.Code.{code_bits, output, early_output, complete_samples}
-use Rattle.rice_code.specs.{Bounds.bit_bound, Bounds.step_bound, Bounds.amortised_step_bound, CoderSteps.least_steps, CoderSteps.most_steps, code.Blocks.fill_count_of}
+use Rattle.rice_code.specs.{Bounds.bit_bound, Bounds.step_bound, Bounds.amortised_step_bound, CoderSteps.least_steps, CoderSteps.most_steps, code.Blocks.fill_count}
 use Rattle.rice_stream.specs.DevicesInCalls.{Call, Happens, StopsBetween, PassesLimit, IsWithinLimit}
 use Rattle.rice_stream.specs.declared.outcome.Fault.TheVariants.{Read, Write, TooLong, SampleOutOfRange, SampleCut}
 use Rattle.rice_stream.specs.{declared.outcome.Report.Report, declared.outcome.Fault.Fault}
-
--- the bytes begin with the spellings of these samples
-pub record BeginsWith (s : Parameters) (bytes : List ℕ) (samples : List ℤ) : Type 0 where
-  pub rest : List ℕ
-  pub split : bytes ≡ spellings s samples ++ rest
-  pub legal : All (IsSample s) samples
 
 -- the report of samples of which those of the complete segments are coded
 pub record ReportsTaken (s : Parameters) (r : Report) (xs : List ℤ) : Type 0 where
@@ -27,8 +21,8 @@ pub record ReportsTaken (s : Parameters) (r : Report) (xs : List ℤ) : Type 0 w
 pub record ReportsAll (s : Parameters) (r : Report) (xs : List ℤ) : Type 0 where
   pub samples : r.samples ≡ length xs
   pub bits : r.bits ≡ code_bits s xs
-  pub least : length xs + fill_count_of s xs + least_steps s xs ≤ r.steps
-  pub most : r.steps ≤ length xs + fill_count_of s xs + most_steps s xs
+  pub least : length xs + fill_count s (length xs) + least_steps s xs ≤ r.steps
+  pub most : r.steps ≤ length xs + fill_count s (length xs) + most_steps s xs
 
 module _ (s : Parameters) where
   -- the code of all samples is written
@@ -43,7 +37,7 @@ module _ (s : Parameters) where
 
   -- The outlet failed after the last of these samples: all before it is written, and not all that it completes.
   pub record FailsAfter (c : Call) (r : Report) (xs : List ℤ) : Type 0 where
-    pub given : BeginsWith s c.given xs
+    pub given : (rest : List ℕ) × Reads s c.given xs rest
     pub some : 1 ≤ length xs
     pub reports : ReportsTaken s r xs
     pub stops : StopsBetween (early_output s (take (length xs - 1) xs)) (early_output s xs) c.written

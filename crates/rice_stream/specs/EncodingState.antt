@@ -1,10 +1,10 @@
 -- A coder at work: which samples it has taken, and what is written of their code.
 use Rattle.std.specs.Prelude.{◌≡◌, ℕ, ◌+◌, ◌*◌, ◌<◌, ◌≤◌, Bool, List, [], ◌∷◌, ◌++◌, length, take, drop, Option, Some, None, Result, Ok, Err, ℤ}
-use Rattle.rice_bits.specs.{Bits.bits_in_bytes, device.OutletRoom.Room, device.OutletRoom.Appends}
+use Rattle.rice_bits.specs.{Bits.bits_in_bytes, OutletRoom.Room, OutletRoom.Appends}
 use Rattle.rice_code.specs.code.Code.{code_bits, output, early_output, complete_samples}
 use Rattle.rice_code.specs.{encode.Coder.HasTaken, encode.Coder.complete_code, CoderSteps.least_steps, CoderSteps.most_steps, encode.OpenSegment.CoderState}
-use Rattle.rice_samples.specs.{Limits.most_input, Parameters.Parameters, Parameters.width, bytes.Spelling.Reads, bytes.Spelling.EndsSpelling, bytes.Spelling.IsNoSpelling, bytes.Spelling.NoSpelling}
-use Rattle.rice_fast.specs.encode.Standing.{Standing}
+use Rattle.rice_samples.specs.{Limits.most_input, Parameters.Parameters, Parameters.width, Spelling.Reads, Spelling.EndsSpelling, Spelling.IsNoSpelling, Spelling.NoSpelling}
+use Rattle.rice_fast.specs.Standing.{Standing}
 use Rattle.rice_stream.specs.declared.outcome.Fault.TheVariants.{Write, SampleOutOfRange}
 use Rattle.rice_stream.specs.{DevicesInCalls.StopsBetween, declared.encoding.Encoding.Encoding, declared.outcome.Fault.Fault}
 
@@ -73,20 +73,12 @@ WritesRest s old new xs None = Follows old new (output s xs)
 WritesRest s old new xs (Some Write) = FollowsBetween old new (early_output s xs) (output s xs)
 WritesRest s old new xs (Some _) = ⊥
 
--- an encoding that held xs takes what the bytes spell
-pub record TakesAll (s : Parameters) (old : Beginning) (new : Option Room) (e : EncodingValue) (xs : List ℤ) (bytes : List ℕ) : Type 0 where
+-- an encoding that held xs takes what the bytes spell, up to a rest of which `IsEnd` holds
+pub record TakesUpTo (IsEnd : List ℕ → Type 0) (s : Parameters) (old : Beginning) (new : Option Room) (e : EncodingValue) (xs : List ℤ) (bytes : List ℕ) : Type 0 where
   pub more : List ℤ
   pub rest : List ℕ
   pub reads : Reads s bytes more rest
-  pub few : length rest < width s
-  pub holds : IsEncodingOf s old new e (xs ++ more)
-
--- it meets bytes that spell no sample
-pub record MeetsNoSpelling (s : Parameters) (old : Beginning) (new : Option Room) (e : EncodingValue) (xs : List ℤ) (bytes : List ℕ) : Type 0 where
-  pub more : List ℤ
-  pub rest : List ℕ
-  pub reads : Reads s bytes more rest
-  pub none : EndsSpelling s rest NoSpelling
+  pub ends : IsEnd rest
   pub holds : IsEncodingOf s old new e (xs ++ more)
 
 -- the outlet fails after one of the samples
@@ -97,10 +89,10 @@ pub record MeetsFailure (s : Parameters) (old : Beginning) (new : Option Room) (
   pub reads : Reads s bytes (more ++ last ∷ []) rest
   pub fails : FailsAt s old new e (xs ++ more) last
 
--- what becomes of the samples of some bytes, and of the outlet's failures
+-- What becomes of the samples of some bytes, and of the outlet's failures. All are taken, or bytes that spell none are met, or the outlet fails.
 abbrev pub Pushes : {T : Type 0} → Parameters → Beginning → Option Room → EncodingValue → List ℤ → List ℕ → Result T Fault → Type 0
-Pushes s old new e xs bytes (Ok _) = TakesAll s old new e xs bytes
-Pushes s old new e xs bytes (Err (SampleOutOfRange index)) = MeetsNoSpelling s old new e xs bytes × (index ≡ e.samples)
+Pushes s old new e xs bytes (Ok _) = TakesUpTo (λ rest. length rest < width s) s old new e xs bytes
+Pushes s old new e xs bytes (Err (SampleOutOfRange index)) = TakesUpTo (λ rest. EndsSpelling s rest NoSpelling) s old new e xs bytes × (index ≡ e.samples)
 Pushes s old new e xs bytes (Err Write) = MeetsFailure s old new e xs bytes
 Pushes s old new e xs bytes (Err _) = ⊥
 

@@ -1,13 +1,13 @@
 -- Encoding piece by piece: where the code stands between two calls, and what each call writes.
 use Rattle.std.specs.Prelude.{◌≡◌, ℕ, ◌+◌, ◌*◌, ◌/◌, ◌^◌, ◌<◌, ◌≤◌, ◌⊎◌, Bool, List, [], ◌∷◌, ◌++◌, length, drop, All, Option, Some, None, Result, Ok, Err, ℤ}
-use Rattle.rice_bits.specs.{Bits.bits_in_bytes, Bits.word, device.OutletRoom.Room}
+use Rattle.rice_bits.specs.{Bits.bits_in_bytes, Bits.word, OutletRoom.Room}
 use Rattle.rice_code.specs.{code.Code.output, code.Code.early_output, encode.Coder.complete_code, encode.OpenSegment.state_between}
-use Rattle.rice_samples.specs.bytes.Spelling.{Reads, spellings, SpellingEnd, EndsSpelling, NoSpelling, TooFew}
+use Rattle.rice_samples.specs.Spelling.{Reads, spellings, SpellingEnd, EndsSpelling, NoSpelling, TooFew}
 use Rattle.rice_samples.specs.{Limits.most_input, Parameters.Parameters, Parameters.IsSample, Parameters.width, Places.cut}
 use Rattle.rice_stream.specs.declared.outcome.Fault.TheVariants.{Write, TooLong, SampleOutOfRange, SampleCut}
 use Rattle.rice_stream.specs.{declared.encoding.Encoding.Encoding, TakenBytes.standing_between, Encodes.ReportsTaken, Encodes.ReportsAll, declared.outcome.Fault.Fault, declared.outcome.Report.Report}
 use Rattle.rice_stream.specs.{declared.seam.Seam.Seam, EncodingState.EncodingValue, EncodingState.CountsSamples, EncodingState.Beginning, EncodingState.Follows, EncodingState.FollowsBetween}
-use Rattle.rice_fast.specs.encode.Standing.{Standing}
+use Rattle.rice_fast.specs.Standing.{Standing}
 
 -- the encoding that goes on at a seam
 abbrev pub encoding_at : Parameters → Seam → EncodingValue

@@ -1,8 +1,8 @@
 -- What joins encoding and decoding, and each with the same piece by piece.
 use Rattle.std.specs.Io.KnownBytes.{Consumes}
 use Rattle.std.specs.Prelude.{◌≡◌, ℕ, ◌+◌, ◌*◌, ◌/◌, ◌<◌, ◌≤◌, ◌⊎◌, List, [], ◌∷◌, ◌++◌, length, take, drop, Option, Some, None, Ok, ℤ, ⊤}
-use Rattle.rice_bits.specs.{device.OutletRoom.Room, device.OutletRoom.Appends, Bits.bits_of}
-use Rattle.rice_samples.specs.{Parameters.Parameters, Parameters.IsLegal, Parameters.width, bytes.Spelling.spellings}
+use Rattle.rice_bits.specs.{OutletRoom.Room, OutletRoom.Appends, Bits.bits_of}
+use Rattle.rice_samples.specs.{Parameters.Parameters, Parameters.IsLegal, Parameters.width, Spelling.spellings}
 use Rattle.rice_code.specs.code.Decoded.{Decoded, Ending, Reached, Ended, CutOff, Past, Large}
 use Rattle.rice_code.specs.{Laws.BeginsInterval, code.Code.output}
 use Rattle.rice_stream.specs.declared.outcome.Fault.TheVariants.{Read, Write}

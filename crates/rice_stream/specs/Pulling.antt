@@ -1,9 +1,9 @@
 -- Decoding piece by piece: where decoding stands between two calls, and what each call gives.
 use Rattle.std.specs.Prelude.{◌≡◌, ◌≢◌, ℕ, ◌+◌, ◌*◌, ◌%◌, ◌<◌, ◌≤◌, Bool, true, List, [], ◌++◌, length, drop, take, sum_by, Option, Some, None, IfOk, IfSome, IsSome, Result, Ok, Err, ℤ, pos}
-use Rattle.rice_bits.specs.{Limits.most_bits_read, read.Reader.Reader, Bits.bits_of}
+use Rattle.rice_bits.specs.{Limits.most_bits_read, Reader.Reader, Bits.bits_of}
 use Rattle.rice_code.specs.{code.CodedDataSets.CodedDataSet, code.CodedDataSets.turns, code.Decoded.Ended, code.Decoded.CutOff, code.Decoded.Past, code.Decoded.Large, code.Decoded.EndsWith}
-use Rattle.rice_code.specs.{decode.Decoder.DecoderState, decode.Decoder.IsDecoderState, declared.decode.call_results.CodeFault.CodeFault}
-use Rattle.rice_samples.specs.{Limits.most_samples_counted, Parameters.Parameters, Parameters.width, Places.place, bytes.Spelling.spellings, predict.Residuals.last_of}
+use Rattle.rice_code.specs.{Decoder.DecoderState, Decoder.IsDecoderState, declared.decode.call_results.CodeFault.CodeFault}
+use Rattle.rice_samples.specs.{Limits.most_samples_counted, Parameters.Parameters, Parameters.width, Places.place, Spelling.spellings, Residuals.last_of}
 use Rattle.rice_stream.specs.{declared.stand.Pause.Pause, declared.stand.Stand.Stand, DecodingState.DecodedSoFar, DecodingState.HasSets, DecodingState.HasSteps}
 use Rattle.rice_code.specs.declared.decode.call_results.CodeFault.TheVariants as faults
 use Rattle.rice_stream.specs.declared.stand.Pause.TheVariants as pauses

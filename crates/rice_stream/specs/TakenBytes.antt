@@ -1,8 +1,8 @@
 -- What a coder does with the bytes of samples.
 use Rattle.std.specs.Prelude.{◌≡◌, ℕ, ◌*◌, ◌<◌, Bool, true, false, List, length, take, drop, ℤ}
-use Rattle.rice_samples.specs.{Parameters.Parameters, Parameters.width, bytes.Spelling.Reads, bytes.Spelling.IsNoSpelling}
+use Rattle.rice_samples.specs.{Parameters.Parameters, Parameters.width, Spelling.Reads, Spelling.IsNoSpelling}
 use Rattle.rice_code.specs.{encode.Coder.PushesSamples, encode.Coder.CompletesNone, encode.OpenSegment.state_between}
-use Rattle.rice_fast.specs.encode.Standing.{Standing}
+use Rattle.rice_fast.specs.Standing.{Standing}
 use Rattle.rice_stream.specs.declared.takes.Taken.{Taken}
 
 -- a coder that goes on between two segments

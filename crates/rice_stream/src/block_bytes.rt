@@ -3,7 +3,7 @@ ghost use Rattle.std.specs.Prelude.{◌≡◌, ◌+◌, ◌-◌, ◌*◌, ◌<�
 ghost use Rattle.rice_bits.specs.Limits.{step_limit, most_bits_read};
 ghost use Rattle.rice_code.specs.declared.decode.call_results.Step.TheVariants.{Block};
 ghost use Rattle.rice_samples.specs.Parameters.{IsSample, value_count, values_at, width as width_of};
-ghost use Rattle.rice_samples.specs.bytes.Spelling.{spellings};
+ghost use Rattle.rice_samples.specs.Spelling.{spellings};
 ghost use Rattle.rice_stream.specs.DecodingState.{AnswersBytes};
 
 use arrayvec::ArrayVec;

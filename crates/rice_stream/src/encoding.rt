@@ -1,6 +1,6 @@
 //! An encoding at work: its coder, sink, meter and counts; and the call that encodes all samples of an intake.
 ghost use Rattle.std.specs.Prelude.{◌≡◌, ◌+◌, ◌*◌, ◌^◌, ◌<◌, ◌≤◌, List, length, Option, Some, OnOk, OnErr, IfOk, ℤ};
-ghost use Rattle.rice_bits.specs.{device.OutletRoom.Room};
+ghost use Rattle.rice_bits.specs.OutletRoom.{Room};
 ghost use Rattle.rice_samples.specs.{Limits.most_input, Parameters.Parameters, Parameters.width, Places.cut};
 ghost use Rattle.rice_stream.specs.Encodes.{EncodesBetween, EncodesWithin, ReportsTaken, ReportsAll};
 ghost use Rattle.rice_stream.specs.EncodingState.{EncodingValue, Sees, Beginning, CountsSamples, IsEncodingOf, WritesRest, CanPush, PushesFirst, PushesBytes, PushFails};

@@ -1,6 +1,6 @@
 //! Blocks of a run in a piece, for a caller that keeps a `Stand`.
 ghost use Rattle.std.specs.Prelude.{◌≡◌, ◌+◌, ◌-◌, ◌*◌, ◌^◌, ◌<◌, ◌≤◌, true, length};
-ghost use Rattle.rice_code.specs.decode.Decoder.{IsDecoderState};
+ghost use Rattle.rice_code.specs.Decoder.{IsDecoderState};
 ghost use Rattle.rice_samples.specs.Parameters.{width as width_of};
 ghost use Rattle.rice_stream.specs.Pulling.{HasComeTo, WritesBlocksAt, stand_at};
 

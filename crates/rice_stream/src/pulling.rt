@@ -1,6 +1,6 @@
 //! Decodes a code piece by piece, for a caller that has not all of it, or no room for all samples. Nothing but a `Stand` is kept.
 ghost use Rattle.std.specs.Prelude.{◌≡◌, ◌≢◌, ◌+◌, ◌*◌, ◌<◌, ◌≤◌, ◌++◌, true, false, IsSome, None, Some, drop, length, take};
-ghost use Rattle.rice_bits.specs.{Bits.bits_of, Limits.most_bits_read, read.Reader.new_reader};
+ghost use Rattle.rice_bits.specs.{Bits.bits_of, Limits.most_bits_read, Reader.new_reader};
 ghost use Rattle.rice_code.specs.declared.decode.call_results.CodeFault.TheVariants as faults;
 ghost use Rattle.rice_stream.specs.Pulling.{DecodesOn, GivesAtStand, HasComeTo, IsSomeStand, WritesBlocksAt, ahead, pause_for};
 

@@ -1,7 +1,7 @@
 //! Writes the blocks of a run, several at a time.
 ghost use Rattle.std.specs.Prelude.{◌≡◌, ◌+◌, ◌*◌, ◌^◌, ◌<◌, ◌≤◌, true, length, replicate, IfOk, IfErr, IfSome, OnOk, OnErr};
 ghost use Rattle.rice_samples.specs.Parameters.{IsSample, width as width_of};
-ghost use Rattle.rice_samples.specs.bytes.Spelling.{spellings};
+ghost use Rattle.rice_samples.specs.Spelling.{spellings};
 ghost use Rattle.rice_stream.specs.{Decodes.wanted_of, DecodingState.FailsInRun, DecodingState.WritesRun, DecodingState.repeated};
 
 use crate::write::write_counted;

@@ -2,7 +2,7 @@
 ghost use Rattle.std.specs.Prelude.{◌≡◌, ℕ, ◌≤◌, List, Bool, [], length, ℤ};
 ghost use Rattle.rice_samples.specs.Parameters.{width};
 ghost use Rattle.rice_code.specs.encode.OpenSegment.{state_between};
-ghost use Rattle.rice_fast.specs.encode.Standing.{Standing, HasRoomAt};
+ghost use Rattle.rice_fast.specs.Standing.{Standing, HasRoomAt};
 ghost use Rattle.rice_stream.specs.TakenBytes.{standing_between, TakesSpelled};
 
 use rice_bits::Meter;
@@ -26,7 +26,7 @@ pub struct Taken {
 /// It may put code into its sink before the segment is whole. A contract says by `stands` what a coder is that puts none.
 pub trait TakesBytes: Drop {
     ghost use Rattle.rice_code.specs.code.Code.{complete_samples};
-    ghost use Rattle.rice_code.specs.code.Blocks.{fill_count_of};
+    ghost use Rattle.rice_code.specs.code.Blocks.{fill_count};
     ghost use Rattle.rice_code.specs.encode.Coder.{HasTaken, AddsCode};
 
     // What a coder, its sink and its meter stand for.
@@ -68,7 +68,7 @@ pub trait TakesBytes: Drop {
         ensures { (m : Standing) (xs : List ℤ) → stands self.old sink.old meter.old m →
             HasRoomAt m → HasTaken m.coder xs →
             AddsCode m.coder.setting (complete_samples m.coder.setting xs) xs m.sink sink.new result
-            (fill_count_of m.coder.setting xs) m.meter meter.new };
+            (fill_count m.coder.setting (length xs)) m.meter meter.new };
 
     // Between two segments no code is put ahead.
     ghost between: { (c : Self) (bits : List Bool) (steps : ℕ) (m : Standing) → stands c bits steps m →
@@ -81,7 +81,7 @@ pub trait TakesBytes: Drop {
 }
 
 impl TakesBytes for BlockCoder {
-    ghost use Rattle.rice_fast.specs.encode.OpenBlocks.{StandsFor};
+    ghost use Rattle.rice_fast.specs.OpenBlocks.{StandsFor};
     ghost use Rattle.rice_fast.proofs.lemmas.encode.StandingCoders.{stands_between, stands_with};
 
     ghost stands = { λ c bits steps m. StandsFor c bits steps m };

@@ -1,6 +1,6 @@
 //! Writes all bytes of a slice or of a sink.
 ghost use Rattle.std.specs.Prelude.{◌≡◌, ◌+◌, ◌^◌, ◌<◌, length, drop, take, OnOk, OnErr, IfErr};
-ghost use Rattle.rice_bits.specs.{Bits.whole_bytes, Bits.bits_in_bytes, device.OutletRoom.Appends};
+ghost use Rattle.rice_bits.specs.{Bits.whole_bytes, Bits.bits_in_bytes, OutletRoom.Appends};
 ghost use Rattle.rice_stream.specs.DevicesInCalls.{TakesPart};
 
 use rice_bits::{BitSink, Outlet, WriteFault};

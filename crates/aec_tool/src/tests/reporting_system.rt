@@ -1,7 +1,7 @@
 //! A system in memory that reports its whole contents.
 ghost use Rattle.std.specs.Prelude.{◌≡◌, None, Some, true, if◌then◌else◌, not, option_map};
 ghost use Rattle.std.specs.Str.{bytes_eq};
-ghost use Rattle.rice_bits.specs.device.OutletRoom.{known};
+ghost use Rattle.rice_bits.specs.OutletRoom.{known};
 
 use aec_run::finding::Finding;
 use aec_run::help::Job;

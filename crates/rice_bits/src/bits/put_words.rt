@@ -1,6 +1,6 @@
 //! A call of a sink: many words at a time.
 ghost use Rattle.std.specs.Prelude.{◌≡◌, ◌+◌, ◌*◌, ◌%◌, ◌^◌, ◌<◌, ◌≤◌, ◌++◌, length, flat_map};
-ghost use Rattle.rice_bits.specs.{Bits.word, Bits.IsBitSink, Bits.Joins, Bits.Puts, WholeWords.IsWholeWidth, Limits.step_limit};
+ghost use Rattle.rice_bits.specs.{Bits.word, Bits.IsBitSink, Bits.Joins, Bits.Puts, Bits.IsWholeWidth, Limits.step_limit};
 
 use crate::Meter;
 use crate::bits::sink::{BitSink, join_digits_in_memory};
@@ -27,7 +27,8 @@ impl<const N: usize> BitSink<N> {
         requires room { length self.old + (count + width * length words.now) ≤ 8 * N }
         requires meter { meter.old + (count + width * length words.now) < step_limit }
         ensures { Puts (word count value ++ flat_map (word width) words.now)
-            (count + width * length words.now) self.old self.new meter.old meter.new }
+            (count + width * length words.now) (count + width * length words.now)
+            self.old self.new meter.old meter.new }
     {
         meter.tick(count as u64 + width as u64 * words.len() as u64);
         self.bits = join_number_and_whole_words(

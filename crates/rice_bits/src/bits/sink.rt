@@ -67,7 +67,7 @@ impl<const N: usize> BitSink<N> {
         requires value { value < 2 ^ width }
         requires room { length self.old + width ≤ 8 * N }
         requires meter { meter.old + width < step_limit }
-        ensures { Puts (word width value) width self.old self.new meter.old meter.new }
+        ensures { Puts (word width value) width width self.old self.new meter.old meter.new }
     {
         self.put_up_to_56_digits(value as u64, width, meter);
     }
@@ -81,7 +81,7 @@ impl<const N: usize> BitSink<N> {
         requires value { value < 2 ^ width }
         requires room { length self.old + width ≤ 8 * N }
         requires meter { meter.old + width < step_limit }
-        ensures { Puts (word width value) width self.old self.new meter.old meter.new }
+        ensures { Puts (word width value) width width self.old self.new meter.old meter.new }
     {
         meter.tick(width as u64);
         self.bits = join_digits_in_memory(&mut self.bytes, self.bits, value, width);
@@ -93,7 +93,7 @@ impl<const N: usize> BitSink<N> {
     pub fn put_fs(&mut self, m: u64, meter: &mut Meter)
         requires room { length self.old + m + 1 ≤ 8 * N }
         requires meter { meter.old + m + 1 < step_limit }
-        ensures { Puts (fundamental_sequence m) (m + 1) self.old self.new meter.old meter.new }
+        ensures { Puts (fundamental_sequence m) (m + 1) (m + 1) self.old self.new meter.old meter.new }
     {
         let count = m + 1;
         meter.tick(count);

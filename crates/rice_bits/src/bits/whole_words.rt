@@ -1,6 +1,6 @@
 //! Words of 8, 16 or 32 digits, joined to bits 64 digits at a time.
 ghost use Rattle.std.specs.Prelude.{◌≡◌, ℕ, ◌+◌, ◌-◌, ◌*◌, ◌/◌, ◌%◌, ◌^◌, ◌<◌, ◌≤◌, ◌++◌, flat_map, length, map, slice_range};
-ghost use Rattle.rice_bits.specs.{WholeWords.IsWholeWidth, WholeWords.JoinsAllBut, Bits.word, Bits.IsBitSink, Bits.Joins};
+ghost use Rattle.rice_bits.specs.Bits.{IsWholeWidth, JoinsAllBut, word, IsBitSink, Joins};
 
 use crate::bits::digits::{join, low_digits};
 use crate::bits::eight_bytes::{join_bytes, store_least_byte_first};

@@ -1,8 +1,8 @@
 //! Devices over memory that work in pieces and fail at a given place, and an intake of zeros.
 ghost use Rattle.std.specs.Prelude.{◌≡◌, ◌+◌, ◌-◌, ◌^◌, ◌<◌, ◌≤◌, ◌↔◌, length, drop, take, min, [], Some, IsErr, IsOk, IfOk, OnErr};
 ghost use Rattle.std.specs.Io.KnownBytes.{Consumes, IsAtEnd, Keeps};
-ghost use Rattle.rice_bits.specs.device.Failures.{CountsFailure};
-ghost use Rattle.rice_bits.specs.device.OutletRoom as outlet;
+ghost use Rattle.rice_bits.specs.OutletRoom.{CountsFailure};
+ghost use Rattle.rice_bits.specs.OutletRoom as outlet;
 
 use crate::device::{Intake, Outlet, ReadFault, WriteFault};
 
@@ -17,7 +17,7 @@ pub struct MemoryIn<'a> {
 }
 
 impl<'a> MemoryIn<'a> {
-    ghost use Rattle.rice_bits.specs.device.Memory.{memory_left, memory_in_piece, memory_before_failure, memory_in_failures};
+    ghost use Rattle.rice_bits.specs.Devices.{memory_left, memory_in_piece, memory_before_failure, memory_in_failures};
 
     /// Returns an intake that gives at most `piece` bytes per call. No call passes the place `fail_at`; each call that begins there fails.
     pub fn new(bytes: &'a [u8], piece: usize, fail_at: Option<usize>) -> Self
@@ -37,7 +37,7 @@ impl<'a> MemoryIn<'a> {
 }
 
 impl Intake for MemoryIn<'_> {
-    ghost use Rattle.rice_bits.specs.device.Memory.{memory_left, memory_in_piece, memory_before_failure, memory_in_failures, memory_gives, limit_after};
+    ghost use Rattle.rice_bits.specs.Devices.{memory_left, memory_in_piece, memory_before_failure, memory_in_failures, memory_gives, limit_after};
 
     ghost left = { λ s. Some s.rest.now };
 
@@ -99,7 +99,7 @@ pub struct MemoryOut<'a> {
 }
 
 impl<'a> MemoryOut<'a> {
-    ghost use Rattle.rice_bits.specs.device.Memory.{memory_taken, memory_state, memory_out_piece, memory_room, memory_out_failures, limited_to};
+    ghost use Rattle.rice_bits.specs.Devices.{memory_taken, memory_state, memory_out_piece, memory_room, memory_out_failures, limited_to};
 
     /// Returns an outlet that takes at most `piece` bytes per call. No call passes the place `fail_at` or the end of `room`; each call that
     /// begins there fails.
@@ -133,7 +133,7 @@ impl<'a> MemoryOut<'a> {
 }
 
 impl Outlet for MemoryOut<'_> {
-    ghost use Rattle.rice_bits.specs.device.Memory.{memory_state, memory_out_piece, memory_room, memory_takes, memory_out_failures};
+    ghost use Rattle.rice_bits.specs.Devices.{memory_state, memory_out_piece, memory_room, memory_takes, memory_out_failures};
 
     ghost taken = { λ s. Some (memory_state s) };
 
@@ -181,7 +181,7 @@ pub struct ZeroIn {
 }
 
 impl ZeroIn {
-    ghost use Rattle.rice_bits.specs.device.Memory.{zeros_left};
+    ghost use Rattle.rice_bits.specs.Devices.{zeros_left};
 
     /// Returns an intake that gives `bytes` zero bytes.
     pub fn new(bytes: u64) -> Self
@@ -193,7 +193,7 @@ impl ZeroIn {
 
 impl Intake for ZeroIn {
     ghost use Rattle.std.specs.Prelude.{replicate};
-    ghost use Rattle.rice_bits.specs.device.Memory.{zeros_left};
+    ghost use Rattle.rice_bits.specs.Devices.{zeros_left};
 
     ghost left = { λ s. Some (replicate s.rest 0) };
 

@@ -1,7 +1,7 @@
 //! An outlet over a `BufWriter` of `std`.
 ghost use Rattle.std.specs.Prelude.{◌≡◌, ◌+◌, ◌^◌, ◌<◌, ◌≤◌, length, take, IfOk, OnErr};
 ghost use Rattle.std.specs.Io.Buffered.{writer_contents};
-ghost use Rattle.rice_bits.specs.device.{OutletRoom.Appends, OutletRoom.Keeps, OutletRoom.known, Failures.CountsFailure};
+ghost use Rattle.rice_bits.specs.OutletRoom.{Appends, Keeps, known, CountsFailure};
 
 use crate::device::{Outlet, WriteFault};
 use std::io::{BufWriter, Write};
@@ -15,7 +15,7 @@ pub struct FromBufWriter<W: Write + Drop> {
 }
 
 impl<W: Write + Drop> FromBufWriter<W> {
-    ghost use Rattle.rice_bits.specs.device.OverBufWriter.{buffered_writer, buffered_failures};
+    ghost use Rattle.rice_bits.specs.Devices.{buffered_writer, buffered_failures};
 
     /// Returns an outlet that has not failed.
     pub fn new(writer: BufWriter<W>) -> Self

@@ -13,7 +13,7 @@ pub struct FromReader<R> {
 }
 
 impl<R: Read> FromReader<R> {
-    ghost use Rattle.rice_bits.specs.device.OverStd.{reader_of, reader_failures};
+    ghost use Rattle.rice_bits.specs.Devices.{reader_of, reader_failures};
 
     /// Returns an intake that has not failed.
     pub fn new(reader: R) -> Self
@@ -56,7 +56,7 @@ pub struct FromWriter<W> {
 }
 
 impl<W: Write> FromWriter<W> {
-    ghost use Rattle.rice_bits.specs.device.OverStd.{writer_of, writer_failures};
+    ghost use Rattle.rice_bits.specs.Devices.{writer_of, writer_failures};
 
     /// Returns an outlet that has not failed.
     pub fn new(writer: W) -> Self
@@ -71,7 +71,7 @@ impl<W: Write> FromWriter<W> {
 }
 
 impl<W: Write> Outlet for FromWriter<W> {
-    ghost use Rattle.rice_bits.specs.device.OutletRoom.{known};
+    ghost use Rattle.rice_bits.specs.OutletRoom.{known};
 
     ghost taken = { λ s. known (W.contents s.writer) };
 

@@ -1,8 +1,8 @@
 //! Devices over slices: an intake that never fails, and an outlet that fails only if its slice is full.
 ghost use Rattle.std.specs.Prelude.{◌≡◌, ◌+◌, ◌^◌, ◌<◌, ◌≤◌, ◌↔◌, length, drop, take, min, [], Some, IsOk, IsErr, IfOk, OnErr};
 ghost use Rattle.std.specs.Io.KnownBytes.{Consumes, IsAtEnd, Keeps};
-ghost use Rattle.rice_bits.specs.device.Failures.{CountsFailure};
-ghost use Rattle.rice_bits.specs.device.OutletRoom as outlet;
+ghost use Rattle.rice_bits.specs.OutletRoom.{CountsFailure};
+ghost use Rattle.rice_bits.specs.OutletRoom as outlet;
 
 use crate::device::{Intake, Outlet, ReadFault, WriteFault};
 
@@ -13,7 +13,7 @@ pub struct SliceIn<'a> {
 }
 
 impl<'a> SliceIn<'a> {
-    ghost use Rattle.rice_bits.specs.device.Slice.{slice_left};
+    ghost use Rattle.rice_bits.specs.Devices.{slice_left};
 
     /// Returns an intake that gives these bytes.
     pub fn new(bytes: &'a [u8]) -> Self
@@ -24,7 +24,7 @@ impl<'a> SliceIn<'a> {
 }
 
 impl Intake for SliceIn<'_> {
-    ghost use Rattle.rice_bits.specs.device.Slice.{slice_left};
+    ghost use Rattle.rice_bits.specs.Devices.{slice_left};
 
     ghost left = { λ s. Some (slice_left s) };
 
@@ -67,7 +67,7 @@ pub struct SliceOut<'a> {
 }
 
 impl<'a> SliceOut<'a> {
-    ghost use Rattle.rice_bits.specs.device.Slice.{slice_state, slice_failures};
+    ghost use Rattle.rice_bits.specs.Devices.{slice_state, slice_failures};
 
     /// Returns an outlet that has taken nothing.
     pub fn new(room: &'a mut [u8]) -> Self
@@ -92,7 +92,7 @@ impl<'a> SliceOut<'a> {
 }
 
 impl Outlet for SliceOut<'_> {
-    ghost use Rattle.rice_bits.specs.device.Slice.{slice_state, slice_failures};
+    ghost use Rattle.rice_bits.specs.Devices.{slice_state, slice_failures};
 
     ghost taken = { λ s. Some (slice_state s) };
 

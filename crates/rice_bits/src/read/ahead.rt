@@ -1,13 +1,13 @@
 //! Calls of a reader that look at buffered bits, and take them without a call of the intake.
 ghost use Rattle.std.specs.Prelude.{◌≡◌, ◌+◌, ◌<◌, ◌≤◌, None, drop, length, take};
-ghost use Rattle.rice_bits.specs.{Limits.step_limit, Limits.most_bits_read, read.Ahead.AreBitsFrom};
+ghost use Rattle.rice_bits.specs.{Limits.step_limit, Limits.most_bits_read, Window.AreBitsFrom};
 
 use crate::device::Intake;
 use crate::meter::Meter;
 use crate::read::reader::BitReader;
 
 impl<I: Intake> BitReader<I> {
-    ghost use Rattle.rice_bits.specs.read.Reader.{Takes};
+    ghost use Rattle.rice_bits.specs.Reader.{Takes};
 
     /// Returns the number of buffered bits: those that it can return without a call of the intake.
     #[inline]

@@ -1,9 +1,9 @@
 //! Reads the bits of an intake's bytes.
 ghost use Rattle.std.specs.Prelude.{◌≡◌, ℕ, ◌+◌, ◌-◌, ◌*◌, ◌%◌, ◌^◌, ◌<◌, ◌≤◌, ◌&&◌, Bool, true, false, List, [], ◌++◌, length, replicate, take, IfOk, IfErr, OnOk, IfSome, IfNone, IsSome, Option};
 ghost use Rattle.std.specs.{Io.KnownBytes.Consumes, Prelude.None};
-ghost use Rattle.rice_bits.specs.read.Window.{IsWindow, buffer_len, most_buffered, window_bits, window_passed, window_taken};
+ghost use Rattle.rice_bits.specs.Window.{IsWindow, buffer_len, most_buffered, window_bits, window_passed, window_taken};
 ghost use Rattle.rice_bits.specs.{Limits.step_limit, Limits.most_bits_read, Limits.most_bytes_read, Limits.most_at_once, Bits.fundamental_sequence, Bits.bits_to_byte, Bits.word};
-ghost use Rattle.rice_bits.specs.read.Reader.{Supplies, Refuses, is_blank, new_reader};
+ghost use Rattle.rice_bits.specs.Reader.{Supplies, Refuses, is_blank, new_reader};
 
 use crate::bits::digits::join;
 use crate::device::Intake;
@@ -34,7 +34,7 @@ pub struct BitReader<I: Intake> {
 
 impl<I: Intake> Model for BitReader<I> {
     ghost use Rattle.std.specs.Prelude.{◌&&◌};
-    ghost use Rattle.rice_bits.specs.read.{Window.window_bits, Window.window_passed, Window.window_taken, Reader.Reader, Reader.IsReader, Reader.is_blank};
+    ghost use Rattle.rice_bits.specs.{Window.window_bits, Window.window_passed, Window.window_taken, Reader.Reader, Reader.IsReader, Reader.is_blank};
 
     ghost Value = { Reader I };
 
@@ -121,7 +121,7 @@ fn refill_if_empty<I: Intake>(
 }
 
 impl<I: Intake> BitReader<I> {
-    ghost use Rattle.rice_bits.specs.read.Reader.{Takes, Stops};
+    ghost use Rattle.rice_bits.specs.Reader.{Takes, Stops};
 
     /// Returns a reader that has taken no bit, as if just after [`mark`](Self::mark).
     pub fn new(intake: I) -> Self

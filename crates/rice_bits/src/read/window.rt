@@ -1,7 +1,7 @@
 //! The bytes that an intake gave last, and a place among their bits.
 ghost use Rattle.std.specs.Prelude.{◌≡◌, ◌+◌, ◌-◌, ◌*◌, ◌^◌, ◌<◌, ◌≤◌, ◌&&◌, false, [], ◌++◌, min, replicate, length, take, IfSome, IfNone};
-ghost use Rattle.rice_bits.specs.{Bits.bits_of, Bits.fundamental_sequence, Bits.word, read.Window.buffer_len, read.Window.most_buffered, Limits.most_bytes_read, Limits.most_at_once};
-ghost use Rattle.rice_bits.specs.read.Reader.{is_blank};
+ghost use Rattle.rice_bits.specs.{Bits.bits_of, Bits.fundamental_sequence, Bits.word, Window.buffer_len, Window.most_buffered, Limits.most_bytes_read, Limits.most_at_once};
+ghost use Rattle.rice_bits.specs.Reader.{is_blank};
 
 use crate::bits::digits::front_digits;
 use crate::bits::eight_bytes::{at_least_57_bits_from, number_from, store_zeros};
@@ -31,7 +31,7 @@ pub struct Window {
 }
 
 impl Window {
-    ghost use Rattle.rice_bits.specs.read.Window.{IsWindow, Passes, bits_near, window_bits, window_passed, window_taken};
+    ghost use Rattle.rice_bits.specs.Window.{IsWindow, Passes, bits_near, window_bits, window_passed, window_taken};
 
     /// Returns a window with no bits, of which none was taken.
     pub fn new() -> Self

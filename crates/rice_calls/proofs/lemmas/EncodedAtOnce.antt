@@ -108,7 +108,7 @@ module _ (s : Parameters) (legal : IsLegal s) (input : List ℕ) (few : length i
           ends = (
             omega (arith, samples),
             inl (record {
-              given = record { rest = []; split = sym (append-nil front); legal = wants.reads.legal };
+              given = ([], record { split = sym (append-nil front); legal = wants.reads.legal });
               some = omega (arith, size);
               reports = rep;
               stops = subst (λ l. StopsBetween (early_output s l) (early_output s xs) room.bytes) (sym before) (stops_so wants.writes);

@@ -91,8 +91,8 @@ encode_wants s c r input left legal gave e = by_end e.ends.1
   where
     by_end : FailsAfter s c r e.samples ⊎ FailsAtEnd s c r e.samples → length c.written < code_room s (length input / width s)
     by_end (inl h) =
-        let few = few_samples s e.samples c.given h.given.rest input left legal h.given.split gave in
-        omega (arith, stops_short _ _ c.written h.stops, early_fits s e.samples (length input / width s) legal h.given.legal few)
+        let few = few_samples s e.samples c.given h.given.0 input left legal h.given.1.split gave in
+        omega (arith, stops_short _ _ c.written h.stops, early_fits s e.samples (length input / width s) legal h.given.1.legal few)
     by_end (inr h) =
         let few = few_samples s e.samples c.given h.given.rest input left legal h.given.whole gave in
         omega (arith, stops_short _ _ c.written h.stops, output_fits s e.samples (length input / width s) legal h.given.legal few)

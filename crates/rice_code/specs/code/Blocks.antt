@@ -1,7 +1,7 @@
 -- The blocks that samples make. (CCSDS 121.0-B-3, section 3: blocks of J samples.)
 use Rattle.std.specs.Prelude.{ℕ, zero, suc, ◌+◌, ◌-◌, ◌*◌, ◌%◌, ◌==◌, Bool, if◌then◌else◌, List, [], ◌∷◌, take, drop, length, replicate, slice_index_or, Option, Some, None, ℤ}
 use Rattle.std.specs.List.{list_all}
-use Rattle.rice_samples.specs.{predict.Residuals.pattern, predict.Residuals.residuals, predict.Residuals.last_of, predict.Residuals.filled_samples, Places.is_reference, Places.block_count}
+use Rattle.rice_samples.specs.{Residuals.pattern, Residuals.residuals, Residuals.last_of, Residuals.filled_samples, Places.is_reference, Places.block_count}
 use Rattle.rice_samples.specs.Parameters.{Parameters}
 
 -- what a block says: its reference sample as a word, where it has one, and its residuals, with 0 at the reference place
@@ -25,10 +25,6 @@ blocks_of s b p xs = blocks_from s b p (block_count s (length xs)) (filled_sampl
 -- how many samples fill the last block, after n samples
 abbrev pub fill_count : Parameters → ℕ → ℕ
 fill_count s n = (s.block - n % s.block) % s.block
-
--- and after these
-abbrev pub fill_count_of : Parameters → List ℤ → ℕ
-fill_count_of s xs = fill_count s (length xs)
 
 -- all its residuals are 0, that at the reference place included
 abbrev pub is_zero_block : BlockData → Bool

@@ -1,8 +1,25 @@
--- The code of samples.
-use Rattle.std.specs.Prelude.{ℕ, ◌+◌, ◌&&◌, not, Bool, false, if◌then◌else◌, List, [], ◌∷◌, ◌++◌, take, length, sum_by, ℤ, pos}
-use Rattle.rice_samples.specs.{Places.begins_segment, Places.block_count, Places.cut, Parameters.Parameters}
+-- The code of samples, and the runs of zero blocks in it.
+use Rattle.std.specs.Prelude.{ℕ, ◌+◌, ◌==◌, ◌&&◌, ◌||◌, not, Bool, false, if◌then◌else◌, nat_le, List, [], ◌∷◌, ◌++◌, take, length, sum_by, Option, ℤ, pos}
+use Rattle.std.specs.List.{prefix_len}
+use Rattle.rice_samples.specs.{Places.begins_segment, Places.block_count, Places.blocks_left, Places.cut, Parameters.Parameters}
 use Rattle.rice_bits.specs.Bits.{padded_bits, whole_bytes}
-use Rattle.rice_code.specs.code.{Blocks.BlockData, Blocks.blocks_of, Blocks.is_zero_block, CodedDataSets.CodedDataSet, CodedDataSets.bits_of_set, Choice.shortest, Layout.layout, Runs.zero_run}
+use Rattle.rice_code.specs.code.CodedDataSets.{CodedDataSet, ZeroBlocks, RemainderOfSegment, bits_of_set}
+use Rattle.rice_code.specs.code.{Blocks.BlockData, Blocks.blocks_of, Blocks.is_zero_block, Choice.shortest, Layout.layout}
+
+-- the zero blocks from the front on, inside the segment of block b
+abbrev pub run_len : Parameters → ℕ → List BlockData → ℕ
+run_len s b blocks = prefix_len is_zero_block (take (blocks_left s b) blocks)
+
+-- A run of z blocks. Five or more that reach the end of the segment, or the last block, are sent as the remainder of the
+-- segment (CCSDS 121.0-B-3, section 3: zero-block option; the last block by an own rule).
+abbrev pub run_of_blocks : Bool → Option ℕ → ℕ → CodedDataSet
+run_of_blocks to_end reference z = if nat_le 5 z && to_end then RemainderOfSegment reference else ZeroBlocks reference z
+
+-- the run of zero blocks that starts at block b, as long as it can be
+abbrev pub zero_run : Parameters → ℕ → Option ℕ → List BlockData → CodedDataSet
+zero_run s b reference blocks =
+    let z = run_len s b blocks in
+    run_of_blocks (z == blocks_left s b || z == length blocks) reference z
 
 -- What is sent at block b: a run where one starts, nothing inside it, and else the shortest option. A zero block goes into a run and nowhere else (own rule).
 abbrev pub data_set_at : Parameters → ℕ → Bool → BlockData → List BlockData → List CodedDataSet
@@ -47,4 +64,4 @@ complete_samples s xs = take (cut s (length xs)) xs
 
 -- and the bytes that stand whole once these are coded
 abbrev pub early_output : Parameters → List ℤ → List ℕ
-early_output s xs = whole_bytes (code s (take (cut s (length xs)) xs))
+early_output s xs = whole_bytes (code s (complete_samples s xs))

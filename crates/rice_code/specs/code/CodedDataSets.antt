@@ -1,6 +1,6 @@
 -- The coded data sets: what each says, its text, and how long that is. (CCSDS 121.0-B-3, section 3: the options; section 5: their identifiers and formats.)
 use Rattle.std.specs.Prelude.{ℕ, ◌+◌, ◌-◌, ◌*◌, ◌/◌, ◌^◌, Bool, true, false, if◌then◌else◌, nat_lt, List, [], ◌∷◌, ◌++◌, length, drop, sum, sum_by, flat_map, ◌==◌, Option, Some, None}
-use Rattle.rice_samples.specs.{Parameters.Parameters, Parameters.id_len, blocks.Pairs.pair_codes}
+use Rattle.rice_samples.specs.{Parameters.Parameters, Parameters.id_len, Pairs.pair_codes}
 use Rattle.rice_bits.specs.Bits.{word, fundamental_sequence}
 use Rattle.rice_code.specs.code.Blocks.{BlockData}
 

@@ -1,7 +1,7 @@
 -- Bits that are gathered before they are put into a sink, and what a put does: of any fields, and of the two parts of residuals that are sent.
 use Rattle.std.specs.Prelude.{◌≡◌, ℕ, ◌+◌, ◌*◌, ◌^◌, ◌<◌, ◌≤◌, Bool, List, ◌++◌, length, ◌/◌, flat_map, sum_by}
-use Rattle.rice_bits.specs.{Limits.step_limit, Bits.put_width, Bits.word, Bits.fundamental_sequence}
-use Rattle.rice_samples.specs.{Parameters.Parameters, blocks.Pairs.pair_codes}
+use Rattle.rice_bits.specs.{Limits.step_limit, Bits.put_width, Bits.word, Bits.fundamental_sequence, Bits.Puts}
+use Rattle.rice_samples.specs.{Parameters.Parameters, Pairs.pair_codes}
 use Rattle.rice_code.specs.code.CodedDataSets.{CodedDataSet, bits_of_set, cost}
 
 -- The bits of the sink of a coder: 64 blocks of at most 2,053 bits, and eight bytes beside them for the bits that it held before.
@@ -23,12 +23,6 @@ pub record AddsFields (more : List Bool) (count ticks : ℕ) (sink_old fields_ol
   pub bits : sink_new ++ fields_new ≡ sink_old ++ fields_old ++ more
   pub len : length sink_new + length fields_new ≡ length sink_old + length fields_old + count
   pub steps : meter_new + length fields_new ≡ meter_old + length fields_old + ticks
-
--- These bits, `count` of them, are put into a sink, and `ticks` steps are counted.
-pub record PutsFields (more : List Bool) (count ticks : ℕ) (sink_old sink_new : List Bool) (meter_old meter_new : ℕ) : Type 0 where
-  pub bits : sink_new ≡ sink_old ++ more
-  pub len : length sink_new ≡ length sink_old + count
-  pub steps : meter_new ≡ meter_old + ticks
 
 -- as `HasRoomFor` and `AddsFields` for a list of bits, where nothing is counted beside them
 abbrev pub HasRoomForBits : List Bool → ℕ → ℕ → Type 0
@@ -73,11 +67,11 @@ pairs_len ds = sum_by (λ g. g + 1) (pair_codes ds)
 
 -- these parts are put, with a look at each residual
 abbrev pub PutsLow : ℕ → ℕ → List ℕ → List Bool → List Bool → ℕ → ℕ → Type 0
-PutsLow width n ds sink_old sink_new meter_old meter_new = PutsFields (flat_map (word width) ds) (n * width) (n * (width + 1)) sink_old sink_new meter_old meter_new
+PutsLow width n ds sink_old sink_new meter_old meter_new = Puts (flat_map (word width) ds) (n * width) (n * (width + 1)) sink_old sink_new meter_old meter_new
 
 abbrev pub PutsOnes : ℕ → ℕ → List ℕ → List Bool → List Bool → ℕ → ℕ → Type 0
 PutsOnes k n ds sink_old sink_new meter_old meter_new =
-    PutsFields (flat_map (λ d. fundamental_sequence (d / 2 ^ k)) ds) (n + sum_by (λ d. d / 2 ^ k) ds) (n + (n + sum_by (λ d. d / 2 ^ k) ds)) sink_old sink_new meter_old meter_new
+    Puts (flat_map (λ d. fundamental_sequence (d / 2 ^ k)) ds) (n + sum_by (λ d. d / 2 ^ k) ds) (n + (n + sum_by (λ d. d / 2 ^ k) ds)) sink_old sink_new meter_old meter_new
 
 abbrev pub PutsPairs : List ℕ → List Bool → List Bool → ℕ → ℕ → Type 0
-PutsPairs ds sink_old sink_new meter_old meter_new = PutsFields (flat_map fundamental_sequence (pair_codes ds)) (pairs_len ds) (length ds + pairs_len ds) sink_old sink_new meter_old meter_new
+PutsPairs ds sink_old sink_new meter_old meter_new = Puts (flat_map fundamental_sequence (pair_codes ds)) (pairs_len ds) (length ds + pairs_len ds) sink_old sink_new meter_old meter_new

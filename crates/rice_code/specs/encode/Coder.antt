@@ -1,7 +1,7 @@
 -- Which samples a coder has taken, and the code that each call appends.
 use Rattle.std.specs.Prelude.{◌≡◌, ℕ, ◌+◌, ◌*◌, ◌%◌, ◌<◌, ◌≤◌, Bool, true, if◌then◌else◌, List, [], ◌∷◌, ◌++◌, length, Option, Some, None, ℤ, pos}
 use Rattle.std.specs.List.{AllByRecursion}
-use Rattle.rice_samples.specs.{Places.place, Places.begins_segment, Places.is_reference, Places.blocks_left, predict.Residuals.pattern, predict.Residuals.residuals, predict.Residuals.last_of}
+use Rattle.rice_samples.specs.{Places.place, Places.begins_segment, Places.is_reference, Places.blocks_left, Residuals.pattern, Residuals.residuals, Residuals.last_of}
 use Rattle.rice_samples.specs.Parameters.{Parameters, IsLegal, IsSample}
 use Rattle.rice_code.specs.{code.Code.code, code.Code.code_bits, code.Code.complete_samples, CoderSteps.least_steps, CoderSteps.most_steps, encode.OpenSegment.CoderState}
 

@@ -1,7 +1,7 @@
 -- The blocks that a coder holds, and the runs of zeros among them.
 use Rattle.std.specs.Prelude.{◌≡◌, ℕ, zero, suc, ◌+◌, ◌-◌, ◌*◌, ◌≤◌, min, Bool, false, ◌&&◌, nat_le, if◌then◌else◌, List, [], ◌∷◌, ◌++◌, length, take, drop, replicate, sum_by, Option, None}
 use Rattle.rice_samples.specs.Parameters.{Parameters, k_max}
-use Rattle.rice_code.specs.{code.Blocks.BlockData, code.Blocks.zero_block, code.Choice.shortest, code.Choice.best_split, code.Code.data_sets, code.Runs.run_of_blocks, code.SoundBlocks.block_with}
+use Rattle.rice_code.specs.code.{Blocks.BlockData, Blocks.zero_block, Choice.shortest, Choice.best_split, Code.data_sets, Code.run_of_blocks, SoundBlocks.block_with}
 use Rattle.rice_code.specs.{CoderSteps.least_looks, CoderSteps.most_looks, encode.BitBuffer.HasRoomFor, encode.BitBuffer.HasRoomForSet, encode.BitBuffer.PutsSet}
 use Rattle.rice_code.specs.code.CodedDataSets.{CodedDataSet, run_number, cost, bits_of_set, bits_of_sets}
 

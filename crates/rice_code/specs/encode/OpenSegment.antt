@@ -1,7 +1,7 @@
 -- What a coder holds of the segment that it fills: its residuals, and how each call changes it.
-use Rattle.std.specs.Prelude.{◌≡◌, ℕ, ◌+◌, ◌*◌, ◌/◌, ◌<◌, ◌≤◌, ◌⊎◌, Bool, true, false, ◌&&◌, ◌==◌, if◌then◌else◌, List, [], ◌∷◌, ◌++◌, length, replicate, Option, Some, None, IfSome, sum_by, ℤ, pos}
+use Rattle.std.specs.Prelude.{◌≡◌, ℕ, ◌+◌, ◌*◌, ◌/◌, ◌<◌, ◌≤◌, ◌⊎◌, Bool, true, false, ◌&&◌, ◌==◌, if◌then◌else◌, List, [], ◌∷◌, ◌++◌, length, replicate, Option, Some, None, IfSome, sum_by, ℤ}
 use Rattle.rice_samples.specs.{Parameters.Parameters, Parameters.IsLegal, Parameters.IsSample, Parameters.value_count, Places.place, Places.begins_segment, Places.blocks_left}
-use Rattle.rice_samples.specs.predict.Residuals.{pattern, rank, last_of}
+use Rattle.rice_samples.specs.Residuals.{pattern, rank, last_of}
 use Rattle.rice_code.specs.{code.CodedDataSets.CodedDataSet, code.CodedDataSets.bits_of_set, CoderSteps.least_looks, CoderSteps.most_looks, code.SoundBlocks.AreSoundBlocks, code.Blocks.BlockData}
 use Rattle.rice_code.specs.{encode.HeldBlocks.held_blocks, encode.BitBuffer.sink_bits, code.Code.data_sets, Bounds.block_bound, code.Layout.layout}
 
@@ -35,11 +35,7 @@ is_empty (d ∷ ds) = false
 abbrev pub HasRoomForSegment : Parameters → List Bool → Type 0
 HasRoomForSegment s sink = (length sink ≤ 7) ⊎ (length sink + 64 * block_bound s ≤ sink_bits)
 
--- a coder that holds nothing
-abbrev pub empty_state : Parameters → CoderState
-empty_state s = record { setting = s; residuals = []; reference = None; previous = pos 0; start = 0 }
-
--- one that holds nothing where the next segment begins at the place `start`, after the sample p
+-- a coder that holds nothing where the next segment begins at the place `start`, after the sample p; the first begins at 0, after 0
 abbrev pub state_between : Parameters → ℕ → ℤ → CoderState
 state_between s start p = record { setting = s; residuals = []; reference = None; previous = p; start = start }
 

@@ -1,6 +1,8 @@
 //! Reads one coded data set.
-ghost use Rattle.std.specs.Prelude.{◌≡◌, ◌-◌, ◌<◌, length, IfOk, IfErr};
-ghost use Rattle.rice_code.specs.decode.{ReadSets.LowEntropyRead, ReadSets.LowEntropyCut, ReadSets.SetRead, ReadSets.SetCut, ReadSets.CanRead, ReadSets.AreCounted};
+ghost use Rattle.std.specs.Prelude.{◌≡◌, ◌-◌, ◌<◌, [], length, IfOk, IfErr};
+ghost use Rattle.rice_bits.specs.Bits.{word};
+ghost use Rattle.rice_samples.specs.Parameters.{id_len};
+ghost use Rattle.rice_code.specs.ReadSets.{SetRead, SetCut, CanRead, AreCounted};
 
 use crate::decode::options::{
     SetSummary, read_no_compression, read_run, read_second_extension, read_split,
@@ -18,10 +20,11 @@ fn read_low_entropy<I: Intake>(
 ) -> Result<SetSummary, BitFault>
     requires ready { CanRead reader.old meter.old }
     requires size { length residuals.old ≡ setting.now.block }
-    ensures ok { IfOk result (λ t. LowEntropyRead reader.old reader.new meter.old meter.new
-        setting.now block t residuals.new) }
+    ensures ok { IfOk result (λ t. SetRead (word (id_len setting.now) 0) reader.old reader.new
+        meter.old meter.new setting.now block t residuals.new) }
     ensures err { IfErr result
-        (LowEntropyCut reader.old reader.new meter.old meter.new setting.now block) }
+        (SetCut (word (id_len setting.now) 0) reader.old reader.new meter.old meter.new
+        setting.now block) }
     ensures steps { AreCounted meter.old meter.new reader.old.taken reader.new.taken }
 {
     let bit = reader.take(1, meter)?;
@@ -44,9 +47,9 @@ pub fn read_set<I: Intake>(
     requires ready { CanRead reader.old meter.old }
     requires size { length residuals.old ≡ setting.now.block }
     ensures ok { IfOk result (λ t.
-        SetRead reader.old reader.new meter.old meter.new setting.now block t residuals.new) }
+        SetRead [] reader.old reader.new meter.old meter.new setting.now block t residuals.new) }
     ensures err { IfErr result
-        (SetCut reader.old reader.new meter.old meter.new setting.now block) }
+        (SetCut [] reader.old reader.new meter.old meter.new setting.now block) }
     ensures steps { AreCounted meter.old meter.new reader.old.taken reader.new.taken }
 {
     let width = setting.id_len();

@@ -2,8 +2,8 @@
 ghost use Rattle.std.specs.Prelude.{◌≡◌, ◌≢◌, ℕ, ◌+◌, ◌-◌, ◌*◌, ◌<◌, ◌≤◌, [], length, None, Option, Some, IfSome, IfNone, Ok, pos, true};
 ghost use Rattle.rice_bits.specs.Limits.{step_limit, most_bits_read};
 ghost use Rattle.rice_samples.specs.{Parameters.IsSample, Places.blocks_left};
-ghost use Rattle.rice_code.specs.{decode.Decoder.next_block_place, decode.Decoder.place_after, code.Forms.RunIsSound, code.Forms.blocks_in, code.Forms.zero_blocks, code.Layout.padding};
-ghost use Rattle.rice_code.specs.{code.CodedDataSets.run_with_zeros, decode.Decoder.Skips, decode.Decoder.answer_to, decode.ReadSets.AreCounted, Bounds.most_samples_of_bit};
+ghost use Rattle.rice_code.specs.{Decoder.place_after, code.Forms.RunIsSound, code.Forms.blocks_in, code.Forms.zero_blocks, code.Layout.padding};
+ghost use Rattle.rice_code.specs.{code.CodedDataSets.run_with_zeros, Decoder.Skips, Decoder.answer_to, ReadSets.AreCounted, Bounds.most_samples_of_bit};
 
 use crate::decode::call_results::{CodeFault, Step};
 use crate::decode::coded_data_set::read_set;
@@ -93,7 +93,7 @@ pub struct Decoder {
 }
 
 impl Model for Decoder {
-    ghost use Rattle.rice_code.specs.decode.Decoder.{DecoderState, IsDecoderState};
+    ghost use Rattle.rice_code.specs.Decoder.{DecoderState, IsDecoderState};
 
     ghost Value = { DecoderState };
 
@@ -103,8 +103,8 @@ impl Model for Decoder {
 }
 
 impl Decoder {
-    ghost use Rattle.rice_code.specs.{decode.Decoder.IsDecoderState, decode.Decoder.decoder_at, declared.decode.call_results.Step.TheVariants.Block};
-    ghost use Rattle.rice_code.specs.decode.Decoder.{Answers, GivesFromRun, RepeatsBlocks, with_mark};
+    ghost use Rattle.rice_code.specs.{Decoder.IsDecoderState, Decoder.decoder_at, declared.decode.call_results.Step.TheVariants.Block};
+    ghost use Rattle.rice_code.specs.Decoder.{Answers, GivesFromRun, RepeatsBlocks, with_mark};
 
     /// Returns a decoder at the start of a code.
     pub fn new(setting: Setting) -> Self
@@ -282,7 +282,7 @@ impl Decoder {
         requires meter { meter.old + 7 < step_limit }
         ensures block { result ≡ Ok Block }
         ensures moves { self.new ≡ record self.old {
-          block = next_block_place self.old.setting self.old.block;
+          block = place_after self.old.setting self.old.block 1;
           before = last;
           run = run;
         } }

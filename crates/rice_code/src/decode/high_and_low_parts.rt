@@ -1,7 +1,7 @@
 //! Reads the high and the low parts of residuals.
 ghost use Rattle.std.specs.Prelude.{◌≡◌, ◌+◌, ◌-◌, ◌/◌, ◌^◌, ◌≤◌, length, IfOk, IfErr};
 ghost use Rattle.rice_bits.specs.Limits.{most_bits_read};
-ghost use Rattle.rice_code.specs.{decode.ReadSets.CanRead, decode.ReadSets.PartsRead, decode.ReadSets.PartsCut};
+ghost use Rattle.rice_code.specs.ReadSets.{CanRead, PartsRead, PartsCut};
 
 use crate::decode::rows_of_fields::{read_sequences, read_words};
 use crate::decode::sound_residuals::join_all_parts;

@@ -1,9 +1,9 @@
 //! Reads the fields after an identifier: a block by each option, or a run.
 ghost use Rattle.std.specs.Prelude.{◌≡◌, ℕ, ◌+◌, ◌-◌, ◌/◌, ◌^◌, ◌<◌, ◌≤◌, Bool, true, List, ◌++◌, length, take, drop, Option, IfOk, IfErr};
-ghost use Rattle.rice_bits.specs.{read.Reader.Takes, read.Reader.Stops, Limits.most_bits_read};
+ghost use Rattle.rice_bits.specs.{Reader.Takes, Reader.Stops, Limits.most_bits_read};
 ghost use Rattle.rice_samples.specs.{Places.is_reference, Parameters.k_max};
 ghost use Rattle.rice_code.specs.code.{CodedDataSets.NoCompression, CodedDataSets.SecondExtension, CodedDataSets.Split, CodedDataSets.reference_bits, CodedDataSets.run_tail, Forms.IsReference};
-ghost use Rattle.rice_code.specs.decode.{ReadSets.BlockRead, ReadSets.BlockCut, ReadSets.PartsRead, ReadSets.PartsCut, ReadSets.reference_place, ReadSets.CanRead, ReadSets.AreCounted};
+ghost use Rattle.rice_code.specs.ReadSets.{BlockRead, BlockCut, PartsRead, PartsCut, reference_place, CanRead, AreCounted};
 
 use crate::decode::high_and_low_parts::read_parts;
 use crate::decode::pairs::read_pairs;

@@ -1,8 +1,8 @@
 //! Reads the pairs of second extension.
 ghost use Rattle.std.specs.Prelude.{◌≡◌, ◌+◌, ◌/◌, ◌<◌, ◌≤◌, Bool, List, length, IfErr, OnOk};
-ghost use Rattle.rice_bits.specs.{Limits.most_bits_read, Limits.step_limit, read.Reader.Stops};
-ghost use Rattle.rice_samples.specs.blocks.Pairs.{pair_code};
-ghost use Rattle.rice_code.specs.decode.ReadSets.{CanRead, AreCounted, PairRow, ones};
+ghost use Rattle.rice_bits.specs.{Limits.most_bits_read, Limits.step_limit, Reader.Stops};
+ghost use Rattle.rice_samples.specs.Pairs.{pair_code};
+ghost use Rattle.rice_code.specs.ReadSets.{CanRead, AreCounted, PairRow, ones};
 
 use rice_bits::{BitFault, BitReader, Intake, Meter};
 

@@ -1,7 +1,7 @@
 //! Restores the samples of a block.
 ghost use Rattle.std.specs.Prelude.{◌≡◌, ◌<◌, ◌&&◌, true, false, [], length, All, IfNone, IfSome, is_some};
-ghost use Rattle.rice_samples.specs.{predict.Residuals.pattern, predict.Residuals.last_of, Parameters.IsSample, Parameters.value_count};
-ghost use Rattle.rice_code.specs.{code.Forms.IsReference, code.Forms.IsBlock, code.Forms.IsZeroAtReference, code.Forms.AllFit, decode.Decoder.RestoresBlock, decode.Decoder.residual_at};
+ghost use Rattle.rice_samples.specs.{Residuals.pattern, Residuals.last_of, Parameters.IsSample, Parameters.value_count};
+ghost use Rattle.rice_code.specs.{code.Forms.IsReference, code.Forms.IsBlock, code.Forms.IsZeroAtReference, code.Forms.AllFit, Decoder.RestoresBlock, Decoder.residual_at};
 ghost use Rattle.rice_code.specs.code.{SoundBlocks.IsSoundBlock, SoundBlocks.block_with, Blocks.block_data, Blocks.zero_block};
 
 use crate::decode::options::BlockSummary;

@@ -1,7 +1,7 @@
 //! Reads rows of words, and rows of the counts of fundamental sequences.
 ghost use Rattle.std.specs.Prelude.{◌≡◌, ◌*◌, ◌+◌, ◌^◌, ◌<◌, ◌≤◌, Bool, List, length, IfOk, IfErr, OnOk};
-ghost use Rattle.rice_bits.specs.{Limits.most_bits_read, read.Reader.Stops};
-ghost use Rattle.rice_code.specs.decode.ReadSets.{CanRead, WordRow, CountRow, ones};
+ghost use Rattle.rice_bits.specs.{Limits.most_bits_read, Reader.Stops};
+ghost use Rattle.rice_code.specs.ReadSets.{CanRead, WordRow, CountRow, ones};
 
 use rice_bits::{BitFault, BitReader, Intake, Meter};
 

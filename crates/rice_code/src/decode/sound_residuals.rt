@@ -1,6 +1,6 @@
 //! Joins the parts of residuals, and checks that residuals are sound.
 ghost use Rattle.std.specs.Prelude.{◌≡◌, ◌-◌, ◌/◌, ◌^◌, ◌<◌, ◌≤◌, ◌↔◌, IsTrue, length, slice_index, OnSome, All};
-ghost use Rattle.rice_bits.specs.read.JoinedParts.{joined_parts};
+ghost use Rattle.rice_bits.specs.Bits.{joined_parts};
 
 /// Joins each high part with the low part of k bits at its place, and writes the residual there.
 #[inline(always)]

@@ -30,7 +30,7 @@ impl Model for Coder {
 }
 
 impl Coder {
-    ghost use Rattle.rice_code.specs.{encode.OpenSegment.state_between, code.Code.complete_samples, code.Blocks.fill_count_of};
+    ghost use Rattle.rice_code.specs.{encode.OpenSegment.state_between, code.Code.complete_samples, code.Blocks.fill_count};
     ghost use Rattle.rice_code.specs.encode.Coder.{HasTaken, AddsCode, PushesSamples};
 
     /// Returns a coder that has taken no samples.
@@ -119,7 +119,7 @@ impl Coder {
         requires meter { meter.old + segment_steps self.setting < step_limit }
         ensures { (xs : List ℤ) → HasTaken self xs → (count : ℕ) ×
             AddsCode self.setting (complete_samples self.setting xs) xs
-            sink.old sink.new count (fill_count_of self.setting xs) meter.old meter.new }
+            sink.old sink.new count (fill_count self.setting (length xs)) meter.old meter.new }
     {
         let mut coder = self;
         let _count = coder.finish_counted(sink, meter);
@@ -132,7 +132,7 @@ impl Coder {
         requires meter { meter.old + segment_steps self.old.setting < step_limit }
         ensures adds { (xs : List ℤ) → HasTaken self.old xs →
             AddsCode self.old.setting (complete_samples self.old.setting xs) xs
-            sink.old sink.new result (fill_count_of self.old.setting xs) meter.old meter.new }
+            sink.old sink.new result (fill_count self.old.setting (length xs)) meter.old meter.new }
         ensures taken { HasTaken self.new [] }
         ensures setting { self.new.setting ≡ self.old.setting }
     {

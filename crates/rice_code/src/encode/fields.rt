@@ -1,6 +1,6 @@
 //! Puts the fields of residuals in coded data sets.
 ghost use Rattle.std.specs.Prelude.{◌≡◌, ◌+◌, ◌-◌, ◌%◌, ◌^◌, ◌<◌, ◌≤◌, length, drop};
-ghost use Rattle.rice_samples.specs.blocks.Pairs.{pair_code};
+ghost use Rattle.rice_samples.specs.Pairs.{pair_code};
 ghost use Rattle.rice_code.specs.encode.BitBuffer.{sink_bits, HasRoomFor, HasRoomForLow, HasRoomForOnes, PutsLow, PutsOnes, PutsPairs, pairs_len};
 
 use crate::encode::SegmentSink;

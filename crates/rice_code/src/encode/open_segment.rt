@@ -1,8 +1,8 @@
 //! The segment that a coder fills.
-ghost use Rattle.std.specs.Prelude.{◌≡◌, ◌+◌, ◌-◌, ◌*◌, ◌<◌, ◌≤◌, ◌↔◌, ◌++◌, length, replicate, if◌then◌else◌, ◌==◌, ◌&&◌, Some, false, IsTrue};
+ghost use Rattle.std.specs.Prelude.{◌≡◌, ◌+◌, ◌-◌, ◌*◌, ◌<◌, ◌≤◌, ◌↔◌, ◌++◌, length, replicate, if◌then◌else◌, ◌==◌, ◌&&◌, Some, false, pos, IsTrue};
 ghost use Rattle.rice_bits.specs.{Bits.bits_to_byte, Limits.step_limit};
-ghost use Rattle.rice_samples.specs.{Limits.longest_interval, Limits.longest_segment, predict.Residuals.pattern, predict.Residuals.rank, Parameters.IsLegal, Parameters.IsSample, Places.blocks_left};
-ghost use Rattle.rice_code.specs.encode.OpenSegment.{IsOpen, IsWhole, HasRoomForSegment, empty_state, state_between, state_after, state_with_fill, state_after_segment, HoldsSoundBlocks, CodesHeld};
+ghost use Rattle.rice_samples.specs.{Limits.longest_interval, Limits.longest_segment, Residuals.pattern, Residuals.rank, Parameters.IsLegal, Parameters.IsSample, Places.blocks_left};
+ghost use Rattle.rice_code.specs.encode.OpenSegment.{IsOpen, IsWhole, HasRoomForSegment, state_between, state_after, state_with_fill, state_after_segment, HoldsSoundBlocks, CodesHeld};
 ghost use Rattle.rice_code.specs.{encode.OpenSegment.is_first, CoderSteps.coding_steps, code.Blocks.fill_count};
 
 use crate::encode::SegmentSink;
@@ -41,7 +41,7 @@ impl Model for OpenSegment {
 impl OpenSegment {
     /// Returns the first segment, without residuals.
     pub fn new(setting: Setting) -> Self
-        ensures { result ≡ empty_state setting }
+        ensures { result ≡ state_between setting 0 (pos 0) }
     {
         let _block = setting.block();
         OpenSegment::resume(setting, 0, 0)
@@ -167,7 +167,7 @@ impl OpenSegment {
 
     /// Begins the first segment again, without residuals.
     pub fn begin_first(&mut self)
-        ensures { self.new ≡ empty_state self.old.setting }
+        ensures { self.new ≡ state_between self.old.setting 0 (pos 0) }
     {
         self.residuals.clear();
         self.reference = None;

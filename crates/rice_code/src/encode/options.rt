@@ -4,7 +4,7 @@ ghost use Rattle.rice_bits.specs.Bits.{word};
 ghost use Rattle.rice_samples.specs.Parameters.{k_max, value_count};
 ghost use Rattle.rice_code.specs.code.CodedDataSets.{NoCompression, SecondExtension, Split, sent_residuals, reference_bits, reference_len};
 ghost use Rattle.rice_code.specs.encode.BitBuffer.{HasRoomFor, HasRoomForOption, HasRoomForSet, PutsSet};
-ghost use Rattle.rice_code.specs.{code.Runs.run_of_blocks, encode.HeldBlocks.zeros_of_run, code.SoundBlocks.IsSoundData};
+ghost use Rattle.rice_code.specs.{code.Code.run_of_blocks, encode.HeldBlocks.zeros_of_run, code.SoundBlocks.IsSoundData};
 
 use crate::encode::SegmentSink;
 use crate::encode::fields::{put_high, put_low, put_pairs};

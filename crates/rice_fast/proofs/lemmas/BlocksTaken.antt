@@ -1,10 +1,10 @@
 -- A block that was looked at, taken and spelled.
 use Rattle.rice_fast.proofs.Words.{◌≡◌, ℕ, ℤ, suc, ◌+◌, ◌-◌, ◌*◌, ◌≤◌, Bool, List, length, take, sym, ◌∙◌, ap, subst, arith, length-take-le, Reader, Takes, Parameters, IsLegal, value_at, values_at}
-use Rattle.rice_fast.proofs.Words.{width, last_of, last_value, length-values, bits_of_set, padding, Skips, TakesSet, with_mark, DecoderState, next_block_place, answers_block, samples_by_bits}
+use Rattle.rice_fast.proofs.Words.{width, last_of, last_value, length-values, bits_of_set, padding, Skips, TakesSet, with_mark, DecoderState, place_after, answers_block, samples_by_bits}
 use Rattle.rice_fast.proofs.Words.{GivesBytes, SpelledAhead}
 use Rattle.std.proofs.Common.{◌&&◌, Contains, false, not, refl, true}
 use Rattle.std.proofs.lemmas.List.Folds.{list_all_at}
-use Rattle.rice_bits.specs.read.Reader.{is_blank}
+use Rattle.rice_bits.specs.Reader.{is_blank}
 use Rattle.rice_code.proofs.lemmas.code.OnesOfForms.{forms_have_a_one}
 use Rattle.rice_fast.proofs.lemmas.vectors.HalfLanes.{last_is as last_at}
 
@@ -33,7 +33,7 @@ marked {start = start} bits (k, lt, at) takes = record {
 -- the bytes of such a block
 pub bytes_given : {I : Type 0} {start middle new : Reader I} {first steps last : ℕ} {p q : DecoderState} {len l searched : ℕ} {bytes : List ℕ}
     → IsLegal p.setting → SpelledAhead start.buffered p.setting p.block p.before l len searched bytes → TakesBlock start middle new first steps last len searched p
-    → q ≡ record p { block = next_block_place p.setting p.block; before = value_at p.setting l; run = 0 } → GivesBytes start new first last p q bytes
+    → q ≡ record p { block = place_after p.setting p.block 1; before = value_at p.setting l; run = 0 } → GivesBytes start new first last p q bytes
 bytes_given {start} {middle} {new} {first} {steps} {last} {p} {q} {len} {l} {searched} {bytes} legal spelled takes moves =
     let s = p.setting in
     let ahead = spelled.ahead in

@@ -1,6 +1,6 @@
 //! A buffer of bits that puts several fields into a sink at once.
 ghost use Rattle.std.specs.Prelude.{◌≡◌, ◌+◌, ◌%◌, ◌^◌, ◌<◌, ◌≤◌, ◌++◌, [], flat_map, length};
-ghost use Rattle.rice_bits.specs.{Bits.word, Bits.fundamental_sequence, Bits.put_width, WholeWords.IsWholeWidth};
+ghost use Rattle.rice_bits.specs.Bits.{word, fundamental_sequence, put_width, IsWholeWidth};
 ghost use Rattle.rice_code.specs.encode.BitBuffer.{HasRoomFor, HasRoomForBits, AddsBits, AddsFields};
 
 use rice_bits::{Meter, join};

@@ -5,7 +5,7 @@ ghost use Rattle.rice_samples.specs.Parameters.{k_max};
 ghost use Rattle.rice_code.specs.code.CodedDataSets.{NoCompression, SecondExtension, Split, cost};
 ghost use Rattle.rice_code.specs.encode.SetOfChoice.{chosen_set, head_len, IsSplitWithin};
 ghost use Rattle.rice_code.specs.{code.Choice.shortest, code.Choice.IsBestSplit, code.Choice.best_split, code.SoundBlocks.IsSoundData};
-ghost use Rattle.rice_fast.specs.encode.Parts.{with_zeros, IsHighOfChoice};
+ghost use Rattle.rice_fast.specs.Parts.{with_zeros, IsHighOfChoice};
 
 use crate::encode::cost::{coded_len, no_compression_cost, second_extension_cost, split_cost};
 use crate::encode::stops::{digits_above, first_stop};

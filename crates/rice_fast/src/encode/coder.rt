@@ -1,13 +1,13 @@
 //! The coder, from the bytes of samples to code.
-ghost use Rattle.std.specs.Prelude.{◌≡◌, ℕ, ◌+◌, ◌-◌, ◌*◌, ◌/◌, ◌<◌, ◌≤◌, ◌++◌, ◌∷◌, [], min, Bool, true, false, length, replicate, List, ℤ, IfSome, IfNone};
+ghost use Rattle.std.specs.Prelude.{◌≡◌, ℕ, ◌+◌, ◌-◌, ◌*◌, ◌/◌, ◌<◌, ◌≤◌, ◌++◌, ◌∷◌, [], min, Bool, true, false, length, replicate, List, ℤ, pos, IfSome, IfNone};
 ghost use Rattle.rice_bits.specs.Limits.{step_limit};
 ghost use Rattle.rice_samples.specs.Parameters.{IsSample, value_at, value_count, width as width_of};
-ghost use Rattle.rice_samples.specs.{Places.blocks_left, bytes.Spelling.IsNoSpelling, bytes.Spelling.Reads};
-ghost use Rattle.rice_code.specs.code.Blocks.{fill_count, fill_count_of};
-ghost use Rattle.rice_code.specs.encode.OpenSegment.{CodesHeld, IsOpen, empty_state, next_start, state_after_all, state_between};
+ghost use Rattle.rice_samples.specs.{Places.blocks_left, Spelling.IsNoSpelling, Spelling.Reads};
+ghost use Rattle.rice_code.specs.code.Blocks.{fill_count};
+ghost use Rattle.rice_code.specs.encode.OpenSegment.{CodesHeld, IsOpen, next_start, state_after_all, state_between};
 ghost use Rattle.rice_code.specs.{code.Code.complete_samples, code.SoundBlocks.block_with, encode.Coder.AddsCode, encode.Coder.HasTaken, encode.HeldBlocks.reference_at};
-ghost use Rattle.rice_fast.specs.encode.OpenBlocks.{CanEnd, EndsPart, GoesOn, HasRoomForBlock, IsAhead, IsBefore, StandsAfter, StandsFor, TakesFrom, coder_between, coder_with, is_at_first, whole_part};
-ghost use Rattle.rice_fast.specs.encode.Standing.{HasRoomAt, Standing};
+ghost use Rattle.rice_fast.specs.OpenBlocks.{CanEnd, EndsPart, GoesOn, HasRoomForBlock, IsAhead, IsBefore, StandsAfter, StandsFor, TakesFrom, coder_between, coder_with, is_at_first, whole_part};
+ghost use Rattle.rice_fast.specs.Standing.{HasRoomAt, Standing};
 
 use crate::encode::blocks::code_next_or_add_to_run;
 use crate::encode::repeats::repeat_sample;
@@ -151,9 +151,9 @@ impl BlockCoder {
         ensures adds { (m : Standing) (xs : List ℤ) → StandsFor self.old sink.old meter.old m →
             HasRoomAt m → HasTaken m.coder xs →
             AddsCode self.old.setting (complete_samples self.old.setting xs) xs
-            m.sink sink.new result (fill_count_of self.old.setting xs) m.meter meter.new }
+            m.sink sink.new result (fill_count self.old.setting (length xs)) m.meter meter.new }
         ensures reset { (sink : List Bool) (meter : ℕ) → StandsFor self.new sink meter
-            (record { coder = empty_state self.old.setting; sink = sink; meter = meter }) }
+            (record { coder = state_between self.old.setting 0 (pos 0); sink = sink; meter = meter }) }
     {
         self.fill(sink, meter);
         let bits = self.put_end(sink, meter);

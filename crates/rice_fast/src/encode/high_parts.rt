@@ -1,7 +1,7 @@
 //! The high parts of a block's residuals: what is left of each without its lowest digits, in a byte, and their fundamental sequences.
 ghost use Rattle.std.specs.Prelude.{◌≡◌, ◌+◌, ◌-◌, ◌*◌, ◌/◌, ◌^◌, ◌<◌, ◌≤◌, ◌++◌, All, length, map, replicate, slice_range, sum_by, take};
 ghost use Rattle.rice_code.specs.encode.BitBuffer.{HasRoomForSequences, AddsSequences};
-ghost use Rattle.rice_fast.specs.encode.Parts.{with_zeros};
+ghost use Rattle.rice_fast.specs.Parts.{with_zeros};
 
 use crate::encode::bit_buffer::BitBuffer;
 use crate::encode::byte_rows::{

@@ -2,7 +2,7 @@
 ghost use Rattle.std.specs.Prelude.{◌≡◌, ◌+◌, ◌-◌, ◌*◌, ◌^◌, ◌<◌, ◌≤◌, [], All, drop, false, flat_map, length};
 ghost use Rattle.rice_bits.specs.Bits.{word, put_width};
 ghost use Rattle.rice_code.specs.encode.BitBuffer.{HasRoomFor, HasRoomForBits, AddsBits, AddsFields};
-ghost use Rattle.rice_fast.specs.encode.Parts.{AddsLow, CanAddLow, low_digits_of_each, joined_in_pairs};
+ghost use Rattle.rice_fast.specs.Parts.{AddsLow, CanAddLow, low_digits_of_each, joined_in_pairs};
 
 use crate::encode::bit_buffer::BitBuffer;
 use rice_bits::{Meter, join, low_digits};

@@ -4,7 +4,7 @@ ghost use Rattle.rice_bits.specs.Bits.{word};
 ghost use Rattle.rice_samples.specs.Parameters.{k_max, value_count};
 ghost use Rattle.rice_code.specs.code.CodedDataSets.{NoCompression, SecondExtension, Split, reference_bits, reference_len};
 ghost use Rattle.rice_code.specs.{encode.BitBuffer.HasRoomFor, encode.BitBuffer.HasRoomForOption, encode.BitBuffer.PutsSet, code.SoundBlocks.IsSoundData};
-ghost use Rattle.rice_fast.specs.encode.Parts.{with_zeros};
+ghost use Rattle.rice_fast.specs.Parts.{with_zeros};
 
 use crate::encode::bit_buffer::BitBuffer;
 use crate::encode::high_parts::put_high;

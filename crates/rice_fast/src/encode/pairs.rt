@@ -1,7 +1,7 @@
 //! The pairs of second extension.
 ghost use Rattle.std.specs.Prelude.{◌≡◌, ◌+◌, ◌-◌, ◌%◌, ◌^◌, ◌<◌, ◌≤◌, All, length, flat_map};
 ghost use Rattle.rice_bits.specs.Bits.{fundamental_sequence};
-ghost use Rattle.rice_samples.specs.{Parameters.IsBlockSize, blocks.Pairs.pair_code, blocks.Pairs.pair_codes};
+ghost use Rattle.rice_samples.specs.{Parameters.IsBlockSize, Pairs.pair_code, Pairs.pair_codes};
 ghost use Rattle.rice_code.specs.{encode.BitBuffer.sink_bits, encode.BitBuffer.HasRoomFor, encode.BitBuffer.AddsFields, encode.BitBuffer.pairs_len};
 
 use crate::encode::bit_buffer::BitBuffer;

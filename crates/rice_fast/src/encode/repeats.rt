@@ -1,7 +1,7 @@
 //! Looks whether the bytes of a block spell one sample again and again.
 ghost use Rattle.std.specs.Prelude.{◌≡◌, true, ◌*◌, ◌<◌, length, replicate};
 ghost use Rattle.rice_samples.specs.Parameters.{value_at, value_count, width as width_of};
-ghost use Rattle.rice_samples.specs.bytes.Spelling.{spellings};
+ghost use Rattle.rice_samples.specs.Spelling.{spellings};
 ghost use Rattle.rice_fast.specs.BlocksAhead.{HasBits};
 
 use crate::vectors::LevelLanes;

@@ -1,7 +1,7 @@
 //! Joins the fundamental sequences of 16 numbers in one number, by products in lanes.
 ghost use Rattle.std.specs.Prelude.{◌≡◌, ◌+◌, ◌-◌, ◌^◌, ◌≤◌, ◌↔◌, ◌++◌, All, IsTrue, flat_map, length, map, replicate, slice_range, take};
 ghost use Rattle.rice_bits.specs.Bits.{number_of, fundamental_sequence};
-ghost use Rattle.rice_fast.specs.encode.Parts.{HasDigits, joined_values, joined_weights};
+ghost use Rattle.rice_fast.specs.Parts.{HasDigits, joined_values, joined_weights};
 
 use std::simd::prelude::*;
 

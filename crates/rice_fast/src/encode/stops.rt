@@ -1,6 +1,6 @@
 //! Where one more digit no longer lowers the sum of residuals by enough.
 ghost use Rattle.std.specs.Prelude.{◌≡◌, All, ℕ, ◌*◌, ◌/◌, ◌^◌, ◌<◌, ◌≤◌, length, map, sum_by};
-ghost use Rattle.rice_fast.specs.{encode.Parts.IsFirstStop, encode.Parts.with_zeros};
+ghost use Rattle.rice_fast.specs.Parts.{IsFirstStop, with_zeros};
 
 use crate::encode::high_parts::{high_parts, shifted, sum_shifted};
 

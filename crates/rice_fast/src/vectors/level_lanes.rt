@@ -2,9 +2,9 @@
 ghost use Rattle.std.specs.Prelude.{◌≡◌, ℕ, ◌*◌, ◌^◌, ◌<◌, ◌≤◌, drop, flat_map, get_or, length, map};
 ghost use Rattle.std.specs.Simd.Lanes.{Each1};
 ghost use Rattle.rice_samples.specs.Parameters.{value_count, values_at, width as width_of};
-ghost use Rattle.rice_samples.specs.predict.Residuals.{pattern as pattern_of};
-ghost use Rattle.rice_samples.specs.bytes.PatternLanes.{words_in_order};
-ghost use Rattle.rice_samples.specs.bytes.Spelling.{ordered_bytes, spellings};
+ghost use Rattle.rice_samples.specs.Residuals.{pattern as pattern_of};
+ghost use Rattle.rice_samples.specs.PatternLanes.{words_in_order};
+ghost use Rattle.rice_samples.specs.Spelling.{ordered_bytes, spellings};
 ghost use Rattle.rice_fast.specs.BlocksAhead.{HasBits};
 
 use crate::vectors::lanes::Lanes;

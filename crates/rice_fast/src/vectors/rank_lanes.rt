@@ -1,7 +1,7 @@
 //! Residuals of levels, in lanes.
 ghost use Rattle.std.specs.Prelude.{◌≡◌, ◌+◌, ◌^◌, ◌<◌, ◌≤◌};
 ghost use Rattle.std.specs.Simd.Lanes.{zip2, Each1};
-ghost use Rattle.rice_samples.specs.predict.Residuals.{rank_below};
+ghost use Rattle.rice_samples.specs.Residuals.{rank_below};
 
 use crate::vectors::lanes::Lanes;
 

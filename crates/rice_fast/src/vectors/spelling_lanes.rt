@@ -1,7 +1,7 @@
 //! The bytes of samples in lanes, from their levels, and from patterns that use all their bits.
 ghost use Rattle.std.specs.Prelude.{◌≡◌, ◌⊎◌, ◌^◌, ◌<◌, All, length, take};
 ghost use Rattle.rice_samples.specs.Parameters.{value_count, values_at, width as width_of};
-ghost use Rattle.rice_samples.specs.{bytes.Spelling.spellings, bytes.PatternLanes.OrdersWords, bytes.PatternLanes.words_in_order};
+ghost use Rattle.rice_samples.specs.{Spelling.spellings, PatternLanes.OrdersWords, PatternLanes.words_in_order};
 
 use crate::vectors::lanes::bytes::Bytes;
 use crate::vectors::lanes::halves::Halves;

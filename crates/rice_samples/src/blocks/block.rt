@@ -2,7 +2,7 @@
 ghost use Rattle.std.specs.Prelude.{◌≡◌, ℕ, ◌+◌, ◌-◌, ◌/◌, ◌^◌, ◌==◌, ◌<◌, ◌≤◌, length, slice_index, sum_by};
 ghost use Rattle.std.specs.List.{list_all};
 ghost use Rattle.rice_bits.specs.Limits.{step_limit};
-ghost use Rattle.rice_samples.specs.{blocks.Pairs.pair_codes, Parameters.IsBlockSize};
+ghost use Rattle.rice_samples.specs.{Pairs.pair_codes, Parameters.IsBlockSize};
 
 use crate::blocks::pair_codeword_lengths::pair_sum;
 use crate::blocks::tests_and_sums::{

@@ -1,6 +1,6 @@
 //! The lengths of the second-extension codewords of pairs of residuals.
 ghost use Rattle.std.specs.Prelude.{◌≡◌, ◌+◌, ◌^◌, ◌<◌, ◌≤◌, length, sum_by};
-ghost use Rattle.rice_samples.specs.{blocks.Pairs.pair_code, blocks.Pairs.pair_codes, Parameters.IsBlockSize};
+ghost use Rattle.rice_samples.specs.{Pairs.pair_code, Pairs.pair_codes, Parameters.IsBlockSize};
 
 /// Returns the number of bits of the codewords of all pairs.
 pub(crate) fn pair_sum(items: &[u32]) -> u128

@@ -1,6 +1,6 @@
 //! The unique bytes of each sample.
 ghost use Rattle.std.specs.Prelude.{◌≡◌, ◌≢◌, ◌≤◌, length, ℤ, IfNone, IfSome};
-ghost use Rattle.rice_samples.specs.{Parameters.IsSample, Parameters.level as level_of, Parameters.value_count, Parameters.width, bytes.Spelling.spelling};
+ghost use Rattle.rice_samples.specs.{Parameters.IsSample, Parameters.level as level_of, Parameters.value_count, Parameters.width, Spelling.spelling};
 
 use crate::Setting;
 use crate::patterns::{bytes_with, digits_of, number_of_bytes};

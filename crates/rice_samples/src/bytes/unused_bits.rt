@@ -1,6 +1,6 @@
 //! Sets the unused bits of samples.
 ghost use Rattle.std.specs.Prelude.{◌≡◌, length};
-ghost use Rattle.rice_samples.specs.{bytes.UnusedBits.SpellsOne, bytes.UnusedBits.SpellsPatterns, Parameters.width};
+ghost use Rattle.rice_samples.specs.{UnusedBits.SpellsOne, UnusedBits.SpellsPatterns, Parameters.width};
 
 use crate::Setting;
 use crate::bytes::spelling::bytes_of;

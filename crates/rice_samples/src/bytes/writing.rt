@@ -1,6 +1,6 @@
 //! Writes the bytes of several samples.
 ghost use Rattle.std.specs.Prelude.{◌≡◌, ◌*◌, ◌<◌, All, length};
-ghost use Rattle.rice_samples.specs.{Parameters.value_count, Parameters.values_at, Parameters.width as width_of, bytes.Spelling.spellings};
+ghost use Rattle.rice_samples.specs.{Parameters.value_count, Parameters.values_at, Parameters.width as width_of, Spelling.spellings};
 
 use crate::Setting;
 use crate::patterns::store_word;

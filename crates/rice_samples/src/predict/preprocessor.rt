@@ -1,7 +1,7 @@
 //! Residuals of samples, each predicted by the sample before, and samples from residuals.
 ghost use Rattle.std.specs.Prelude.{◌≡◌, ◌+◌, ◌^◌, ◌<◌, ◌≤◌, ℤ};
-ghost use Rattle.rice_samples.specs.{predict.Residuals.pattern as pattern_of, predict.Residuals.rank, predict.Residuals.rank_below, Parameters.IsSample, Parameters.value_at, Parameters.value_count};
-ghost use Rattle.rice_samples.specs.predict.NearNumbers.{way as way_of};
+ghost use Rattle.rice_samples.specs.{Residuals.pattern as pattern_of, Residuals.rank, Residuals.rank_below, Parameters.IsSample, Parameters.value_at, Parameters.value_count};
+ghost use Rattle.rice_samples.specs.NearNumbers.{way as way_of};
 
 use crate::Setting;
 use crate::patterns::{digits_of, value_of_digits};

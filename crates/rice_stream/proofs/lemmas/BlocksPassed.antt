@@ -3,9 +3,9 @@ use Rattle.std.proofs.Common.{◌≡◌, ◌≢◌, ℕ, zero, suc, ◌+◌, ◌
 use Rattle.rice_stream.proofs.Words.{IfSome, Ok, Appends, Appends-nil, Appends-trans, Room, Reader, Parameters, IsLegal, width, spellings, length-spellings, spellings-append}
 use Rattle.rice_stream.proofs.Words.{DecoderState, IsDecoderState, Block, Advances, AnswersBytes, DecodesBetween, DecodesWithin, Reports, wanted_of, DecodingProgress, Report, Fault, Write}
 use Rattle.rice_stream.proofs.Words.{mul-le-mul_left, nil_from_length}
-use Rattle.rice_bits.specs.device.OutletRoom.{Fills}
+use Rattle.rice_bits.specs.OutletRoom.{Fills}
 use Rattle.rice_stream.proofs.Words.{Origin, IsStand, GivesMore, IsReadFrom, stand_at, state_of, Stand}
-use Rattle.rice_code.specs.decode.ReadSets.{AreCounted}
+use Rattle.rice_code.specs.ReadSets.{AreCounted}
 use Rattle.rice_fast.specs.BlocksAhead.{GivesBytes}
 use Rattle.rice_stream.specs.{DecodingState.AtWork, DecodingState.FailsInBlocks, DecodingState.IsReady, DecodingState.WritesBlock, DecodingState.WritesBlocks, DecodingState.WritesEach, DecodingState.at_work, Pulling.HasComeTo}
 use Rattle.std.proofs.Common.{drop_of_length-le, drop-drop, take_all}

@@ -107,7 +107,7 @@ decoded_with_set {s} {front} skipped {b} {run} {all} {xs} d legal after before s
         (subst (λ (n : ℕ). DecodedFrom s (b + 1 + run) n (last_of p zs) rest wanted ys ending used) position
         (subst (λ (x : ℤ). DecodedFrom s (b + 1 + run) (length (front ++ set)) x rest wanted ys ending used) (last_both (pos 0) all xs more) next)) in
         let here = decoding_goes_on legal d skipped zs
-        (record { wanted = goes b (omega arith); form = sound.form; run = sound.run; residuals = sound.residuals }) skips
+        (goes b (omega arith), sound.form, sound.run, sound.residuals, tt) skips
         (record { legal = All-append (IsSample s) xs more gives.legal run_of.legal; len = made.1; blocks = made.2 }) there in
         let none : AreOfRun s b p 0 [] = record { len = omega arith; legal = λ k d lt. absurd (omega arith); blocks = refl } in
         let again = append-nil all in

@@ -5,7 +5,7 @@ use Rattle.rice_stream.proofs.Words.{◌^◌, Err, sum_by, All, Contains, IfSome
 use Rattle.rice_stream.proofs.Words.{mod-eq_of_lt, mod_self, mul-div_cancel_left, mul-le-mul_left, cases_lt, nat_tests, take-length, take-append_seam, length-take-le, length-take, Reader, Refills}
 use Rattle.rice_stream.proofs.Words.{is_blank, new_reader, most_buffered, BitFault, bits_of-nil, bits_of-append, length-bits_of, Parameters, IsLegal, place, last_of, spellings, Decoded, Ending}
 use Rattle.rice_stream.proofs.Words.{EndsWith, Reached, Ended, CutOff, Past, Large, BeginsUnsound, IsWanted, cut_to, last_append, place_step, CodedDataSet, bits_of_set, turns, StopsBy, SetEnds}
-use Rattle.rice_stream.proofs.Words.{SetRefused, with_mark, DecoderState, state_after_block, next_block_place, IsForm, SetCut, CodeFault, AreCounted, spellings-append, bits_of, Call, StopsBetween}
+use Rattle.rice_stream.proofs.Words.{SetRefused, with_mark, DecoderState, state_after_block, block_place_after, IsForm, SetCut, CodeFault, AreCounted, spellings-append, bits_of, Call, StopsBetween}
 use Rattle.rice_stream.proofs.Words.{CountsSteps, DecodesBetween, EndsInTurns, Reports, EndsDecoding, DecodesBytes, RunsOut, at_most, wanted_of, ended_fault, refusal_fault, DecodedSoFar, Gains}
 use Rattle.rice_stream.proofs.Words.{DecodingProgress, HasRead, HasSets, HasSteps, DecodesWithin, TakesPart, Report, Fault, Read, Write, TooLong, CodeEnds, Follows, take-nil}
 use Rattle.rice_stream.proofs.lemmas.{EncodingLemmas.Follows-all, EncodingLemmas.part_follows, DecodingLemmas.still_asked, SetsRead.sets-none}
@@ -37,13 +37,13 @@ wanted_part s (Some m) blocks written xs e n = ap (λ k. take (min (m - k) s.blo
     by_min (suc a) (suc j) (x ∷ xs) e = let z : min (suc a) (suc j) ≡ suc (min a j) = omega arith in ap (λ m. take m (x ∷ xs)) z ∙ ap (λ l. x ∷ l) (by_min a j xs (omega arith))
 
 -- the place after a block
-pub next_here : (s : Parameters) (b c : ℕ) → IsLegal s → place s b ≡ c → place s (b + 1) ≡ next_block_place s c
+pub next_here : (s : Parameters) (b c : ℕ) → IsLegal s → place s b ≡ c → place s (b + 1) ≡ block_place_after s c 1
 next_here s b c legal e =
     let lt : c < s.interval = omega (arith, e, mod-lt b legal.interval_from) in
     let same : place s b ≡ place s c = e ∙ sym (mod-eq_of_lt lt) in
     place_step s b c same ∙ by_end (cases_lt (c + 1) s.interval) lt
   where
-    by_end : (c + 1 < s.interval) ⊎ (s.interval ≤ c + 1) → c < s.interval → place s (c + 1) ≡ next_block_place s c
+    by_end : (c + 1 < s.interval) ⊎ (s.interval ≤ c + 1) → c < s.interval → place s (c + 1) ≡ block_place_after s c 1
     by_end (inl inside) lt = let no : (c + 1 == s.interval) ≡ false = grind (arith, nat_tests) in mod-eq_of_lt inside ∙ ap (λ v. cond v 0 (c + 1)) (sym no)
     by_end (inr end) lt = let yes : (c + 1 == s.interval) ≡ true = grind (arith, nat_tests) in let same : c + 1 ≡ s.interval = omega arith in
         ap (λ n. n % s.interval) same ∙ mod_self s.interval ∙ ap (λ v. cond v 0 (c + 1)) (sym yes)
@@ -108,7 +108,7 @@ progress_with_block {s = s} {asked = asked} {start = start} {out_old = out_old} 
       begun = gained.begun;
       at_block = record {
         setting = ap (λ p. p.setting) moves ∙ at.setting;
-        here = next_here s b p.block legal at.here ∙ ap (λ t. next_block_place t p.block) (sym at.setting) ∙ sym (ap (λ p. p.block) moves);
+        here = next_here s b p.block legal at.here ∙ ap (λ t. block_place_after t p.block 1) (sym at.setting) ∙ sym (ap (λ p. p.block) moves);
         previous = ap (λ p. p.before) moves ∙ ap (λ z. last_of z xs) at.previous ∙ sym (last_append (pos 0) runs.given xs);
         going = ap (λ p. p.stopped) moves ∙ at.going;
       };
@@ -294,7 +294,7 @@ record RunsDry {I : Type 0} (s : Parameters) (asked : Option ℕ) (start : Reade
 runs_dry : {I : Type 0} {s : Parameters} {asked : Option ℕ} {start : Reader I} {out_old out : Option Room} {p : DecoderState} {r new : Reader I}
     {steps steps_new written : ℕ} {rep : Report} {f fault : Option Fault} {left : Option (List ℕ)} {failed : ℕ} {why : BitFault} (blank : Bool)
     → (runs : DecodingProgress s asked start out_old out p r steps written) → wanted_of asked written s.block ≢ 0 → p.run ≡ 0
-    → (cut : SetCut (with_mark r) new steps steps_new s runs.blocks why) → is_blank cut.bits ≡ blank
+    → (cut : SetCut [] (with_mark r) new steps steps_new s runs.blocks why) → is_blank cut.bits ≡ blank
     → AreCounted steps steps_new r.taken new.taken → Reports rep f left failed new written steps_new fault → RunsDry s asked start cut.stops.middle new rep (cut_to s asked 0 runs.given) written blank
 runs_dry {s = s} {asked = asked} {p = p} {r = r} {new = new} {steps = steps} {steps_new = steps_new} {written = written} {rep = rep} blank runs some none cut known counted tells =
     let bits = cut.bits in
@@ -355,7 +355,8 @@ ended_ends {s = s} {asked = asked} {start = start} {new = new} {written = writte
 -- the intake failed
 read_ends : {I : Type 0} {s : Parameters} {asked : Option ℕ} {start : Reader I} {out_old out : Option Room} {p : DecoderState} {r new : Reader I}
     {steps steps_new written : ℕ} {rep : Report} {f : Option Fault} {left : Option (List ℕ)} {failed : ℕ}
-    → (runs : DecodingProgress s asked start out_old out p r steps written) → wanted_of asked written s.block ≢ 0 → p.run ≡ 0 → SetCut (with_mark r) new steps steps_new s runs.blocks bit_faults.Read
+    → (runs : DecodingProgress s asked start out_old out p r steps written) → wanted_of asked written s.block ≢ 0 → p.run ≡ 0
+    → SetCut [] (with_mark r) new steps steps_new s runs.blocks bit_faults.Read
     → AreCounted steps steps_new r.taken new.taken → Reports rep f left failed new written steps_new (Some Read) → DecodesBetween s asked start.left left out_old out rep f
 read_ends {s = s} {asked = asked} {start = start} {new = new} {rep = rep} {left = left} runs some none cut counted tells =
     let blank = is_blank cut.bits in
@@ -374,7 +375,7 @@ read_ends {s = s} {asked = asked} {start = start} {new = new} {rep = rep} {left 
 long_ends : {I : Type 0} {s : Parameters} {asked : Option ℕ} {start : Reader I} {out_old out : Option Room} {p : DecoderState} {r new : Reader I}
     {steps steps_new written : ℕ} {rep : Report} {f : Option Fault} {left : Option (List ℕ)} {failed : ℕ}
     → (runs : DecodingProgress s asked start out_old out p r steps written) → wanted_of asked written s.block ≢ 0 → p.run ≡ 0
-    → SetCut (with_mark r) new steps steps_new s runs.blocks bit_faults.TooLong
+    → SetCut [] (with_mark r) new steps steps_new s runs.blocks bit_faults.TooLong
     → AreCounted steps steps_new r.taken new.taken → Reports rep f left failed new written steps_new (Some TooLong) → DecodesBetween s asked start.left left out_old out rep f
 long_ends {s = s} {asked = asked} {start = start} {new = new} {rep = rep} {left = left} runs some none cut counted tells =
     let blank = is_blank cut.bits in

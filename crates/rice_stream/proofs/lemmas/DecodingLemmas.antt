@@ -172,7 +172,7 @@ gains_block {s = s} {p = p} {q = q} {r = r} {new = new} {steps = steps} {steps_n
 
 -- of the block only its place matters where the decoder stops
 pub cut_there : {I : Type 0} {old new : Reader I} {first last : ℕ} {s : Parameters} {b c : ℕ} {fault : BitFault} → place s c ≡ place s b
-    → SetCut old new first last s c fault → SetCut old new first last s b fault
+    → SetCut [] old new first last s c fault → SetCut [] old new first last s b fault
 cut_there {s} {b} {c} e cut = record { bits = cut.bits; stops = cut.stops; none = λ d more f g. cut.none d more (form_there s b c d (sym e) f) g; steps = cut.steps }
 
 -- the end of a code depends on the place in the interval alone

@@ -1,7 +1,7 @@
 -- The bounds of bits and steps, of the samples so far and of all.
 use Rattle.std.proofs.Common.{◌≡◌, ℕ, ◌+◌, ◌-◌, ◌*◌, ◌%◌, ◌<◌, ◌≤◌, List, ◌++◌, length, replicate, ap, arith, sym, ◌∙◌, subst, length-append, ℤ, pos}
 use Rattle.rice_stream.proofs.Words.{All, next_multiple_of, mul-le-mul_left, mul-le-mul_right, nat_tests, div_ceil_times, length-replicate, All-from_recursion, Parameters, IsLegal, IsSample}
-use Rattle.rice_stream.proofs.Words.{id_len, k_max, block_count, last_of, zero_is_sample, block_bound, bit_bound, step_bound, amortised_step_bound, code_bits, complete_samples, fill_count_of}
+use Rattle.rice_stream.proofs.Words.{id_len, k_max, block_count, last_of, zero_is_sample, block_bound, bit_bound, step_bound, amortised_step_bound, code_bits, complete_samples, fill_count}
 use Rattle.rice_stream.proofs.Words.{HasTaken, CoderState, most_steps, complete_are_coded, all_first, all_steps_are_bounded, code_is_bounded, filled_len, lt_of_mul-lt-mul_left}
 
 -- what is so of the samples that a coder stands for, and of those that make whole segments
@@ -58,7 +58,7 @@ early_bounded s xs h =
     at j n c e id k most bits h f g = (omega arith, omega arith)
 
 -- and of all
-pub all_bounded : (s : Parameters) (xs : List ℤ) → Settles s xs → Bounded s (length xs) (code_bits s xs) (length xs + fill_count_of s xs + most_steps s xs)
+pub all_bounded : (s : Parameters) (xs : List ℤ) → Settles s xs → Bounded s (length xs) (code_bits s xs) (length xs + fill_count s (length xs) + most_steps s xs)
 all_bounded s xs h =
     let j : 1 ≤ s.block = let k : 2 ≤ s.block = grind (arith, h.setting.block) in omega arith in
     let steps = all_steps_are_bounded s h.setting xs h.legal in
@@ -69,12 +69,12 @@ all_bounded s xs h =
       amortised = omega (arith, steps.1, full);
     }
   where
-    filled_count : (s : Parameters) (xs : List ℤ) → 1 ≤ s.block → length xs + fill_count_of s xs ≡ s.block * block_count s (length xs)
+    filled_count : (s : Parameters) (xs : List ℤ) → 1 ≤ s.block → length xs + fill_count s (length xs) ≡ s.block * block_count s (length xs)
     filled_count s xs j =
         let n = length xs in
         let k = next_multiple_of n s.block - n in
         let x = last_of (pos 0) xs in
-        let same : k ≡ fill_count_of s xs = (let e : n + (s.block - n % s.block) % s.block - n ≡ (s.block - n % s.block) % s.block = omega arith in e) in
+        let same : k ≡ fill_count s (length xs) = (let e : n + (s.block - n % s.block) % s.block - n ≡ (s.block - n % s.block) % s.block = omega arith in e) in
         ap (λ m. n + m) (sym same ∙ sym (length-replicate k x)) ∙ sym (length-append xs (replicate k x)) ∙ filled_len s (pos 0) xs j
 
 -- a block has at most a bit more than its samples as they are, and its identifier

@@ -73,7 +73,7 @@ pub takes_on : {s : Parameters} {left_old left : Option (List ℕ)} {taken_old t
     → (p : EncodingProgress s left_old left taken_old taken v r) → (t : TakesAll s (afresh taken_old) taken_new v_new p.samples r.buffered)
     → r_new ≡ with_last (length r.buffered % width s) r → EncodingProgress s left_old left taken_old taken_new v_new r_new
 takes_on {s} {r = r} {r_new = r_new} p t kept =
-    let rest = (rest_is s r.buffered t.rest t.more t.reads t.few).1 in
+    let rest = (rest_is s r.buffered t.rest t.more t.reads t.ends).1 in
     record {
       bytes = p.bytes;
       samples = p.samples ++ t.more;
@@ -232,7 +232,7 @@ pushing_ends {s} {left_old} {left} {taken_old} {taken} {taken_new} {v} {v_new} {
           record {
             samples = xs ++ m.more;
             ends = (
-              record { rest = m.rest; whole = joined.split; legal = joined.legal; stops = m.none },
+              record { rest = m.rest; whole = joined.split; legal = joined.legal; stops = m.ends },
               named ∙ m.holds.counts.samples,
               record { written = refl; reports = t },
             );
@@ -259,7 +259,7 @@ pushing_ends {s} {left_old} {left} {taken_old} {taken} {taken_new} {v} {v_new} {
             ends = (
               fewer,
               inl (record {
-                given = record { rest = m.rest; split = joined.split ∙ ap (λ l. spellings s l ++ m.rest) same; legal = subst (All (IsSample s)) same joined.legal };
+                given = (m.rest, record { split = joined.split ∙ ap (λ l. spellings s l ++ m.rest) same; legal = subst (All (IsSample s)) same joined.legal });
                 some = omega arith;
                 reports = t;
                 stops = subst (λ (l : List ℤ). StopsBetween (early_output s l) (early_output s all) m.fails.takes.written) (sym front) m.fails.takes.stops;

@@ -1,7 +1,7 @@
 -- A coder at work takes a sample, writes, and ends.
 use Rattle.std.proofs.Common.{◌≡◌, ℕ, ◌+◌, ◌*◌, ◌<◌, ◌≤◌, Bool, List, [], ◌∷◌, ◌++◌, length, take, drop, replicate, false, true}
 use Rattle.std.proofs.Common.{refl, ap, arith, sym, ◌∙◌, subst, append_assoc, append-nil, length-append, length-drop, take-append-drop, Option, ℤ, pos}
-use Rattle.rice_stream.proofs.Words.{sum_by, div_ceil, bits_of_set, blocks_from, fill_count_of, data_sets, complete_samples, layout, Room, Appends, Appends-trans, whole_short, Parameters, width}
+use Rattle.rice_stream.proofs.Words.{sum_by, div_ceil, bits_of_set, blocks_from, fill_count, data_sets, complete_samples, layout, Room, Appends, Appends-trans, whole_short, Parameters, width}
 use Rattle.rice_stream.proofs.Words.{block_count, cut, filled_samples, Reads, spellings, HasTaken, IsAlignedWith, AddsCode, PushesSamples, CompletesNone, complete_code, CoderState, code, code_bits}
 use Rattle.rice_stream.proofs.Words.{early_output, least_looks, most_looks, least_looks_at, most_looks_at, least_steps, most_steps, segment_steps, holds_nothing, segment_steps_few, Standing, take-nil}
 use Rattle.rice_stream.proofs.Words.{HasRoomAt, reads_then, length-spellings, some_width, mul-le-mul_left, take-append_seam, bits_in_bytes, bits_to_byte, padded_bits, whole_bytes, ShowsCode}
@@ -237,12 +237,12 @@ sets_nothing s j =
 
 -- the end of the samples
 pub samples_end : {s : Parameters} {old : Beginning} {now : Option Room} {e : EncodingValue} {r : Report} {sink end : List Bool} {xs : List ℤ} {n : ℕ} → IsEncodingOf s old now e xs →
-    AddsCode e.coder.setting (complete_samples e.coder.setting xs) xs e.sink sink n (fill_count_of e.coder.setting xs) e.meter r.steps → r.bits ≡ e.bits + n
+    AddsCode e.coder.setting (complete_samples e.coder.setting xs) xs e.sink sink n (fill_count e.coder.setting (length xs)) e.meter r.steps → r.bits ≡ e.bits + n
     → r.samples ≡ e.samples → end ≡ sink ++ replicate (bits_to_byte (length sink)) false →
     ReportsAll s r xs × (padded_bits (code s xs) ≡ whole_part (complete_code s xs) ++ end)
 samples_end {s} {old} {now} {e} {r} {sink} {xs} {n} h finishes bits samples fill =
-    let t : AddsCode s (complete_samples s xs) xs e.sink sink n (fill_count_of s xs) e.meter r.steps = subst
-    (λ (t : Parameters). AddsCode t (complete_samples t xs) xs e.sink sink n (fill_count_of t xs) e.meter r.steps) h.counts.setting finishes in
+    let t : AddsCode s (complete_samples s xs) xs e.sink sink n (fill_count s (length xs)) e.meter r.steps = subst
+    (λ (t : Parameters). AddsCode t (complete_samples t xs) xs e.sink sink n (fill_count t (length xs)) e.meter r.steps) h.counts.setting finishes in
     let k = t.code_is (sink_place s old now e xs h) in
     let part = whole_part (complete_code s xs) in
     let all : part ++ sink ≡ code s xs = ap (λ l. part ++ l) k.appended ∙ sym (append_assoc part e.sink k.bits) ∙ ap (λ l. l ++ k.bits) (sink_goes_on s old now e xs h) ∙ sym k.completes in

@@ -152,7 +152,7 @@ begins_unsound s b first last r new P reported refused =
     (length set, record { refused = refused.set; more = ahead new; form = refused.form; unsound = refused.unsound; begins = refilled.1; bits = refl })
 
 -- no byte is past the limit
-never_long : {I : Type 0} (s : Parameters) (b first last : ℕ) (stand : Stand) (r new : Reader I) → IsReadFrom stand r → SetCut (with_mark r) new first last s b bit_faults.TooLong → ⊥
+never_long : {I : Type 0} (s : Parameters) (b first last : ℕ) (stand : Stand) (r new : Reader I) → IsReadFrom stand r → SetCut [] (with_mark r) new first last s b bit_faults.TooLong → ⊥
 never_long s b first last stand r new reads cut =
     let stops = cut.stops in
     let refilled = refills_ahead r.left stops.middle r.buffered [] cut.bits reads.reported stops.refills in

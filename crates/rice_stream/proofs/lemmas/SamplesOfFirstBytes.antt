@@ -11,7 +11,7 @@ no_spelling_before s rest after h = (omega (arith, h.0, length-append rest after
 pub stops_before : (s : Parameters) (old : Beginning) (new : Option Room) (e : EncodingValue) (xs : List ℤ) (bytes after : List ℕ) (fault : Fault)
     → Pushes {T = Unit {0}} s old new e xs bytes (Err fault) → Pushes {T = Unit {0}} s old new e xs (bytes ++ after) (Err fault)
 stops_before s old new e xs bytes after (SampleOutOfRange index) (h, named) = (
-  record { more = h.more; rest = h.rest ++ after; reads = reads_before s h.more bytes h.rest after h.reads; none = no_spelling_before s h.rest after h.none; holds = h.holds },
+  record { more = h.more; rest = h.rest ++ after; reads = reads_before s h.more bytes h.rest after h.reads; ends = no_spelling_before s h.rest after h.ends; holds = h.holds },
   named,
 )
 stops_before s old new e xs bytes after Write h = record {

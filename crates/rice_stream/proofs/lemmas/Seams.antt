@@ -132,7 +132,7 @@ cut_grows s seam xs n h le =
 module _ {s : Parameters} {old new : Option Room} {e : EncodingValue} {at : Seam} {xs : List ℤ} (bytes : List ℕ) (count : ℕ) (h : IsSeam s at xs)
     (t : TakesAll s (after s xs old) new e xs (take (width s * count) bytes)) (is : length xs + count ≡ samples_to_take s xs bytes) (within : width s * count ≤ length bytes) where
   spelled : take (width s * count) bytes ≡ spellings s t.more
-  spelled = none_left s t.more (take (width s * count) bytes) t.rest count t.reads t.few (length-take-le (width s * count) bytes within)
+  spelled = none_left s t.more (take (width s * count) bytes) t.rest count t.reads t.ends (length-take-le (width s * count) bytes within)
 
   number : length t.more ≡ count
   number = same_count (width s) (length t.more) count (some_width s) (omega (arith, ap length spelled, length-spellings s t.more, length-take-le (width s * count) bytes within))
@@ -191,9 +191,9 @@ more_stops s old new e xs bytes count f stops = by_fault f stops.pushes (stopped
     by_fault (SampleOutOfRange index) h m =
         let part = h.0 in
         let len : length (take (width s * count) bytes) ≤ width s * count = omega (arith, length-take-le (width s * count) bytes stops.enough) in
-        let before = refused_within s part.more (take (width s * count) bytes) part.rest count part.reads part.none.0 len in (
+        let before = refused_within s part.more (take (width s * count) bytes) part.rest count part.reads part.ends.0 len in (
           m.0.more,
-          record { limit = stops.few; rest = m.0.rest; reads = m.0.reads; ends = m.0.none; index_is = m.1 ∙ m.0.holds.counts.samples; writes = m.0.holds.took },
+          record { limit = stops.few; rest = m.0.rest; reads = m.0.reads; ends = m.0.ends; index_is = m.1 ∙ m.0.holds.counts.samples; writes = m.0.holds.took },
           omega (arith, h.1, part.holds.counts.samples, length-append xs part.more, before, stops.count_is),
         )
     by_fault Write h m = (m.more, m.last, record { limit = stops.few; rest = m.rest; reads = m.reads; writes = m.fails.takes })
@@ -210,7 +210,7 @@ module _ (s : Parameters) (old new : Option Room) (e : EncodingValue) (r : Repor
       limit = limit;
       rest = m.0.rest;
       reads = m.0.reads;
-      ends = m.0.none;
+      ends = m.0.ends;
       index_is = m.1 ∙ m.0.holds.counts.samples;
       writes = m.0.holds.took;
     },
@@ -233,7 +233,7 @@ module _ (s : Parameters) (old new : Option Room) (e : EncodingValue) (r : Repor
       limit = limit;
       rest = t.rest;
       reads = t.reads;
-      ends = (λ none. absurd (omega (arith, whole none, cut_off)), t.few);
+      ends = (λ none. absurd (omega (arith, whole none, cut_off)), t.ends);
       index_is = same ∙ t.holds.counts.samples;
       writes = t.holds.took;
     },
@@ -252,7 +252,7 @@ module _ (s : Parameters) (old new : Option Room) (e : EncodingValue) (r : Repor
       are_all : AreAll s xs bytes old last t.more
       are_all = record {
         limit = limit;
-        spelled = none_left s t.more bytes t.rest (length bytes / width s) t.reads t.few
+        spelled = none_left s t.more bytes t.rest (length bytes / width s) t.reads t.ends
             (omega (arith, div-add-mod (length bytes) (width s), whole));
         legal = t.reads.legal;
       }
@@ -261,7 +261,7 @@ module _ (s : Parameters) (old new : Option Room) (e : EncodingValue) (r : Repor
       are_all : AreAll s xs bytes old last t.more
       are_all = record {
         limit = limit;
-        spelled = none_left s t.more bytes t.rest (length bytes / width s) t.reads t.few
+        spelled = none_left s t.more bytes t.rest (length bytes / width s) t.reads t.ends
             (omega (arith, div-add-mod (length bytes) (width s), whole));
         legal = t.reads.legal;
       }

@@ -1,6 +1,6 @@
 use Rattle.std.proofs.Common.{subst}
 use Rattle.rice_bits.specs.Bits.{word}
-use Rattle.rice_bits.specs.read.Reader.{Takes}
+use Rattle.rice_bits.specs.Reader.{Takes}
 use Rattle.aec_run.proofs.OneAfterLemmas.{found_one, no_one}
 use Rattle.aec_run.proofs.one_after.has_one.Goals as goal
 

@@ -1,7 +1,7 @@
 use Rattle.std.proofs.Common.{rules, ◌≡◌, ◌∙◌, ℕ, Bool, true, false, List, Option, Result, codes, refl, subst, sym}
 use Rattle.clap.specs.Words.{found_of}
 use Rattle.clap.specs.declared.parser.matches.Found.{Found}
-use Rattle.rice_bits.specs.device.OutletRoom.{Room}
+use Rattle.rice_bits.specs.OutletRoom.{Room}
 use Rattle.aec_command.specs.declared.plan.PlanFault.{PlanFault}
 use Rattle.aec_command.specs.declared.test_plan.TestFault.{TestFault}
 use Rattle.aec_command.specs.Plan.{PlanView, is_flagged, plan_in}

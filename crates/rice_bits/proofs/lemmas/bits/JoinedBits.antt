@@ -23,5 +23,5 @@ up_to_end first xs = take_all (length xs - first) (drop first xs) (omega (arith,
 
 -- bits that are joined are put
 pub joined-puts : {count n all before after : ℕ} {more bits : List Bool} {old new : List ℕ} → take n (bits_of old) ≡ bits → Joins more count n all old new
-    → length more ≡ count → after ≡ before + count → Puts more count bits (take all (bits_of new)) before after
+    → length more ≡ count → after ≡ before + count → Puts more count count bits (take all (bits_of new)) before after
 joined-puts {all} {more} {bits} {new} view h size steps = grind (arith, common_steps, length-append)

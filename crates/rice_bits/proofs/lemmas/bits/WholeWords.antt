@@ -7,7 +7,7 @@ use Rattle.std.specs.{Int.from_le_bytes, Int.swap_bytes, Int.to_be_bytes, Int.to
 use Rattle.std.{proofs.Math.Nat.mul-mod_left, proofs.Math.Seq.take-add, specs.List.slice_index}
 use Rattle.rice_bits.proofs.lemmas.bits.{WordsAndNumbers.join_below, WordsAndNumbers.shift_fits, WordsAndNumbers.word-cat, WordsAndNumbers.word-split, JoinedBits.join-more, JoinedBits.pair_word}
 use Rattle.rice_bits.proofs.lemmas.bits.{SinkBytes.gathered-put, SinkBytes.joined_below, SinkBytes.last_zeros, EightBytes.bits_of-eight, EightBytes.eight-fit, EightBytes.word-mod}
-use Rattle.rice_bits.{specs.WholeWords.IsWholeWidth, specs.WholeWords.JoinsAllBut, proofs.lemmas.bits.BytesAndBits.each_byte, specs.Bits.Joins, specs.Bits.bits_of, specs.Bits.word}
+use Rattle.rice_bits.{specs.Bits.IsWholeWidth, specs.Bits.JoinsAllBut, proofs.lemmas.bits.BytesAndBits.each_byte, specs.Bits.Joins, specs.Bits.bits_of, specs.Bits.word}
 use mir.Val.{Fits}
 
 -- the first four of the words from a place on

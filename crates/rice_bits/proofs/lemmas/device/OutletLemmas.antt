@@ -2,7 +2,7 @@
 use Rattle.std.proofs.Common.{◌≡◌, ℕ, ◌+◌, List, [], ◌++◌, length, drop, take, Option, Some, None, refl, sym, ap, subst, arith, ◌≤◌}
 use Rattle.std.proofs.lemmas.{List.append-nil, List.append_assoc, List.length-append, List.drop-drop, List.length-take-le, Slice.take-put_mid, Slice.drop-put_mid, Grind.common_steps}
 use Rattle.std.proofs.Math.Seq.{drop-nil}
-use Rattle.rice_bits.specs.device.OutletRoom.{Room, known, Fills, Appends, Keeps}
+use Rattle.rice_bits.specs.OutletRoom.{Room, known, Fills, Appends, Keeps}
 use borrow.Rule.Slice.PartMut.{put_mid}
 use Rattle.std.specs.Io.KnownBytes as bytes
 

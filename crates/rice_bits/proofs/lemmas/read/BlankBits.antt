@@ -2,7 +2,7 @@
 use Rattle.std.proofs.Common.{◌≡◌, ℕ, zero, suc, ◌^◌, ◌<◌, Bool, true, false, List, [], ◌∷◌, ◌++◌, length, replicate, refl, sym, ◌∙◌, ap, arith}
 use Rattle.std.specs.Prelude.{◌&&◌, ◌==◌}
 use Rattle.std.proofs.lemmas.{Bool.Decides.nat_tests, Grind.common_steps, List.append-nil}
-use Rattle.rice_bits.{proofs.lemmas.bits.WordsAndNumbers.word-zero, proofs.lemmas.bits.WordsAndNumbers.number_of-word, specs.Bits.word, specs.Bits.number_of, specs.read.Reader.is_blank}
+use Rattle.rice_bits.{proofs.lemmas.bits.WordsAndNumbers.word-zero, proofs.lemmas.bits.WordsAndNumbers.number_of-word, specs.Bits.word, specs.Bits.number_of, specs.Reader.is_blank}
 
 -- bits in two parts have no 1 just where neither part has one
 pub blank-append : (xs ys : List Bool) → is_blank (xs ++ ys) ≡ (is_blank xs && is_blank ys)

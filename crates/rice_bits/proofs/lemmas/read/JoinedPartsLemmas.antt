@@ -1,6 +1,6 @@
 -- How many numbers are joined of high parts and low parts.
 use Rattle.std.proofs.Common.{◌≡◌, ℕ, suc, List, [], ◌∷◌, length, refl, ap, arith}
-use Rattle.rice_bits.specs.read.JoinedParts.{joined_parts}
+use Rattle.rice_bits.specs.Bits.{joined_parts}
 
 -- as many numbers are joined as there are high parts, where there are as many low parts
 pub length-joined : (k : ℕ) (ms ls : List ℕ) → length ls ≡ length ms → length (joined_parts k ms ls) ≡ length ms

@@ -3,8 +3,8 @@ use Rattle.std.proofs.Common.{◌≡◌, ℕ, ◌+◌, ◌<◌, ◌≤◌, Bool,
 use Rattle.std.specs.Prelude.{◌&&◌, IfSome, IsSome}
 use Rattle.std.{proofs.lemmas.List.replicate-append-replicate, proofs.lemmas.Grind.common_steps, specs.Option.is_some}
 use Rattle.rice_bits.proofs.lemmas.read.BlankBits.{and-assoc, and-true, blank-append, blank_joined, one_after_zeros}
-use Rattle.rice_bits.specs.{read.Reader.Refills, read.Reader.Takes, read.Reader.Stops, read.Reader.Refuses, read.Reader.Reader, read.Reader.is_blank, declared.read.fault.BitFault.BitFault}
-use Rattle.rice_bits.specs.{read.Window.Passes, read.Window.window_bits, read.Window.window_passed, read.Window.window_taken, Bits.bits_of, Bits.fundamental_sequence}
+use Rattle.rice_bits.specs.{Reader.Refills, Reader.Takes, Reader.Stops, Reader.Refuses, Reader.Reader, Reader.is_blank, declared.read.fault.BitFault.BitFault}
+use Rattle.rice_bits.specs.{Window.Passes, Window.window_bits, Window.window_passed, Window.window_taken, Bits.bits_of, Bits.fundamental_sequence}
 use Rattle.rice_bits.{proofs.lemmas.read.RefilledBytes.refills-append, proofs.lemmas.read.RefilledBytes.refills-buffered, specs.declared.read.window.Window.Window}
 
 -- bits are taken of those that a window has

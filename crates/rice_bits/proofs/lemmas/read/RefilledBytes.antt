@@ -2,7 +2,7 @@
 use Rattle.std.proofs.Common.{◌+◌, ◌-◌, ◌*◌, ◌≡◌, ℕ, ◌<◌, length-append, Bool, List, [], ◌++◌, length, refl, sym, ◌∙◌, ap, arith, append_assoc, Option, Some, None}
 use Rattle.std.{proofs.lemmas.Grind.common_steps, proofs.lemmas.List.append-nil, specs.Io.KnownBytes.Consumes, proofs.lemmas.Bool.cases_lt}
 use Rattle.rice_bits.proofs.lemmas.bits.BytesAndBits.{bits_of-nil, bits_of-append, length-bits_of}
-use Rattle.rice_bits.specs.{read.Reader.Refills, read.Reader.Supplies, Limits.most_at_once, Bits.bits_of}
+use Rattle.rice_bits.specs.{Reader.Refills, Reader.Supplies, Limits.most_at_once, Bits.bits_of}
 
 -- so nothing is read where what is known of the bytes is the same before and after
 pub consumes-nil : (a : Option (List ℕ)) → Consumes a a []

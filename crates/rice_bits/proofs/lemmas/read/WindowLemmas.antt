@@ -7,9 +7,9 @@ use Rattle.std.proofs.{Math.Seq.drop-append_seam, Math.Seq.take-add, Math.Seq.ta
 use Rattle.std.specs.Int.{to_be_bytes, w64}
 use Rattle.rice_bits.proofs.lemmas.bits.{FrontsOfWords.front_below, FrontsOfWords.take-front, FrontsOfWords.word-moved, FrontsOfWords.word-parts, EightBytes.bits_of-eight}
 use Rattle.rice_bits.proofs.lemmas.bits.{BytesAndBits.bits_of-append, BytesAndBits.bits_of-zeros, BytesAndBits.length-bits_of, WordsAndNumbers.length-word, WordsAndNumbers.word-split}
-use Rattle.rice_bits.specs.{read.Window.IsWindow, read.Window.Passes, read.Window.bits_near, read.Window.window_bits, read.Window.window_passed, Bits.fundamental_sequence, Bits.word, Bits.bits_of}
-use Rattle.rice_bits.{proofs.lemmas.read.BlankBits.blank-append, proofs.lemmas.read.BlankBits.blank-word, specs.declared.read.window.Window.Window, specs.read.Ahead.AreBitsFrom}
-use Rattle.rice_bits.specs.read.Reader.{is_blank}
+use Rattle.rice_bits.specs.{Window.IsWindow, Window.Passes, Window.bits_near, Window.window_bits, Window.window_passed, Bits.fundamental_sequence, Bits.word, Bits.bits_of}
+use Rattle.rice_bits.{proofs.lemmas.read.BlankBits.blank-append, proofs.lemmas.read.BlankBits.blank-word, specs.declared.read.window.Window.Window, specs.Window.AreBitsFrom}
+use Rattle.rice_bits.specs.Reader.{is_blank}
 
 -- a part of a list is its two parts
 between-join : {A : Type 0} (xs : List A) (a s e : ℕ) → a ≤ s → s ≤ e → slice_range xs a s ++ slice_range xs s e ≡ slice_range xs a e

@@ -1,4 +1,4 @@
-use Rattle.rice_bits.specs.device.Slice.{slice_state}
+use Rattle.rice_bits.specs.Devices.{slice_state}
 use Rattle.rice_calls.proofs.lemmas.FedOutlets.{rest_fills}
 use Rattle.rice_calls.proofs.feeding.finish_slice_to_slice.Goals as goal
 

@@ -1,10 +1,10 @@
 -- What an open segment holds, and the room that its code takes.
 use Rattle.std.proofs.Common.{◌≡◌, ℕ, ◌+◌, ◌-◌, ◌*◌, ◌/◌, ◌%◌, ◌^◌, ◌<◌, ◌≤◌, ◌==◌, Bool, false}
-use Rattle.std.proofs.Common.{cond, ◌&&◌, List, ◌++◌, length, replicate, subst, ap, arith, sym, ◌∙◌, inl, inr, append_assoc, length-append}
+use Rattle.std.proofs.Common.{cond, ◌&&◌, List, pos, ◌++◌, length, replicate, subst, ap, arith, sym, ◌∙◌, inl, inr, append_assoc, length-append}
 use Rattle.rice_code.proofs.Words.{sum_by, cases_lt, nat_tests, length-flat_map, div-add-mod, mod-lt, mod-eq_of_lt, mod_self, mul-le-mul_left, mul-le-mul_right, bits_to_byte, Parameters, IsLegal}
 use Rattle.rice_code.proofs.Words.{place, blocks_left, zero_is_sample, some_left, le_of_mul-le-mul_left, data_sets, sink_bits, CoderState, IsOpen, HasRoomForSegment, eqb-true}
-use Rattle.rice_code.proofs.Words.{empty_state, state_after_segment, next_start, blocks_held, contents_held, sets_held, code_held, HoldsSoundBlocks, CodesHeld, bits_of_set, bits_of_sets, held_blocks}
-use Rattle.rice_code.proofs.Words.{code_of_blocks, PutsBlocks, AreSoundBlocks, least_looks, most_looks, block_bound, common_steps}
+use Rattle.rice_code.proofs.Words.{state_after_segment, next_start, blocks_held, contents_held, sets_held, code_held, HoldsSoundBlocks, CodesHeld, bits_of_set, bits_of_sets, held_blocks}
+use Rattle.rice_code.proofs.Words.{state_between, code_of_blocks, PutsBlocks, AreSoundBlocks, least_looks, most_looks, block_bound, common_steps}
 use Rattle.rice_code.proofs.lemmas.{cost.BlockBounds.blocks_are_bounded, code.SegmentLayouts.code_lies, code.SegmentPlaces.begins_next, code.SegmentPlaces.next_start_is, encode.PendingRuns.held_len}
 
 -- so many residuals are as many as any segment has
@@ -87,7 +87,7 @@ pub next_of_whole : (coder : CoderState) (end : ℕ) → IsOpen coder end → co
 next_of_whole coder end h le = grind (arith, common_steps, mod-lt, begins_next, next_start_is, eqb-true)
 
 -- a first segment
-pub first_is_open : (s : Parameters) (end : ℕ) → IsLegal s → end ≡ s.block * blocks_left s 0 → IsOpen (empty_state s) end
+pub first_is_open : (s : Parameters) (end : ℕ) → IsLegal s → end ≡ s.block * blocks_left s 0 → IsOpen (state_between s 0 (pos 0)) end
 first_is_open s end legal e =
     let lt : 0 < s.interval = omega (arith, legal.interval_from) in
     let first : place s 0 ≡ 0 = mod-eq_of_lt lt in

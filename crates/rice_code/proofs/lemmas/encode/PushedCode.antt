@@ -3,8 +3,8 @@ use Rattle.std.proofs.Common.{◌≡◌, ℕ, ◌+◌, ◌-◌, ◌*◌, ◌/◌
 use Rattle.std.proofs.Common.{append_assoc, append-nil, length-append, None, ℤ, pos}
 use Rattle.rice_code.proofs.Words.{sum_by, next_multiple_of, cases_lt, nat_tests, take_at, All-from_recursion, sum_by-append, mod-lt, mod-eq_of_lt, mul-div_cancel_left, common_steps}
 use Rattle.rice_code.proofs.Words.{mul-add-mod_self_left, mod_self, mul-le-mul_left, Parameters, IsLegal, IsSample, place, begins_segment, blocks_left, cut, block_count, last_of, filled_samples}
-use Rattle.rice_code.proofs.Words.{some_left, length-residuals, zero_is_sample, BlockData, blocks_from, blocks_of, fill_count_of, fill_count, code, code_bits, data_sets, complete_samples}
-use Rattle.rice_code.proofs.Words.{HasCodedBefore, HasTaken, IsCoder, AddsCode, CoderState, IsOpen, IsWhole, state_between, empty_state, state_after, state_with_fill, state_after_segment, next_start}
+use Rattle.rice_code.proofs.Words.{some_left, length-residuals, zero_is_sample, BlockData, blocks_from, blocks_of, fill_count, code, code_bits, data_sets, complete_samples}
+use Rattle.rice_code.proofs.Words.{HasCodedBefore, HasTaken, IsCoder, AddsCode, CoderState, IsOpen, IsWhole, state_between, state_after, state_with_fill, state_after_segment, next_start}
 use Rattle.rice_code.proofs.Words.{blocks_held, contents_held, sets_held, code_held, bits_held, HoldsSoundBlocks, CodesHeld, is_empty, CodedDataSet, bits_of_set, held_blocks, AreSoundBlocks, layout}
 use Rattle.rice_code.proofs.Words.{least_looks, most_looks, least_looks_at, most_looks_at, coding_steps, segment_steps, nil_from_length, le_of_mul-le-mul_left}
 use Rattle.rice_code.proofs.lemmas.code.BlocksByPlaceAlone.{same_blocks, same_data_sets, same_reference, place_step, code_stands_in_intervals}
@@ -23,7 +23,7 @@ complete_are_coded coder xs h =
     (λ i. take (c i) (h.parts i)) ∙ take_at h.coded h.held (s.block * h.block) h.holds.whole
 
 -- a coder that holds nothing
-pub none_taken : (s : Parameters) → IsLegal s → HasTaken (empty_state s) []
+pub none_taken : (s : Parameters) → IsLegal s → HasTaken (state_between s 0 (pos 0)) []
 none_taken s legal =
     let zero_place : place s 0 ≡ 0 = let lt : 0 < s.interval = omega (arith, legal.interval_from) in mod-eq_of_lt lt in
     let j : 1 ≤ s.block = grind (arith, legal.block) in
@@ -297,7 +297,7 @@ filled_segment_adds_code coder xs h = adds_held_code (state_with_fill coder (fil
     (complete_samples coder.setting xs) xs h.coded h.held (complete_are_coded coder xs h) h.parts (filled_part coder xs h)
 
 -- as many as fill the last block of all samples
-pub fill_count_is : (coder : CoderState) (xs : List ℤ) → HasTaken coder xs → fill_count coder.setting (length coder.residuals) ≡ fill_count_of coder.setting xs
+pub fill_count_is : (coder : CoderState) (xs : List ℤ) → HasTaken coder xs → fill_count coder.setting (length coder.residuals) ≡ fill_count coder.setting (length xs)
 fill_count_is coder xs h = grind (arith, common_steps, held_count, length-append, same_rest)
 
 -- What the end does, where `held` is what the coder holds with its last block filled.
@@ -308,9 +308,9 @@ finish_sound coder held g k = subst HoldsSoundBlocks (sym g) (filled_sound coder
 pub finish_adds : {coder value held : CoderState} {xs : List ℤ} {old new : List Bool} {n m0 m1 m2 : ℕ} → coder ≡ value
     → held ≡ state_with_fill coder (fill_count coder.setting (length coder.residuals)) → CodesHeld held old new n m1 m2
     → m1 ≡ m0 + fill_count coder.setting (length coder.residuals) → HasTaken value xs →
-    AddsCode value.setting (complete_samples value.setting xs) xs old new n (fill_count_of value.setting xs) m0 m2
+    AddsCode value.setting (complete_samples value.setting xs) xs old new n (fill_count value.setting (length xs)) m0 m2
 finish_adds {coder} {xs} {old} {new} {n} {m0} {m1} {m2} e g codes steps h =
-    subst (λ (v : CoderState). HasTaken v xs → AddsCode v.setting (complete_samples v.setting xs) xs old new n (fill_count_of v.setting xs) m0 m2) e (λ k.
+    subst (λ (v : CoderState). HasTaken v xs → AddsCode v.setting (complete_samples v.setting xs) xs old new n (fill_count v.setting (length xs)) m0 m2) e (λ k.
     (let full = state_with_fill coder (fill_count coder.setting (length coder.residuals)) in
     let coded : CodesHeld full old new n m1 m2 = subst (λ v. CodesHeld v old new n m1 m2) g codes in
     let count = fill_count_is coder xs k in

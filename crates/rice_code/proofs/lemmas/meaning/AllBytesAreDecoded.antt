@@ -186,7 +186,7 @@ bits_are_decoded (suc fuel) {s} {b} {position} {p} {bits} {asked} legal j h lt w
                   cut_to s asked b made.0 ++ later.0,
                   later.1,
                   length (bits_of_set s d ++ skipped) + later.2,
-                  subst P joined (decoding_goes_on legal d skipped made.0 (record { wanted = go; form = q.fits; run = run; residuals = sound }) l1
+                  subst P joined (decoding_goes_on legal d skipped made.0 (go, q.fits, run, sound, tt) l1
                       (record { legal = All-from_recursion (IsSample s) made.0 made.2; len = made.1; blocks = made.3 }) later.3),
                 )
           ]

@@ -1,7 +1,7 @@
 -- After a coded data set that is taken, decoding goes on.
 use Rattle.std.proofs.Common.{◌≡◌, ℕ, zero, suc, ◌+◌, ◌-◌, ◌*◌, Bool, List, [], ◌∷◌, ◌++◌, length, take, refl, ap, arith, ◌∙◌, subst, append_assoc, length-append, Option, Some, None, ℤ}
 use Rattle.rice_code.proofs.Words.{All-append, Parameters, IsLegal, IsSample, last_of, blocks_from, CodedDataSet, bits_of_set, blocks_in, blocks_in_all, block_after, padding, DecodedFrom, Ending}
-use Rattle.rice_code.proofs.{Words.EndsWith, Words.cut_to, Words.IsWantedSet, Words.MakeBlocks, Words.take-nil, Words.common_steps, lemmas.code.RepeatedSamples.blocks_append}
+use Rattle.rice_code.proofs.{Words.EndsWith, Words.cut_to, Words.AreTaken, Words.MakeBlocks, Words.take-nil, Words.common_steps, lemmas.code.RepeatedSamples.blocks_append}
 
 take_parts : (n : ℕ) (xs ys : List ℤ) → take n xs ++ take (n - length xs) ys ≡ take n (xs ++ ys)
 take_parts n [] ys = let e : n - 0 ≡ n = omega arith in ap (λ l. l ++ take (n - 0) ys) (take-nil n) ∙ ap (λ m. take m ys) e
@@ -16,7 +16,7 @@ cut_parts s (Some m) b n xs ys e = let f : m - s.block * (b + n) ≡ m - s.block
 -- Bits that are decoded after a wanted coded data set and its padding are decoded from this set on: its samples come first, and its bits are used too.
 pub decoding_goes_on : {s : Parameters} → IsLegal s
     → {b position : ℕ} {p : ℤ} (d : CodedDataSet) (skipped : List Bool) {rest : List Bool} {asked : Option ℕ} (xs : List ℤ) {ys : List ℤ} {ending : Ending} {used : ℕ} →
-    IsWantedSet s asked b d → length skipped ≡ padding s (block_after s b d) (position + length (bits_of_set s d)) → MakeBlocks s b p d xs →
+    AreTaken s asked b (d ∷ []) → length skipped ≡ padding s (block_after s b d) (position + length (bits_of_set s d)) → MakeBlocks s b p d xs →
     DecodedFrom s (block_after s b d) (position + length (bits_of_set s d ++ skipped)) (last_of p xs) rest asked ys ending used →
     DecodedFrom s b position p (bits_of_set s d ++ (skipped ++ rest)) asked (cut_to s asked b xs ++ ys) ending (length (bits_of_set s d ++ skipped) + used)
 decoding_goes_on {s} legal {b} {p} d skipped {rest} {asked} xs {ending} set len makes h =
@@ -39,7 +39,7 @@ decoding_goes_on {s} legal {b} {p} d skipped {rest} {asked} xs {ending} set len 
       rest = h.rest;
       parts = whole;
       lie = (skipped, h.front, len, refl, h.lie);
-      taken = (set.wanted, set.form, set.run, set.residuals, h.taken);
+      taken = (set.0, set.1, set.2, set.3, h.taken);
       all = xs ++ h.all;
       legal = All-append (IsSample s) xs h.all makes.legal h.legal;
       len = lengths s.block _ _ _ n _ _ l4 makes.len l5 count;

@@ -1,7 +1,7 @@
 -- What the fast coder stands for when a segment ends.
 use Rattle.rice_fast.proofs.Words.{◌≡◌, ℕ, zero, suc, ◌+◌, ◌-◌, ◌*◌, ◌/◌, ◌%◌, ◌^◌, ◌<◌, ◌≤◌, ◌==◌, Bool, true, false, cond, not, ◌&&◌, List, [], ◌∷◌, ◌++◌, length, take, drop, replicate, refl, ap}
 use Rattle.rice_fast.proofs.Words.{arith, sym, ◌∙◌, subst, length-append, ℤ, nat_tests, sum_by-cons, length-replicate, length-take-le, mul-div_cancel_left, mul-add-mod_self_left, mod-eq_of_lt}
-use Rattle.rice_fast.proofs.Words.{bits_to_byte, word, length-word, Parameters, IsSample, id_len, value_at, width, begins_segment, blocks_left, Reads, some_left, BlockData, fill_count, fill_count_of}
+use Rattle.rice_fast.proofs.Words.{bits_to_byte, word, length-word, Parameters, IsSample, id_len, value_at, width, begins_segment, blocks_left, Reads, some_left, BlockData, fill_count}
 use Rattle.rice_fast.proofs.Words.{is_zero_block, shortest, complete_samples, data_sets, CodedDataSet, NoCompression, RemainderOfSegment, SecondExtension, Split, ZeroBlocks, bits_of_set}
 use Rattle.rice_fast.proofs.Words.{no_compression_tail, run_number, run_tail, second_extension_tail, split_tail, zero_run, AreSoundBlocks, HasRoomFor, AddsCode, CompletesNone, HasTaken, IsCoder}
 use Rattle.rice_fast.proofs.Words.{PushesSamples, held_blocks, pending_bits, reference_at, CodesHeld, CoderState, HoldsSoundBlocks, IsOpen, IsWhole, bits_held, blocks_held, contents_held, is_empty}
@@ -141,13 +141,13 @@ fill_of_part s blocks held part some =
 pub finish_adds_all : {m : Standing} {xs : List ℤ} {sink_new : List Bool} {bits meter_new : ℕ} (s : Parameters) → m.coder.setting ≡ s → 1 ≤ s.block
     → CodesHeld (state_after_all m.coder (replicate (fill_count s (length m.coder.residuals)) m.coder.previous)) m.sink sink_new bits
     (m.meter + length (replicate (fill_count s (length m.coder.residuals)) m.coder.previous)) meter_new
-    → HasTaken m.coder xs → AddsCode s (complete_samples s xs) xs m.sink sink_new bits (fill_count_of s xs) m.meter meter_new
+    → HasTaken m.coder xs → AddsCode s (complete_samples s xs) xs m.sink sink_new bits (fill_count s (length xs)) m.meter meter_new
 finish_adds_all {m} {xs} {sink_new} {bits} {meter_new} s same one codes taken =
     let own : 1 ≤ m.coder.setting.block = subst (λ (v : Parameters). 1 ≤ v.block) (sym same) one in
     let n = fill_count m.coder.setting (length m.coder.residuals) in
     let P : Parameters → Type 0 = λ v. CodesHeld (state_after_all m.coder (replicate (fill_count v (length m.coder.residuals)) m.coder.previous)) m.sink sink_new bits
     (m.meter + length (replicate (fill_count v (length m.coder.residuals)) m.coder.previous)) meter_new in
-    let Q : Parameters → Type 0 = λ v. AddsCode v (complete_samples v xs) xs m.sink sink_new bits (fill_count_of v xs) m.meter meter_new in
+    let Q : Parameters → Type 0 = λ v. AddsCode v (complete_samples v xs) xs m.sink sink_new bits (fill_count v (length xs)) m.meter meter_new in
     let filled = fill_is_taken m.coder n (λ put. held m.coder.residuals (fill_needs_some m.coder.setting (length m.coder.residuals) own put)) in
     subst Q same (finish_adds refl filled (subst P (sym same) codes) (ap (λ v. m.meter + v) (length-replicate n m.coder.previous)) taken)
   where

@@ -1,4 +1,4 @@
-use Rattle.rice_fast.proofs.Words.{◌≡◌, ◌∙◌, ap, arith, rules, subst, sym, SFits, w64, to_z-of_z, IsSample, level, value_at, value_of_level, next_block_place}
+use Rattle.rice_fast.proofs.Words.{◌≡◌, ◌∙◌, ap, arith, rules, subst, sym, SFits, w64, to_z-of_z, IsSample, level, value_at, value_of_level, place_after}
 use Rattle.rice_fast.proofs.lemmas.BlocksTaken.{bytes_given, spelled_at}
 use Rattle.rice_fast.proofs.one_pass.pass.Goals as goal
 
@@ -23,5 +23,5 @@ returns-clause-some g c _ =
         filled = c.go_to_next_block-answer.ensures.skips;
         counted = c.go_to_next_block-answer.ensures.steps;
         further = omega (arith, c.go_to_next_block-answer.ensures.few);
-      }) (moves ∙ (λ j. record { setting = p.setting; block = next_block_place p.setting p.block; before = last j; run = 0; stopped = p.stopped })),
+      }) (moves ∙ (λ j. record { setting = p.setting; block = place_after p.setting p.block 1; before = last j; run = 0; stopped = p.stopped })),
     )

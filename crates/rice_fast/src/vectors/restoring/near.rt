@@ -1,8 +1,8 @@
 //! Near numbers from their ranks, in lanes.
 ghost use Rattle.std.specs.Prelude.{◌≡◌, ◌+◌, ◌^◌, ◌<◌, ◌≤◌, All, map, replicate};
 ghost use Rattle.rice_fast.specs.LevelsOfParts.{running_sums as running_sums_of};
-ghost use Rattle.rice_samples.specs.predict.Residuals.{ranks_below};
-ghost use Rattle.rice_samples.specs.predict.NearNumbers.{near_numbers as near_numbers_of, way};
+ghost use Rattle.rice_samples.specs.Residuals.{ranks_below};
+ghost use Rattle.rice_samples.specs.NearNumbers.{near_numbers as near_numbers_of, way};
 
 use crate::vectors::lanes::Lanes;
 

@@ -1,6 +1,6 @@
 //! Levels of samples from the parts of their residuals, in lanes.
 ghost use Rattle.std.specs.Prelude.{◌≡◌, ◌-◌, ◌/◌, ◌^◌, ◌<◌, ◌≤◌, All, IfSome};
-ghost use Rattle.rice_bits.specs.read.JoinedParts.{joined_parts};
+ghost use Rattle.rice_bits.specs.Bits.{joined_parts};
 ghost use Rattle.rice_samples.specs.Parameters.{value_count};
 ghost use Rattle.rice_fast.specs.LevelsOfParts.{AreLevelsOfParts};
 

@@ -1,7 +1,7 @@
 //! Numbers from their ranks, one after another. It is for numbers of which many are far from the one before.
 ghost use Rattle.std.specs.Prelude.{◌≡◌, ◌+◌, ◌-◌, ◌/◌, ◌^◌, ◌<◌, ◌≤◌, All, drop, length, map, replicate, true};
-ghost use Rattle.rice_samples.specs.predict.Residuals.{last_number, rank_below, ranks_below};
-ghost use Rattle.rice_samples.specs.predict.NearNumbers.{way as way_of};
+ghost use Rattle.rice_samples.specs.Residuals.{last_number, rank_below, ranks_below};
+ghost use Rattle.rice_samples.specs.NearNumbers.{way as way_of};
 
 use crate::vectors::lanes::Lanes;
 use crate::vectors::lanes::bytes::Bytes;

@@ -1,7 +1,7 @@
 -- The codes of pairs, one pair after another.
 use Rattle.std.proofs.Common.{◌≡◌, ℕ, zero, suc, ◌+◌, ◌*◌, ◌<◌, List, [], ◌∷◌, length, get_or, take, sum_by, refl, arith}
 use Rattle.std.proofs.lemmas.{List.Sums.sum_by-cons, Grind.common_steps}
-use Rattle.rice_samples.specs.blocks.Pairs.{pair_code, pair_codes}
+use Rattle.rice_samples.specs.Pairs.{pair_code, pair_codes}
 
 -- one pair more adds its number and 1, the bits of its fundamental sequence, to the sum of those before it
 pub pairs_more : (i : ℕ) (xs : List ℕ) → 2 * i + 1 < length xs →

@@ -1,7 +1,7 @@
 -- The numbers that stand for pairs stand for one pair each.
 use Rattle.std.proofs.Common.{◌≡◌, ℕ, zero, suc, ◌+◌, ◌-◌, ◌*◌, ◌/◌, ◌^◌, ◌<◌, ◌≤◌, add-one, List, [], ◌∷◌, length, refl, ap, arith, inl, inr}
 use Rattle.std.proofs.lemmas.{Grind.common_steps, Bool.cases_lt}
-use Rattle.rice_samples.specs.blocks.Pairs.{pair_code, pair_codes}
+use Rattle.rice_samples.specs.Pairs.{pair_code, pair_codes}
 
 -- the codes of the pairs whose sum is below s
 pub triangle : ℕ → ℕ

@@ -3,7 +3,7 @@ use Rattle.std.proofs.lemmas.Grind.{common_steps}
 use Rattle.std.proofs.Common.{◌≡◌, ℕ, zero, suc, ◌+◌, ◌/◌, ◌%◌, ◌^◌, Bool, true, false, List, [], ◌∷◌, ◌++◌, reverse, refl, sym, ◌∙◌, ap, arith}
 use Rattle.std.{specs.Int.byte_at, specs.Int.bytes_high_first, specs.Int.bytes_low_first, proofs.lemmas.List.reverse-append, proofs.lemmas.List.reverse-reverse, specs.Simd.Lanes.digits_l}
 use Rattle.std.proofs.Math.Nat.{div-div-eq-div-mul, pow-suc}
-use Rattle.rice_samples.specs.bytes.{Spelling.ordered_bytes, PatternLanes.in_order}
+use Rattle.rice_samples.specs.{Spelling.ordered_bytes, PatternLanes.in_order}
 
 byte_is : (i v : ℕ) → byte_at i v ≡ v / 256 ^ i % 256
 byte_is zero v = omega arith

@@ -3,9 +3,9 @@ use Rattle.std.proofs.Common.{◌≡◌, ℕ, ◌+◌, ◌-◌, ◌*◌, ◌%◌
 use Rattle.std.proofs.{lemmas.Nat.and_mask, lemmas.Nat.mod-mul-add, lemmas.Nat.mod_below, lemmas.Nat.pow-add, lemmas.Nat.pow_pos, Math.Nat.mod-add-mod, Math.Nat.mul-le-mul_right}
 use Rattle.std.{proofs.Math.Pow.mod-mod-pow, proofs.Math.Pow.pow_mono, proofs.lemmas.Grind.common_steps, specs.Prelude.bit_and}
 use Rattle.rice_samples.proofs.lemmas.bytes.SpellingLemmas.{level_from_pattern, offset_limit, same_offset, wider_value}
-use Rattle.rice_samples.specs.{Parameters.Parameters, Parameters.least, Parameters.level, Parameters.value_at, Parameters.value_count, predict.Residuals.pattern, predict.Residuals.twos_complement}
+use Rattle.rice_samples.specs.{Parameters.Parameters, Parameters.least, Parameters.level, Parameters.value_at, Parameters.value_count, Residuals.pattern, Residuals.twos_complement}
 use Rattle.rice_samples.proofs.lemmas.{setting.ValuesAboveLeast.gap_above, setting.ValuesAboveLeast.sample_at, predict.InverseRanksAndPatterns.has_pattern, setting.ValuesAtLevels.value_of_level}
-use Rattle.rice_samples.{proofs.lemmas.setting.LevelsOfSamples.pattern_fits, specs.bytes.ValueRange.offset, specs.bytes.ValueRange.IsValue}
+use Rattle.rice_samples.{proofs.lemmas.setting.LevelsOfSamples.pattern_fits, specs.Parameters.offset, specs.Parameters.IsValue}
 
 -- a level that the offset has turned is that of the value with this pattern
 pattern_of_level : (s : Parameters) (v : ℕ) → 1 ≤ s.bits → v < value_count s → pattern s (value_at s ((v + offset s) % 2 ^ s.bits)) ≡ v

@@ -1,7 +1,7 @@
 -- The samples that bytes spell, and others after them.
 use Rattle.std.proofs.Common.{ℕ, List, ◌++◌, ap, sym, ◌∙◌, append_assoc, ℤ}
 use Rattle.std.proofs.lemmas.List.Elements.{All-append}
-use Rattle.rice_samples.{proofs.lemmas.bytes.SpellingLengths.spellings-append, specs.Parameters.Parameters, specs.Parameters.IsSample, specs.bytes.Spelling.Reads, specs.bytes.Spelling.spellings}
+use Rattle.rice_samples.{proofs.lemmas.bytes.SpellingLengths.spellings-append, specs.Parameters.Parameters, specs.Parameters.IsSample, specs.Spelling.Reads, specs.Spelling.spellings}
 
 -- some samples, and then others
 pub reads_then : (s : Parameters) (bytes rest last : List ℕ) (xs ys : List ℤ) → Reads s bytes xs rest → Reads s rest ys last → Reads s bytes (xs ++ ys) last

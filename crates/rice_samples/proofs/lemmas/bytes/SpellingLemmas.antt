@@ -5,8 +5,8 @@ use Rattle.std.{proofs.Math.Nat.mul-add-mod_self_left, proofs.Math.Nat.pow-suc, 
 use Rattle.std.{proofs.lemmas.Nat.pow_pos, proofs.Math.Pow.pow_mono, proofs.lemmas.Int.ints, specs.Int.int_gap}
 use Rattle.rice_bits.proofs.lemmas.bits.EightBytes.{pow_bytes}
 use Rattle.rice_samples.proofs.lemmas.{bytes.BytesOfWords.bytes_are_digits, bytes.BytesOfWords.in_order-twice, setting.LevelsOfSamples.half_pow, setting.LevelsOfSamples.pattern_fits}
-use Rattle.rice_samples.specs.{Parameters.level, Parameters.Parameters, Parameters.IsLegal, Parameters.IsSample, Parameters.width, bytes.Spelling.spelling, bytes.Spelling.ordered_bytes}
-use Rattle.rice_samples.specs.{predict.Residuals.twos_complement, bytes.ValueRange.offset, bytes.ValueRange.IsValue, bytes.PatternLanes.in_order}
+use Rattle.rice_samples.specs.{Parameters.level, Parameters.Parameters, Parameters.IsLegal, Parameters.IsSample, Parameters.width, Spelling.spelling, Spelling.ordered_bytes}
+use Rattle.rice_samples.specs.{Residuals.twos_complement, Parameters.offset, Parameters.IsValue, PatternLanes.in_order}
 
 not_below : (a b c : ℕ) → a ≡ c + b → pos a -ℤ pos b ≡ pos c
 not_below a b c e = omega (arith, ints)

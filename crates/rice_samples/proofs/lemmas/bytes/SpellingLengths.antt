@@ -1,7 +1,7 @@
 -- How many bytes samples take.
 use Rattle.std.proofs.Common.{◌≡◌, ℕ, zero, suc, ◌+◌, ◌*◌, ◌≤◌, List, [], ◌∷◌, ◌++◌, length, refl, ap, arith, ◌∙◌, length-append, ℤ}
 use Rattle.std.{proofs.lemmas.Grind.common_steps, proofs.lemmas.Grind.flat_map-append, specs.Int.bytes_low_first, specs.Int.bytes_high_first, proofs.lemmas.Bool.Decides.nat_tests}
-use Rattle.rice_samples.specs.{bytes.Spelling.spelling, bytes.Spelling.spellings, Parameters.Parameters, Parameters.width}
+use Rattle.rice_samples.specs.{Spelling.spelling, Spelling.spellings, Parameters.Parameters, Parameters.width}
 
 low_count : (i k v : ℕ) → length (bytes_low_first i k v) ≡ k
 low_count i zero v = refl

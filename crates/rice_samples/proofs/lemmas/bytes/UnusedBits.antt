@@ -2,8 +2,8 @@
 use Rattle.std.proofs.Common.{◌≡◌, ℕ, ◌+◌, ◌*◌, ◌%◌, ◌^◌, ◌<◌, ◌≤◌, List, [], ◌∷◌, ◌++◌, length, take, drop, map, refl, ap, arith, sym, ◌∙◌, append_assoc, append-nil, length-append, length-drop, ℤ}
 use Rattle.std.proofs.lemmas.{List.drop-drop, List.drop_at, List.map-append, List.take_at, Grind.common_steps, Grind.flat_map-append, List.Elements.All-nil, List.Elements.All-push}
 use Rattle.std.{proofs.Math.Seq.take-add, specs.Prelude.All}
-use Rattle.rice_samples.specs.{Parameters.Parameters, Parameters.IsSample, Parameters.value_count, Parameters.width, bytes.UnusedBits.SpellsOne, bytes.UnusedBits.bytes_of_words}
-use Rattle.rice_samples.specs.{bytes.Spelling.spellings, bytes.Spelling.ordered_bytes, predict.Residuals.pattern}
+use Rattle.rice_samples.specs.{Parameters.Parameters, Parameters.IsSample, Parameters.value_count, Parameters.width, UnusedBits.SpellsOne, UnusedBits.bytes_of_words}
+use Rattle.rice_samples.specs.{Spelling.spellings, Spelling.ordered_bytes, Residuals.pattern}
 
 -- the words in the first `at` bytes have become spellings
 pub record SpelledSoFar (s : Parameters) (old now : List ℕ) (at : ℕ) : Type 0 where

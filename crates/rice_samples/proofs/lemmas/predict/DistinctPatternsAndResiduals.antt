@@ -2,7 +2,7 @@
 use Rattle.std.proofs.Common.{◌≡◌, ℕ, zero, suc, ◌+◌, ◌-◌, ◌*◌, ◌%◌, ◌^◌, ◌<◌, ◌≤◌, false, List, [], ◌∷◌, length, refl, ap, arith, sym, ◌∙◌, ℤ, pos, negsuc, neg_ℤ, ◌≤ℤ◌, ◌<ℤ◌, w64}
 use Rattle.std.proofs.{Math.Nat.mul-add-mod_self_left, Math.Nat.mod-eq_of_lt, Math.Nat.mul-div_cancel_left, lemmas.Nat.mod-mul-add, lemmas.Nat.pow-add, lemmas.Nat.pow_pos, lemmas.Grind.common_steps}
 use Rattle.std.{specs.Int.cast_unsigned, specs.Int.int_gap, specs.List.AllByRecursion, proofs.lemmas.Int.ints}
-use Rattle.rice_samples.specs.{predict.Residuals.twos_complement, predict.Residuals.pattern, predict.Residuals.residual, predict.Residuals.residuals, Places.is_reference_sample, Places.is_reference}
+use Rattle.rice_samples.specs.{Residuals.twos_complement, Residuals.pattern, Residuals.residual, Residuals.residuals, Places.is_reference_sample, Places.is_reference}
 use Rattle.rice_samples.proofs.lemmas.{setting.LevelsOfSamples.half_pow, setting.LevelsOfSamples.same_level, predict.Ranks.rank_injective}
 use Rattle.rice_samples.specs.Parameters.{Parameters, IsSample}
 

@@ -3,7 +3,7 @@ use Rattle.std.proofs.Common.{◌≡◌, ℕ, zero, suc, ◌+◌, ◌-◌, ◌^�
 use Rattle.std.{proofs.lemmas.Bool.Decides.nat_tests, proofs.lemmas.Grind.common_steps, proofs.lemmas.Bool.cases_lt, proofs.lemmas.Nat.pow_pos, proofs.lemmas.Int.ints, specs.Int.int_gap}
 use Rattle.rice_samples.specs.Parameters.{Parameters, IsSample, level, value_count}
 use Rattle.rice_samples.proofs.lemmas.{predict.Ranks.number_with, predict.Ranks.rank_of_number, setting.LevelsOfSamples.half_pow}
-use Rattle.rice_samples.specs.predict.Residuals.{twos_complement, pattern, rank}
+use Rattle.rice_samples.specs.Residuals.{twos_complement, pattern, rank}
 
 -- a value from the least one on
 abbrev Value : ℤ → ℕ → ℤ → Type 0

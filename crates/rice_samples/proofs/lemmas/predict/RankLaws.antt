@@ -3,7 +3,7 @@ use Rattle.std.proofs.Common.{◌≡◌, ℕ, zero, suc, ◌+◌, ◌*◌, ◌<�
 use Rattle.std.{proofs.lemmas.Bool.Decides.nat_tests, proofs.lemmas.Grind.common_steps, specs.Int.int_gap, specs.Int.abs_diff, specs.List.range_with_len, specs.Prelude.count_by}
 use Rattle.std.proofs.lemmas.Int.{ints}
 use Rattle.rice_samples.specs.{Parameters.Parameters, Parameters.IsSample, Parameters.least, Parameters.level, Parameters.value_count, Laws.distance, Laws.nearer_count, Laws.IsSecondOfTwo}
-use Rattle.rice_samples.{specs.predict.Residuals.nearer, specs.predict.Residuals.rank, specs.predict.Residuals.rank_below, proofs.lemmas.predict.Ranks.nearer_is_count}
+use Rattle.rice_samples.{specs.Residuals.nearer, specs.Residuals.rank, specs.Residuals.rank_below, proofs.lemmas.predict.Ranks.nearer_is_count}
 
 -- a value is the least one and its level
 pub gap_is : (z x : ℤ) → z ≤ℤ x → x ≡ z +ℤ pos (int_gap z x)

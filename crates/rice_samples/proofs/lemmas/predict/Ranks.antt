@@ -1,7 +1,7 @@
 -- Each number below count has one rank from p, and each rank is that of one number.
 use Rattle.std.proofs.Common.{◌≡◌, ℕ, zero, suc, ◌+◌, ◌-◌, ◌*◌, ◌/◌, ◌%◌, ◌<◌, min, max, nat_lt, nat_le, arith, ◌∙◌, if◌then◌else◌, ◌==◌}
 use Rattle.std.{proofs.lemmas.Bool.Decides.nat_tests, proofs.lemmas.Grind.common_steps, specs.List.range_with_len, specs.Prelude.count_by, specs.Int.abs_diff}
-use Rattle.rice_samples.specs.predict.Residuals.{nearer, rank_below}
+use Rattle.rice_samples.specs.Residuals.{nearer, rank_below}
 
 -- a rank is below the count too
 pub rank_fits : (count p x : ℕ) → p < count → x < count → rank_below count p x < count

@@ -1,7 +1,7 @@
 -- The residuals of samples: how many, how large, and 0 at a reference place.
 use Rattle.std.proofs.Common.{◌≡◌, ℕ, suc, ◌+◌, ◌*◌, ◌/◌, ◌%◌, ◌<◌, ◌≤◌, ◌==◌, Bool, true, false, cond, ◌&&◌, List, [], ◌∷◌, length, refl, ap, ◌∙◌, ℤ}
 use Rattle.std.{proofs.Math.Nat.mul-div_cancel_left, proofs.Math.Nat.mul-mod_right, specs.Prelude.slice_index, specs.List.AllByRecursion, proofs.lemmas.Nat.pow_pos}
-use Rattle.rice_samples.specs.{predict.Residuals.rank, predict.Residuals.residual, predict.Residuals.residuals, predict.Residuals.pattern, Places.is_reference_sample, Places.is_reference}
+use Rattle.rice_samples.specs.{Residuals.rank, Residuals.residual, Residuals.residuals, Residuals.pattern, Places.is_reference_sample, Places.is_reference}
 use Rattle.rice_samples.{specs.Parameters.Parameters, specs.Parameters.IsSample, specs.Parameters.level, specs.Parameters.value_count, proofs.lemmas.setting.LevelsOfSamples.pattern_fits}
 use Rattle.rice_samples.proofs.lemmas.predict.Ranks.{rank_fits}
 

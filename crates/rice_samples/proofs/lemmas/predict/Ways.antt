@@ -2,7 +2,7 @@
 use Rattle.std.proofs.Common.{◌≡◌, ℕ, zero, suc, ◌+◌, ◌-◌, ◌/◌, ◌%◌, ◌^◌, ◌<◌, refl, ◌∙◌, ap, arith}
 use Rattle.std.{specs.Int.Bits.bit_xor, specs.Int.Bits.xor_add_and, specs.Int.Bits.xor_zero_r, proofs.Math.Nat.mod-eq_of_lt, proofs.Math.Nat.add-mod_right, specs.Prelude.bit_and}
 use Rattle.std.proofs.lemmas.Nat.{and_mask, pow_pos}
-use Rattle.rice_samples.specs.predict.NearNumbers.{way}
+use Rattle.rice_samples.specs.NearNumbers.{way}
 
 -- half of a rank, with each of its k digits turned over where the rank is odd, is the way of this rank
 pub way_lane : (k d : ℕ) → d < 2 ^ k → bit_xor (d / 2) ((0 + (2 ^ k - bit_and d 1)) % 2 ^ k) ≡ way (2 ^ k) d

@@ -1,7 +1,7 @@
 -- Samples are numbered by their levels.
 use Rattle.std.proofs.Common.{◌≡◌, ℕ, zero, suc, ◌+◌, ◌-◌, ◌^◌, ◌<◌, ◌≤◌, Bool, true, false, cond, ap, arith, ℤ, pos, negsuc, neg_ℤ, ◌≤ℤ◌}
 use Rattle.std.{proofs.lemmas.Grind.common_steps, proofs.lemmas.Nat.pow_pos, proofs.Math.Nat.pow-suc, proofs.lemmas.Int.ints, specs.Int.int_gap}
-use Rattle.rice_samples.specs.{Parameters.Parameters, Parameters.IsSample, Parameters.least, Parameters.level, Parameters.value_count, predict.Residuals.twos_complement, predict.Residuals.pattern}
+use Rattle.rice_samples.specs.{Parameters.Parameters, Parameters.IsSample, Parameters.least, Parameters.level, Parameters.value_count, Residuals.twos_complement, Residuals.pattern}
 
 -- from the least value the gap tells the value
 pub same_gap : (l x y : ℤ) → l ≤ℤ x → l ≤ℤ y → int_gap l x ≡ int_gap l y → x ≡ y

@@ -2,7 +2,7 @@
 use Rattle.std.proofs.Common.{◌≡◌, ℕ, suc, ◌-◌, ◌<◌, List, [], ◌∷◌, length, All, refl, sym, ap, arith, ◌∙◌, ℤ, pos, slice_index_or}
 use Rattle.std.proofs.lemmas.{List.get_or-map, List.length-map, List.Elements.All-map, Grind.common_steps}
 use Rattle.rice_samples.specs.Parameters.{Parameters, IsSample, least, level, value_at, value_count, values_at}
-use Rattle.rice_samples.specs.predict.Residuals.{rank_below, ranks, ranks_below, last_number, last_of}
+use Rattle.rice_samples.specs.Residuals.{rank_below, ranks, ranks_below, last_number, last_of}
 use Rattle.rice_samples.proofs.lemmas.setting.{ValuesAboveLeast.gap_above, ValuesAboveLeast.sample_at, LevelsOfSamples.same_level}
 
 -- the value at a level has this level

@@ -1,6 +1,6 @@
 use Rattle.rice_stream.proofs.Words.{arith, ◌≡◌, ◌+◌, ◌*◌, ◌/◌, ◌≤◌, ◌++◌, ◌∙◌, ap, length, refl, sym, subst, drop, take-append-drop, Some, Room, Appends, spellings, length-spellings, width}
 use Rattle.std.proofs.Math.Nat.{mul-div-le}
-use Rattle.rice_bits.specs.device.Slice.{slice_state}
+use Rattle.rice_bits.specs.Devices.{slice_state}
 use Rattle.rice_stream.proofs.lemmas.BlocksPassed.{each_stands, never_fails, passed_to, stand_is_ready, stands_before}
 use Rattle.rice_stream.proofs.pulling.write_blocks_to.Goals as goal
 

@@ -1,6 +1,6 @@
 use Rattle.std.proofs.Common.{◌+◌, ◌*◌, ◌++◌, take}
 use Rattle.std.specs.Prelude.{flat_map}
-use Rattle.rice_bits.specs.{WholeWords.JoinsAllBut, Bits.word}
+use Rattle.rice_bits.specs.Bits.{JoinsAllBut, word}
 use Rattle.rice_bits.proofs.bits.whole_words.join_all_but_last_digits.Given as goal
 
 abbrev pub invariant-loop-i : goal.invariant-loop-i

@@ -1,7 +1,7 @@
 use Rattle.std.proofs.Common.{ℕ, ◌≤◌, ◌≡◌, arith, length}
 use Rattle.std.proofs.lemmas.{List.length-take-le, Grind.common_steps}
 use Rattle.rice_bits.proofs.lemmas.{bits.BytesAndBits.bits_of-nil, bits.BytesAndBits.length-bits_of, read.WindowLemmas.length-window, read.WindowLemmas.window_empty, read.RefilledBytes.supplies-none}
-use Rattle.rice_bits.specs.{declared.read.window.Window.Window, read.Window.IsWindow, read.Window.window_bits}
+use Rattle.rice_bits.specs.{declared.read.window.Window.Window, Window.IsWindow, Window.window_bits}
 use Rattle.rice_bits.proofs.read.reader.refill_if_empty.Goals as goal
 
 -- where no bit is buffered, the window is at its end

@@ -1,5 +1,5 @@
 use Rattle.std.proofs.Common.{◌+◌, ◌^◌, ◌≤◌, take}
-use Rattle.rice_code.specs.decode.ReadSets.{PairRow}
+use Rattle.rice_code.specs.ReadSets.{PairRow}
 use Rattle.rice_code.proofs.decode.pairs.read_pairs.Given as goal
 
 abbrev pub invariant-loop-done : goal.invariant-loop-done

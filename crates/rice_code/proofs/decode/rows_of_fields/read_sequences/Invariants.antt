@@ -1,5 +1,5 @@
 use Rattle.std.proofs.Common.{◌+◌, ◌≡◌, ◌^◌, ◌≤◌, take}
-use Rattle.rice_code.specs.decode.ReadSets.{CountRow}
+use Rattle.rice_code.specs.ReadSets.{CountRow}
 use Rattle.rice_code.proofs.decode.rows_of_fields.read_sequences.Given as goal
 
 abbrev pub invariant-loop-done : goal.invariant-loop-done

@@ -1,5 +1,5 @@
 use Rattle.std.proofs.Common.{◌≡◌, take, drop}
-use Rattle.rice_bits.specs.read.JoinedParts.{joined_parts}
+use Rattle.rice_bits.specs.Bits.{joined_parts}
 use Rattle.rice_code.proofs.decode.sound_residuals.join_all_parts.Given as goal
 
 abbrev pub invariant-loop-i : goal.invariant-loop-i

@@ -1,5 +1,5 @@
 use Rattle.std.proofs.Common.{◌≡◌, ◌+◌, ◌*◌, ◌^◌, ◌≤◌, take, sum_by}
-use Rattle.rice_samples.specs.blocks.Pairs.{pair_codes}
+use Rattle.rice_samples.specs.Pairs.{pair_codes}
 use Rattle.rice_samples.proofs.blocks.pair_codeword_lengths.pair_sum.Given as goal
 
 abbrev pub invariant-loop-i : goal.invariant-loop-i

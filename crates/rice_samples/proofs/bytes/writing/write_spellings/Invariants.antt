@@ -1,5 +1,5 @@
 use Rattle.std.proofs.Common.{◌≡◌, ◌*◌, take}
-use Rattle.rice_samples.specs.{bytes.Spelling.spellings, Parameters.values_at}
+use Rattle.rice_samples.specs.{Spelling.spellings, Parameters.values_at}
 use Rattle.rice_samples.proofs.bytes.writing.write_spellings.Given as goal
 
 abbrev pub invariant-loop-i : goal.invariant-loop-i

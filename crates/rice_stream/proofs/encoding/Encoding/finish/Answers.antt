@@ -1,5 +1,5 @@
 use Rattle.rice_stream.proofs.Words.{arith, ◌≡◌, ◌+◌, ◌≤◌, length, ap, subst, sym, List, ℕ, Parameters, Follows, padded_bits, whole_bytes, code, code_bits, output, early_output}
-use Rattle.rice_stream.proofs.Words.{complete_code, complete_samples, fill_count_of, AddsCode}
+use Rattle.rice_stream.proofs.Words.{complete_code, complete_samples, fill_count, AddsCode}
 use Rattle.rice_stream.proofs.lemmas.EncodingLemmas.{all_small, has_room, samples_end, standing_of, Follows-trans, part_follows}
 use Rattle.rice_stream.proofs.lemmas.BytesOfGrowingCode.{more_bytes}
 use Rattle.rice_stream.proofs.encoding.Encoding.finish.Goals as goal
@@ -25,8 +25,8 @@ returns-in-Ok-clause-did g c v s old xs sees h =
     let new = g.O.Outlet.taken c.write_whole.new.outlet in
     let f = c.finish-bits in
     let few : length xs ≤ 281474976710656 = omega (arith, sees.samples, h.counts.samples, c.requires.ready.1.samples, c.requires.ready.5.counts.samples, c.requires.ready.6) in
-    let adds : AddsCode v.coder.setting (complete_samples v.coder.setting xs) xs v.sink f.new.sink f.result (fill_count_of v.coder.setting xs) v.meter c.steps.result =
-    subst (AddsCode v.coder.setting (complete_samples v.coder.setting xs) xs v.sink f.new.sink f.result (fill_count_of v.coder.setting xs) v.meter)
+    let adds : AddsCode v.coder.setting (complete_samples v.coder.setting xs) xs v.sink f.new.sink f.result (fill_count v.coder.setting (length xs)) v.meter c.steps.result =
+    subst (AddsCode v.coder.setting (complete_samples v.coder.setting xs) xs v.sink f.new.sink f.result (fill_count v.coder.setting (length xs)) v.meter)
     (sym c.steps.ensures.value) (f.ensures (standing_of v) xs sees.standing (has_room s old now v xs h few) h.counts.stands) in
     let r = samples_end h adds (ap (λ n. n + f.result) (sym sees.bits)) (sym sees.samples) c.pad.ensures.bits in
     let sink = c.pad.new.self in
@@ -39,8 +39,8 @@ returns-in-Err-clause-did g c v s old xs sees h =
     let new = g.O.Outlet.taken c.write_whole.new.outlet in
     let f = c.finish-bits in
     let few : length xs ≤ 281474976710656 = omega (arith, sees.samples, h.counts.samples, c.requires.ready.1.samples, c.requires.ready.5.counts.samples, c.requires.ready.6) in
-    let adds : AddsCode v.coder.setting (complete_samples v.coder.setting xs) xs v.sink f.new.sink f.result (fill_count_of v.coder.setting xs) v.meter c.steps.result =
-    subst (AddsCode v.coder.setting (complete_samples v.coder.setting xs) xs v.sink f.new.sink f.result (fill_count_of v.coder.setting xs) v.meter)
+    let adds : AddsCode v.coder.setting (complete_samples v.coder.setting xs) xs v.sink f.new.sink f.result (fill_count v.coder.setting (length xs)) v.meter c.steps.result =
+    subst (AddsCode v.coder.setting (complete_samples v.coder.setting xs) xs v.sink f.new.sink f.result (fill_count v.coder.setting (length xs)) v.meter)
     (sym c.steps.ensures.value) (f.ensures (standing_of v) xs sees.standing (has_room s old now v xs h few) h.counts.stands) in
     let r = samples_end h adds (ap (λ n. n + f.result) (sym sees.bits)) (sym sees.samples) c.pad.ensures.bits in
     let sink = c.pad.new.self in

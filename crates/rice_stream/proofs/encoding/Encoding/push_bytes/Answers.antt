@@ -72,7 +72,7 @@ returns-in-Ok-eq0-clause-did g c v old xs sees h =
           more = p.2 ++ q.2.0.more;
           rest = drop (at + w * n) bytes;
           reads = taken_from s bytes at n w p.2 q.2.0.more p.3 q.2.0.reads c.width-width.ensures.value;
-          none = subst (λ (l : List ℕ). (width s ≤ length l) × IsNoSpelling s l) same (wide, none);
+          ends = subst (λ (l : List ℕ). (width s ≤ length l) × IsNoSpelling s l) same (wide, none);
           holds = subst (λ l. IsEncodingOf s old (g.O.Outlet.taken c.push_some.new.outlet) q.0 l) (append_assoc xs p.2 q.2.0.more) q.2.0.holds;
         },
         sym q.1.samples,
@@ -112,4 +112,4 @@ returns-clause-did g c v old xs sees h =
     let bytes = c.args.bytes.now in
     let at = c.loop-at.at in
     let p = c.loop-at.invariant.part v old xs sees h in
-    (p.0, p.1, record { more = p.2; rest = drop at bytes; reads = p.3; few = omega (arith, length-drop at bytes, c.loop-at-test.false, c.width-width.ensures.value); holds = p.4 })
+    (p.0, p.1, record { more = p.2; rest = drop at bytes; reads = p.3; ends = omega (arith, length-drop at bytes, c.loop-at-test.false, c.width-width.ensures.value); holds = p.4 })

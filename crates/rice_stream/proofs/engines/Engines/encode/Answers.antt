@@ -177,12 +177,12 @@ encode_all-preserved g c =
     let t = subst (λ (l : List ℕ). TakesAll s (afresh start) new q.0 runs.samples l) c.buffered-in-encode_all.ensures q.2 in
     let kept : c.keep_last.new.self ≡ with_last (length r.buffered % width s) r =
     c.keep_last.ensures ∙ (λ i. with_last (length (c.buffered-in-encode_all-2.ensures i) % c.width-width.ensures.value i) r) in
-    let rest = (rest_is s r.buffered t.rest t.more t.reads t.few).1 in
+    let rest = (rest_is s r.buffered t.rest t.more t.reads t.ends).1 in
     record {
       value = q.0;
       sees = q.1;
       runs = takes_on runs t kept;
-      few = omega (arith, ap (λ r. length r.buffered) kept, ap length rest, t.few);
+      few = omega (arith, ap (λ r. length r.buffered) kept, ap length rest, t.ends);
       reads = c.in-Ok.ensures.failures ∙ i.reads;
       writes = c.in_default.ensures.failures ∙ i.writes;
     }

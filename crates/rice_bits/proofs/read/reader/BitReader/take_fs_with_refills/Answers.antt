@@ -1,7 +1,7 @@
 use Rattle.std.proofs.Common.{arith, ◌∙◌, subst, false, replicate}
 use Rattle.std.proofs.lemmas.{List.replicate-append-replicate, List.append-nil, Grind.common_steps}
 use Rattle.rice_bits.proofs.lemmas.read.ReaderLemmas.{no_refusal, refusal_is, takes-none, takes-append, stops-append, zeros-fs, one_buffered}
-use Rattle.rice_bits.specs.read.Reader.{Stops}
+use Rattle.rice_bits.specs.Reader.{Stops}
 use Rattle.rice_bits.proofs.read.reader.BitReader.take_fs_with_refills.Goals as goal
 
 pub loop-count-init : goal.loop-count-init

@@ -1,5 +1,5 @@
 use Rattle.std.proofs.Common.{◌+◌, ◌-◌, ◌≡◌, ◌^◌, ◌≤◌, replicate, false}
-use Rattle.rice_bits.specs.read.Reader.{Takes, is_blank}
+use Rattle.rice_bits.specs.Reader.{Takes, is_blank}
 use Rattle.rice_bits.proofs.read.reader.BitReader.take_fs_with_refills.Given as goal
 
 abbrev pub invariant-loop-count : goal.invariant-loop-count

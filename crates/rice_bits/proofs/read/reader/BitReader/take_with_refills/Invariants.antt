@@ -1,5 +1,5 @@
 use Rattle.std.proofs.Common.{◌+◌, ◌-◌, ◌≡◌, ◌^◌, ◌<◌, ◌≤◌, length}
-use Rattle.rice_bits.specs.{read.Reader.Takes, Bits.word}
+use Rattle.rice_bits.specs.{Reader.Takes, Bits.word}
 use Rattle.rice_bits.proofs.read.reader.BitReader.take_with_refills.Given as goal
 
 abbrev pub invariant-loop-left : goal.invariant-loop-left

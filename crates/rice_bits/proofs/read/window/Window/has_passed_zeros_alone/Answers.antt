@@ -1,5 +1,5 @@
 use Rattle.std.proofs.{lemmas.Grind.common_steps, Common.arith, Common.sym}
-use Rattle.rice_bits.{proofs.lemmas.read.WindowLemmas.blank-more, proofs.lemmas.read.WindowLemmas.blank-not, specs.read.Window.window_passed, specs.Bits.bits_of}
+use Rattle.rice_bits.{proofs.lemmas.read.WindowLemmas.blank-more, proofs.lemmas.read.WindowLemmas.blank-not, specs.Window.window_passed, specs.Bits.bits_of}
 use Rattle.rice_bits.proofs.read.window.Window.has_passed_zeros_alone.Goals as goal
 
 pub loop-seen-preserved : goal.loop-seen-preserved

@@ -1,6 +1,6 @@
 use Rattle.std.proofs.Common.{◌≡◌, ◌-◌, ◌≤◌, true}
 use Rattle.std.specs.Prelude.{slice_range}
-use Rattle.rice_bits.specs.{read.Reader.is_blank, Bits.bits_of}
+use Rattle.rice_bits.specs.{Reader.is_blank, Bits.bits_of}
 use Rattle.rice_bits.proofs.read.window.Window.has_passed_zeros_alone.Given as goal
 
 abbrev pub invariant-loop-seen : goal.invariant-loop-seen

@@ -3,7 +3,7 @@ use Rattle.std.{proofs.lemmas.List.length-take-le, proofs.lemmas.List.take-repli
 use Rattle.std.proofs.{lemmas.Nat.leading_top, Math.Nat.pow-suc}
 use Rattle.rice_bits.proofs.lemmas.read.WindowLemmas.{length-window, run-within, near-there, window-front}
 use Rattle.rice_bits.proofs.lemmas.bits.{WordsAndNumbers.length-fundamental_sequence, WordsAndNumbers.word-zero, FrontsOfWords.first_run, FrontsOfWords.take-front, FrontsOfWords.word-parts}
-use Rattle.rice_bits.specs.{read.Window.bits_near, read.Window.window_bits, Bits.fundamental_sequence, Bits.word}
+use Rattle.rice_bits.specs.{Window.bits_near, Window.window_bits, Bits.fundamental_sequence, Bits.word}
 use lib.Count.{count_leading_zeros}
 use Rattle.rice_bits.proofs.read.window.Window.len_of_sequence_ahead.Goals as goal
 

@@ -1,6 +1,6 @@
-use Rattle.std.proofs.Common.{◌∙◌, [], ap, inl, subst, sym}
+use Rattle.std.proofs.Common.{◌∙◌, [], ap, inl, pos, subst, sym}
 use Rattle.rice_code.proofs.lemmas.encode.{PushedCode.finish_sound, PushedCode.finish_adds, PushedCode.none_taken, PushedSamples.filled_has_steps}
-use Rattle.rice_code.proofs.Words.{IsCoder, HasTaken, CoderState, empty_state}
+use Rattle.rice_code.proofs.Words.{IsCoder, HasTaken, CoderState, state_between}
 use Rattle.rice_code.proofs.encode.coder.Coder.finish_counted.Goals as goal
 
 pub code-bits-requires : goal.code-bits-requires
@@ -13,7 +13,8 @@ code-bits-requires c = record {
 pub invariant_of-self : goal.invariant_of-self
 invariant_of-self c =
     let legal = c.self.invariant.taken.holds.legal in
-    subst IsCoder (sym (c.begin_first.ensures ∙ ap (λ (v : CoderState). empty_state v.setting) c.fill.ensures.value)) (record { samples = []; taken = none_taken c.self.inside.segment.setting legal })
+    subst IsCoder (sym (c.begin_first.ensures ∙ ap (λ (v : CoderState). state_between v.setting 0 (pos 0)) c.fill.ensures.value))
+    (record { samples = []; taken = none_taken c.self.inside.segment.setting legal })
 
 pub returns-clause-adds : goal.returns-clause-adds
 returns-clause-adds c xs h = finish_adds c.self.view_is c.fill.ensures.value c.code-bits.ensures c.fill.ensures.steps h
@@ -21,4 +22,5 @@ returns-clause-adds c xs h = finish_adds c.self.view_is c.fill.ensures.value c.c
 pub returns-clause-taken : goal.returns-clause-taken
 returns-clause-taken c =
     let legal = c.self.invariant.taken.holds.legal in
-    subst (λ (v : CoderState). HasTaken v []) (sym (c.begin_first.ensures ∙ ap (λ (v : CoderState). empty_state v.setting) c.fill.ensures.value)) (none_taken c.self.inside.segment.setting legal)
+    subst (λ (v : CoderState). HasTaken v []) (sym (c.begin_first.ensures ∙ ap (λ (v : CoderState). state_between v.setting 0 (pos 0)) c.fill.ensures.value))
+    (none_taken c.self.inside.segment.setting legal)

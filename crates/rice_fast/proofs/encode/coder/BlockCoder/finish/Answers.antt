@@ -1,4 +1,4 @@
-use Rattle.rice_fast.proofs.Words.{ℕ, ◌≤◌, arith, pos, refl, subst, sym, [], IsLegal, IsSample, Parameters, zero_is_sample, empty_state, none_taken, StandsFor, coder_between, BlockCoder}
+use Rattle.rice_fast.proofs.Words.{ℕ, ◌≤◌, arith, pos, refl, subst, sym, [], IsLegal, IsSample, Parameters, zero_is_sample, none_taken, state_between, StandsFor, coder_between, BlockCoder}
 use Rattle.rice_fast.proofs.lemmas.{encode.EndedSegments.finish_adds_all, encode.StandingCoders.begun_stands, encode.StandingCoders.setting_of}
 use Rattle.rice_fast.proofs.encode.coder.BlockCoder.finish.Goals as goal
 
@@ -19,7 +19,7 @@ returns-clause-reset c sink meter =
     let room = (c.fill.ensures.stands c.requires.0 c.requires.1 c.requires.2).room in
     let begun = begun_stands s 0 _ c.level_of_sample-self.result c.fill.new.self.part sink meter (pos 0) []
     (none_taken s legal) c.level_of_sample-self.ensures.value c.level_of_sample-self.ensures.below refl room in
-    let P : BlockCoder → Type 0 = λ v. StandsFor v sink meter (record { coder = empty_state s; sink = sink; meter = meter }) in
+    let P : BlockCoder → Type 0 = λ v. StandsFor v sink meter (record { coder = state_between s 0 (pos 0); sink = sink; meter = meter }) in
     let R : ℕ → Type 0 = λ end. P (coder_between s 0 end c.level_of_sample-self.result c.fill.new.self.part) in
-    let Q : Parameters → Type 0 = λ v. StandsFor c.go_to.new.self sink meter (record { coder = empty_state v; sink = sink; meter = meter }) in
+    let Q : Parameters → Type 0 = λ v. StandsFor c.go_to.new.self sink meter (record { coder = state_between v 0 (pos 0); sink = sink; meter = meter }) in
     subst Q c.fill.ensures.setting (subst P (sym c.go_to.ensures) (subst R (sym c.blocks_left-end.ensures.value) begun))

@@ -1,13 +1,12 @@
 -- The state of a decoder, the samples that it restores, and what a call of it says.
 use Rattle.std.specs.Prelude.{◌≡◌, ◌≢◌, ℕ, ◌+◌, ◌<◌, ◌≤◌, ◌==◌, ◌&&◌, if◌then◌else◌, Bool, false, List, All, length, Option, Some, None, is_some, Result, Ok, ℤ, zero, suc, true, [], ◌∷◌, ◌++◌}
 use Rattle.std.specs.Prelude.{replicate, Err}
-use Rattle.rice_bits.specs.{declared.read.fault.BitFault.BitFault, read.Reader.Reader, read.Reader.Takes, read.Reader.is_blank}
-use Rattle.rice_samples.specs.{predict.Residuals.last_of, predict.Residuals.rank, predict.Residuals.pattern, Places.blocks_left, Places.begins_segment, Parameters.Parameters, Parameters.IsLegal}
-use Rattle.rice_samples.specs.{Parameters.IsSample}
+use Rattle.rice_bits.specs.{declared.read.fault.BitFault.BitFault, Reader.Reader, Reader.Takes, Reader.is_blank}
+use Rattle.rice_samples.specs.{Residuals.last_of, Residuals.rank, Residuals.pattern, Places.blocks_left, Places.begins_segment, Parameters.Parameters, Parameters.IsLegal, Parameters.IsSample}
 use Rattle.rice_code.specs.code.Forms.{IsForm, RunIsSound, ResidualsAreSound, blocks_in}
 use Rattle.rice_code.specs.{declared.decode.call_results.Step.TheVariants.Block, declared.decode.call_results.Step.TheVariants.Done, declared.decode.call_results.CodeFault.CodeFault}
 use Rattle.rice_code.specs.{declared.decode.call_results.Step.Step, code.Blocks.BlockData, code.Blocks.block_data, code.Blocks.zero_block, code.CodedDataSets.CodedDataSet}
-use Rattle.rice_code.specs.{code.CodedDataSets.bits_of_set, code.CodedDataSets.turns, decode.ReadSets.SetCut, code.Layout.block_after, code.Layout.padding}
+use Rattle.rice_code.specs.{code.CodedDataSets.bits_of_set, code.CodedDataSets.turns, ReadSets.SetCut, code.Layout.block_after, code.Layout.padding}
 use Rattle.rice_bits.specs.declared.read.fault.BitFault.TheVariants as bit_faults
 use Rattle.rice_code.specs.declared.decode.call_results.CodeFault.TheVariants as faults
 
@@ -36,17 +35,13 @@ pub record IsDecoderState (s : Parameters) (block : ℕ) (before : ℤ) (run : �
 abbrev pub decoder_at : Parameters → (block : ℕ) → (before : ℤ) → (run : ℕ) → DecoderState
 decoder_at s block before run = record { setting = s; block = block; before = before; run = run; stopped = None }
 
--- the place of the next block
-abbrev pub next_block_place : Parameters → ℕ → ℕ
-next_block_place s b = if b + 1 == s.interval then 0 else b + 1
-
 -- the place of the block that stands `count` blocks further on in the interval, or begins the next one
 abbrev pub place_after : Parameters → ℕ → ℕ → ℕ
 place_after s b count = if b + count == s.interval then 0 else b + count
 
 -- the state after a block with these samples, which `run` zero blocks follow
 abbrev pub state_after_block : DecoderState → List ℤ → ℕ → DecoderState
-state_after_block p samples run = record p { block = next_block_place p.setting p.block; before = last_of p.before samples; run = run }
+state_after_block p samples run = record p { block = place_after p.setting p.block 1; before = last_of p.before samples; run = run }
 
 -- the residual of a sample that is restored, by whether it is the first of a block with a reference
 abbrev pub residual_at : Parameters → Option ℕ → Bool → ℤ → ℤ → ℕ
@@ -104,7 +99,7 @@ pub record SetRefused {I : Type 0} (old new : Reader I) (old_steps new_steps : �
 
 -- A reader took all that was left, where the intake has ended, and no data set begins with it. `blank`: no bit of it was a 1.
 pub record SetEnds {I : Type 0} (old new : Reader I) (old_steps new_steps : ℕ) (s : Parameters) (b : ℕ) (blank : Bool) : Type 0 where
-  pub cut : SetCut old new old_steps new_steps s b (bit_faults.End blank)
+  pub cut : SetCut [] old new old_steps new_steps s b (bit_faults.End blank)
   pub reported : is_blank cut.bits ≡ blank
 
 -- why a decoder at block b stops, whatever the intake is
@@ -116,8 +111,8 @@ StopsBy old new old_steps new_steps s b (Ok Done) = SetEnds old new old_steps ne
 StopsBy old new old_steps new_steps s b (Err faults.CodeEnds) = SetEnds old new old_steps new_steps s b false
 StopsBy old new old_steps new_steps s b (Err faults.RunPastSegment) = SetRefused old new old_steps new_steps s b (RunIsSound s b)
 StopsBy old new old_steps new_steps s b (Err faults.ResidualTooLarge) = SetRefused old new old_steps new_steps s b (ResidualsAreSound s)
-StopsBy old new old_steps new_steps s b (Err faults.Read) = SetCut old new old_steps new_steps s b bit_faults.Read
-StopsBy old new old_steps new_steps s b (Err faults.TooLong) = SetCut old new old_steps new_steps s b bit_faults.TooLong
+StopsBy old new old_steps new_steps s b (Err faults.Read) = SetCut [] old new old_steps new_steps s b bit_faults.Read
+StopsBy old new old_steps new_steps s b (Err faults.TooLong) = SetCut [] old new old_steps new_steps s b bit_faults.TooLong
 
 -- a reader from whose place on no 1 was taken
 abbrev pub with_mark : {I : Type 0} → Reader I → Reader I

@@ -1,5 +1,5 @@
--- The bits that were given and not yet taken.
-use Rattle.std.specs.Prelude.{◌≡◌, ◌+◌, ◌-◌, ◌*◌, ◌/◌, ◌%◌, ◌≤◌, ℕ, Bool, List, ◌++◌, length, drop, min, replicate, take, slice_range}
+-- The bits that were given and not yet taken, and where a reader shows them in bytes.
+use Rattle.std.specs.Prelude.{◌≡◌, ◌+◌, ◌-◌, ◌*◌, ◌/◌, ◌%◌, ◌^◌, ◌<◌, ◌≤◌, ℕ, Bool, List, ◌++◌, length, drop, min, replicate, take, slice_range}
 use Rattle.rice_bits.specs.{Limits.most_bytes_read, Limits.most_at_once, declared.read.window.Window.Window, Bits.bits_of}
 
 -- the bits of the most bytes that are asked for at a time
@@ -42,3 +42,9 @@ pub record Passes (old new : Window) (bits : List Bool) : Type 0 where
   pub split : window_bits old ≡ bits ++ window_bits new
   pub passed : window_passed new ≡ window_passed old ++ bits
   pub taken : window_taken new ≡ window_taken old + length bits
+
+-- From bit `at` on, the bytes have these bits, and at least eight bytes more after them.
+pub record AreBitsFrom (bytes : List ℕ) (at : ℕ) (bits : List Bool) : Type 0 where
+  pub begin : take (length bits) (drop at (bits_of bytes)) ≡ bits
+  pub room : at + length bits + 64 ≤ 8 * length bytes
+  pub small : at < 2 ^ 32

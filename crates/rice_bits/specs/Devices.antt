@@ -1,6 +1,9 @@
--- What a contract sees of the devices over memory.
+-- What contracts see of each device: those over memory that work in pieces, those over slices, and those over readers and writers.
 use Rattle.std.specs.Prelude.{ℕ, ◌-◌, min, length, List, take, drop, Option, None, Some}
-use Rattle.rice_bits.specs.{declared.device.memory.MemoryOut.MemoryOut, declared.device.memory.MemoryIn.MemoryIn, declared.device.memory.ZeroIn.ZeroIn, device.OutletRoom.Room}
+use Rattle.std.specs.{declared.io.buffered.BufWriter.BufWriter, Global.Global}
+use Rattle.rice_bits.specs.declared.device.{memory.MemoryOut.MemoryOut, memory.MemoryIn.MemoryIn, memory.ZeroIn.ZeroIn, slice.SliceOut.SliceOut, slice.SliceIn.SliceIn}
+use Rattle.rice_bits.specs.declared.device.{over_std.FromReader.FromReader, over_std.FromWriter.FromWriter, over_buf_writer.FromBufWriter.FromBufWriter}
+use Rattle.rice_bits.specs.OutletRoom.{Room}
 
 -- n, or the limit where there is a smaller one
 abbrev pub limited_to : Option ℕ → ℕ → ℕ
@@ -57,3 +60,35 @@ memory_out_failures s = s.failures
 -- how many zero bytes are still to come
 abbrev pub zeros_left : ZeroIn → ℕ
 zeros_left s = s.rest
+
+-- the bytes of a slice that are still to come
+abbrev pub slice_left : SliceIn → List ℕ
+slice_left s = s.rest.now
+
+-- the room that an outlet over a slice fills, with the bytes taken so far in front
+abbrev pub slice_state : SliceOut → Room
+slice_state s = record { borrow = s.room.ghost_name; bytes = take s.at s.room.now; rest = drop s.at s.room.now }
+
+abbrev pub slice_failures : SliceOut → ℕ
+slice_failures s = s.failures
+
+-- the reader that an intake is over
+abbrev pub reader_of : {R : Type 0} → FromReader R → R
+reader_of s = s.reader
+
+abbrev pub reader_failures : {R : Type 0} → FromReader R → ℕ
+reader_failures s = s.failures
+
+-- the writer that an outlet is over
+abbrev pub writer_of : {W : Type 0} → FromWriter W → W
+writer_of s = s.writer
+
+abbrev pub writer_failures : {W : Type 0} → FromWriter W → ℕ
+writer_failures s = s.failures
+
+-- the buffer that an outlet is over
+abbrev pub buffered_writer : {W : Type 0} → FromBufWriter W → BufWriter W Global
+buffered_writer s = s.writer
+
+abbrev pub buffered_failures : {W : Type 0} → FromBufWriter W → ℕ
+buffered_failures s = s.failures

@@ -1,8 +1,8 @@
 -- What a reader took: rows of fields, words or fundamental sequences one after another, and coded data sets.
-use Rattle.std.specs.Prelude.{◌≡◌, ℕ, suc, All, length, flat_map, sum, ◌+◌, ◌-◌, ◌*◌, ◌^◌, ◌<◌, ◌≤◌, Bool, true, false, List, [], ◌∷◌, ◌++◌, None, ◌/◌, Option, Some, ⊤}
-use Rattle.rice_bits.specs.read.Reader.{Reader, Takes, Stops, is_blank}
-use Rattle.rice_bits.specs.{Limits.step_limit, Limits.most_bits_read, Bits.fundamental_sequence, Bits.word, declared.read.fault.BitFault.BitFault, read.JoinedParts.joined_parts}
-use Rattle.rice_samples.specs.{blocks.Pairs.pair_codes, Parameters.Parameters}
+use Rattle.std.specs.Prelude.{◌≡◌, ℕ, suc, All, length, flat_map, sum, ◌+◌, ◌-◌, ◌*◌, ◌^◌, ◌<◌, ◌≤◌, Bool, true, false, List, [], ◌∷◌, ◌++◌, None, ◌/◌, Option, Some}
+use Rattle.rice_bits.specs.Reader.{Reader, Takes, Stops, is_blank}
+use Rattle.rice_bits.specs.{Limits.step_limit, Limits.most_bits_read, Bits.fundamental_sequence, Bits.word, declared.read.fault.BitFault.BitFault, Bits.joined_parts}
+use Rattle.rice_samples.specs.{Pairs.pair_codes, Parameters.Parameters}
 use Rattle.rice_code.specs.code.CodedDataSets.{CodedDataSet, NoCompression, SecondExtension, Split, ZeroBlocks, RemainderOfSegment, bits_of_set, turns, run_with_zeros, run_number}
 use Rattle.rice_code.specs.code.CodedDataSets.{no_compression_tail, second_extension_tail, split_tail, run_tail}
 use Rattle.rice_code.specs.code.Forms.{IsForm, IsBlock, IsZeroAtReference, RunIsSound, ResidualsAreSound, AllFit, blocks_in}
@@ -119,46 +119,21 @@ abbrev pub DescribesSet : Parameters → ℕ → SetSummary → List ℕ → Cod
 DescribesSet s b (Residuals head) residuals set = DescribesBlock s b head residuals set
 DescribesSet s b (Zeros reference zeros) residuals set = set ≡ run_with_zeros reference zeros
 
--- A reader took a data set, sound or not.
-pub record SetRead {I : Type 0} (old new : Reader I) (old_steps new_steps : ℕ) (s : Parameters) (b : ℕ) (taken : SetSummary) (residuals : List ℕ) : Type 0 where
+-- A reader took what follows `head` in a data set that begins with it, sound or not.
+pub record SetRead {I : Type 0} (head : List Bool) (old new : Reader I) (old_steps new_steps : ℕ) (s : Parameters) (b : ℕ) (taken : SetSummary) (residuals : List ℕ) : Type 0 where
   pub set : CodedDataSet
   pub form : IsForm s b set
-  pub takes : Takes old new (bits_of_set s set)
+  pub rest : List Bool
+  pub begins : bits_of_set s set ≡ head ++ rest
+  pub takes : Takes old new rest
   pub tells : DescribesSet s b taken residuals set
   -- each bit and each turn of the search is a step
   pub steps : new_steps + old.taken ≡ old_steps + new.taken + turns set
 
--- A reader took all that was left and refused, and no data set begins with it.
-pub record SetCut {I : Type 0} (old new : Reader I) (old_steps new_steps : ℕ) (s : Parameters) (b : ℕ) (fault : BitFault) : Type 0 where
+-- A reader took all that was left and refused, and no data set begins with `head` and this.
+pub record SetCut {I : Type 0} (head : List Bool) (old new : Reader I) (old_steps new_steps : ℕ) (s : Parameters) (b : ℕ) (fault : BitFault) : Type 0 where
   pub bits : List Bool
   pub stops : Stops old new bits fault
-  pub none : (d : CodedDataSet) (more : List Bool) → IsForm s b d → bits ≡ bits_of_set s d ++ more → ⊥
+  pub none : (d : CodedDataSet) (more : List Bool) → IsForm s b d → head ++ bits ≡ bits_of_set s d ++ more → ⊥
   -- where no bit is a 1, each bit is a step, and nothing else is
-  pub steps : is_blank bits ≡ true → new_steps + old.taken ≡ old_steps + new.taken
-
--- what follows an identifier of 0, as each coded data set that has one spells it
-abbrev pub low_entropy_tail : Parameters → CodedDataSet → List Bool
-low_entropy_tail s (SecondExtension c) = true ∷ second_extension_tail s c
-low_entropy_tail s (ZeroBlocks reference z) = false ∷ run_tail s reference (run_number z)
-low_entropy_tail s (RemainderOfSegment reference) = false ∷ run_tail s reference 4
-low_entropy_tail s _ = []
-
--- the identifier of the coded data set is 0
-abbrev pub IsLowEntropy : CodedDataSet → Type 0
-IsLowEntropy (NoCompression c) = ⊥
-IsLowEntropy (Split k c) = ⊥
-IsLowEntropy _ = ⊤
-
-pub record LowEntropyRead {I : Type 0} (old new : Reader I) (old_steps new_steps : ℕ) (s : Parameters) (b : ℕ) (taken : SetSummary) (residuals : List ℕ) : Type 0 where
-  pub set : CodedDataSet
-  pub low : IsLowEntropy set
-  pub form : IsForm s b set
-  pub takes : Takes old new (low_entropy_tail s set)
-  pub tells : DescribesSet s b taken residuals set
-  pub steps : new_steps + old.taken ≡ old_steps + new.taken + turns set
-
-pub record LowEntropyCut {I : Type 0} (old new : Reader I) (old_steps new_steps : ℕ) (s : Parameters) (b : ℕ) (fault : BitFault) : Type 0 where
-  pub bits : List Bool
-  pub stops : Stops old new bits fault
-  pub none : (d : CodedDataSet) (more : List Bool) → IsForm s b d → IsLowEntropy d → bits ≡ low_entropy_tail s d ++ more → ⊥
   pub steps : is_blank bits ≡ true → new_steps + old.taken ≡ old_steps + new.taken

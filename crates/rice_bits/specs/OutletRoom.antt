@@ -1,5 +1,5 @@
--- Where the bytes stand that an outlet took.
-use Rattle.std.specs.Prelude.{◌≡◌, ℕ, List, [], ◌++◌, length, drop, Option, Some, None, ⊤}
+-- What a call of a device does: where the bytes stand that an outlet took, and how a failure is counted.
+use Rattle.std.specs.Prelude.{◌≡◌, ℕ, ◌+◌, List, [], ◌++◌, length, drop, Option, Some, None, Result, MatchResult, ⊤}
 
 -- The room that an outlet fills: the name of the borrow that it writes through, the bytes that it took, and the bytes
 -- of the memory after them. An outlet that writes into no memory has no bytes after.
@@ -34,3 +34,7 @@ abbrev pub Keeps : Option Room → Option Room → Type 0
 Keeps None new = ⊤
 Keeps (Some a) None = ⊥
 Keeps (Some a) (Some b) = b ≡ a
+
+-- an error is one failure more, and nothing else is a failure
+abbrev pub CountsFailure : {T E : Type 0} → ℕ → ℕ → Result T E → Type 0
+CountsFailure old new r = MatchResult r (λ _. new ≡ old) (λ _. new ≡ old + 1)

@@ -3,12 +3,12 @@ use Rattle.std.specs.Prelude.{◌≡◌, ℕ, ◌+◌, ◌-◌, ◌*◌, ◌<◌
 use Rattle.std.specs.List.{AllByRecursion}
 use Rattle.rice_bits.specs.Limits.{step_limit}
 use Rattle.rice_samples.specs.Parameters.{Parameters, IsLegal, IsSample, width, value_at, value_count}
-use Rattle.rice_samples.specs.{Places.blocks_left, bytes.Spelling.spelling, bytes.Spelling.spellings, predict.Residuals.pattern}
+use Rattle.rice_samples.specs.{Places.blocks_left, Spelling.spelling, Spelling.spellings, Residuals.pattern}
 use Rattle.rice_code.specs.encode.HeldBlocks.{held_blocks, pending_zeros, reference_at, code_of_blocks}
 use Rattle.rice_code.specs.encode.OpenSegment.{CoderState, IsOpen, state_after_all}
 use Rattle.rice_code.specs.{CoderSteps.least_looks, CoderSteps.most_looks, CoderSteps.coding_steps, code.Blocks.BlockData, code.Code.data_sets, code.CodedDataSets.bits_of_sets}
 use Rattle.rice_code.specs.{code.SoundBlocks.AreSoundBlocks, code.SoundBlocks.block_with, encode.Coder.IsCoder, encode.Coder.PushesSamples}
-use Rattle.rice_fast.specs.{encode.Standing.HasRoomAt, encode.Standing.Standing, encode.Standing.TakesSpelled, declared.encode.coder.BlockCoder.BlockCoder}
+use Rattle.rice_fast.specs.{Standing.HasRoomAt, Standing.Standing, Standing.TakesSpelled, declared.encode.coder.BlockCoder.BlockCoder}
 
 -- what is still to be put, where `run` zero blocks before block n of the segment are pending, and these blocks follow
 abbrev pub to_follow : Parameters → ℕ → Option ℕ → ℕ → ℕ → List BlockData → List Bool

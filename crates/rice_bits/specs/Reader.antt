@@ -2,7 +2,7 @@
 use Rattle.std.specs.Prelude.{◌≡◌, ℕ, ◌+◌, ◌-◌, ◌*◌, ◌^◌, ◌<◌, ◌≤◌, Bool, true, not, ◌&&◌, List, [], ◌∷◌, ◌++◌, length, Option, Some, None, IsSome}
 use Rattle.std.specs.{Io.KnownBytes.Consumes, Io.KnownBytes.IsAtEnd, List.list_all}
 use Rattle.rice_bits.specs.declared.read.{fault.BitFault.TheVariants.End, fault.BitFault.TheVariants.Read, fault.BitFault.TheVariants.TooLong, fault.BitFault.BitFault, window.Window.Window}
-use Rattle.rice_bits.specs.{Limits.most_bits_read, Limits.most_at_once, read.Window.IsWindow, read.Window.window_bits, Bits.bits_of}
+use Rattle.rice_bits.specs.{Limits.most_bits_read, Limits.most_at_once, Window.IsWindow, Window.window_bits, Bits.bits_of}
 
 -- a reader of the bits that an intake gives
 pub record Reader (I : Type 0) : Type 0 where

@@ -1,7 +1,6 @@
 -- Samples in bytes whose unused bits are anything.
 use Rattle.std.specs.Prelude.{◌≡◌, ℕ, ◌*◌, ◌%◌, ◌^◌, ◌<◌, ◌++◌, List, length, All, map, flat_map, ℤ}
-use Rattle.rice_samples.specs.{Parameters.Parameters, Parameters.IsSample, Parameters.value_count, Parameters.width, bytes.Spelling.spelling, bytes.Spelling.spellings, bytes.Spelling.ordered_bytes}
-use Rattle.rice_samples.specs.predict.Residuals.{pattern}
+use Rattle.rice_samples.specs.{Parameters.Parameters, Parameters.IsSample, Parameters.value_count, Parameters.width, Spelling.spelling, Spelling.spellings, Spelling.ordered_bytes, Residuals.pattern}
 
 -- the bytes of words, each of the width of a sample
 abbrev pub bytes_of_words : Parameters → List ℕ → List ℕ

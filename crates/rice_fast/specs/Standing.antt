@@ -1,7 +1,7 @@
 -- What the fast coder, its sink and its meter stand for, and what its calls make of it.
 use Rattle.std.specs.Prelude.{◌≡◌, ℕ, ◌+◌, ◌*◌, ◌<◌, ◌≤◌, Bool, List, [], length, take, drop, ℤ}
 use Rattle.rice_bits.specs.Limits.{step_limit}
-use Rattle.rice_samples.specs.{Parameters.Parameters, Parameters.width, Parameters.value_at, Parameters.value_count, bytes.Spelling.Reads, predict.Residuals.last_of}
+use Rattle.rice_samples.specs.{Parameters.Parameters, Parameters.width, Parameters.value_at, Parameters.value_count, Spelling.Reads, Residuals.last_of}
 use Rattle.rice_code.specs.{CoderSteps.segment_steps, encode.Coder.PushesSamples, encode.Coder.CompletesNone, encode.OpenSegment.CoderState, encode.OpenSegment.later_residuals}
 
 -- The state of a coder that puts the code of a segment only when it is whole, with its sink and its meter.

@@ -1,7 +1,7 @@
 -- Words of whole bytes, in bytes that stand one after another.
 use Rattle.std.specs.Prelude.{◌≡◌, ℕ, zero, suc, ◌*◌, ◌^◌, ◌<◌, Bool, List, [], ◌++◌, length, take, drop, reverse, replicate, All, flat_map, if◌then◌else◌}
 use Rattle.rice_bits.specs.Bits.{word}
-use Rattle.rice_samples.specs.bytes.Spelling.{ordered_bytes}
+use Rattle.rice_samples.specs.Spelling.{ordered_bytes}
 
 -- the bytes of a word in the opposite order, or as they are
 abbrev pub in_order : Bool → List ℕ → List ℕ

@@ -1,2 +1,0 @@
--- Blocks of residuals.
-pub mod Pairs

@@ -1,5 +1,0 @@
--- Samples in bytes.
-pub mod PatternLanes
-pub mod UnusedBits
-pub mod Spelling
-pub mod ValueRange

@@ -1,3 +1,0 @@
--- The preprocessor.
-pub mod NearNumbers
-pub mod Residuals
