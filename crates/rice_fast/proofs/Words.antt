@@ -34,7 +34,7 @@ pub use Rattle.rice_code.specs.code.{Layout.padding, Code.zero_run, SoundBlocks.
 pub use Rattle.rice_code.specs.{declared.encode.choice.Choice.Choice, Decoder.GivesBlock, Decoder.Skips, Decoder.TakesSet, Decoder.with_mark}
 pub use Rattle.rice_code.specs.{Decoder.DecoderState, Decoder.place_after, ReadSets.reference_place, encode.Coder.AddsCode, encode.Coder.CompletesNone}
 pub use Rattle.rice_code.specs.{encode.Coder.HasTaken, encode.Coder.IsCoder, encode.Coder.PushesSamples, encode.BitBuffer.AddsSequences, encode.BitBuffer.pairs_len, encode.SetOfChoice.chosen_set}
-pub use Rattle.rice_fast.specs.CopiedBlocks.{IsCopied, WordsAhead, copied_bits}
+pub use Rattle.rice_fast.specs.BlocksAhead.{IsCopied, WordsAhead, copied_bits}
 pub use Rattle.rice_fast.specs.FieldsAhead.{AreFields, HeadAhead, HighsAhead, LowsAhead, PairsAhead, rows_len}
 pub use Rattle.rice_fast.specs.OpenBlocks.{GoesOn, HasRoomForBlock, HoldsOpen, IsAhead, IsBefore, PushesOpen, StandsAfter, StandsFor, StandsWith, coder_between, coder_with, is_at_first}
 pub use Rattle.rice_fast.specs.OpenBlocks.{to_follow, whole_part}

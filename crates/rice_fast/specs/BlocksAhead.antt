@@ -1,7 +1,7 @@
 -- Buffered blocks that are decoded in one pass from their bits to the bytes of their samples.
-use Rattle.std.specs.Prelude.{◌≡◌, ℕ, ◌+◌, ◌-◌, ◌*◌, ◌<◌, ◌≤◌, Bool, List, All, length, take, Ok, ℤ}
-use Rattle.rice_bits.specs.Reader.{Reader}
-use Rattle.rice_samples.specs.{Parameters.Parameters, Parameters.value_count, Parameters.values_at, Parameters.width, Spelling.spellings, Residuals.last_number}
+use Rattle.std.specs.Prelude.{◌≡◌, ◌⊎◌, ℕ, ◌+◌, ◌-◌, ◌*◌, ◌^◌, ◌<◌, ◌≤◌, Bool, false, List, All, drop, flat_map, length, take, Ok, ℤ}
+use Rattle.rice_bits.specs.{Bits.word, Reader.Reader}
+use Rattle.rice_samples.specs.{Parameters.Parameters, Parameters.id_len, Parameters.value_count, Parameters.values_at, Parameters.width, Spelling.ordered_bytes, Spelling.spellings, Residuals.last_number}
 use Rattle.rice_code.specs.code.Forms.{IsForm, RunIsSound, ResidualsAreSound, blocks_in}
 use Rattle.rice_code.specs.{Bounds.most_samples_of_bit, code.CodedDataSets.CodedDataSet, code.CodedDataSets.bits_of_set, code.CodedDataSets.turns, Decoder.Answers, Decoder.GivesBlock}
 use Rattle.rice_code.specs.{Decoder.with_mark, Decoder.DecoderState, declared.decode.call_results.Step.TheVariants.Block}
@@ -41,3 +41,21 @@ pub record GivesBytes {I : Type 0} (old new : Reader I) (old_steps new_steps : �
   pub spelled : take (width p.setting * length samples) bytes ≡ spellings p.setting samples
   -- the samples that are given and those still due are bounded by the bits
   pub by_bits : length samples + q.run * q.setting.block ≤ most_samples_of_bit * (new.taken - old.taken)
+
+-- Samples are not predicted, and use all bits of 1, 2 or 4 bytes.
+pub record IsCopied (s : Parameters) (width : ℕ) : Type 0 where
+  pub preprocess : s.preprocess ≡ false
+  pub widths : (width ≡ 1) ⊎ ((width ≡ 2) ⊎ (width ≡ 4))
+  pub whole : s.bits ≡ 8 * width
+
+-- The first `count` bytes are those of words of `width` bytes after an identifier, in the order of the setting.
+pub record WordsAhead (buffered : List Bool) (s : Parameters) (width count : ℕ) (bytes : List ℕ) : Type 0 where
+  pub words : List ℕ
+  pub counted : width * length words ≡ count
+  pub fit : All (λ v. v < 2 ^ (8 * width)) words
+  pub bits : flat_map (word (8 * width)) words ≡ take (8 * count) (drop (id_len s) buffered)
+  pub spelled : take count bytes ≡ flat_map (ordered_bytes s.msb width) words
+
+-- the bits of a block without compression
+abbrev pub copied_bits : Parameters → ℕ → ℕ
+copied_bits s width = id_len s + 8 * (width * s.block)

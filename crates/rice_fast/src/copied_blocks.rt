@@ -2,7 +2,7 @@
 ghost use Rattle.std.specs.Prelude.{◌≡◌, ℕ, ℤ, ◌+◌, ◌-◌, ◌*◌, ◌^◌, ◌<◌, ◌≤◌, IfSome, true, length, take, drop};
 ghost use Rattle.rice_bits.specs.Bits.{word};
 ghost use Rattle.rice_samples.specs.{Parameters.id_len, Parameters.value_at, Parameters.value_count, Residuals.pattern};
-ghost use Rattle.rice_fast.specs.{BlocksAhead.SpelledAhead, CopiedBlocks.IsCopied, CopiedBlocks.WordsAhead, CopiedBlocks.copied_bits};
+ghost use Rattle.rice_fast.specs.BlocksAhead.{IsCopied, SpelledAhead, WordsAhead, copied_bits};
 
 use crate::ahead::{first_number_ahead, number_ahead, words_ahead};
 use crate::one_pass::WrittenBlock;

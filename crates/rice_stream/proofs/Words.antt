@@ -46,7 +46,7 @@ pub use Rattle.rice_stream.specs.Laws.{PullsAreDecoding, ReturnsBytes, ReturnsBy
 pub use Rattle.rice_stream.specs.Pulling.{DecodesMore, GivesMore, GivesNext, GoesOnAt, HasRoomForBlock, IsReadFrom, IsStand, Origin, PausesAt, TakesNext, WritesBlocksAt, ahead, bits_ahead}
 pub use Rattle.rice_stream.specs.Pulling.{bytes_reported, pause_for, stand_at, state_of}
 pub use Rattle.rice_stream.specs.declared.outcome.Fault.TheVariants.{CodeEnds, Read, ResidualTooLarge, RunPastSegment, SampleCut, SampleOutOfRange, TooLong, Write}
-pub use Rattle.rice_stream.specs.{BufferedBytes.with_last, TakenBytes.ShowsCode, TakenBytes.TakesSpelled, TakenBytes.standing_between, declared.outcome.Fault.Fault}
+pub use Rattle.rice_stream.specs.{BufferedBytes.with_last, EncodingState.ShowsCode, EncodingState.TakesSpelled, EncodingState.standing_between, declared.outcome.Fault.Fault}
 pub use Rattle.rice_stream.specs.{declared.outcome.Report.Report, declared.seam.Seam.Seam, declared.stand.Pause.Pause, declared.stand.Stand.Stand, declared.takes.Taken.Taken}
 pub use Rattle.std.proofs.Common.{Bool, FitsSigned, List, None, Option, Some, [], ap, append-nil, append_assoc, arith, cond, drop, false, inl, inr, length, length-append, length-drop, pos, refl}
 pub use Rattle.std.proofs.Common.{replicate, rules, subst, suc, sym, take, true, w64, zero, ℕ, ℤ, ◌&&◌, ◌*◌, ◌++◌, ◌+◌, ◌-◌, ◌/◌, ◌<◌, ◌==◌, ◌∙◌, ◌∷◌, ◌≡◌, ◌≢◌, ◌≤◌, ◌⊎◌}

@@ -7,5 +7,4 @@ pub mod EncodingState
 pub mod Feeding
 pub mod Laws
 pub mod Pulling
-pub mod TakenBytes
 pub mod BufferedBytes

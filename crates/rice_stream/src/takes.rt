@@ -3,7 +3,7 @@ ghost use Rattle.std.specs.Prelude.{◌≡◌, ℕ, ◌≤◌, List, Bool, [], l
 ghost use Rattle.rice_samples.specs.Parameters.{width};
 ghost use Rattle.rice_code.specs.encode.OpenSegment.{state_between};
 ghost use Rattle.rice_fast.specs.Standing.{Standing, HasRoomAt};
-ghost use Rattle.rice_stream.specs.TakenBytes.{standing_between, TakesSpelled};
+ghost use Rattle.rice_stream.specs.EncodingState.{standing_between, TakesSpelled};
 
 use rice_bits::Meter;
 use rice_code::{Coder, SegmentSink};
