@@ -1,7 +1,8 @@
 -- Buffered blocks that are decoded in one pass from their bits to the bytes of their samples.
 use Rattle.std.specs.Prelude.{◌≡◌, ◌⊎◌, ℕ, ◌+◌, ◌-◌, ◌*◌, ◌^◌, ◌<◌, ◌≤◌, Bool, false, List, All, drop, flat_map, length, take, Ok, ℤ}
 use Rattle.rice_bits.specs.{Bits.word, Reader.Reader}
-use Rattle.rice_samples.specs.{Parameters.Parameters, Parameters.id_len, Parameters.value_count, Parameters.values_at, Parameters.width, Spelling.ordered_bytes, Spelling.spellings, Residuals.last_number}
+use Rattle.rice_samples.specs.Parameters.{Parameters, id_len, value_count, values_at, width}
+use Rattle.rice_samples.specs.{Spelling.ordered_bytes, Spelling.spellings, Residuals.last_number}
 use Rattle.rice_code.specs.code.Forms.{IsForm, RunIsSound, ResidualsAreSound, blocks_in}
 use Rattle.rice_code.specs.{Bounds.most_samples_of_bit, code.CodedDataSets.CodedDataSet, code.CodedDataSets.bits_of_set, code.CodedDataSets.turns, Decoder.Answers, Decoder.GivesBlock}
 use Rattle.rice_code.specs.{Decoder.with_mark, Decoder.DecoderState, declared.decode.call_results.Step.TheVariants.Block}

@@ -5,8 +5,9 @@ use Rattle.rice_code.specs.{code.Code.output, code.Code.early_output, encode.Cod
 use Rattle.rice_samples.specs.Spelling.{Reads, spellings, SpellingEnd, EndsSpelling, NoSpelling, TooFew}
 use Rattle.rice_samples.specs.{Limits.most_input, Parameters.Parameters, Parameters.IsSample, Parameters.width, Places.cut}
 use Rattle.rice_stream.specs.declared.outcome.Fault.TheVariants.{Write, TooLong, SampleOutOfRange, SampleCut}
-use Rattle.rice_stream.specs.{declared.encoding.Encoding.Encoding, EncodingState.standing_between, Encodes.ReportsTaken, Encodes.ReportsAll, declared.outcome.Fault.Fault, declared.outcome.Report.Report}
-use Rattle.rice_stream.specs.{declared.seam.Seam.Seam, EncodingState.EncodingValue, EncodingState.CountsSamples, EncodingState.Beginning, EncodingState.Follows, EncodingState.FollowsBetween}
+use Rattle.rice_stream.specs.{declared.encoding.Encoding.Encoding, Encodes.ReportsTaken, Encodes.ReportsAll, declared.outcome.Fault.Fault, declared.outcome.Report.Report}
+use Rattle.rice_stream.specs.declared.seam.Seam.{Seam}
+use Rattle.rice_stream.specs.EncodingState.{standing_between, EncodingValue, CountsSamples, Beginning, Follows, FollowsBetween}
 use Rattle.rice_fast.specs.Standing.{Standing}
 
 -- the encoding that goes on at a seam

@@ -1,5 +1,6 @@
 -- Blocks that are written by passes, one after another.
-use Rattle.std.proofs.Common.{◌≡◌, ◌≢◌, ℕ, zero, suc, ◌+◌, ◌-◌, ◌*◌, ◌%◌, ◌<◌, ◌≤◌, ◌∙◌, Bool, List, [], ◌++◌, length, drop, take, ap, subst, sym, append-nil, length-append, length-drop, length-take, Option, Some, None, ℤ, refl, arith}
+use Rattle.std.proofs.Common.{◌≡◌, ◌≢◌, ℕ, zero, suc, ◌+◌, ◌-◌, ◌*◌, ◌%◌, ◌<◌, ◌≤◌, ◌∙◌, Bool, List, [], ◌++◌, length, drop, take, ap, subst, sym, append-nil, arith}
+use Rattle.std.proofs.Common.{drop_of_length-le, drop-drop, length-append, length-drop, length-take, take_all, Option, Some, None, ℤ, refl}
 use Rattle.rice_stream.proofs.Words.{IfSome, Ok, Appends, Appends-nil, Appends-trans, Room, Reader, Parameters, IsLegal, width, spellings, length-spellings, spellings-append}
 use Rattle.rice_stream.proofs.Words.{DecoderState, IsDecoderState, Block, Advances, AnswersBytes, DecodesBetween, DecodesWithin, Reports, wanted_of, DecodingProgress, Report, Fault, Write}
 use Rattle.rice_stream.proofs.Words.{mul-le-mul_left, nil_from_length}
@@ -7,12 +8,12 @@ use Rattle.rice_bits.specs.OutletRoom.{Fills}
 use Rattle.rice_stream.proofs.Words.{Origin, IsStand, GivesMore, IsReadFrom, stand_at, state_of, Stand}
 use Rattle.rice_code.specs.ReadSets.{AreCounted}
 use Rattle.rice_fast.specs.BlocksAhead.{GivesBytes}
-use Rattle.rice_stream.specs.{DecodingState.AtWork, DecodingState.FailsInBlocks, DecodingState.IsReady, DecodingState.WritesBlock, DecodingState.WritesBlocks, DecodingState.WritesEach, DecodingState.at_work, Pulling.HasComeTo}
-use Rattle.std.proofs.Common.{drop_of_length-le, drop-drop, take_all}
+use Rattle.rice_stream.specs.DecodingState.{AtWork, FailsInBlocks, IsReady, WritesBlock, WritesBlocks, WritesEach, at_work}
 use Rattle.rice_stream.proofs.lemmas.PulledPieceSoFar.{PulledSoFar, more_so_far}
-use Rattle.rice_stream.specs.Pulling.{WritesBlocksAt, ahead}
+use Rattle.rice_stream.specs.Pulling.{HasComeTo, WritesBlocksAt, ahead}
 use Rattle.rice_stream.proofs.lemmas.{BytesOfBlocks.block_fails, BytesOfBlocks.block_shrinks, BytesOfBlocks.block_written, DecodingEnds.ends_within}
-use Rattle.rice_stream.proofs.lemmas.{DecodingLemmas.gains_block, DecodingLemmas.moves_of, DecodingLemmas.samples_of_block, PulledRuns.gives_one, PulledRuns.nothing_more, PulledRuns.one_and_more, PullingLemmas.Steps, RunsWritten.all_wanted}
+use Rattle.rice_stream.proofs.lemmas.DecodingLemmas.{gains_block, moves_of, samples_of_block}
+use Rattle.rice_stream.proofs.lemmas.{PulledRuns.gives_one, PulledRuns.nothing_more, PulledRuns.one_and_more, PullingLemmas.Steps, RunsWritten.all_wanted}
 
 -- a block that a pass gives is an answer outside a run
 pub answers_given : {I : Type 0} {old new : Reader I} {steps steps_new : ℕ} {p q : DecoderState} {bytes : List ℕ} → p.run ≡ 0 → GivesBytes old new steps steps_new p q bytes → q.setting ≡ p.setting
@@ -89,12 +90,13 @@ asked_for_more : {I : Type 0} {s : Parameters} (asked : Option ℕ) {start : Rea
 asked_for_more None runs is few = tt
 asked_for_more (Some n) {written = written} {most} runs is few = let e : most ≡ n - written = is in let le : written ≤ n = runs.has_written.asked_for in omega (arith, e, le, few)
 
--- Blocks that were passed go on with what was decoded so far,
+-- Blocks that were passed.
 module _ {I : Type 0} {s : Parameters} {asked : Option ℕ} {start : Reader I} {out_old : Option Room} {a b : AtWork I} {written most count : ℕ} (legal : IsLegal s)
     (runs : DecodingProgress s asked start out_old a.taken a.decoder a.reader a.steps written) (is : IfSome asked (λ n. most ≡ n - written)) (w : WritesBlocks s most a b count) where
   wanted : IfSome asked (λ n. written + s.block * w.blocks ≤ n)
   wanted = if_fewer asked (omega (arith, w.count_is)) (asked_for_more asked runs is w.within)
 
+  -- They go on with what was decoded so far,
   pub blocks_passed : DecodingProgress s asked start out_old b.taken b.decoder b.reader b.steps (written + count)
   blocks_passed = subst (λ (n : ℕ). DecodingProgress s asked start out_old b.taken b.decoder b.reader b.steps (written + n)) (sym w.count_is) (each_written w.blocks {b = b} legal runs w.each wanted)
 
@@ -108,13 +110,14 @@ pub some_passed : (asked : Option ℕ) (written samples size n : ℕ) → sample
 some_passed asked written samples size zero e some none = absurd (some (ap (λ k. wanted_of asked k size) (let f : written ≡ written + samples = omega (arith, e) in f) ∙ none))
 some_passed asked written samples size (suc n) e some none = omega arith
 
--- The outlet fails in the block after some,
+-- The outlet fails in the block after some.
 module _ {I : Type 0} {s : Parameters} {asked : Option ℕ} {start : Reader I} {out_old : Option Room} {a b : AtWork I} {written most count all : ℕ} (legal : IsLegal s)
     (runs : DecodingProgress s asked start out_old a.taken a.decoder a.reader a.steps written) (is : IfSome asked (λ n. most ≡ n - written)) (w : FailsInBlocks s most a b count)
     (all_is : all ≡ written + count) {rep : Report} {f : Option Fault} {left : Option (List ℕ)} {failed : ℕ} (tells : Reports rep f left failed b.reader all b.steps (Some Write)) where
   there : DecodingProgress s asked start out_old w.middle.taken w.middle.decoder w.middle.reader w.middle.steps all
   there = subst (λ (n : ℕ). DecodingProgress s asked start out_old w.middle.taken w.middle.decoder w.middle.reader w.middle.steps n) (sym all_is) (blocks_passed legal runs is w.before)
 
+  -- So decoding ends,
   pub passed_fails : DecodesBetween s asked start.left left out_old b.taken rep f
   passed_fails =
       let more : IfSome asked (λ k. all + s.block * suc 0 ≤ k) = if_fewer asked (omega (arith, all_is)) (asked_for_more asked runs is w.wanted) in
@@ -147,6 +150,7 @@ pub record StandsBefore {I : Type 0} (s : Parameters) (stand : Stand) (a : AtWor
   pub steps : a.steps ≡ stand.steps
   pub aligned : stand.run ≡ 0 → a.reader.taken % 8 ≡ stand.bits % 8
 
+-- It is known where a decoder has come to a stand.
 pub stands_before : {I : Type 0} {s : Parameters} {stand : Stand} {p : DecoderState} {r : Reader I} {steps : ℕ} (taken : Option Room) → HasComeTo s stand p r → steps ≡ stand.steps
     → StandsBefore s stand (at_work r steps p taken)
 stands_before taken come counted = record { reads = come.reads; state = come.state; steps = counted; aligned = come.aligned }
@@ -252,10 +256,12 @@ never_fails {s = s} {stand} {a} {b} {most} {count} {o} {front} {given} {old} {ne
     let some : length part.missing ≢ 0 = λ none. part.short (nil_from_length part.missing none) in
     omega (arith, all, some, length-append part.front part.missing, length-take (width s * s.block) f.bytes) in
     let room : width s * (count + s.block) ≤ width s * most = mul-le-mul_left (width s) f.wanted in
-    omega (arith, ap length (sym fills.rest ∙ full), length-drop (length (spellings s stands.samples ++ part.front)) old.rest, length-append (spellings s stands.samples) part.front, size, few, room, fits)
+    let text = spellings s stands.samples in
+    omega (arith, ap length (sym fills.rest ∙ full), length-drop (length (text ++ part.front)) old.rest, length-append text part.front, size, few, room, fits)
 
 -- Blocks that were written to what is left of a slice are written after those before them.
-pub passed_so_far : {I : Type 0} {s : Parameters} {o : Origin} {front : List Bool} {given : List ℤ} {piece : List ℕ} {old here next : Stand} {q : DecoderState} {out_old out room : List ℕ} {r new : Reader I} {at len : ℕ}
+pub passed_so_far : {I : Type 0} {s : Parameters} {o : Origin} {front : List Bool} {given : List ℤ} {piece : List ℕ} {old here next : Stand}
+    {q : DecoderState} {out_old out room : List ℕ} {r new : Reader I} {at len : ℕ}
     → PulledSoFar s o front given piece old out_old out here (ahead r) at → WritesBlocksAt s here next q r new len 0 (take (length out - at) (drop at out)) room → at ≤ length out
     → PulledSoFar s o front given piece old out_old (take at out ++ (room ++ drop (length out - at) (drop at out))) next (ahead new) (at + len)
 passed_so_far {s = s} {o} {front} {given} {out = out} {at = at} {len} so w within =
@@ -264,7 +270,8 @@ passed_so_far {s = s} {o} {front} {given} {out = out} {at = at} {len} so w withi
     let all : take (length out - at) (drop at out) ≡ drop at out = take_all (length out - at) (drop at out) (omega (arith, length-drop at out)) in
     let rest : drop (0 + len) (drop at out) ≡ drop (at + len) out = drop-drop (0 + len) at out ∙ ap (λ n. drop n out) (let e : at + (0 + len) ≡ at + len = omega arith in e) in
     more_so_far so (w.more.gives o (front ++ so.bits) (given ++ so.samples) so.stands) w.len_is
-    (ap (λ l. take at out ++ l) ((λ i. w.wrote i ++ none i) ∙ append-nil (text ++ drop (0 + len) (take (length out - at) (drop at out))) ∙ ap (λ l. text ++ drop (0 + len) l) all ∙ ap (λ l. text ++ l) rest))
+    (ap (λ l. take at out ++ l) ((λ i. w.wrote i ++ none i) ∙ append-nil (text ++ drop (0 + len) (take (length out - at) (drop at out))) ∙ ap (λ l. text ++ drop (0 + len) l) all
+    ∙ ap (λ l. text ++ l) rest))
 
 -- the slice has as many bytes then
 pub same_room : (at : ℕ) (out room : List ℕ) → at ≤ length out → length room ≡ length (take (length out - at) (drop at out))
