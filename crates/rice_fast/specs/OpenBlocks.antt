@@ -81,6 +81,14 @@ pub record HasRoomForBlock (c : BlockCoder) (sink : List Bool) (meter : ℕ) : T
   pub room : length from ≤ 7
   pub steps : meter_from + coding_steps c.setting < step_limit
 
+-- Then it is coded,
+abbrev pub with_block : BlockCoder → ℕ → ℕ → ℕ → BlockCoder
+with_block c run bits steps = record c { blocks = c.blocks + 1; run = run; bits_ahead = bits; steps_ahead = steps }
+
+-- and what is put of it is ahead.
+abbrev pub IsAheadAfter : {c : BlockCoder} {sink : List Bool} {meter : ℕ} → HasRoomForBlock c sink meter → BlockCoder → List Bool → Type 0
+IsAheadAfter {c} h new sink = IsAhead c.setting c.start c.reference new.run new.bits_ahead new.steps_ahead (h.blocks ++ block_with (reference_at c.reference (length h.blocks)) (whole_part c) ∷ []) sink h.from
+
 -- the coder between two segments
 abbrev pub coder_between : Parameters → ℕ → ℕ → ℕ → List ℕ → BlockCoder
 coder_between s start end previous part = record {

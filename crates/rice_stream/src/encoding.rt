@@ -103,7 +103,9 @@ impl<C: TakesBytes> Encoding<C> {
         ensures calm { OnOk result (O.failed outlet.new ≡ O.failed outlet.old) }
         ensures raised { OnErr result (O.failed outlet.new ≡ O.failed outlet.old + 1) }
     {
-        let taken = self.coder.push(bytes, &mut self.sink, &mut self.meter);
+        let taken = self
+            .coder
+            .push(setting, bytes, &mut self.sink, &mut self.meter);
         self.samples += taken.samples as u64;
         self.bits += taken.bits;
         if taken.ahead {

@@ -39,9 +39,17 @@ pub trait TakesBytes: Drop {
             stands result bits steps (standing_between setting start previous bits steps) };
 
     /// Takes samples from the front of the bytes, at least one if the first bytes spell one, and none after one that completes a segment.
-    fn push(&mut self, bytes: &[u8], sink: &mut SegmentSink, meter: &mut Meter) -> Taken
+    ///
+    /// `setting` is its own.
+    fn push(
+        &mut self,
+        setting: &Setting,
+        bytes: &[u8],
+        sink: &mut SegmentSink,
+        meter: &mut Meter,
+    ) -> Taken
         requires { (m : Standing) × stands self.old sink.old meter.old m × HasRoomAt m ×
-            (width m.coder.setting ≤ length bytes.now) }
+            (m.coder.setting ≡ setting.now) × (width setting.now ≤ length bytes.now) }
         ensures { (m : Standing) → stands self.old sink.old meter.old m → HasRoomAt m →
             (m_new : Standing) × stands self.new sink.new meter.new m_new ×
             TakesSpelled m m_new bytes.now sink.new result };
@@ -95,8 +103,14 @@ impl TakesBytes for BlockCoder {
     }
 
     #[inline(always)]
-    fn push(&mut self, bytes: &[u8], sink: &mut SegmentSink, meter: &mut Meter) -> Taken {
-        let pushed = self.push(bytes, sink, meter);
+    fn push(
+        &mut self,
+        setting: &Setting,
+        bytes: &[u8],
+        sink: &mut SegmentSink,
+        meter: &mut Meter,
+    ) -> Taken {
+        let pushed = self.push(setting, bytes, sink, meter);
         Taken {
             samples: pushed.samples,
             bits: pushed.bits,
@@ -143,7 +157,14 @@ impl TakesBytes for OneByOne {
         }
     }
 
-    fn push(&mut self, bytes: &[u8], sink: &mut SegmentSink, meter: &mut Meter) -> Taken {
+    fn push(
+        &mut self,
+        setting: &Setting,
+        bytes: &[u8],
+        sink: &mut SegmentSink,
+        meter: &mut Meter,
+    ) -> Taken {
+        let _setting = setting;
         let width = self.setting.width() as usize;
         match sample_of(&self.setting, &bytes[..width]) {
             Some(x) => {

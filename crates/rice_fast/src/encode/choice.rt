@@ -88,7 +88,8 @@ pub fn choose<const SIZE: usize, const REFERENCE: bool>(
     ensures steps_limit { meter.new ≤ meter.old + setting.now.block * (k_max setting.now + 2) }
     ensures split { IsSplitWithin (k_max setting.now) result.0 }
 {
-    let size = setting.block() as u64;
+    let _block = setting.block();
+    let size = block.residuals().len() as u64;
     if are_large(setting, block, whole) {
         meter.tick(size * (setting.k_max() + 2) as u64);
         return (Choice::NoCompression, [0; 64]);
@@ -132,12 +133,8 @@ fn shortest_of(
 {
     let _setting = setting;
     let _block = block;
-    if second_extension < no_compression {
-        if split < second_extension {
-            Choice::Split(k)
-        } else {
-            Choice::SecondExtension
-        }
+    if second_extension <= split && second_extension < no_compression {
+        Choice::SecondExtension
     } else if split < no_compression {
         Choice::Split(k)
     } else {

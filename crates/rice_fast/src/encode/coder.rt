@@ -1,17 +1,18 @@
 //! The coder, from the bytes of samples to code.
-ghost use Rattle.std.specs.Prelude.{◌≡◌, ℕ, ◌+◌, ◌-◌, ◌*◌, ◌/◌, ◌<◌, ◌≤◌, ◌++◌, ◌∷◌, [], min, Bool, true, false, length, replicate, List, ℤ, pos, IfSome, IfNone};
+ghost use Rattle.std.specs.Prelude.{◌≡◌, ℕ, ◌+◌, ◌-◌, ◌*◌, ◌/◌, ◌^◌, ◌<◌, ◌≤◌, ◌++◌, ◌∷◌, [], min, Bool, true, false, length, replicate, sum_by, List, ℤ, pos, IfSome, IfNone};
 ghost use Rattle.rice_bits.specs.Limits.{step_limit};
 ghost use Rattle.rice_samples.specs.Parameters.{IsSample, value_at, value_count, width as width_of};
 ghost use Rattle.rice_samples.specs.{Places.blocks_left, Spelling.IsNoSpelling, Spelling.Reads};
 ghost use Rattle.rice_code.specs.code.Blocks.{fill_count};
 ghost use Rattle.rice_code.specs.encode.OpenSegment.{CodesHeld, IsOpen, next_start, state_after_all, state_between};
-ghost use Rattle.rice_code.specs.{code.Code.complete_samples, code.SoundBlocks.block_with, encode.Coder.AddsCode, encode.Coder.HasTaken, encode.HeldBlocks.reference_at};
-ghost use Rattle.rice_fast.specs.OpenBlocks.{CanEnd, EndsPart, GoesOn, HasRoomForBlock, IsAhead, IsBefore, StandsAfter, StandsFor, TakesFrom, coder_between, coder_with, is_at_first, whole_part};
+ghost use Rattle.rice_code.specs.{code.Code.complete_samples, encode.Coder.AddsCode, encode.Coder.HasTaken};
+ghost use Rattle.rice_fast.specs.OpenBlocks.{CanEnd, EndsPart, GoesOn, HasRoomForBlock, IsAheadAfter, IsBefore, StandsAfter, StandsFor, TakesFrom, coder_between, coder_with, is_at_first, whole_part, with_block};
 ghost use Rattle.rice_fast.specs.Standing.{HasRoomAt, Standing};
 
 use crate::encode::blocks::code_next_or_add_to_run;
 use crate::encode::repeats::repeat_sample;
 use crate::encode::residuals_of_bytes::residuals_of_bytes;
+use crate::encode::sums::sum_of;
 use crate::vectors::{Bytes, Halves, Words};
 use rice_bits::Meter;
 use rice_code::encode::blocks::{put_pending_run, reference_of};
@@ -124,9 +125,17 @@ impl BlockCoder {
     /// Takes samples from the front of the bytes, at least one where the first bytes spell one, and at most up to the one that completes a
     /// segment. It does what `push` of the plain coder does with each.
     ///
-    /// A step is a sample, a bit put, except padding, or a look at a residual.
-    #[inline]
-    pub fn push(&mut self, bytes: &[u8], sink: &mut SegmentSink, meter: &mut Meter) -> Pushed
+    /// A step is a sample, a bit put, except padding, or a look at a residual. `setting` is the coder's own: told apart from the coder, it is
+    /// looked at once for many segments.
+    #[inline(always)]
+    pub fn push(
+        &mut self,
+        setting: &Setting,
+        bytes: &[u8],
+        sink: &mut SegmentSink,
+        meter: &mut Meter,
+    ) -> Pushed
+        requires setting { setting.now ≡ self.old.setting }
         requires some { width_of self.old.setting ≤ length bytes.now }
         requires stands { (m : Standing) × StandsFor self.old sink.old meter.old m × HasRoomAt m }
         ensures count { width_of self.old.setting * result.samples ≤ length bytes.now }
@@ -137,7 +146,7 @@ impl BlockCoder {
         if self.held > 0 {
             return self.hold_some(bytes, sink, meter);
         }
-        let pushed = self.push_blocks(bytes, sink, meter);
+        let pushed = self.push_blocks(setting, bytes, sink, meter);
         if pushed.samples > 0 {
             return pushed;
         }
@@ -168,7 +177,14 @@ impl BlockCoder {
     ///
     /// It is inlined where the coder, its sink and its meter are known to lie apart, so that residuals stay in registers.
     #[inline(always)]
-    fn push_blocks(&mut self, bytes: &[u8], sink: &mut SegmentSink, meter: &mut Meter) -> Pushed
+    fn push_blocks(
+        &mut self,
+        setting: &Setting,
+        bytes: &[u8],
+        sink: &mut SegmentSink,
+        meter: &mut Meter,
+    ) -> Pushed
+        requires setting { setting.now ≡ self.old.setting }
         requires between { self.old.held ≡ 0 }
         requires stands { (m : Standing) × StandsFor self.old sink.old meter.old m × HasRoomAt m }
         ensures setting { self.new.setting ≡ self.old.setting }
@@ -179,12 +195,12 @@ impl BlockCoder {
             HasRoomAt m → StandsFor self.new sink.new meter.new m }
     {
         // The loop is laid out for each size of blocks.
-        match self.setting.block() {
-            8 => self.push_blocks_of_size::<8>(bytes, sink, meter),
-            16 => self.push_blocks_of_size::<16>(bytes, sink, meter),
-            32 => self.push_blocks_of_size::<32>(bytes, sink, meter),
-            64 => self.push_blocks_of_size::<64>(bytes, sink, meter),
-            _ => self.push_blocks_of_size::<0>(bytes, sink, meter),
+        match setting.block() {
+            8 => self.push_blocks_of_size::<8>(setting, bytes, sink, meter),
+            16 => self.push_blocks_of_size::<16>(setting, bytes, sink, meter),
+            32 => self.push_blocks_of_size::<32>(setting, bytes, sink, meter),
+            64 => self.push_blocks_of_size::<64>(setting, bytes, sink, meter),
+            _ => self.push_blocks_of_size::<0>(setting, bytes, sink, meter),
         }
     }
 
@@ -192,10 +208,12 @@ impl BlockCoder {
     #[inline(always)]
     fn push_blocks_of_size<const SIZE: usize>(
         &mut self,
+        setting: &Setting,
         bytes: &[u8],
         sink: &mut SegmentSink,
         meter: &mut Meter,
     ) -> Pushed
+        requires setting { setting.now ≡ self.old.setting }
         requires size { 0 < SIZE → SIZE ≡ self.old.setting.block }
         requires between { self.old.held ≡ 0 }
         requires stands { (m : Standing) × StandsFor self.old sink.old meter.old m × HasRoomAt m }
@@ -206,8 +224,8 @@ impl BlockCoder {
         ensures kept { result.samples ≡ 0 → (m : Standing) → StandsFor self.old sink.old meter.old m →
             HasRoomAt m → StandsFor self.new sink.new meter.new m }
     {
-        let known = known_or::<SIZE>(self.setting.block() as usize);
-        let len = self.setting.width() as usize * known;
+        let known = known_or::<SIZE>(setting.block() as usize);
+        let len = setting.width() as usize * known;
         let most = blocks_to_take(bytes.len(), len, (self.end - self.blocks) as usize);
         if most == 0 {
             return Pushed {
@@ -216,7 +234,7 @@ impl BlockCoder {
             };
         }
         for i in 0..most {
-            if !self.take_block::<SIZE>(&bytes[len * i..len * i + len], sink, meter) {
+            if !self.take_block::<SIZE>(setting, &bytes[len * i..len * i + len], sink, meter) {
                 return Pushed {
                     samples: known * i,
                     bits: 0,
@@ -234,10 +252,12 @@ impl BlockCoder {
     #[inline(always)]
     fn take_block<const SIZE: usize>(
         &mut self,
+        setting: &Setting,
         bytes: &[u8],
         sink: &mut SegmentSink,
         meter: &mut Meter,
     ) -> bool
+        requires setting { setting.now ≡ self.old.setting }
         requires size { 0 < SIZE → SIZE ≡ self.old.setting.block }
         requires len { length bytes.now ≡ width_of self.old.setting * self.old.setting.block }
         requires between { self.old.held ≡ 0 }
@@ -258,7 +278,7 @@ impl BlockCoder {
         ensures same { result ≡ false → self.new.blocks ≡ self.old.blocks }
     {
         let size = known_or::<SIZE>(self.setting.block() as usize);
-        if self.goes_on_with_run::<SIZE>(bytes) {
+        if self.goes_on_with_run::<SIZE>(setting, bytes) {
             // A step for each sample, and one for each look.
             meter.tick(size as u64);
             meter.tick(size as u64);
@@ -267,18 +287,18 @@ impl BlockCoder {
             self.steps_ahead += size as u64;
             return true;
         }
-        let before = match self.before_next(bytes) {
+        let before = match self.before_next(setting, bytes) {
             Some(before) => before,
             None => return false,
         };
-        let setting = self.setting;
         let row = &mut self.part[..size];
-        match residuals_of_bytes::<SIZE>(&setting, bytes, before.level, row) {
+        match residuals_of_bytes::<SIZE>(setting, bytes, before.level, row) {
             Some(last) => {
                 meter.tick(size as u64);
                 self.reference = before.reference;
                 self.previous = last;
-                self.put_block::<SIZE>(sink, meter);
+                let whole = sum_of(setting, &self.part[..size]);
+                self.put_block::<SIZE>(whole, sink, meter);
                 true
             }
             None => false,
@@ -288,45 +308,47 @@ impl BlockCoder {
     /// Returns true only if the bytes of a whole block spell the sample before again and again, where that makes a zero block, and such are
     /// pending.
     #[inline(always)]
-    fn goes_on_with_run<const SIZE: usize>(&self, bytes: &[u8]) -> bool
+    fn goes_on_with_run<const SIZE: usize>(&self, setting: &Setting, bytes: &[u8]) -> bool
+        requires setting { setting.now ≡ self.now.setting }
         requires size { 0 < SIZE → SIZE ≡ self.now.setting.block }
         requires len { length bytes.now ≡ width_of self.now.setting * self.now.setting.block }
         requires below { self.now.previous < value_count self.now.setting }
         ensures { result ≡ true → GoesOn self.now bytes.now }
     {
-        let setting = self.setting;
         if self.run == 0 || !setting.preprocess() {
             return false;
         }
         let bits = setting.bits();
         if bits > 16 {
-            return repeat_sample::<Words, SIZE>(&setting, bytes, self.previous);
+            return repeat_sample::<Words, SIZE>(setting, bytes, self.previous);
         }
         if bits > 8 || known_or::<SIZE>(setting.block() as usize) % 16 != 0 {
-            return repeat_sample::<Halves, SIZE>(&setting, bytes, self.previous);
+            return repeat_sample::<Halves, SIZE>(setting, bytes, self.previous);
         }
-        repeat_sample::<Bytes, SIZE>(&setting, bytes, self.previous)
+        repeat_sample::<Bytes, SIZE>(setting, bytes, self.previous)
     }
 
     /// Returns what stands before the sample that the bytes spell first, or `None` if they spell none.
     #[inline(always)]
-    fn before_next(&self, bytes: &[u8]) -> Option<Before>
+    fn before_next(&self, setting: &Setting, bytes: &[u8]) -> Option<Before>
+        requires setting { setting.now ≡ self.now.setting }
+        requires between { self.now.held ≡ 0 }
         requires below { self.now.previous < value_count self.now.setting }
         requires len { width_of self.now.setting ≤ length bytes.now }
         ensures some { IfSome result (λ b. IsBefore self.now bytes.now b.reference b.level) }
         ensures none { IfNone result (IsNoSpelling self.now.setting bytes.now) }
     {
-        if !(self.setting.preprocess() && self.is_at_first()) {
+        if !(setting.preprocess() && self.start == 0 && self.blocks == 0) {
             return Some(Before {
                 reference: self.reference,
                 level: self.previous,
             });
         }
-        let width = self.setting.width() as usize;
-        match sample_of(&self.setting, &bytes[..width]) {
+        let width = setting.width() as usize;
+        match sample_of(setting, &bytes[..width]) {
             Some(x) => Some(Before {
-                reference: Some(pattern(&self.setting, x)),
-                level: level_of_sample(&self.setting, x),
+                reference: Some(pattern(setting, x)),
+                level: level_of_sample(setting, x),
             }),
             None => None,
         }
@@ -340,27 +362,29 @@ impl BlockCoder {
         self.held == 0 && self.blocks == 0 && self.start == 0
     }
 
-    /// Codes the block of which all residuals are held: a zero block is pending then, the code of any other is appended.
-    #[inline(always)]
-    fn put_block<const SIZE: usize>(&mut self, sink: &mut SegmentSink, meter: &mut Meter)
+    /// Codes the block of which all residuals are held: a zero block is pending then, the code of any other is appended. `whole` is the sum
+    /// of the residuals.
+    ///
+    /// It is never inlined, so that the loop over the blocks stays short.
+    #[inline(never)]
+    fn put_block<const SIZE: usize>(
+        &mut self,
+        whole: u64,
+        sink: &mut SegmentSink,
+        meter: &mut Meter,
+    )
         requires size { 0 < SIZE → SIZE ≡ self.old.setting.block }
+        requires whole { whole ≡ sum_by (λ d. d / 2 ^ 0) (whole_part self.old) }
+        requires whole_fits { whole ≤ 2 ^ 38 }
         requires room { HasRoomForBlock self.old sink.old meter.old }
-        ensures value { self.new ≡ record self.old {
-          blocks = self.old.blocks + 1;
-          run = self.new.run;
-          bits_ahead = self.new.bits_ahead;
-          steps_ahead = self.new.steps_ahead;
-        } }
+        ensures value { self.new ≡ with_block self.old self.new.run self.new.bits_ahead self.new.steps_ahead }
         ensures ahead { (h : HasRoomForBlock self.old sink.old meter.old) →
-            IsAhead self.old.setting self.old.start self.old.reference
-            self.new.run self.new.bits_ahead self.new.steps_ahead
-            (h.blocks ++ block_with (reference_at self.old.reference (length h.blocks))
-            (whole_part self.old) ∷ []) sink.new h.from }
+            IsAheadAfter h self.new sink.new }
         ensures meter { (h : HasRoomForBlock self.old sink.old meter.old) →
             meter.new ≡ h.meter_from + self.new.steps_ahead }
     {
-        let from = sink.len() - self.bits_ahead;
-        let meter_from = meter.steps() - self.steps_ahead;
+        let before = sink.len();
+        let mut steps = Meter::new();
         let blocks = self.blocks as usize;
         let reference = self.reference;
         let size = known_or::<SIZE>(self.setting.block() as usize);
@@ -373,12 +397,14 @@ impl BlockCoder {
             first,
             self.run,
             block,
+            whole,
             sink,
-            meter,
+            &mut steps,
         );
         self.blocks += 1;
-        self.bits_ahead = sink.len() - from;
-        self.steps_ahead = meter.steps() - meter_from;
+        self.bits_ahead += sink.len() - before;
+        self.steps_ahead += steps.steps();
+        meter.tick(steps.steps());
     }
 
     /// Takes samples one by one from the front of the bytes, until a block is whole, or until bytes spell no sample.
@@ -447,7 +473,9 @@ impl BlockCoder {
             StandsAfter self.old sink.old meter.old m xs → HasRoomAt m →
             StandsAfter self.new sink.new meter.new m xs }
     {
-        self.put_block::<0>(sink, meter);
+        let size = self.setting.block() as usize;
+        let whole = sum_of(&self.setting, &self.part[..size]);
+        self.put_block::<0>(whole, sink, meter);
         self.held = 0;
     }
 
@@ -466,6 +494,7 @@ impl BlockCoder {
     }
 
     /// Ends the segment if it is whole, and begins the next. Returns the number of bits of the code of the segment, or 0.
+    #[inline(always)]
     fn end_if_whole(&mut self, sink: &mut SegmentSink, meter: &mut Meter) -> u64
         requires between { self.old.held ≡ 0 }
         requires stands { CanEnd self.old sink.old meter.old }

@@ -1,8 +1,8 @@
 -- A block of the sample before, again and again, which goes on a run of zero blocks.
 use Rattle.rice_fast.proofs.Words.{◌≡◌, ℕ, ◌+◌, ◌*◌, ◌<◌, ◌≤◌, ◌^◌, ◌==◌, Bool, true, false, ◌&&◌, cond, List, [], ◌++◌, length, ap, refl, sym, arith, ◌∙◌, append-nil, replicate, ℤ, nat_tests}
 use Rattle.rice_fast.proofs.Words.{All-replicate, Parameters, IsSample, value_at, value_count, width, Reads, spellings, pattern, rank, sample_at, later_residuals, last_replicate, same_rank, held_len}
-use Rattle.rice_fast.proofs.Words.{zeros_are_zero, GoesOn, IsBefore, StandsAfter, StandsWith, is_at_first, HasResidualsOf, HasRoomAt, Standing, BlockCoder}
-use Rattle.rice_fast.proofs.lemmas.encode.StandingCoders.{room_for_look, with_block, zeros_are_put}
+use Rattle.rice_fast.proofs.Words.{zeros_are_zero, GoesOn, IsBefore, StandsAfter, StandsWith, is_at_first, with_block, HasResidualsOf, HasRoomAt, Standing, BlockCoder}
+use Rattle.rice_fast.proofs.lemmas.encode.StandingCoders.{room_for_look, zeros_are_put}
 use Rattle.rice_fast.proofs.lemmas.{encode.HeldResiduals.later_copies, encode.TakenSamples.block_held}
 
 -- after a whole block no interval begins

@@ -1,11 +1,11 @@
 -- What the fast coder stands for, from call to call.
 use Rattle.rice_fast.proofs.Words.{◌≡◌, ℕ, zero, suc, ◌+◌, ◌*◌, ◌^◌, ◌<◌, ◌≤◌, Bool, List, [], ◌∷◌, ◌++◌, length, take, drop, refl, ap, arith, sym, ◌∙◌, subst, inl, inr, append-nil, Option, None, ℤ}
 use Rattle.rice_fast.proofs.Words.{list_all, cases_lt, length-take-le, take-append-drop, drop_at, mul-le-mul_left, Parameters, IsLegal, value_at, value_count, blocks_left, some_left, coding_steps}
-use Rattle.rice_fast.proofs.Words.{segment_steps, AreSoundBlocks, block_with, HasTaken, IsCoder, JoinsRun, held_blocks, reference_at, CoderState, IsOpen, HoldsSoundBlocks, IsWhole, state_after_all}
+use Rattle.rice_fast.proofs.Words.{All, BlockData, IsBlockSize, IsSoundData, sound_of, segment_steps, AreSoundBlocks, block_with, HasTaken, IsCoder, JoinsRun, held_blocks, reference_at, CoderState, IsOpen, HoldsSoundBlocks, IsWhole, state_after_all}
 use Rattle.rice_fast.proofs.Words.{state_between, held_len, open_between, short_of, steps_of_segment, HoldsMore, open_pushes, is_coder_after, length-state_after_all, state_after_all-none}
-use Rattle.rice_fast.proofs.Words.{HasRoomForBlock, HoldsOpen, IsAhead, PushesOpen, StandsAfter, StandsFor, StandsWith, coder_between, coder_with, whole_part, HasRoomAt, Standing, BlockCoder}
+use Rattle.rice_fast.proofs.Words.{HasRoomForBlock, HoldsOpen, IsAhead, PushesOpen, StandsAfter, StandsFor, StandsWith, coder_between, coder_with, whole_part, with_block, HasRoomAt, Standing, BlockCoder}
 use Rattle.std.specs.Prelude.{◌⊎◌, ◌==◌, true}
-use Rattle.rice_fast.proofs.lemmas.encode.CodeAhead.{IsNext, ahead_of_zero, ahead_with, none_ahead, nothing_ahead, other_reference, room_to_look, steps_are_few}
+use Rattle.rice_fast.proofs.lemmas.encode.CodeAhead.{IsNext, ahead_of_zero, ahead_with, last_sound, none_ahead, nothing_ahead, other_reference, room_to_look, steps_are_few}
 use Rattle.rice_fast.proofs.lemmas.encode.HeldResiduals.{held_more, held_next, sound_after, blocks_are_sound}
 
 -- a coder between two calls has taken no sample in the next
@@ -140,11 +140,24 @@ part_has_room {c} {sink} {meter} {m} {xs} h room whole less =
       steps = steps_after h room;
     }
 
--- and then it is coded
-abbrev pub with_block : BlockCoder → ℕ → ℕ → ℕ → BlockCoder
-with_block c run bits steps = record c { blocks = c.blocks + 1; run = run; bits_ahead = bits; steps_ahead = steps }
+-- the block that the part is, which is sound,
+abbrev pub next_of : {c : BlockCoder} {sink : List Bool} {meter : ℕ} → HasRoomForBlock c sink meter → BlockData
+next_of {c} h = block_with (reference_at c.reference (length h.blocks)) (whole_part c)
 
--- what is put of it is ahead then
+pub is_next : {c : BlockCoder} {sink : List Bool} {meter : ℕ} (h : HasRoomForBlock c sink meter) → IsNext c.setting c.start c.reference h.blocks (next_of h)
+is_next h = record { legal = h.legal; below = h.below; reference = refl; sound = h.sound }
+
+pub sound_next : {c : BlockCoder} {sink : List Bool} {meter : ℕ} (h : HasRoomForBlock c sink meter) → IsSoundData c.setting (next_of h)
+sound_next {c} h = sound_of c.setting (c.start + length h.blocks) (next_of h) (last_sound c.setting c.start h.blocks (next_of h) h.sound)
+
+-- and of which each residual fits,
+pub part_fits : {c : BlockCoder} {sink : List Bool} {meter : ℕ} (h : HasRoomForBlock c sink meter) (n : ℕ) → n ≡ c.setting.block
+    → IsBlockSize (length (take n c.part)) × All (λ d. d < value_count c.setting) (take n c.part)
+part_fits {c} h n e =
+    subst (λ (n : ℕ). IsBlockSize (length (take n c.part)) × All (λ d. d < value_count c.setting) (take n c.part)) (sym e)
+    (subst IsBlockSize (sym (sound_next h).len) h.legal.block, (sound_next h).fit)
+
+-- and then it is coded: what is put of it is ahead
 pub row_is_put : {c : BlockCoder} {row : List ℕ} {sink sink_new : List Bool} {meter meter_new : ℕ} {m : Standing} {xs : List ℤ} (run bits steps : ℕ) → (h : StandsWith c row sink meter m xs)
     → length row ≡ c.setting.block → c.blocks < c.end → IsAhead c.setting c.start c.reference run bits steps
     (held_blocks c.setting c.reference c.blocks h.residuals ++ block_with (reference_at c.reference (length (held_blocks c.setting c.reference c.blocks h.residuals))) row ∷ []) sink_new m.sink

@@ -1,4 +1,4 @@
-use Rattle.rice_fast.proofs.Words.{◌≡◌, ℕ, ◌+◌, ◌*◌, ◌/◌, ◌≤◌, ◌⊎◌, ◌∙◌, ap, arith, inl, inr, mul-le-mul_left, pairs_are_longer, best_split_is, takes_no_compression, k_max}
+use Rattle.rice_fast.proofs.Words.{◌≡◌, ℕ, ◌+◌, ◌*◌, ◌/◌, ◌≤◌, ◌⊎◌, ◌∙◌, ap, arith, inl, inr, length, mul-le-mul_left, pairs_are_longer, best_split_is, takes_no_compression, k_max}
 use Rattle.rice_fast.proofs.encode.choice.choose.Goals.{then-k-eq0, else-k-eq0}
 use Rattle.rice_fast.proofs.lemmas.encode.Stops.{last_split}
 use Rattle.rice_fast.proofs.encode.choice.choose.Goals as goal
@@ -30,7 +30,7 @@ returns-then-are_large-clause-value g c =
     let b = c.args.block.now in
     let best = c.are_large.ensures.best c.if-are_large.true in
     let costs = c.are_large.ensures.costs c.if-are_large.true in
-    let n : s.block ≡ 2 * (s.block / 2) = omega (arith, c.block-size.ensures.legal.block) in
+    let n : s.block ≡ 2 * (s.block / 2) = omega (arith, c.block-block.ensures.legal.block) in
     let long = pairs_are_longer s b (k_max s) (s.block / 2) best (omega (arith, (last_split s).0)) (c.requires.sound.len ∙ n) in
     takes_no_compression s b (k_max s) best (omega (arith, costs, long)) costs
 
@@ -38,20 +38,20 @@ pub returns-then-are_large-clause-steps_from : goal.returns-then-are_large-claus
 returns-then-are_large-clause-steps_from g c =
     let s = c.args.setting.now in
     let best = best_split_is s c.args.block.now (k_max s) (c.are_large.ensures.best c.if-are_large.true) in
-    let looks = looks_of (k_max s) c.block-size.ensures.value best (last_split s).0 (omega arith) (inr (ap (λ n. n + 2) c.k_max.ensures.value)) in
+    let looks = looks_of (k_max s) (c.len-size.ensures.value ∙ (ap length c.residuals.ensures ∙ c.requires.sound.len)) best (last_split s).0 (omega arith) (inr (ap (λ n. n + 2) c.k_max.ensures.value)) in
     omega (arith, c.tick.ensures, looks.least)
 
 pub returns-then-are_large-clause-steps_to : goal.returns-then-are_large-clause-steps_to
 returns-then-are_large-clause-steps_to g c =
     let s = c.args.setting.now in
     let best = best_split_is s c.args.block.now (k_max s) (c.are_large.ensures.best c.if-are_large.true) in
-    let looks = looks_of (k_max s) c.block-size.ensures.value best (last_split s).0 (omega arith) (inr (ap (λ n. n + 2) c.k_max.ensures.value)) in
+    let looks = looks_of (k_max s) (c.len-size.ensures.value ∙ (ap length c.residuals.ensures ∙ c.requires.sound.len)) best (last_split s).0 (omega arith) (inr (ap (λ n. n + 2) c.k_max.ensures.value)) in
     omega (arith, c.tick.ensures, looks.most)
 
 pub tick-requires-2 : goal.tick-requires-2
 tick-requires-2 g c =
     let best = c.best_split-k.ensures.best in
-    let looks = looks_of c.best_split-k.result.0 c.block-size.ensures.value c.best_split-k.ensures.named (last_split c.args.setting.now).0 best.at_most
+    let looks = looks_of c.best_split-k.result.0 (c.len-size.ensures.value ∙ (ap length c.residuals.ensures ∙ c.requires.sound.len)) c.best_split-k.ensures.named (last_split c.args.setting.now).0 best.at_most
     (elim c.if-k-eq0.branch [
       | then-k-eq0 w ↦ inl (w.if-k-eq0.true, ap (λ p. p.1) w.second_extension-is)
       | else-k-eq0 w ↦ inr (ap (λ p. p.1) w.second_extension-is)
@@ -65,7 +65,7 @@ shortest_of-choice-requires-clause-second_extension_from g c =
     elim c.if-k-eq0.branch [
       | then-k-eq0 w ↦ omega (arith, ap (λ p. p.0) w.second_extension-is, w.second_extension_cost.ensures)
       | else-k-eq0 w ↦
-          let n : s.block ≡ 2 * (s.block / 2) = omega (arith, c.block-size.ensures.legal.block) in
+          let n : s.block ≡ 2 * (s.block / 2) = omega (arith, c.block-block.ensures.legal.block) in
           let long = pairs_are_longer s b c.best_split-k.result.0 (s.block / 2) c.best_split-k.ensures.best (omega (arith, w.if-k-eq0.false)) (c.requires.sound.len ∙ n) in
           omega (arith, ap (λ p. p.0) w.second_extension-is, long, c.best_split-k.ensures.value)
     ]
@@ -73,7 +73,7 @@ shortest_of-choice-requires-clause-second_extension_from g c =
 pub returns : goal.returns
 returns g c =
     let best = c.best_split-k.ensures.best in
-    let looks = looks_of c.best_split-k.result.0 c.block-size.ensures.value c.best_split-k.ensures.named (last_split c.args.setting.now).0 best.at_most
+    let looks = looks_of c.best_split-k.result.0 (c.len-size.ensures.value ∙ (ap length c.residuals.ensures ∙ c.requires.sound.len)) c.best_split-k.ensures.named (last_split c.args.setting.now).0 best.at_most
     (elim c.if-k-eq0.branch [
       | then-k-eq0 w ↦ inl (w.if-k-eq0.true, ap (λ p. p.1) w.second_extension-is)
       | else-k-eq0 w ↦ inr (ap (λ p. p.1) w.second_extension-is)

@@ -1,16 +1,13 @@
-use Rattle.rice_stream.proofs.Words.{arith, ◌≡◌, ◌+◌, ◌<◌, ◌≤◌, ◌++◌, length, length-append, ap, sym, subst, err_from_is_err_and, width, IsNoSpelling, complete_code, whole_part}
+use Rattle.rice_stream.proofs.Words.{arith, ◌≡◌, ◌+◌, ◌<◌, ◌++◌, length, length-append, ap, subst, err_from_is_err_and, IsNoSpelling, complete_code, whole_part}
 use Rattle.rice_stream.proofs.lemmas.EncodingLemmas.{all_written, after_push, counts_with, early_small, few_spelled, has_room, holds_code, meets_failure, none_whole, shows_all, shows_none, sink_short}
 use Rattle.rice_stream.proofs.lemmas.EncodingLemmas.{spelled_of, standing_of, taken_spelled}
 use Rattle.rice_stream.proofs.encoding.Encoding.push_some.Goals as goal
 
 pub push-taken-requires : goal.push-taken-requires
 push-taken-requires g c =
-    let can = c.requires.ready in (
-      standing_of can.value,
-      can.sees.standing,
-      has_room c.args.setting.now can.start _ can.value can.before can.holds (omega (arith, can.few)),
-      subst (λ s. width s ≤ length c.args.bytes.now) (sym can.holds.counts.setting) c.requires.some,
-    )
+    let can = c.requires.ready in
+    let room = has_room c.args.setting.now can.start _ can.value can.before can.holds (omega (arith, can.few)) in
+    (standing_of can.value, can.sees.standing, room, can.holds.counts.setting, c.requires.some)
 
 pub overflow_add-self : goal.overflow_add-self
 overflow_add-self g c =

@@ -1,4 +1,4 @@
-use Rattle.rice_stream.proofs.Words.{arith, ◌≡◌, ◌==◌, ◌<◌, ◌≤◌, ℕ, zero, suc, List, Bool, false, [], length, refl, subst, sym, nat_tests, width, IsNoSpelling, BlockCoder, StandsFor, Standing}
+use Rattle.rice_stream.proofs.Words.{arith, ◌≡◌, ◌==◌, ◌<◌, ◌≤◌, ℕ, zero, suc, List, Bool, false, [], length, refl, subst, sym, ◌∙◌, nat_tests, width, IsNoSpelling, BlockCoder, StandsFor, Standing}
 use Rattle.rice_stream.proofs.Words.{setting_of, stands_between, ShowsCode}
 use Rattle.rice_stream.proofs.takes.BlockCoderTakesBytes.push.Goals as goal
 
@@ -11,8 +11,13 @@ shows_by c sink meter m m_new (suc bits) stands whole buffered =
 
 pub push-pushed-requires : goal.push-pushed-requires
 push-pushed-requires c =
-    let same = setting_of c.requires.1 in
-    record { some = subst (λ s. width s ≤ length c.args.bytes.now) same c.requires.3; stands = (c.requires.0, c.requires.1, c.requires.2) }
+    let given = c.requires in
+    let same : c.args.setting.now ≡ c.args.self.now.setting = sym given.3 ∙ setting_of given.1 in
+    record {
+      setting = same;
+      some = subst (λ s. width s ≤ length c.args.bytes.now) same given.4;
+      stands = (given.0, given.1, given.2);
+    }
 
 pub returns : goal.returns
 returns c m stands room =

@@ -42,14 +42,14 @@ pub returns-then-not-take_block-clause-count : goal.returns-then-not-take_block-
 returns-then-not-take_block-clause-count g c =
     let len = c.width.result * c.known_or-known.result in
     let all = inside len (length c.args.bytes.now) c.loop-i.i c.blocks_to_take-most.result (omega (arith, c.blocks_to_take-most.ensures)) (search rules) in
-    let w = ap (λ n. n * (c.known_or-known.result * c.loop-i.i)) c.width.ensures.value in
+    let w = ap (λ n. n * (c.known_or-known.result * c.loop-i.i)) (c.width.ensures.value ∙ ap width c.requires.setting) in
     omega (arith, all, w)
 
 pub returns-clause-count : goal.returns-clause-count
 returns-clause-count g c =
     let len = c.width.result * c.known_or-known.result in
     let all = all_inside len (length c.args.bytes.now) c.blocks_to_take-most.result (omega (arith, c.blocks_to_take-most.ensures)) in
-    let w = ap (λ n. n * (c.known_or-known.result * c.blocks_to_take-most.result)) c.width.ensures.value in
+    let w = ap (λ n. n * (c.known_or-known.result * c.blocks_to_take-most.result)) (c.width.ensures.value ∙ ap width c.requires.setting) in
     omega (arith, all, w)
 
 pub loop-i-preserved : goal.loop-i-preserved
@@ -62,7 +62,7 @@ loop-i-preserved g c =
     let took : c.take_block.result ≡ true = search rules in
     let place : len * i + len ≡ len * (i + 1) = omega arith in
     let slice : len * i + len - len * i ≡ len = omega arith in
-    let known = c.known_or-known.ensures ∙ c.block.ensures.value in
+    let known = c.known_or-known.ensures ∙ (c.block.ensures.value ∙ ap (λ (v : Parameters). v.block) c.requires.setting) in
     record {
       stands = λ m h room.
           let taken = inv.stands m h room in
@@ -96,7 +96,7 @@ returns-then-not-take_block-clause-takes g c m h room =
     let pushed = pushes_nothing kept (omega (arith, did.held, one)) less in
     let place : c.width.result * c.known_or-known.result * c.loop-i.i ≡ width s * (c.known_or-known.result * c.loop-i.i) =
     (let e : c.width.result * c.known_or-known.result * c.loop-i.i ≡ c.width.result * (c.known_or-known.result * c.loop-i.i) = omega arith in e)
-    ∙ ap (λ n. n * (c.known_or-known.result * c.loop-i.i)) c.width.ensures.value in (
+    ∙ ap (λ n. n * (c.known_or-known.result * c.loop-i.i)) (c.width.ensures.value ∙ ap width c.requires.setting) in (
       pushed.0,
       pushed.1,
       spelled_are_taken s c.args.bytes.now (c.known_or-known.result * c.loop-i.i) (c.width.result * c.known_or-known.result * c.loop-i.i)
@@ -122,7 +122,7 @@ returns-clause-takes g c m h room =
     let end : c.loop-i.i ≡ c.blocks_to_take-most.result = omega arith in
     let place : c.width.result * c.known_or-known.result * c.loop-i.i ≡ width s * (c.known_or-known.result * c.blocks_to_take-most.result) =
     (let e : c.width.result * c.known_or-known.result * c.loop-i.i ≡ c.width.result * (c.known_or-known.result * c.loop-i.i) = omega arith in e)
-    ∙ λ j. c.width.ensures.value j * (c.known_or-known.result * end j) in (
+    ∙ λ j. (c.width.ensures.value ∙ ap width c.requires.setting) j * (c.known_or-known.result * end j) in (
       pushed.0,
       pushed.1,
       spelled_are_taken s c.args.bytes.now (c.known_or-known.result * c.blocks_to_take-most.result) (c.width.result * c.known_or-known.result * c.loop-i.i) (sym inv.setting) taken.3.stands

@@ -1,6 +1,14 @@
 use Rattle.rice_fast.proofs.Words.{◌≡◌, ◌∙◌, length, take, refl, subst, sym, StandsAfter, whole_part, BlockCoder}
-use Rattle.rice_fast.proofs.lemmas.encode.StandingCoders.{none_held, other_part, part_as_row, part_counted, part_has_room, row_is_put}
+use Rattle.rice_fast.proofs.lemmas.encode.StandingCoders.{none_held, other_part, part_as_row, part_counted, part_fits, part_has_room, row_is_put}
 use Rattle.rice_fast.proofs.encode.coder.BlockCoder.put_part.Goals as goal
+
+pub sum_of-whole-requires : goal.sum_of-whole-requires
+sum_of-whole-requires c =
+    let self = c.args.self.now in
+    let h = c.requires.stands.2 in
+    let row : length (whole_part self) ≡ self.setting.block = (λ i. length (take (sym c.requires.whole i) self.part)) ∙ (part_counted h ∙ c.requires.whole) in
+    let fit = part_fits (part_has_room (part_as_row self.setting.block h (sym c.requires.whole)) c.requires.stands.3 row c.requires.inside) c.block-size.result c.block-size.ensures.value in
+    record { size = fit.0; fit = fit.1 }
 
 pub put_block-requires-clause-room : goal.put_block-requires-clause-room
 put_block-requires-clause-room c =
