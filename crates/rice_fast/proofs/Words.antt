@@ -37,8 +37,8 @@ pub use Rattle.rice_code.specs.{encode.Coder.HasTaken, encode.Coder.IsCoder, enc
 pub use Rattle.rice_fast.specs.BlocksAhead.{IsCopied, WordsAhead, copied_bits}
 pub use Rattle.rice_fast.specs.FieldsAhead.{AreFields, HeadAhead, HighsAhead, LowsAhead, PairsAhead, rows_len}
 pub use Rattle.rice_fast.specs.OpenBlocks.{GoesOn, HasRoomForBlock, HoldsOpen, IsAhead, IsBefore, PushesOpen, StandsAfter, StandsFor, StandsWith, coder_between, coder_with, is_at_first}
-pub use Rattle.rice_fast.specs.OpenBlocks.{IsAheadAfter, to_follow, whole_part, with_block}
-pub use Rattle.rice_fast.specs.Standing.{HasResidualsOf, HasRoomAt, Standing, TakesSpelled}
+pub use Rattle.rice_fast.specs.OpenBlocks.{to_follow, whole_part, with_block}
+pub use Rattle.rice_fast.specs.OpenBlocks.{HasResidualsOf, HasRoomAt, Standing, TakesSpelled}
 pub use Rattle.rice_fast.specs.{BlocksAhead.BlockAhead, BlocksAhead.GivesBytes, BlocksAhead.HasBits, BlocksAhead.SpelledAhead, LevelsOfParts.AreLevelsOfParts, LevelsOfParts.HaveParts}
 pub use Rattle.rice_fast.specs.{LevelsOfParts.residuals_at, FieldsAhead.RowsAhead, FieldsAhead.SpellsParts, LevelsOfParts.running_sums, ahead.in_lanes, ahead.places_after}
 pub use Rattle.rice_fast.specs.{ahead.row_of_place, ahead.ends_after, ahead.gaps, ahead.BeginWithSequences, declared.ahead.ends.TheConstants.SLIDE}

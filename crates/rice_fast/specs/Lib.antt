@@ -5,5 +5,4 @@ pub mod FieldsAhead
 pub mod LevelsOfParts
 pub mod OpenBlocks
 pub mod Parts
-pub mod Standing
 pub mod ahead

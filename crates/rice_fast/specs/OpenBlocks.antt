@@ -1,14 +1,43 @@
--- The open segment of the fast coder, whose blocks are coded as soon as they are whole.
+-- What the fast coder, its sink and its meter stand for, and its open segment, whose blocks are coded as soon as they are whole.
 use Rattle.std.specs.Prelude.{◌≡◌, ℕ, ◌+◌, ◌-◌, ◌*◌, ◌<◌, ◌≤◌, ◌==◌, ◌&&◌, Bool, true, false, List, [], ◌∷◌, ◌++◌, length, replicate, take, drop, sum_by, Option, Some, None, IfSome, ℤ}
 use Rattle.std.specs.List.{AllByRecursion}
 use Rattle.rice_bits.specs.Limits.{step_limit}
 use Rattle.rice_samples.specs.Parameters.{Parameters, IsLegal, IsSample, width, value_at, value_count}
-use Rattle.rice_samples.specs.{Places.blocks_left, Spelling.spelling, Spelling.spellings, Residuals.pattern}
+use Rattle.rice_samples.specs.{Places.blocks_left, Spelling.Reads, Spelling.spelling, Spelling.spellings, Residuals.last_of, Residuals.pattern}
 use Rattle.rice_code.specs.encode.HeldBlocks.{held_blocks, pending_zeros, reference_at, code_of_blocks}
-use Rattle.rice_code.specs.encode.OpenSegment.{CoderState, IsOpen, state_after_all}
-use Rattle.rice_code.specs.{CoderSteps.least_looks, CoderSteps.most_looks, CoderSteps.coding_steps, code.Blocks.BlockData, code.Code.data_sets, code.CodedDataSets.bits_of_sets}
-use Rattle.rice_code.specs.{code.SoundBlocks.AreSoundBlocks, code.SoundBlocks.block_with, encode.Coder.IsCoder, encode.Coder.PushesSamples}
-use Rattle.rice_fast.specs.{Standing.HasRoomAt, Standing.Standing, Standing.TakesSpelled, declared.encode.coder.BlockCoder.BlockCoder}
+use Rattle.rice_code.specs.encode.OpenSegment.{CoderState, IsOpen, later_residuals, state_after_all}
+use Rattle.rice_code.specs.{CoderSteps.least_looks, CoderSteps.most_looks, CoderSteps.coding_steps, CoderSteps.segment_steps, code.Blocks.BlockData, code.Code.data_sets}
+use Rattle.rice_code.specs.{code.CodedDataSets.bits_of_sets, code.SoundBlocks.AreSoundBlocks, code.SoundBlocks.block_with, encode.Coder.CompletesNone, encode.Coder.IsCoder, encode.Coder.PushesSamples}
+use Rattle.rice_fast.specs.declared.encode.coder.BlockCoder.{BlockCoder}
+
+-- The state of a coder that puts the code of a segment only when it is whole, with its sink and its meter.
+pub record Standing : Type 0 where
+  pub coder : CoderState
+  pub sink : List Bool
+  pub meter : ℕ
+
+-- such a coder has room for the code of a segment
+pub record HasRoomAt (m : Standing) : Type 0 where
+  pub room : length m.sink ≤ 7
+  pub steps : m.meter + segment_steps m.coder.setting < step_limit
+
+-- The first `count` samples that the bytes spell are taken; only the last one can make a segment whole.
+pub record TakesSpelled (m m_new : Standing) (bytes : List ℕ) (count bits : ℕ) : Type 0 where
+  pub samples : List ℤ
+  pub reads : Reads m.coder.setting bytes samples (drop (width m.coder.setting * count) bytes)
+  pub number : length samples ≡ count
+  pub pushes : PushesSamples m.coder m_new.coder samples m.sink m_new.sink bits m.meter m_new.meter
+  pub before_last : (n : ℕ) → n < count → CompletesNone m.coder (take n samples)
+  pub whole : 0 < bits → m_new.coder.residuals ≡ []
+  pub buffered : bits ≡ 0 → m_new.sink ≡ m.sink
+
+-- These are the residuals of the samples that the bytes spell: of the first one after the sample at level `before`, of each other after the one before it.
+pub record HasResidualsOf (s : Parameters) (bytes : List ℕ) (before : ℕ) (residuals : List ℕ) (last : ℕ) : Type 0 where
+  pub samples : List ℤ
+  pub reads : Reads s bytes samples []
+  pub below : last < value_count s
+  pub residuals_are : residuals ≡ later_residuals s (value_at s before) samples
+  pub last_is : value_at s last ≡ last_of (value_at s before) samples
 
 -- what is still to be put, where `run` zero blocks before block n of the segment are pending, and these blocks follow
 abbrev pub to_follow : Parameters → ℕ → Option ℕ → ℕ → ℕ → List BlockData → List Bool
@@ -81,13 +110,9 @@ pub record HasRoomForBlock (c : BlockCoder) (sink : List Bool) (meter : ℕ) : T
   pub room : length from ≤ 7
   pub steps : meter_from + coding_steps c.setting < step_limit
 
--- Then it is coded,
+-- then it is coded
 abbrev pub with_block : BlockCoder → ℕ → ℕ → ℕ → BlockCoder
 with_block c run bits steps = record c { blocks = c.blocks + 1; run = run; bits_ahead = bits; steps_ahead = steps }
-
--- and what is put of it is ahead.
-abbrev pub IsAheadAfter : {c : BlockCoder} {sink : List Bool} {meter : ℕ} → HasRoomForBlock c sink meter → BlockCoder → List Bool → Type 0
-IsAheadAfter {c} h new sink = IsAhead c.setting c.start c.reference new.run new.bits_ahead new.steps_ahead (h.blocks ++ block_with (reference_at c.reference (length h.blocks)) (whole_part c) ∷ []) sink h.from
 
 -- the coder between two segments
 abbrev pub coder_between : Parameters → ℕ → ℕ → ℕ → List ℕ → BlockCoder

@@ -26,7 +26,7 @@ pub use Rattle.rice_code.specs.{code.Layout.padding, code.SoundBlocks.AreSoundBl
 pub use Rattle.rice_code.specs.{declared.decode.call_results.Step.TheVariants.Done, Decoder.DecoderState, Decoder.IsDecoderState, Decoder.place_after as block_place_after}
 pub use Rattle.rice_code.specs.{Decoder.state_after_block, ReadSets.SetCut, ReadSets.AreCounted, encode.OpenSegment.CoderState, encode.OpenSegment.state_between}
 pub use Rattle.rice_fast.proofs.lemmas.{encode.StandingCoders.setting_of, encode.StandingCoders.stands_between, encode.TakenBytes.one_sample}
-pub use Rattle.rice_fast.specs.{declared.encode.coder.BlockCoder.BlockCoder, OpenBlocks.StandsFor, Standing.HasRoomAt, Standing.Standing}
+pub use Rattle.rice_fast.specs.{declared.encode.coder.BlockCoder.BlockCoder, OpenBlocks.HasRoomAt, OpenBlocks.StandsFor, OpenBlocks.Standing}
 pub use Rattle.rice_samples.proofs.lemmas.bytes.SpellingLengths.{length-spelling, length-spellings, narrow_width, some_width, spellings-append}
 pub use Rattle.rice_samples.proofs.lemmas.setting.CutLemmas.{cut_is_greatest, cut_is_start}
 pub use Rattle.rice_samples.proofs.lemmas.{bytes.ReadSamples.reads_before, bytes.ReadSamples.reads_then, setting.LevelsOfSamples.zero_is_sample}

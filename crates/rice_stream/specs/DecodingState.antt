@@ -1,11 +1,10 @@
 -- A decoder at work: how far it has come, what is written of its samples, and what the next block or the blocks of a run bring.
 use Rattle.std.specs.Prelude.{◌≡◌, ℕ, ◌+◌, ◌*◌, ◌<◌, ◌≤◌, Bool, List, ◌++◌, length, replicate, All, Option, None, IfSome, ℤ, pos, zero, suc, [], ◌-◌, take, Result, Ok}
 use Rattle.rice_bits.specs.{Limits.most_bits_read, Limits.step_limit, OutletRoom.Room, OutletRoom.Appends, Reader.Reader}
-use Rattle.rice_code.specs.code.Decoded.{AreTaken, Decoded, DecodedFrom, Ending, IsWanted, cut_to}
-use Rattle.rice_code.specs.Decoder.{RepeatsBlocks, Answers, GivesFromRun, IsDecoderState, with_mark}
-use Rattle.rice_code.specs.{Bounds.most_samples_of_bit, code.Blocks.blocks_from, code.Blocks.zero_block, code.CodedDataSets.CodedDataSet, code.Forms.blocks_in_all}
-use Rattle.rice_code.specs.{code.Layout.Lies, code.SoundBlocks.AreSoundBlocks, declared.decode.call_results.CodeFault.CodeFault, declared.decode.call_results.Step.Step}
-use Rattle.rice_code.specs.{declared.decode.call_results.Step.TheVariants.Block, Decoder.DecoderState, ReadSets.AreCounted}
+use Rattle.rice_code.specs.{Bounds.most_samples_of_bit, Decoder.Answers, Decoder.DecoderState, Decoder.GivesFromRun, Decoder.IsDecoderState, Decoder.RepeatsBlocks, Decoder.with_mark}
+use Rattle.rice_code.specs.{ReadSets.AreCounted, code.Blocks.blocks_from, code.Blocks.zero_block, code.CodedDataSets.CodedDataSet, code.Decoded.AreTaken, code.Decoded.Decoded}
+use Rattle.rice_code.specs.{code.Decoded.DecodedFrom, code.Decoded.Ending, code.Decoded.IsWanted, code.Decoded.cut_to, code.Forms.blocks_in_all, code.Layout.Lies, code.SoundBlocks.AreSoundBlocks}
+use Rattle.rice_code.specs.{declared.decode.call_results.CodeFault.CodeFault, declared.decode.call_results.Step.Step, declared.decode.call_results.Step.TheVariants.Block}
 use Rattle.rice_samples.specs.{Parameters.Parameters, Parameters.IsSample, Parameters.width, Spelling.spellings, Residuals.last_of}
 use Rattle.rice_stream.specs.DevicesInCalls.{TakesPart}
 

@@ -5,7 +5,7 @@ use Rattle.rice_code.specs.code.Code.{code_bits, output, early_output, complete_
 use Rattle.rice_code.specs.{CoderSteps.least_steps, CoderSteps.most_steps, encode.OpenSegment.CoderState, encode.OpenSegment.state_between}
 use Rattle.rice_code.specs.encode.Coder.{CompletesNone, HasTaken, PushesSamples, complete_code}
 use Rattle.rice_samples.specs.{Limits.most_input, Parameters.Parameters, Parameters.width, Spelling.Reads, Spelling.EndsSpelling, Spelling.IsNoSpelling, Spelling.NoSpelling}
-use Rattle.rice_fast.specs.Standing.{Standing}
+use Rattle.rice_fast.specs.OpenBlocks.{Standing}
 use Rattle.rice_stream.specs.declared.outcome.Fault.TheVariants.{Write, SampleOutOfRange}
 use Rattle.rice_stream.specs.{DevicesInCalls.StopsBetween, declared.encoding.Encoding.Encoding, declared.outcome.Fault.Fault, declared.takes.Taken.Taken}
 

@@ -8,7 +8,7 @@ use Rattle.rice_stream.specs.declared.outcome.Fault.TheVariants.{Write, TooLong,
 use Rattle.rice_stream.specs.{declared.encoding.Encoding.Encoding, Encodes.ReportsTaken, Encodes.ReportsAll, declared.outcome.Fault.Fault, declared.outcome.Report.Report}
 use Rattle.rice_stream.specs.declared.seam.Seam.{Seam}
 use Rattle.rice_stream.specs.EncodingState.{standing_between, EncodingValue, CountsSamples, Beginning, Follows, FollowsBetween}
-use Rattle.rice_fast.specs.Standing.{Standing}
+use Rattle.rice_fast.specs.OpenBlocks.{Standing}
 
 -- the encoding that goes on at a seam
 abbrev pub encoding_at : Parameters → Seam → EncodingValue

@@ -2,7 +2,7 @@
 ghost use Rattle.std.specs.Prelude.{◌≡◌, ℕ, ◌≤◌, List, Bool, [], length, ℤ};
 ghost use Rattle.rice_samples.specs.Parameters.{width};
 ghost use Rattle.rice_code.specs.encode.OpenSegment.{state_between};
-ghost use Rattle.rice_fast.specs.Standing.{Standing, HasRoomAt};
+ghost use Rattle.rice_fast.specs.OpenBlocks.{Standing, HasRoomAt};
 ghost use Rattle.rice_stream.specs.EncodingState.{standing_between, TakesSpelled};
 
 use rice_bits::Meter;

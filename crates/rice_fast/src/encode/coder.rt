@@ -5,9 +5,9 @@ ghost use Rattle.rice_samples.specs.Parameters.{IsSample, value_at, value_count,
 ghost use Rattle.rice_samples.specs.{Places.blocks_left, Spelling.IsNoSpelling, Spelling.Reads};
 ghost use Rattle.rice_code.specs.code.Blocks.{fill_count};
 ghost use Rattle.rice_code.specs.encode.OpenSegment.{CodesHeld, IsOpen, next_start, state_after_all, state_between};
-ghost use Rattle.rice_code.specs.{code.Code.complete_samples, encode.Coder.AddsCode, encode.Coder.HasTaken};
-ghost use Rattle.rice_fast.specs.OpenBlocks.{CanEnd, EndsPart, GoesOn, HasRoomForBlock, IsAheadAfter, IsBefore, StandsAfter, StandsFor, TakesFrom, coder_between, coder_with, is_at_first, whole_part, with_block};
-ghost use Rattle.rice_fast.specs.Standing.{HasRoomAt, Standing};
+ghost use Rattle.rice_code.specs.{code.Code.complete_samples, code.SoundBlocks.block_with, encode.Coder.AddsCode, encode.Coder.HasTaken, encode.HeldBlocks.reference_at};
+ghost use Rattle.rice_fast.specs.OpenBlocks.{CanEnd, EndsPart, GoesOn, HasRoomForBlock, IsAhead, IsBefore, StandsAfter, StandsFor, TakesFrom, coder_between, coder_with, is_at_first, whole_part, with_block};
+ghost use Rattle.rice_fast.specs.OpenBlocks.{HasRoomAt, Standing};
 
 use crate::encode::blocks::code_next_or_add_to_run;
 use crate::encode::repeats::repeat_sample;
@@ -379,7 +379,8 @@ impl BlockCoder {
         requires room { HasRoomForBlock self.old sink.old meter.old }
         ensures value { self.new ≡ with_block self.old self.new.run self.new.bits_ahead self.new.steps_ahead }
         ensures ahead { (h : HasRoomForBlock self.old sink.old meter.old) →
-            IsAheadAfter h self.new sink.new }
+            IsAhead self.old.setting self.old.start self.old.reference self.new.run self.new.bits_ahead self.new.steps_ahead
+            (h.blocks ++ block_with (reference_at self.old.reference (length h.blocks)) (whole_part self.old) ∷ []) sink.new h.from }
         ensures meter { (h : HasRoomForBlock self.old sink.old meter.old) →
             meter.new ≡ h.meter_from + self.new.steps_ahead }
     {

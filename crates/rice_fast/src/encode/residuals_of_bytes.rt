@@ -3,7 +3,7 @@ ghost use Rattle.std.specs.Prelude.{◌≡◌, ◌-◌, ◌*◌, ◌<◌, ◌≤
 ghost use Rattle.std.specs.Simd.Lanes.{Each1};
 ghost use Rattle.rice_samples.specs.Parameters.{value_at, value_count, values_at, width as width_of};
 ghost use Rattle.rice_code.specs.encode.OpenSegment.{later_residuals};
-ghost use Rattle.rice_fast.specs.{BlocksAhead.HasBits, Standing.HasResidualsOf};
+ghost use Rattle.rice_fast.specs.{BlocksAhead.HasBits, OpenBlocks.HasResidualsOf};
 
 use crate::vectors::{Bytes, Halves, Lanes, LevelLanes, Words, patterns_of_levels, ranks};
 use rice_code::known_or;

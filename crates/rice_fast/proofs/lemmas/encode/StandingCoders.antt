@@ -1,9 +1,11 @@
 -- What the fast coder stands for, from call to call.
 use Rattle.rice_fast.proofs.Words.{◌≡◌, ℕ, zero, suc, ◌+◌, ◌*◌, ◌^◌, ◌<◌, ◌≤◌, Bool, List, [], ◌∷◌, ◌++◌, length, take, drop, refl, ap, arith, sym, ◌∙◌, subst, inl, inr, append-nil, Option, None, ℤ}
 use Rattle.rice_fast.proofs.Words.{list_all, cases_lt, length-take-le, take-append-drop, drop_at, mul-le-mul_left, Parameters, IsLegal, value_at, value_count, blocks_left, some_left, coding_steps}
-use Rattle.rice_fast.proofs.Words.{All, BlockData, IsBlockSize, IsSoundData, sound_of, segment_steps, AreSoundBlocks, block_with, HasTaken, IsCoder, JoinsRun, held_blocks, reference_at, CoderState, IsOpen, HoldsSoundBlocks, IsWhole, state_after_all}
+use Rattle.rice_fast.proofs.Words.{All, BlockData, IsBlockSize, IsSoundData, sound_of, segment_steps, AreSoundBlocks, block_with, HasTaken, IsCoder, JoinsRun, held_blocks, reference_at, CoderState}
+use Rattle.rice_fast.proofs.Words.{IsOpen, HoldsSoundBlocks, IsWhole, state_after_all}
 use Rattle.rice_fast.proofs.Words.{state_between, held_len, open_between, short_of, steps_of_segment, HoldsMore, open_pushes, is_coder_after, length-state_after_all, state_after_all-none}
-use Rattle.rice_fast.proofs.Words.{HasRoomForBlock, HoldsOpen, IsAhead, PushesOpen, StandsAfter, StandsFor, StandsWith, coder_between, coder_with, whole_part, with_block, HasRoomAt, Standing, BlockCoder}
+use Rattle.rice_fast.proofs.Words.{HasRoomForBlock, HoldsOpen, IsAhead, PushesOpen, StandsAfter, StandsFor, StandsWith, coder_between, coder_with, whole_part, with_block, HasRoomAt, Standing}
+use Rattle.rice_fast.proofs.Words.{BlockCoder}
 use Rattle.std.specs.Prelude.{◌⊎◌, ◌==◌, true}
 use Rattle.rice_fast.proofs.lemmas.encode.CodeAhead.{IsNext, ahead_of_zero, ahead_with, last_sound, none_ahead, nothing_ahead, other_reference, room_to_look, steps_are_few}
 use Rattle.rice_fast.proofs.lemmas.encode.HeldResiduals.{held_more, held_next, sound_after, blocks_are_sound}
@@ -140,13 +142,15 @@ part_has_room {c} {sink} {meter} {m} {xs} h room whole less =
       steps = steps_after h room;
     }
 
--- the block that the part is, which is sound,
+-- the block that the part is
 abbrev pub next_of : {c : BlockCoder} {sink : List Bool} {meter : ℕ} → HasRoomForBlock c sink meter → BlockData
 next_of {c} h = block_with (reference_at c.reference (length h.blocks)) (whole_part c)
 
+-- It is the next of them,
 pub is_next : {c : BlockCoder} {sink : List Bool} {meter : ℕ} (h : HasRoomForBlock c sink meter) → IsNext c.setting c.start c.reference h.blocks (next_of h)
 is_next h = record { legal = h.legal; below = h.below; reference = refl; sound = h.sound }
 
+-- and sound.
 pub sound_next : {c : BlockCoder} {sink : List Bool} {meter : ℕ} (h : HasRoomForBlock c sink meter) → IsSoundData c.setting (next_of h)
 sound_next {c} h = sound_of c.setting (c.start + length h.blocks) (next_of h) (last_sound c.setting c.start h.blocks (next_of h) h.sound)
 

@@ -38,20 +38,23 @@ pub returns-then-are_large-clause-steps_from : goal.returns-then-are_large-claus
 returns-then-are_large-clause-steps_from g c =
     let s = c.args.setting.now in
     let best = best_split_is s c.args.block.now (k_max s) (c.are_large.ensures.best c.if-are_large.true) in
-    let looks = looks_of (k_max s) (c.len-size.ensures.value ∙ (ap length c.residuals.ensures ∙ c.requires.sound.len)) best (last_split s).0 (omega arith) (inr (ap (λ n. n + 2) c.k_max.ensures.value)) in
+    let looks = looks_of (k_max s) (c.len-size.ensures.value ∙ (ap length c.residuals.ensures ∙ c.requires.sound.len))
+    best (last_split s).0 (omega arith) (inr (ap (λ n. n + 2) c.k_max.ensures.value)) in
     omega (arith, c.tick.ensures, looks.least)
 
 pub returns-then-are_large-clause-steps_to : goal.returns-then-are_large-clause-steps_to
 returns-then-are_large-clause-steps_to g c =
     let s = c.args.setting.now in
     let best = best_split_is s c.args.block.now (k_max s) (c.are_large.ensures.best c.if-are_large.true) in
-    let looks = looks_of (k_max s) (c.len-size.ensures.value ∙ (ap length c.residuals.ensures ∙ c.requires.sound.len)) best (last_split s).0 (omega arith) (inr (ap (λ n. n + 2) c.k_max.ensures.value)) in
+    let looks = looks_of (k_max s) (c.len-size.ensures.value ∙ (ap length c.residuals.ensures ∙ c.requires.sound.len))
+    best (last_split s).0 (omega arith) (inr (ap (λ n. n + 2) c.k_max.ensures.value)) in
     omega (arith, c.tick.ensures, looks.most)
 
 pub tick-requires-2 : goal.tick-requires-2
 tick-requires-2 g c =
     let best = c.best_split-k.ensures.best in
-    let looks = looks_of c.best_split-k.result.0 (c.len-size.ensures.value ∙ (ap length c.residuals.ensures ∙ c.requires.sound.len)) c.best_split-k.ensures.named (last_split c.args.setting.now).0 best.at_most
+    let looks = looks_of c.best_split-k.result.0 (c.len-size.ensures.value ∙ (ap length c.residuals.ensures ∙ c.requires.sound.len))
+    c.best_split-k.ensures.named (last_split c.args.setting.now).0 best.at_most
     (elim c.if-k-eq0.branch [
       | then-k-eq0 w ↦ inl (w.if-k-eq0.true, ap (λ p. p.1) w.second_extension-is)
       | else-k-eq0 w ↦ inr (ap (λ p. p.1) w.second_extension-is)
@@ -73,7 +76,8 @@ shortest_of-choice-requires-clause-second_extension_from g c =
 pub returns : goal.returns
 returns g c =
     let best = c.best_split-k.ensures.best in
-    let looks = looks_of c.best_split-k.result.0 (c.len-size.ensures.value ∙ (ap length c.residuals.ensures ∙ c.requires.sound.len)) c.best_split-k.ensures.named (last_split c.args.setting.now).0 best.at_most
+    let looks = looks_of c.best_split-k.result.0 (c.len-size.ensures.value ∙ (ap length c.residuals.ensures ∙ c.requires.sound.len))
+    c.best_split-k.ensures.named (last_split c.args.setting.now).0 best.at_most
     (elim c.if-k-eq0.branch [
       | then-k-eq0 w ↦ inl (w.if-k-eq0.true, ap (λ p. p.1) w.second_extension-is)
       | else-k-eq0 w ↦ inr (ap (λ p. p.1) w.second_extension-is)

@@ -1,4 +1,5 @@
-use Rattle.rice_fast.proofs.Words.{arith, ◌≡◌, ◌+◌, ◌-◌, ◌*◌, ◌^◌, ◌<◌, ◌≤◌, min, ℕ, Bool, List, true, false, length, take, ap, sym, ◌∙◌, subst, inl, inr, mul-le-mul_left, Parameters, IsBlockSize, k_max}
+use Rattle.rice_fast.proofs.Words.{arith, ◌≡◌, ◌+◌, ◌-◌, ◌*◌, ◌^◌, ◌<◌, ◌≤◌, min, ℕ, Bool, List, true, false, length, take, ap, sym, ◌∙◌, subst, inl, inr, mul-le-mul_left, Parameters, IsBlockSize}
+use Rattle.rice_fast.proofs.Words.{k_max}
 use Rattle.rice_fast.proofs.Words.{BlockData, is_zero_block, best_split, shortest, cost, IsSoundData, block_with, HasRoomFor, EndsRun, JoinsRun, pending_bits, reference_at, bool_cases}
 use Rattle.rice_fast.proofs.Words.{BlockCoder, HasRoomForBlock}
 use Rattle.rice_fast.proofs.lemmas.encode.CodeAhead.{ahead_of_other, ahead_of_zero, room_for_other, room_to_look}

@@ -1,4 +1,5 @@
-use Rattle.rice_fast.proofs.Words.{All, ℕ, List, ◌≡◌, ◌+◌, ◌<◌, ◌∙◌, ◌++◌, ap, arith, drop, length, length-append, rules, subst, sym, take, take-append-drop, HasResidualsOf, Parameters, value_count, StandsAfter, BlockCoder, with_block}
+use Rattle.rice_fast.proofs.Words.{All, ℕ, List, ◌≡◌, ◌+◌, ◌<◌, ◌∙◌, ◌++◌, ap, arith, drop, length, length-append, rules, subst, sym, take, take-append-drop, HasResidualsOf, Parameters, value_count}
+use Rattle.rice_fast.proofs.Words.{StandsAfter, BlockCoder, with_block}
 use Rattle.rice_fast.proofs.lemmas.encode.StandingCoders.{none_held, none_held_in, part_fits, part_has_room, row_is_put, steps_for_block}
 use Rattle.rice_fast.proofs.lemmas.{encode.RunsGoOn.run_goes_on, encode.TakenSamples.block_in_part}
 use Rattle.rice_fast.proofs.encode.coder.BlockCoder.take_block.Goals as goal
@@ -45,17 +46,23 @@ tick-requires-in-Some-residuals_of_bytes g c =
 pub sum_of-whole-requires : goal.sum_of-whole-requires
 sum_of-whole-requires g c =
     let given = c.requires.stands in
-    let read = subst (λ (s : Parameters). HasResidualsOf s c.args.bytes.now c.in-Some.before.level c.residuals_of_bytes.new.residuals c.in-Some-residuals_of_bytes.last) c.requires.setting c.in-Some-residuals_of_bytes.ensures.some in
+    let last = c.in-Some-residuals_of_bytes.last in
+    let read = subst (λ (s : Parameters). HasResidualsOf s c.args.bytes.now c.in-Some.before.level c.residuals_of_bytes.new.residuals last) c.requires.setting
+    c.in-Some-residuals_of_bytes.ensures.some in
     let known = c.known_or-size.ensures ∙ c.block.ensures.value in
     let held = block_in_part _ c.tick-in-Some-residuals_of_bytes.new.self given.2 c.requires.between c.requires.inside c.requires.len c.in-Some.ensures.some read
     (omega (arith, c.tick-in-Some-residuals_of_bytes.ensures, known)) in
     let fit = part_fits (part_has_room held.2 given.3 held.1 c.requires.inside) c.known_or-size.result known in
-    record { size = fit.0; fit = subst (λ (s : Parameters). All (λ d. d < value_count s) (take c.known_or-size.result (c.residuals_of_bytes.new.residuals ++ drop c.known_or-size.result c.args.self.now.part))) (sym c.requires.setting) fit.1 }
+    let n = c.known_or-size.result in
+    let part = take n (c.residuals_of_bytes.new.residuals ++ drop n c.args.self.now.part) in
+    record { size = fit.0; fit = subst (λ (s : Parameters). All (λ d. d < value_count s) part) (sym c.requires.setting) fit.1 }
 
 pub put_block-requires-clause-room : goal.put_block-requires-clause-room
 put_block-requires-clause-room g c =
     let given = c.requires.stands in
-    let read = subst (λ (s : Parameters). HasResidualsOf s c.args.bytes.now c.in-Some.before.level c.residuals_of_bytes.new.residuals c.in-Some-residuals_of_bytes.last) c.requires.setting c.in-Some-residuals_of_bytes.ensures.some in
+    let last = c.in-Some-residuals_of_bytes.last in
+    let read = subst (λ (s : Parameters). HasResidualsOf s c.args.bytes.now c.in-Some.before.level c.residuals_of_bytes.new.residuals last) c.requires.setting
+    c.in-Some-residuals_of_bytes.ensures.some in
     let held = block_in_part _ c.tick-in-Some-residuals_of_bytes.new.self given.2 c.requires.between c.requires.inside c.requires.len c.in-Some.ensures.some read
     (omega (arith, c.tick-in-Some-residuals_of_bytes.ensures, c.known_or-size.ensures, c.block.ensures.value)) in
     part_has_room held.2 given.3 held.1 c.requires.inside
@@ -63,7 +70,9 @@ put_block-requires-clause-room g c =
 pub returns-in-Some-residuals_of_bytes-clause-takes : goal.returns-in-Some-residuals_of_bytes-clause-takes
 unfolding part_has_room
 returns-in-Some-residuals_of_bytes-clause-takes g c e m xs h room =
-    let read = subst (λ (s : Parameters). HasResidualsOf s c.args.bytes.now c.in-Some.before.level c.residuals_of_bytes.new.residuals c.in-Some-residuals_of_bytes.last) c.requires.setting c.in-Some-residuals_of_bytes.ensures.some in
+    let last = c.in-Some-residuals_of_bytes.last in
+    let read = subst (λ (s : Parameters). HasResidualsOf s c.args.bytes.now c.in-Some.before.level c.residuals_of_bytes.new.residuals last) c.requires.setting
+    c.in-Some-residuals_of_bytes.ensures.some in
     let held = block_in_part _ c.tick-in-Some-residuals_of_bytes.new.self h c.requires.between c.requires.inside c.requires.len c.in-Some.ensures.some read
     (omega (arith, c.tick-in-Some-residuals_of_bytes.ensures, c.known_or-size.ensures, c.block.ensures.value)) in
     let fit = part_has_room held.2 room held.1 c.requires.inside in
