@@ -38,9 +38,8 @@ pub trait TakesBytes: Drop {
         ensures { (bits : List Bool) (steps : ℕ) →
             stands result bits steps (standing_between setting start previous bits steps) };
 
-    /// Takes samples from the front of the bytes, at least one if the first bytes spell one, and none after one that completes a segment.
-    ///
-    /// `setting` is its own.
+    /// Takes samples from the front of the bytes, at least one if the first bytes spell one, and none after one that completes a
+    /// segment. `setting` is its own.
     fn push(
         &mut self,
         setting: &Setting,

@@ -133,8 +133,12 @@ fn shortest_of(
 {
     let _setting = setting;
     let _block = block;
-    if second_extension <= split && second_extension < no_compression {
-        Choice::SecondExtension
+    if second_extension < no_compression {
+        if split < second_extension {
+            Choice::Split(k)
+        } else {
+            Choice::SecondExtension
+        }
     } else if split < no_compression {
         Choice::Split(k)
     } else {

@@ -363,9 +363,7 @@ impl BlockCoder {
     }
 
     /// Codes the block of which all residuals are held: a zero block is pending then, the code of any other is appended. `whole` is the sum
-    /// of the residuals.
-    ///
-    /// It is never inlined, so that the loop over the blocks stays short.
+    /// of the residuals. It is never inlined, so that the loop over the blocks stays short.
     #[inline(never)]
     fn put_block<const SIZE: usize>(
         &mut self,
