@@ -49,12 +49,4 @@ impl<'a> HeldBlock<'a> {
     {
         &self.residuals
     }
-
-    /// Returns the reference sample and the residuals.
-    #[inline(always)]
-    pub fn into_parts(self) -> (Option<u32>, Block<'a>)
-        ensures { block_with result.0 result.1 ≡ self.entry }
-    {
-        (self.reference, self.residuals)
-    }
 }
