@@ -115,7 +115,8 @@ impl BlockPass for FastPass {
     }
 }
 
-/// Does what [`BlockPass::write_blocks`] says, by the loop for blocks of `SIZE` samples, or of any where this is 0.
+/// Does what [`BlockPass::write_blocks`] says, by the loop for samples of `WIDTH` bytes in blocks of `SIZE`, or of any size where
+/// this is 0.
 #[inline(never)]
 fn write_passed_blocks<L: SampleLanes, I: Intake, O: Outlet, const SIZE: usize, const WIDTH: usize>(
     setting: &Setting,

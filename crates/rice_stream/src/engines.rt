@@ -12,8 +12,9 @@ use crate::outcome::{Fault, Outcome};
 use crate::pulling::{decode_more, decode_piece, is_too_long};
 use crate::seam::Seam;
 use crate::stand::{Pause, Stand};
-use crate::takes::{OneByOne, TakesBytes};
+use crate::takes::TakesBytes;
 use rice_bits::{Intake, Outlet};
+use rice_code::Coder;
 use rice_fast::BlockCoder;
 use rice_samples::Setting;
 
@@ -173,7 +174,7 @@ impl Engines for Fast {
 }
 
 impl Engines for Plain {
-    type Coder = OneByOne;
+    type Coder = Coder;
 
     fn decode<I: Intake, O: Outlet>(
         setting: &Setting,

@@ -134,26 +134,15 @@ impl TakesBytes for BlockCoder {
     }
 }
 
-/// A coder that takes one sample per call.
-#[derive(Drop)]
-pub struct OneByOne {
-    setting: Setting,
-    coder: Coder,
-    ghost same: { coder.setting ≡ setting },
-}
-
-impl TakesBytes for OneByOne {
-    ghost stands = { λ c bits steps m. m ≡ record { coder = c.coder; sink = bits; meter = steps } };
+impl TakesBytes for Coder {
+    ghost stands = { λ c bits steps m. m ≡ record { coder = c; sink = bits; meter = steps } };
 
     ghost between = { λ c bits steps m same none. ((λ i. (same i).sink), (λ i. (same i).meter)) };
 
     ghost with_sink = { λ c bits steps m same short others. (λ i. record { coder = (same i).coder; sink = others; meter = (same i).meter }) };
 
     fn resume(setting: Setting, start: u32, previous: i64) -> Self {
-        OneByOne {
-            setting,
-            coder: Coder::resume(setting, start, previous),
-        }
+        Coder::resume(setting, start, previous)
     }
 
     fn push(
@@ -163,11 +152,10 @@ impl TakesBytes for OneByOne {
         sink: &mut SegmentSink,
         meter: &mut Meter,
     ) -> Taken {
-        let _setting = setting;
-        let width = self.setting.width() as usize;
-        match sample_of(&self.setting, &bytes[..width]) {
+        let width = setting.width() as usize;
+        match sample_of(setting, &bytes[..width]) {
             Some(x) => {
-                let bits = self.coder.push_counted(x, sink, meter);
+                let bits = self.push_counted(x, sink, meter);
                 Taken {
                     samples: 1,
                     bits,
@@ -183,11 +171,11 @@ impl TakesBytes for OneByOne {
     }
 
     fn start(&self) -> u32 {
-        self.coder.start()
+        self.start()
     }
 
     fn previous(&self) -> i64 {
-        self.coder.previous()
+        self.previous()
     }
 
     fn steps(&self, meter: &Meter) -> u64 {
@@ -195,6 +183,6 @@ impl TakesBytes for OneByOne {
     }
 
     fn finish(&mut self, sink: &mut SegmentSink, meter: &mut Meter) -> u64 {
-        self.coder.finish_counted(sink, meter)
+        self.finish_counted(sink, meter)
     }
 }

@@ -2,7 +2,7 @@ use Rattle.rice_stream.proofs.Words.{rules, refl, sym, ap, subst, zero, suc, ◌
 use Rattle.rice_stream.proofs.Words.{to_z-of_z, All-cons, Parameters, IsSample, width, IsNoSpelling, Reads, spelling, code, code_bits, complete_samples, least_steps, most_steps, HasTaken}
 use Rattle.rice_stream.proofs.Words.{PushesSamples, CoderState, Standing, TakesSpelled}
 use Rattle.std.proofs.Common.{take-append-drop}
-use Rattle.rice_stream.proofs.takes.OneByOneTakesBytes.push.Goals as goal
+use Rattle.rice_stream.proofs.takes.CoderTakesBytes.push.Goals as goal
 
 none_taken : (s : Parameters) (m : ℕ) (xs : List ℤ) (x : ℤ) → m < 1 → complete_samples s (xs ++ take m (x ∷ [])) ≡ complete_samples s xs
 none_taken s zero xs x h = ap (complete_samples s) (append-nil xs)
@@ -27,9 +27,10 @@ one_sample s x k = All-cons (IsSample s) x [] k (λ n d lt. absurd (omega (arith
 
 pub returns-in-None : goal.returns-in-None
 returns-in-None c m stands room =
-    let own = c.args.self.now.setting in
+    let own = c.args.setting.now in
+    let given = c.requires in
     let bytes = c.args.bytes.now in
-    let e : own ≡ m.coder.setting = sym (ap (λ m. m.coder.setting) stands ∙ c.args.self.now.same) in
+    let e : own ≡ m.coder.setting = sym given.3 ∙ (ap (λ m. m.coder.setting) given.1 ∙ sym (ap (λ m. m.coder.setting) stands)) in
     let none : IsNoSpelling own bytes = subst (λ w. (x : ℤ) → IsSample own x → take w bytes ≢ spelling own x) c.width-width.ensures.value c.in-None.ensures.none in
     let z : width m.coder.setting * 0 ≡ 0 = omega arith in (
       m,
@@ -47,9 +48,9 @@ returns-in-None c m stands room =
 
 pub returns-in-Some : goal.returns-in-Some
 returns-in-Some c m stands room =
-    let own = c.args.self.now.setting in
-    let s = c.args.self.now.coder.setting in
-    let same : s ≡ own = c.args.self.now.same in
+    let own = c.args.setting.now in
+    let given = c.requires in
+    let same : c.args.self.now.setting ≡ own = sym (ap (λ m. m.coder.setting) given.1) ∙ given.3 in
     let bytes = c.args.bytes.now in
     let x = c.in-Some.x in
     let w = width own in
@@ -69,7 +70,7 @@ returns-in-Some c m stands room =
         number = refl;
         none = λ e. absurd (omega (arith, e));
         pushes = rw (to_z-of_z w64 x fits) at c.push_counted-bits.ensures;
-        before_last = λ n lt xs h. none_taken s n xs x lt;
+        before_last = λ n lt xs h. none_taken c.args.self.now.setting n xs x lt;
         shows = refl;
       }),
     )
