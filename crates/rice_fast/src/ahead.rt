@@ -12,7 +12,7 @@ pub mod words;
 use crate::ahead::sequences::{Sequences, first_sequences};
 use crate::ahead::wide_words::wide_words_from;
 use crate::ahead::words::sixteen_words_from;
-use rice_bits::{BitReader, Intake, at_least_57_bits_from, front_digits, number_from};
+use rice_bits::{BitReader, Intake, at_least_57_bits_from, number_from};
 use std::simd::prelude::*;
 
 /// Returns the number of the `width` buffered bits after the first `skip`, most significant first. It takes none.
@@ -25,18 +25,6 @@ pub fn number_ahead<I: Intake>(reader: &BitReader<I>, skip: usize, width: u32) -
 {
     let (buffer, at) = reader.ahead(skip);
     number_from(buffer, at, width) as u32
-}
-
-/// Returns the number of the first `width` buffered bits, of which there are at least 57. It takes none.
-#[inline(always)]
-pub fn first_number_ahead<I: Intake>(reader: &BitReader<I>, width: u32) -> u32
-    requires width { width ≤ 32 }
-    requires there { 57 ≤ length reader.now.buffered }
-    ensures below { result < 2 ^ width }
-    ensures bits { word width result ≡ take width reader.now.buffered }
-{
-    let (buffer, at) = reader.ahead(0);
-    front_digits(at_least_57_bits_from(buffer, at), width) as u32
 }
 
 /// Returns the first `count` fundamental sequences after the first `skip` buffered bits, if it finds them in `bytes` bytes. It takes

@@ -4,7 +4,7 @@ ghost use Rattle.rice_bits.specs.Bits.{word};
 ghost use Rattle.rice_samples.specs.{Parameters.id_len, Parameters.value_at, Parameters.value_count, Residuals.pattern};
 ghost use Rattle.rice_fast.specs.BlocksAhead.{IsCopied, SpelledAhead, WordsAhead, copied_bits};
 
-use crate::ahead::{first_number_ahead, number_ahead, words_ahead};
+use crate::ahead::{number_ahead, words_ahead};
 use crate::one_pass::WrittenBlock;
 use crate::vectors::bytes_of_patterns;
 use rice_bits::{BitReader, Intake};
@@ -23,33 +23,6 @@ fn known_id_len<const WIDTH: usize>(setting: &Setting) -> usize
     if WIDTH == 4 { 5 } else { WIDTH + 2 }
 }
 
-/// Returns the identifier of a block without compression, which the compiler knows.
-#[inline(always)]
-fn known_id<const WIDTH: usize>(setting: &Setting) -> u32
-    requires { IsCopied setting.now WIDTH }
-    ensures { result ≡ 2 ^ id_len setting.now - 1 }
-{
-    if WIDTH == 1 {
-        7
-    } else if WIDTH == 2 {
-        15
-    } else {
-        31
-    }
-}
-
-/// Returns the number of bytes of the samples of a block of `size` samples.
-#[inline(always)]
-fn block_bytes<const WIDTH: usize>(setting: &Setting, size: usize) -> usize
-    requires copied { IsCopied setting.now WIDTH }
-    requires size { size ≡ setting.now.block }
-    ensures value { result ≡ WIDTH * setting.now.block }
-    ensures range { (WIDTH ≤ result) × (result ≤ 256) }
-{
-    let _block = setting.block();
-    WIDTH * size
-}
-
 /// Returns the number of bits of a block of `size` samples without compression.
 #[inline(always)]
 fn copied_len<const WIDTH: usize>(setting: &Setting, size: usize) -> usize
@@ -58,7 +31,8 @@ fn copied_len<const WIDTH: usize>(setting: &Setting, size: usize) -> usize
     ensures value { result ≡ copied_bits setting.now WIDTH }
     ensures range { result ≤ 2053 }
 {
-    known_id_len::<WIDTH>(setting) + 8 * block_bytes::<WIDTH>(setting, size)
+    let _block = setting.block();
+    known_id_len::<WIDTH>(setting) + 8 * (WIDTH * size)
 }
 
 /// Returns whether samples are not predicted, and use all bits of `WIDTH` bytes, 1, 2 or 4.
@@ -87,7 +61,8 @@ fn is_copied_ahead<I: Intake, const WIDTH: usize>(
     if reader.buffered() < copied_len::<WIDTH>(setting, size) as u64 + AFTER {
         return false;
     }
-    first_number_ahead(reader, known_id_len::<WIDTH>(setting) as u32) == known_id::<WIDTH>(setting)
+    let id_len = known_id_len::<WIDTH>(setting) as u32;
+    number_ahead(reader, 0, id_len) == (1 << id_len) - 1
 }
 
 /// Writes the bytes of the samples of the next block, of `size` samples, which is not compressed. It takes nothing, and may write up to
@@ -105,7 +80,8 @@ fn write_copied_ahead<I: Intake, const WIDTH: usize>(
     requires room { WIDTH * setting.now.block + 15 ≤ length bytes.old }
     ensures { WordsAhead reader.now.buffered setting.now WIDTH (WIDTH * setting.now.block) bytes.new }
 {
-    let count = block_bytes::<WIDTH>(setting, size);
+    let _block = setting.block();
+    let count = WIDTH * size;
     let head = known_id_len::<WIDTH>(setting);
     for i in 0..(count + 15) / 16 {
         let patterns = words_ahead(reader, head + 128 * i, 8);
@@ -130,7 +106,8 @@ fn last_copied<I: Intake, const WIDTH: usize>(
         (drop (id_len setting.now + 8 * (WIDTH * setting.now.block - WIDTH))
         reader.now.buffered) }
 {
-    let before = known_id_len::<WIDTH>(setting) + 8 * (block_bytes::<WIDTH>(setting, size) - WIDTH);
+    let _block = setting.block();
+    let before = known_id_len::<WIDTH>(setting) + 8 * (WIDTH * (size - 1));
     level_of_pattern(setting, number_ahead(reader, before, 8 * WIDTH as u32))
 }
 

@@ -3,7 +3,7 @@
 
 mod bit_buffer;
 mod blocks;
-mod byte_rows;
+pub(crate) mod byte_rows;
 mod choice;
 pub mod coder;
 mod cost;

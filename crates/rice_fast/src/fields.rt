@@ -4,7 +4,7 @@ ghost use Rattle.rice_bits.specs.Bits.{word};
 ghost use Rattle.rice_samples.specs.{Parameters.id_len, Parameters.value_count, Places.is_reference};
 ghost use Rattle.rice_fast.specs.{FieldsAhead.AreFields, FieldsAhead.HeadAhead, FieldsAhead.IsBlockInLanes};
 
-use crate::ahead::{first_number_ahead, number_ahead};
+use crate::ahead::number_ahead;
 use crate::high_parts::high_parts_ahead;
 use crate::lanes::SampleLanes;
 use crate::pairs::pairs_ahead;
@@ -78,9 +78,9 @@ fn head_ahead<I: Intake, const REFERENCE: bool>(
 /// Returns the fields of the buffered block of `size` samples, after a sample at level `before`, if its fundamental sequences are short
 /// and it has a block. Writes the high parts of its residuals to the front of `highs`. It takes nothing.
 ///
-/// It is laid out for blocks of `SIZE` samples with a `REFERENCE`, or without one.
+/// It is laid out for blocks with a `REFERENCE`, or without one.
 #[inline(always)]
-pub fn fields_ahead<L: SampleLanes, I: Intake, const SIZE: usize, const REFERENCE: bool>(
+pub fn fields_ahead<L: SampleLanes, I: Intake, const REFERENCE: bool>(
     setting: &Setting,
     size: usize,
     block: u32,
@@ -94,23 +94,21 @@ pub fn fields_ahead<L: SampleLanes, I: Intake, const SIZE: usize, const REFERENC
     if reader.buffered() < LOOK {
         return None;
     }
-    let id = first_number_ahead(reader, L::ID_LEN);
+    let id = number_ahead(reader, 0, L::ID_LEN);
     if id == 0 {
-        return pair_fields_ahead::<L, I, SIZE, REFERENCE>(
-            setting, size, block, before, reader, highs,
-        );
+        return pair_fields_ahead::<L, I, REFERENCE>(setting, size, block, before, reader, highs);
     }
     if id == (1 << L::ID_LEN) - 1 {
         return Some(uncompressed_fields_ahead::<L, I, REFERENCE>(
             setting, size, block, before, reader, highs,
         ));
     }
-    split_fields_ahead::<L, I, SIZE, REFERENCE>(setting, size, block, before, id - 1, reader, highs)
+    split_fields_ahead::<L, I, REFERENCE>(setting, size, block, before, id - 1, reader, highs)
 }
 
 /// As `fields_ahead`, of a block by split `k`.
 #[inline(always)]
-fn split_fields_ahead<L: SampleLanes, I: Intake, const SIZE: usize, const REFERENCE: bool>(
+fn split_fields_ahead<L: SampleLanes, I: Intake, const REFERENCE: bool>(
     setting: &Setting,
     size: usize,
     block: u32,
@@ -129,19 +127,12 @@ fn split_fields_ahead<L: SampleLanes, I: Intake, const SIZE: usize, const REFERE
     let _block = setting.block();
     let id_len = setting.id_len();
     let head = head_ahead::<I, REFERENCE>(setting, block, before, L::ID_LEN as usize, reader);
-    let len = high_parts_ahead::<I, SIZE, REFERENCE, false>(
-        reader,
-        size,
-        head.words,
-        head.omitted,
-        highs,
-    )?;
+    let len = high_parts_ahead(reader, size, head.words, head.omitted, highs)?;
     Some(Fields {
-        from: head.from,
-        omitted: head.omitted,
         k,
         words: head.words + len,
         turns: 0,
+        ..head
     })
 }
 
@@ -164,17 +155,15 @@ fn uncompressed_fields_ahead<L: SampleLanes, I: Intake, const REFERENCE: bool>(
     let head = head_ahead::<I, REFERENCE>(setting, block, before, L::ID_LEN as usize, reader);
     *highs = [0; 80];
     Fields {
-        from: head.from,
-        omitted: head.omitted,
         k: setting.bits(),
-        words: head.words,
         turns: 0,
+        ..head
     }
 }
 
 /// As `fields_ahead`, of a block by second extension.
 #[inline(always)]
-fn pair_fields_ahead<L: SampleLanes, I: Intake, const SIZE: usize, const REFERENCE: bool>(
+fn pair_fields_ahead<L: SampleLanes, I: Intake, const REFERENCE: bool>(
     setting: &Setting,
     size: usize,
     block: u32,
@@ -194,12 +183,13 @@ fn pair_fields_ahead<L: SampleLanes, I: Intake, const SIZE: usize, const REFEREN
         return None;
     }
     let head = head_ahead::<I, REFERENCE>(setting, block, before, L::ID_LEN as usize + 1, reader);
-    let pairs = pairs_ahead::<I, SIZE, REFERENCE>(reader, size, head.words, head.omitted, highs)?;
+    let pairs = pairs_ahead(reader, size, head.words, head.omitted)?;
+    let numbers = pairs.numbers;
+    *highs = numbers;
     Some(Fields {
-        from: head.from,
-        omitted: head.omitted,
         k: 0,
         words: head.words + pairs.len,
         turns: pairs.turns,
+        ..head
     })
 }

@@ -4,25 +4,10 @@ ghost use Rattle.rice_fast.specs.FieldsAhead.{HighsAhead, rows_len};
 
 use crate::ahead::sequences::Sequences;
 use crate::ahead::sequences_ahead;
-use crate::rows::placed;
+use crate::rows::{placed, row_len};
 use crate::vectors::Bytes;
 use rice_bits::{BitReader, Intake};
 use std::simd::prelude::*;
-
-/// Returns the number of samples of row `row` of a block of `size` samples.
-#[inline(always)]
-fn row_len(size: usize, row: usize) -> usize
-    requires row { 16 * row < size }
-    ensures some { (1 ≤ result) × (result ≤ 16) }
-    ensures end { 16 * row + result ≡ rows_len size (row + 1) }
-{
-    // Where all rows are whole, the compiler sees that no lane has to be cleared.
-    if size % 16 == 0 {
-        16
-    } else {
-        (size - 16 * row).min(16)
-    }
-}
 
 /// Returns the number of bytes in which the fundamental sequences of a row have to end. High parts are 1 to 2 in the mean, and of four
 /// rows one is often longer than six bytes.
@@ -41,7 +26,7 @@ fn row_bytes(size: usize) -> usize
 
 /// Writes the numbers to row `row`, of sixteen numbers each.
 #[inline(always)]
-fn store_row(rows: &mut [u8], row: usize, numbers: u8x16)
+pub fn store_row(rows: &mut [u8], row: usize, numbers: u8x16)
     requires row { 16 * (row + 1) ≤ length rows.old }
     requires few { length rows.old ≤ 80 }
     requires lanes { length numbers ≡ 16 }
@@ -84,10 +69,8 @@ fn high_parts_of_row_ahead<I: Intake>(
 /// Writes the high parts of the residuals of a block of `size` samples to the front of `highs`, and returns the number of their bits. Their
 /// fundamental sequences begin after `skip` bits. Returns `None` if a row of them is longer than one look. Parts that are omitted, none or
 /// one, are zeros.
-///
-/// There is one for each block of `SIZE` samples with a `REFERENCE`, or without, and for pairs: it is inlined only where it has one caller.
 #[inline(always)]
-pub fn high_parts_ahead<I: Intake, const SIZE: usize, const REFERENCE: bool, const OF_PAIRS: bool>(
+pub fn high_parts_ahead<I: Intake>(
     reader: &BitReader<I>,
     size: usize,
     skip: usize,
@@ -102,11 +85,18 @@ pub fn high_parts_ahead<I: Intake, const SIZE: usize, const REFERENCE: bool, con
 {
     let _taken = reader.taken();
     let bytes = row_bytes(size);
-    let first = high_parts_of_row_ahead(reader, skip, omitted, row_len(size, 0), bytes)?;
+    let first = high_parts_of_row_ahead(
+        reader,
+        skip,
+        omitted,
+        row_len::<Bytes, 0>(size, 0),
+        bytes,
+    )?;
     store_row(highs, 0, first.numbers);
     let mut len = first.len;
     for row in 1..(size + 15) / 16 {
-        let next = high_parts_of_row_ahead(reader, skip + len, 0, row_len(size, row), bytes)?;
+        let count = row_len::<Bytes, 0>(size, 16 * row);
+        let next = high_parts_of_row_ahead(reader, skip + len, 0, count, bytes)?;
         store_row(highs, row, next.numbers);
         len += next.len;
     }

@@ -48,9 +48,7 @@ fn write_fields_ahead<
     let _taken = reader.taken();
     let _block = setting.block();
     let mut highs = [0; 80];
-    let fields = fields_ahead::<L, I, SIZE, REFERENCE>(
-        setting, size, block, before, reader, &mut highs,
-    )?;
+    let fields = fields_ahead::<L, I, REFERENCE>(setting, size, block, before, reader, &mut highs)?;
     if reader.buffered() < (fields.words + size * fields.k as usize) as u64 + L::LOOK {
         return None;
     }
@@ -62,6 +60,24 @@ fn write_fields_ahead<
         len: fields.words + (size - fields.omitted) * fields.k as usize,
         turns: fields.turns,
     })
+}
+
+/// Does what `write_fields_ahead` does for a block with a reference sample, in a call of its own: there are few.
+#[inline(never)]
+fn write_reference_block_ahead<L: SampleLanes, I: Intake, const WIDTH: usize>(
+    setting: &Setting,
+    size: usize,
+    block: u32,
+    before: u32,
+    reader: &BitReader<I>,
+    bytes: &mut [u8; 320],
+) -> Option<WrittenBlock>
+    requires width { WIDTH ≡ width_of setting.now }
+    requires block { IsBlockInLanes L.below L.bits setting.now size block before true }
+    ensures { IfSome result (λ r. SpelledAhead reader.now.buffered setting.now block
+        (value_at setting.now before) r.last r.len r.turns bytes.new) }
+{
+    write_fields_ahead::<L, I, 0, WIDTH, true>(setting, size, block, before, reader, bytes)
 }
 
 /// Writes the bytes of the buffered block of `size` samples, after a sample at level `before`, if it can. It takes no bits.
@@ -89,6 +105,11 @@ fn write_block_ahead<L: SampleLanes, I: Intake, const SIZE: usize, const WIDTH: 
         }
     }
     if has_reference(setting, block) {
+        if SIZE != 8 && SIZE != 16 {
+            return write_reference_block_ahead::<L, I, WIDTH>(
+                setting, size, block, before, reader, bytes,
+            );
+        }
         return write_fields_ahead::<L, I, SIZE, WIDTH, true>(
             setting, size, block, before, reader, bytes,
         );
@@ -136,11 +157,10 @@ pub fn pass<L: SampleLanes, I: Intake, const SIZE: usize, const WIDTH: usize>(
     let size = known_or::<SIZE>(setting.block() as usize);
     let block = decoder.block();
     let before = setting.level(decoder.before()) as u32;
-    let spelled = match write_block_ahead::<L, I, SIZE, WIDTH>(
+    let Some(spelled) = write_block_ahead::<L, I, SIZE, WIDTH>(
         setting, size, block, before, reader, bytes,
-    ) {
-        Some(spelled) => spelled,
-        None => return false,
+    ) else {
+        return false;
     };
     reader.pass(spelled.len, meter);
     meter.tick(spelled.turns);

@@ -1,10 +1,14 @@
 //! The pairs of a buffered block by second extension.
-ghost use Rattle.std.specs.Prelude.{◌≡◌, ◌-◌, ◌*◌, ◌%◌, ◌<◌, ◌≤◌, IfSome, length, sum, take};
+ghost use Rattle.std.specs.Prelude.{◌≡◌, ◌+◌, ◌-◌, ◌*◌, ◌%◌, ◌<◌, ◌≤◌, ◌++◌, All, IfSome, drop, length, replicate, sum, take};
 ghost use Rattle.rice_samples.specs.Pairs.{pair_code, pair_codes};
 ghost use Rattle.rice_fast.specs.FieldsAhead.{PairsAhead};
 
-use crate::high_parts::high_parts_ahead;
+use crate::encode::byte_rows::row_sum;
+use crate::high_parts::{high_parts_ahead, store_row};
+use crate::lanes::SampleLanes;
+use crate::vectors::{Bytes, Lanes};
 use rice_bits::{BitReader, Intake};
+use std::simd::prelude::*;
 
 /// The first numbers of the pairs with the codes from 0 to 63.
 static FIRSTS: [u8; 64] = [
@@ -19,11 +23,14 @@ static SECONDS: [u8; 64] = [
     4, 5, 6, 7, 0, 1, 2, 3, 4, 5, 6, 7, 8, 0, 1, 2, 3, 4, 5, 6, 7, 8, 9, 0, 1, 2, 3, 4, 5, 6, 7, 8,
 ];
 
-/// The number of bits of the codewords of the pairs of a block, and the number of turns that a search for them takes.
+/// The residuals of a block by second extension, the number of bits of their codewords, and the number of turns that a search for the pairs
+/// takes.
 #[derive(Clone, Copy)]
 pub struct Pairs {
+    pub numbers: [u8; 80],
     pub len: usize,
     pub turns: u64,
+    ghost places: { length numbers ≡ 80 },
 }
 
 /// Returns the pair with the number `code`.
@@ -35,47 +42,82 @@ fn pair_of(code: u8) -> (u8, u8)
     (FIRSTS[code as usize], SECONDS[code as usize])
 }
 
-/// Writes the pairs with these numbers to the front of `numbers`. Returns the sum of all of them, or `None` if a number is above 63.
+/// Returns the pairs with the first eight of these numbers.
 #[inline(always)]
-fn write_pairs(codes: &[u8], numbers: &mut [u8; 80]) -> Option<u64>
-    requires few { length codes.now ≤ 32 }
-    ensures pairs { IfSome result (λ t. pair_codes (take (2 * length codes.now) numbers.new) ≡ codes.now) }
-    ensures sum { IfSome result (λ t. sum (take (2 * length codes.now) numbers.new) ≡ t) }
+fn eight_pairs(codes: u8x16) -> u8x16
+    requires lanes { length codes ≡ 16 }
+    requires small { All (λ g. g < 64) codes }
+    ensures pairs { pair_codes result ≡ take 8 codes }
+    ensures lanes { length result ≡ 16 }
 {
-    let mut all = 0;
-    for i in 0..codes.len() {
-        if codes[i] >= 64 {
-            return None;
-        }
+    let codes = codes.to_array();
+    let mut numbers = [0; 16];
+    for i in 0..8 {
         let (first, second) = pair_of(codes[i]);
         numbers[2 * i] = first;
         numbers[2 * i + 1] = second;
-        all += first as u64 + second as u64;
+    }
+    u8x16::from_array(numbers)
+}
+
+/// Returns the pairs with `count` of these numbers, from number `at` on, with zeros after them, or `None` if a number is above 63.
+#[inline(always)]
+fn row_of_pairs(codes: &[u8; 80], at: usize, count: usize) -> Option<Bytes>
+    requires there { at + 16 ≤ 80 }
+    requires count { count ≤ 8 }
+    ensures { IfSome result (λ r. pair_codes r.lanes ≡ take count (drop at codes.now) ++ replicate (8 - count) 0) }
+{
+    let codes = Bytes::of(u8x16::from_slice(&codes[at..])).first(count);
+    if !codes.above(Bytes::splat(63)).is_zero() {
+        return None;
+    }
+    Some(Bytes::of(eight_pairs(codes.lanes)))
+}
+
+/// Writes the pairs with the first `count` of these numbers to the front of `numbers`. Returns the sum of all of them, or `None` if a
+/// number is above 63.
+#[inline(always)]
+fn write_pairs(codes: &[u8; 80], count: usize, numbers: &mut [u8; 80]) -> Option<u64>
+    requires few { count ≤ 32 }
+    ensures pairs { IfSome result (λ t. pair_codes (take (2 * count) numbers.new) ≡ take count codes.now) }
+    ensures sum { IfSome result (λ t. sum (take (2 * count) numbers.new) ≡ t) }
+{
+    let mut all = 0;
+    for row in 0..(count + 7) / 8 {
+        let pairs = row_of_pairs(codes, 8 * row, (count - 8 * row).min(8))?;
+        store_row(numbers, row, pairs.lanes);
+        all += row_sum(pairs.lanes) as u64;
     }
     Some(all)
 }
 
-/// Writes the residuals of a block of `size` samples by second extension to the front of `residuals`. Their codewords begin after `skip`
-/// bits. Returns `None` if these are long, or if the residual of a reference sample is not 0, of which there is one or none.
-#[inline(always)]
-pub fn pairs_ahead<I: Intake, const SIZE: usize, const REFERENCE: bool>(
+/// Returns the residuals of a block of `size` samples by second extension. Their codewords begin after `skip` bits. Returns `None` if these
+/// are long, or if the residual of a reference sample is not 0, of which there is one or none.
+///
+/// A call, so that the code for these blocks stands once.
+#[inline(never)]
+pub fn pairs_ahead<I: Intake>(
     reader: &BitReader<I>,
     size: usize,
     skip: usize,
     references: usize,
-    residuals: &mut [u8; 80],
 ) -> Option<Pairs>
     requires size { (2 ≤ size) × (size ≤ 64) }
     requires even { size % 2 ≡ 0 }
     requires skip { skip ≤ length reader.now.buffered }
     requires references { references ≤ 1 }
-    ensures { IfSome result (λ p. PairsAhead reader.now.buffered skip references (take size residuals.new) p.len p.turns) }
+    ensures { IfSome result (λ p. PairsAhead reader.now.buffered skip references (take size p.numbers) p.len p.turns) }
 {
     let mut codes = [0; 80];
-    let len = high_parts_ahead::<I, SIZE, REFERENCE, true>(reader, size / 2, skip, 0, &mut codes)?;
-    let turns = write_pairs(&codes[..size / 2], residuals)?;
-    if references > 0 && residuals[0] != 0 {
+    let len = high_parts_ahead(reader, size / 2, skip, 0, &mut codes)?;
+    let mut numbers = [0; 80];
+    let turns = write_pairs(&codes, size / 2, &mut numbers)?;
+    if references > 0 && numbers[0] != 0 {
         return None;
     }
-    Some(Pairs { len, turns })
+    Some(Pairs {
+        numbers,
+        len,
+        turns,
+    })
 }

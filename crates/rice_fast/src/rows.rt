@@ -190,7 +190,7 @@ fn write_row<L: SampleLanes>(
 
 /// Returns the number of samples of the row that begins with sample `at` of a block. The compiler knows it where all rows are whole.
 #[inline(always)]
-fn row_len<L: SampleLanes, const SIZE: usize>(size: usize, at: usize) -> usize
+pub fn row_len<L: SampleLanes, const SIZE: usize>(size: usize, at: usize) -> usize
     requires known { 0 < SIZE → SIZE ≡ size }
     requires begins { at % L.COUNT ≡ 0 }
     requires within { at < size }

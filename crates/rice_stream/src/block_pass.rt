@@ -73,44 +73,32 @@ impl BlockPass for FastPass {
         bytes: &mut [u8; 320],
         outlet: &mut O,
     ) -> Result<u64, u64> {
+        macro_rules! blocks_of {
+            ($lanes:ty, $size:literal, $width:literal) => {
+                write_passed_blocks::<$lanes, I, O, $size, $width>(
+                    setting, most, decoder, reader, meter, bytes, outlet,
+                )
+            };
+        }
         let _bits = setting.bits();
         match (setting.width(), setting.block()) {
-            (1, 8) => write_passed_blocks::<Bytes, I, O, 8, 1>(
-                setting, most, decoder, reader, meter, bytes, outlet,
-            ),
-            (1, 16) => write_passed_blocks::<Bytes, I, O, 16, 1>(
-                setting, most, decoder, reader, meter, bytes, outlet,
-            ),
-            (1, 32) => write_passed_blocks::<Bytes, I, O, 32, 1>(
-                setting, most, decoder, reader, meter, bytes, outlet,
-            ),
-            (1, 64) => write_passed_blocks::<Bytes, I, O, 64, 1>(
-                setting, most, decoder, reader, meter, bytes, outlet,
-            ),
-            (1, _) => write_passed_blocks::<Bytes, I, O, 0, 1>(
-                setting, most, decoder, reader, meter, bytes, outlet,
-            ),
-            (2, 8) => write_passed_blocks::<Halves, I, O, 8, 2>(
-                setting, most, decoder, reader, meter, bytes, outlet,
-            ),
-            (2, 16) => write_passed_blocks::<Halves, I, O, 16, 2>(
-                setting, most, decoder, reader, meter, bytes, outlet,
-            ),
-            (2, 32) => write_passed_blocks::<Halves, I, O, 32, 2>(
-                setting, most, decoder, reader, meter, bytes, outlet,
-            ),
-            (2, 64) => write_passed_blocks::<Halves, I, O, 64, 2>(
-                setting, most, decoder, reader, meter, bytes, outlet,
-            ),
-            (2, _) => write_passed_blocks::<Halves, I, O, 0, 2>(
-                setting, most, decoder, reader, meter, bytes, outlet,
-            ),
-            (3, _) => write_passed_blocks::<Words, I, O, 0, 3>(
-                setting, most, decoder, reader, meter, bytes, outlet,
-            ),
-            _ => write_passed_blocks::<Words, I, O, 0, 4>(
-                setting, most, decoder, reader, meter, bytes, outlet,
-            ),
+            (1, 8) => blocks_of!(Bytes, 8, 1),
+            (1, 16) => blocks_of!(Bytes, 16, 1),
+            (1, 32) => blocks_of!(Bytes, 32, 1),
+            (1, 64) => blocks_of!(Bytes, 64, 1),
+            (1, _) => blocks_of!(Bytes, 0, 1),
+            (2, 8) => blocks_of!(Halves, 8, 2),
+            (2, 16) => blocks_of!(Halves, 16, 2),
+            (2, 32) => blocks_of!(Halves, 32, 2),
+            (2, 64) => blocks_of!(Halves, 64, 2),
+            (2, _) => blocks_of!(Halves, 0, 2),
+            (3, 8) => blocks_of!(Words, 8, 3),
+            (3, _) => blocks_of!(Words, 0, 3),
+            (_, 8) => blocks_of!(Words, 8, 4),
+            (_, 16) => blocks_of!(Words, 16, 4),
+            (_, 32) => blocks_of!(Words, 32, 4),
+            (_, 64) => blocks_of!(Words, 64, 4),
+            _ => blocks_of!(Words, 0, 4),
         }
     }
 }

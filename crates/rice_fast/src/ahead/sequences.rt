@@ -1,10 +1,10 @@
 //! Sixteen fundamental sequences at a time.
 ghost use Rattle.std.specs.Prelude.{◌*◌, ◌≤◌, IfSome, ◌≡◌, ◌-◌, ◌∷◌, length, take, flat_map};
-ghost use Rattle.std.specs.Simd.Lanes.{zip2};
 ghost use Rattle.rice_bits.specs.Bits.{word, fundamental_sequence};
 ghost use Rattle.rice_fast.specs.{ahead.ends_after, ahead.gaps, ahead.in_lanes, ahead.BeginWithSequences};
 
 use crate::ahead::ends::{count_ones_in_first_bytes, first_ends};
+use crate::vectors::{Bytes, Lanes};
 use std::simd::prelude::*;
 
 /// Successive fundamental sequences: the numbers of their zeros in the first lanes, and the number of all their bits. Later lanes are
@@ -33,38 +33,14 @@ pub fn first_sequences(front: u64, bytes: usize, count: usize) -> Option<Sequenc
     })
 }
 
-/// Returns by how much a number is above the other, or 0, in each lane.
-#[inline(always)]
-fn excess_over(a: u8x16, b: u8x16) -> u8x16
-    ensures { result ≡ zip2 (λ x y. x - y) a b }
-{
-    a.saturating_sub(b)
-}
-
-/// Returns 0, and then all numbers but the last.
-#[inline(always)]
-fn zero_and_all_but_last(numbers: u8x16) -> u8x16
-    requires { length numbers ≡ 16 }
-    ensures { result ≡ take 16 (0 ∷ numbers) }
-{
-    u8x16::splat(0).shuffle(
-        numbers,
-        [
-            15, 16, 17, 18, 19, 20, 21, 22, 23, 24, 25, 26, 27, 28, 29, 30,
-        ],
-    )
-}
-
 /// Returns the number of bits between each of these ends and the one before it, and before the first.
 #[inline(always)]
 pub fn gaps_of(ends: u8x16) -> u8x16
     requires { length ends ≡ 16 }
     ensures { result ≡ gaps (0 ∷ ends) }
 {
-    excess_over(
-        excess_over(ends, zero_and_all_but_last(ends)),
-        u8x16::splat(1),
-    )
+    let ends = Bytes::of(ends);
+    ends.above(ends.moved_by_one()).above(Bytes::splat(1)).lanes
 }
 
 /// Returns the number of bits of the first `count` fundamental sequences of a word, which end in its first bytes.

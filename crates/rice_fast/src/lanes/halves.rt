@@ -1,5 +1,7 @@
 //! Samples of 9 to 16 bits.
+ghost use Rattle.std.specs.Prelude.{◌≡◌, ◌+◌, ◌*◌, ◌^◌, ◌<◌, ◌≤◌, All, drop, flat_map, length, take};
 ghost use Rattle.std.proofs.Common.{rules};
+ghost use Rattle.rice_bits.specs.Bits.{word};
 ghost use Rattle.rice_samples.proofs.lemmas.setting.BitsOfLanes.{half_id, half_splits, half_row};
 
 use crate::ahead::wide_words_ahead;
@@ -17,6 +19,18 @@ const MOST_OF_ONE_LOAD: u32 = 9;
 static ONES: [u16; 16] = [
     65535, 65535, 65535, 65535, 65535, 65535, 65535, 65535, 0, 0, 0, 0, 0, 0, 0, 0,
 ];
+
+/// Returns the eight words of `width` bits after the first `skip` buffered bits. A call: few rows have words of so many bits, and those of
+/// few bits are found faster without this beside them.
+#[inline(never)]
+fn longer_words_ahead<I: Intake>(reader: &BitReader<I>, skip: usize, width: u32) -> Halves
+    requires width { (1 ≤ width) × (width ≤ 16) }
+    requires there { skip + 192 ≤ length reader.now.buffered }
+    ensures fit { All (λ v. v < 2 ^ width) result.lanes }
+    ensures bits { flat_map (word width) result.lanes ≡ take (8 * width) (drop skip reader.now.buffered) }
+{
+    Halves::of(wide_words_ahead(reader, skip, width).cast::<u16>())
+}
 
 impl SampleLanes for Halves {
     const BITS: u32 = 16;
@@ -49,7 +63,7 @@ impl SampleLanes for Halves {
             let (buffer, at) = reader.ahead(skip);
             return Halves::of(eight_words_from(buffer, at, width));
         }
-        Halves::of(wide_words_ahead(reader, skip, width).cast::<u16>())
+        longer_words_ahead(reader, skip, width)
     }
 
     #[inline(always)]

@@ -10,8 +10,8 @@ loop-i-preserved g c =
     let l = c.loop-i in
     let s = c.args.setting.now in
     let patterns = c.words_ahead-patterns in
-    let count = c.block_bytes-count.ensures in
-    let room : 16 * l.i + 16 ≤ length l.bytes = omega (arith, c.loop-i-test.true, count.value, c.requires.room, l.auto.bytes) in
+    let same : g.row.WIDTH * c.args.size ≡ g.row.WIDTH * s.block = ap (λ n. g.row.WIDTH * n) c.requires.size in
+    let room : 16 * l.i + 16 ≤ length l.bytes = omega (arith, c.loop-i-test.true, same, c.requires.room, l.auto.bytes) in
     let place : c.known_id_len-head.result + 128 * l.i ≡ id_len s + 128 * l.i = omega (arith, c.known_id_len-head.ensures.value) in
     record {
       words = words_more l.i l.invariant.words c.bytes_of_patterns-spelled.ensures.words patterns.ensures.len
@@ -20,6 +20,6 @@ loop-i-preserved g c =
 
 pub returns : goal.returns
 returns g c =
-    let count = c.block_bytes-count.ensures in
+    let same : g.row.WIDTH * c.args.size ≡ g.row.WIDTH * c.args.setting.now.block = ap (λ n. g.row.WIDTH * n) c.requires.size in
     block_words c.args.reader.now.buffered c.args.setting.now g.row.WIDTH (16 * c.loop-i.i) c.loop-i.bytes c.requires.copied
-    c.loop-i.invariant.words (omega (arith, c.loop-i-test.false, count.value))
+    c.loop-i.invariant.words (omega (arith, c.loop-i-test.false, same))

@@ -1,5 +1,5 @@
 -- What the fast coder stands for when it takes a sample, or the samples of a block.
-use Rattle.rice_fast.proofs.Words.{◌≡◌, ℕ, ◌+◌, ◌*◌, ◌<◌, ◌≤◌, ◌==◌, Bool, true, false, cond, ◌&&◌, List, [], ◌∷◌, ◌++◌, length, take, drop, refl, ap, arith, sym, ◌∙◌, subst, inl, inr, drop-append-le}
+use Rattle.rice_fast.proofs.Words.{◌≡◌, ℕ, ◌+◌, ◌*◌, ◌<◌, ◌≤◌, ◌==◌, Bool, true, false, cond, ◌&&◌, List, [], ◌∷◌, ◌++◌, length, take, refl, ap, arith, sym, ◌∙◌, subst, inl, inr, drop-append-le}
 use Rattle.rice_fast.proofs.Words.{take_more_set, length-set, length-append, Option, Some, ℤ, slice_set, AllByRecursion, nat_tests, length-take-le, take_at, recursion_from_All, mul-le-mul_left}
 use Rattle.rice_fast.proofs.Words.{IsLegal, IsSample, value_at, value_count, width, pattern, rank, last_of, pattern_fits, sample_at, CoderState, is_first, later_residuals, next_reference}
 use Rattle.rice_fast.proofs.Words.{next_residual, state_after, state_after_all, state_with_later, all_append, length-later, state_after_all-snoc, state_after_all-first, bool_cases, and-split}

@@ -1,7 +1,7 @@
 use Rattle.rice_fast.proofs.Words.{◌≡◌, ◌⊎◌, ◌*◌, ◌/◌, ◌∙◌, ap, arith, drop, get_or, length, sum, sym, take, inl, inr, flat_map, get_or-take, length-drop, length-take-le, fundamental_sequence}
 use Rattle.rice_fast.proofs.Words.{pair_codes}
 use Rattle.rice_fast.proofs.lemmas.Pairs.{sum_of_pairs, zero_at_reference}
-use Rattle.rice_fast.proofs.pairs.pairs_ahead.Goals.{else-references-gt0-via-then-references-gt0+else-residuals-ne0, else-references-gt0-via-else-references-gt0}
+use Rattle.rice_fast.proofs.pairs.pairs_ahead.Goals.{else-references-gt0-via-then-references-gt0+else-numbers-ne0, else-references-gt0-via-else-references-gt0}
 use Rattle.rice_fast.proofs.pairs.pairs_ahead.Goals as goal
 
 pub returns : goal.returns
@@ -12,18 +12,16 @@ returns g c =
     let n = c.in_ok-len.len in
     let numbers = c.write_pairs.new.numbers in
     let first = take size numbers in
-    let codes = take (size / 2) c.high_parts_ahead.new.highs in
     let high = c.in_ok-len.ensures.some in
-    let many : length codes ≡ size / 2 = length-take-le (size / 2) c.high_parts_ahead.new.highs (omega (arith, c.high_parts_ahead.array_long, c.requires.size)) in
-    let all : 2 * length codes ≡ size = omega (arith, many, c.requires.even) in
-    let pairs : pair_codes first ≡ codes = ap (λ m. pair_codes (take m numbers)) (sym all) ∙ c.in_ok-turns.ensures.pairs in
+    let all : 2 * (size / 2) ≡ size = omega (arith, c.requires.even) in
+    let pairs : pair_codes first ≡ take (size / 2) c.high_parts_ahead.new.highs = ap (λ m. pair_codes (take m numbers)) (sym all) ∙ c.in_ok-turns.ensures.pairs in
     let total : sum first ≡ c.in_ok-turns.turns = ap (λ m. sum (take m numbers)) (sym all) ∙ c.in_ok-turns.ensures.sum in
     let spelled : flat_map fundamental_sequence (pair_codes first) ≡ take n (drop skip w) = ap (flat_map fundamental_sequence) pairs ∙ high.spelled in
     let len : length first ≡ size = length-take-le size numbers (omega (arith, c.write_pairs.array_long, c.requires.size)) in
     let bits : length (take n (drop skip w)) ≡ n = length-take-le n (drop skip w) (let inside = high.within in let after = length-drop skip w in omega (arith, inside, after)) in
     let most = sum_of_pairs (size / 2) first (omega (arith, len, c.requires.even)) in
     let zero : (c.args.references ≡ 0) ⊎ (get_or first 0 0 ≡ 0) = elim c.else-references-gt0.branch [
-      | else-references-gt0-via-then-references-gt0+else-residuals-ne0 b ↦ inr (get_or-take size numbers 0 0 (omega (arith, c.requires.size)) ∙ b.if-residuals-ne0.false)
+      | else-references-gt0-via-then-references-gt0+else-numbers-ne0 b ↦ inr (get_or-take size numbers 0 0 (omega (arith, c.requires.size)) ∙ b.if-numbers-ne0.false)
       | else-references-gt0-via-else-references-gt0 b ↦ inl (omega (arith, b.if-references-gt0.false))
     ] in
     record {

@@ -1,8 +1,7 @@
 use Rattle.rice_fast.proofs.Words.{◌≡◌, arith}
-use Rattle.std.proofs.Common.{ℕ, ◌+◌, ◌-◌, ◌*◌, ◌/◌, ◌%◌, ◌<◌, ◌≤◌, ◌∙◌, subst, sym, ap}
+use Rattle.std.proofs.Common.{ℕ, ◌+◌, ◌-◌, ◌*◌, ◌/◌, ◌%◌, ◌<◌, ◌≤◌}
 use Rattle.std.proofs.lemmas.Nat.{div-add-mod'}
 use Rattle.std.proofs.Math.Nat.{lt_of_mul-lt-mul_right, mul-le-mul_right}
-use Rattle.rice_fast.proofs.rows.row_len.Goals as goal
 
 -- from a multiple to a greater one it is as far as to the next
 next_multiple : (c : ℕ) {n k : ℕ} → n % c ≡ 0 → k % c ≡ 0 → k < n → c ≤ n - k

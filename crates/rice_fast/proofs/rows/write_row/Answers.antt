@@ -1,4 +1,4 @@
-use Rattle.rice_fast.proofs.Words.{◌∙◌, arith, drop, sym, take, common_steps, HaveParts, SpellsParts}
+use Rattle.rice_fast.proofs.Words.{◌∙◌, arith, drop, take, common_steps, HaveParts, SpellsParts}
 use Rattle.rice_fast.proofs.lemmas.{Residuals.predicted_parts, Rows.if_some, Rows.row_spelled, Rows.whole_row}
 use Rattle.rice_fast.proofs.rows.write_row.Goals as goal
 

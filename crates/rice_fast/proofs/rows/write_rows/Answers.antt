@@ -1,5 +1,4 @@
 use Rattle.rice_fast.proofs.Words.{◌≡◌, ◌+◌, ◌-◌, ◌*◌, ◌≤◌, ◌∙◌, ap, arith, drop, subst, take, take-take, length-take-le, SpellsParts}
-use Rattle.std.proofs.Common.{refl}
 use Rattle.std.proofs.Math.Nat.{add-mod_right, zero-mod}
 use Rattle.rice_fast.proofs.lemmas.Rows.{first_place, next_place, no_rows, one_row_more, zeros_of_row}
 use Rattle.rice_fast.proofs.rows.write_rows.Goals as goal

@@ -1,4 +1,3 @@
-use Rattle.rice_fast.proofs.Words.{◌-◌}
 use Rattle.rice_fast.proofs.lemmas.encode.LowParts.{first_digits}
 use Rattle.rice_fast.proofs.encode.low_parts.last_digits.Goals as goal
 

@@ -1,4 +1,4 @@
-use Rattle.rice_fast.proofs.Words.{◌≡◌, ◌+◌, ◌-◌, ◌∙◌, ◌++◌, ◌∷◌, [], ap, arith, refl, replicate, rules, subst, sym, w64, FitsSigned, to_z-of_z, StandsAfter, replicate_more}
+use Rattle.rice_fast.proofs.Words.{◌≡◌, ◌-◌, ◌∙◌, ◌++◌, ◌∷◌, [], ap, arith, refl, replicate, rules, subst, sym, w64, FitsSigned, to_z-of_z, StandsAfter, replicate_more}
 use Rattle.rice_fast.proofs.lemmas.{encode.EndedSegments.fill_for, encode.EndedSegments.fill_for_none, encode.StandingCoders.after_none, encode.StandingCoders.step_for_one}
 use Rattle.rice_fast.proofs.encode.coder.BlockCoder.fill.Goals as goal
 
