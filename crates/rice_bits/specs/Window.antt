@@ -6,9 +6,13 @@ use Rattle.rice_bits.specs.{Limits.most_bytes_read, Limits.most_at_once, declare
 abbrev pub most_buffered : ℕ
 most_buffered = 8 * most_at_once
 
--- the bytes of a window's buffer: eight more than are asked for, so that eight can be loaded from each byte on
+-- how many bits can be looked at from each place of a window on, at least: more than those of a block
+abbrev pub most_ahead : ℕ
+most_ahead = 2624
+
+-- the bytes of a window's buffer: those that are asked for, those of as many bits, and eight, so that eight can be loaded from each of these
 abbrev pub buffer_len : ℕ
-buffer_len = most_at_once + 8
+buffer_len = most_at_once + most_ahead / 8 + 8
 
 -- the bits of the bytes from `at` to `end`
 unfoldable pub window_bits : Window → List Bool
@@ -48,3 +52,12 @@ pub record AreBitsFrom (bytes : List ℕ) (at : ℕ) (bits : List Bool) : Type 0
   pub begin : take (length bits) (drop at (bits_of bytes)) ≡ bits
   pub room : at + length bits + 64 ≤ 8 * length bytes
   pub small : at < 2 ^ 32
+
+-- the bits of the bytes from bit `at` on, but for the last 64
+unfoldable pub bits_ahead : List ℕ → ℕ → List Bool
+bits_ahead bytes at = take (8 * length bytes - 64 - at) (drop at (bits_of bytes))
+
+-- what holds of bits that are looked at
+pub record AreAhead (bytes : List ℕ) (at : ℕ) : Type 0 where
+  pub size : length bytes ≡ buffer_len
+  pub begins : at ≤ most_buffered

@@ -1,11 +1,15 @@
 -- The fields of a buffered block, looked at before they are taken: its head, the sequences of its high parts, the words of its low parts;
 -- and rows of its samples, restored and spelled one after another.
 use Rattle.std.specs.Prelude.{◌≡◌, ℕ, ◌+◌, ◌-◌, ◌*◌, ◌^◌, ◌<◌, ◌≤◌, Bool, List, All, drop, flat_map, length, replicate, sum, take, Option, IfSome, IfNone, slice_index_or}
-use Rattle.rice_bits.specs.Bits.{fundamental_sequence, word}
+use Rattle.rice_bits.specs.{Bits.fundamental_sequence, Bits.word, Window.most_ahead}
 use Rattle.rice_samples.specs.Parameters.{Parameters, value_at, value_count, values_at, width}
 use Rattle.rice_samples.specs.{Places.is_reference, Pairs.pair_codes, Residuals.pattern, Residuals.last_number, Spelling.spellings}
 use Rattle.rice_code.specs.{code.CodedDataSets.reference_bits, code.Forms.IsReference, ReadSets.reference_place}
 use Rattle.rice_fast.specs.{BlocksAhead.BlockAhead, BlocksAhead.HasBits, LevelsOfParts.HaveParts, declared.fields.Fields.Fields}
+
+-- so many bits can be looked at
+abbrev pub CanLook : ℕ → List Bool → Type 0
+CanLook count bits = (count ≤ most_ahead) × (most_ahead ≤ length bits)
 
 -- Block b, of `count` samples after one at this level, has a reference or none. Its samples fit lanes, and have more than `below` bits.
 pub record IsBlockInLanes (below most : ℕ) (s : Parameters) (count b level : ℕ) (has_reference : Bool) : Type 0 where
@@ -62,7 +66,7 @@ pub record AreFields (buffered : List Bool) (s : Parameters) (b before size bits
   pub narrow : f.k ≤ bits
   pub whole : f.k ≡ bits → highs ≡ replicate 80 0
   pub places : length highs ≡ 80
-  pub there : f.words ≤ length buffered
+  pub short : f.words ≤ 262
   pub block : (lows levels : List ℕ) → length lows ≡ size → LowsAhead buffered f.words f.omitted f.k lows → HaveParts s f.from f.k (take size highs) lows levels
       → f.words + (size - f.omitted) * f.k ≤ length buffered → BlockAhead buffered s b (value_at s before) levels (f.words + (size - f.omitted) * f.k) f.turns
 

@@ -12,65 +12,65 @@ pub mod words;
 use crate::ahead::sequences::{Sequences, first_sequences};
 use crate::ahead::wide_words::wide_words_from;
 use crate::ahead::words::sixteen_words_from;
-use rice_bits::{BitReader, Intake, at_least_57_bits_from, number_from};
+use rice_bits::{BitsAhead, at_least_57_bits_from, number_from};
 use std::simd::prelude::*;
 
 /// Returns the number of the `width` buffered bits after the first `skip`, most significant first. It takes none.
 #[inline(always)]
-pub fn number_ahead<I: Intake>(reader: &BitReader<I>, skip: usize, width: u32) -> u32
+pub fn number_ahead(ahead: &BitsAhead<'_>, skip: usize, width: u32) -> u32
     requires width { width ≤ 32 }
-    requires there { skip + width ≤ length reader.now.buffered }
+    requires there { skip + width ≤ length ahead.now }
     ensures below { result < 2 ^ width }
-    ensures bits { word width result ≡ take width (drop skip reader.now.buffered) }
+    ensures bits { word width result ≡ take width (drop skip ahead.now) }
 {
-    let (buffer, at) = reader.ahead(skip);
+    let (buffer, at) = ahead.from(skip);
     number_from(buffer, at, width) as u32
 }
 
 /// Returns the first `count` fundamental sequences after the first `skip` buffered bits, if it finds them in `bytes` bytes. It takes
 /// none.
 #[inline(always)]
-pub fn sequences_ahead<I: Intake>(
-    reader: &BitReader<I>,
+pub fn sequences_ahead(
+    ahead: &BitsAhead<'_>,
     skip: usize,
     bytes: usize,
     count: usize,
 ) -> Option<Sequences>
     requires bytes { (1 ≤ bytes) × (bytes ≤ 7) }
     requires count { (1 ≤ count) × (count ≤ 16) }
-    requires there { skip + 64 ≤ length reader.now.buffered }
+    requires there { skip + 64 ≤ length ahead.now }
     ensures { IfSome result (λ s.
-        BeginWithSequences (drop skip reader.now.buffered) count s.numbers s.len) }
+        BeginWithSequences (drop skip ahead.now) count s.numbers s.len) }
 {
-    let (buffer, at) = reader.ahead(skip);
+    let (buffer, at) = ahead.from(skip);
     let front = at_least_57_bits_from(buffer, at);
     first_sequences(front, bytes, count)
 }
 
 /// Returns the sixteen words of `width` bits after the first `skip` buffered bits. It takes none.
 #[inline(always)]
-pub fn words_ahead<I: Intake>(reader: &BitReader<I>, skip: usize, width: u32) -> u8x16
+pub fn words_ahead(ahead: &BitsAhead<'_>, skip: usize, width: u32) -> u8x16
     requires width { width ≤ 8 }
-    requires there { skip + 128 ≤ length reader.now.buffered }
+    requires there { skip + 128 ≤ length ahead.now }
     ensures len { length result ≡ 16 }
     ensures fit { All (λ v. v < 2 ^ width) result }
     ensures bits { flat_map (word width) result
-        ≡ take (16 * width) (drop skip reader.now.buffered) }
+        ≡ take (16 * width) (drop skip ahead.now) }
 {
-    let (buffer, at) = reader.ahead(skip);
+    let (buffer, at) = ahead.from(skip);
     sixteen_words_from(buffer, at, width)
 }
 
 /// Returns the eight words of `width` bits after the first `skip` buffered bits. It takes none.
 #[inline(always)]
-pub fn wide_words_ahead<I: Intake>(reader: &BitReader<I>, skip: usize, width: u32) -> u32x8
+pub fn wide_words_ahead(ahead: &BitsAhead<'_>, skip: usize, width: u32) -> u32x8
     requires width { (1 ≤ width) × (width ≤ 24) }
-    requires there { skip + 8 * width + 64 ≤ length reader.now.buffered }
+    requires there { skip + 8 * width + 64 ≤ length ahead.now }
     ensures len { length result ≡ 8 }
     ensures fit { All (λ v. v < 2 ^ width) result }
     ensures bits { flat_map (word width) result
-        ≡ take (8 * width) (drop skip reader.now.buffered) }
+        ≡ take (8 * width) (drop skip ahead.now) }
 {
-    let (buffer, at) = reader.ahead(skip);
+    let (buffer, at) = ahead.from(skip);
     wide_words_from(buffer, at, width)
 }

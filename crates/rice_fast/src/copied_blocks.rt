@@ -1,17 +1,14 @@
 //! Blocks without compression whose samples are not predicted, and use all bits of 1, 2 or 4 bytes: these bytes stand in the code.
 ghost use Rattle.std.specs.Prelude.{◌≡◌, ℕ, ℤ, ◌+◌, ◌-◌, ◌*◌, ◌^◌, ◌<◌, ◌≤◌, IfSome, true, length, take, drop};
-ghost use Rattle.rice_bits.specs.Bits.{word};
+ghost use Rattle.rice_bits.specs.{Bits.word, Window.most_ahead};
 ghost use Rattle.rice_samples.specs.{Parameters.id_len, Parameters.value_at, Parameters.value_count, Residuals.pattern};
 ghost use Rattle.rice_fast.specs.BlocksAhead.{IsCopied, SpelledAhead, WordsAhead, copied_bits};
 
 use crate::ahead::{number_ahead, words_ahead};
 use crate::one_pass::WrittenBlock;
 use crate::vectors::bytes_of_patterns;
-use rice_bits::{BitReader, Intake};
+use rice_bits::BitsAhead;
 use rice_samples::{Setting, level_of_pattern};
-
-/// The bits after a block that are looked at with it, at most.
-const AFTER: u64 = 128;
 
 /// Returns the number of bits of an identifier, which the compiler knows.
 #[inline(always)]
@@ -45,46 +42,38 @@ fn is_copied<const WIDTH: usize>(setting: &Setting) -> bool
         && setting.bits() as usize == 8 * WIDTH
 }
 
-/// Returns whether the next block, of `size` samples, is not compressed, and so many bits are buffered that all of it may be looked at.
+/// Returns whether the next block is not compressed.
 #[inline(always)]
-fn is_copied_ahead<I: Intake, const WIDTH: usize>(
-    setting: &Setting,
-    size: usize,
-    reader: &BitReader<I>,
-) -> bool
+fn is_copied_ahead<const WIDTH: usize>(setting: &Setting, ahead: &BitsAhead<'_>) -> bool
     requires copied { IsCopied setting.now WIDTH }
-    requires size { size ≡ setting.now.block }
-    ensures there { result ≡ true → copied_bits setting.now WIDTH + 128 ≤ length reader.now.buffered }
-    ensures id { result ≡ true → word (id_len setting.now) (2 ^ id_len setting.now - 1)
-        ≡ take (id_len setting.now) reader.now.buffered }
+    requires there { most_ahead ≤ length ahead.now }
+    ensures { result ≡ true → word (id_len setting.now) (2 ^ id_len setting.now - 1)
+        ≡ take (id_len setting.now) ahead.now }
 {
-    if reader.buffered() < copied_len::<WIDTH>(setting, size) as u64 + AFTER {
-        return false;
-    }
     let id_len = known_id_len::<WIDTH>(setting) as u32;
-    number_ahead(reader, 0, id_len) == (1 << id_len) - 1
+    number_ahead(ahead, 0, id_len) == (1 << id_len) - 1
 }
 
 /// Writes the bytes of the samples of the next block, of `size` samples, which is not compressed. It takes nothing, and may write up to
 /// 15 bytes more after these.
 #[inline(always)]
-fn write_copied_ahead<I: Intake, const WIDTH: usize>(
+fn write_copied_ahead<const WIDTH: usize>(
     setting: &Setting,
     size: usize,
-    reader: &BitReader<I>,
+    ahead: &BitsAhead<'_>,
     bytes: &mut [u8],
 )
     requires copied { IsCopied setting.now WIDTH }
     requires size { size ≡ setting.now.block }
-    requires there { copied_bits setting.now WIDTH + 128 ≤ length reader.now.buffered }
+    requires there { most_ahead ≤ length ahead.now }
     requires room { WIDTH * setting.now.block + 15 ≤ length bytes.old }
-    ensures { WordsAhead reader.now.buffered setting.now WIDTH (WIDTH * setting.now.block) bytes.new }
+    ensures { WordsAhead ahead.now setting.now WIDTH (WIDTH * setting.now.block) bytes.new }
 {
     let _block = setting.block();
     let count = WIDTH * size;
     let head = known_id_len::<WIDTH>(setting);
     for i in 0..(count + 15) / 16 {
-        let patterns = words_ahead(reader, head + 128 * i, 8);
+        let patterns = words_ahead(ahead, head + 128 * i, 8);
         let spelled = bytes_of_patterns::<WIDTH>(setting, patterns);
         spelled.copy_to_slice(&mut bytes[16 * i..]);
     }
@@ -92,48 +81,45 @@ fn write_copied_ahead<I: Intake, const WIDTH: usize>(
 
 /// Returns the level of the last sample of the next block, of `size` samples, which is not compressed.
 #[inline(always)]
-fn last_copied<I: Intake, const WIDTH: usize>(
-    setting: &Setting,
-    size: usize,
-    reader: &BitReader<I>,
-) -> u32
+fn last_copied<const WIDTH: usize>(setting: &Setting, size: usize, ahead: &BitsAhead<'_>) -> u32
     requires copied { IsCopied setting.now WIDTH }
     requires size { size ≡ setting.now.block }
-    requires there { copied_bits setting.now WIDTH ≤ length reader.now.buffered }
+    requires there { most_ahead ≤ length ahead.now }
     ensures below { result < value_count setting.now }
     ensures last { word (8 * WIDTH) (pattern setting.now (value_at setting.now result))
         ≡ take (8 * WIDTH)
         (drop (id_len setting.now + 8 * (WIDTH * setting.now.block - WIDTH))
-        reader.now.buffered) }
+        ahead.now) }
 {
     let _block = setting.block();
     let before = known_id_len::<WIDTH>(setting) + 8 * (WIDTH * (size - 1));
-    level_of_pattern(setting, number_ahead(reader, before, 8 * WIDTH as u32))
+    level_of_pattern(setting, number_ahead(ahead, before, 8 * WIDTH as u32))
 }
 
 /// Writes the bytes of the buffered block of `size` samples, if its samples are not predicted, use all bits of `WIDTH` bytes, and are not
 /// compressed. It takes no bits.
 #[inline(always)]
-pub fn write_copied_block<I: Intake, const WIDTH: usize>(
+pub fn write_copied_block<const WIDTH: usize>(
     setting: &Setting,
     size: usize,
-    reader: &BitReader<I>,
+    ahead: &BitsAhead<'_>,
     bytes: &mut [u8; 320],
 ) -> Option<WrittenBlock>
     requires size { size ≡ setting.now.block }
+    requires there { most_ahead ≤ length ahead.now }
     ensures { IfSome result (λ r. (b : ℕ) (p : ℤ) →
-        SpelledAhead reader.now.buffered setting.now b p r.last r.len r.turns bytes.new) }
+        SpelledAhead ahead.now setting.now b p r.last r.len r.turns bytes.new) }
 {
     let _block = setting.block();
     if !is_copied::<WIDTH>(setting) {
         return None;
     }
-    if !is_copied_ahead::<I, WIDTH>(setting, size, reader) {
+    if !is_copied_ahead::<WIDTH>(setting, ahead) {
         return None;
     }
-    write_copied_ahead::<I, WIDTH>(setting, size, reader, bytes);
+    write_copied_ahead::<WIDTH>(setting, size, ahead, bytes);
     Some(WrittenBlock {
-        last: last_copied::<I, WIDTH>(setting, size, reader),
+        last: last_copied::<WIDTH>(setting, size, ahead),
         len: copied_len::<WIDTH>(setting, size),
         turns: 0,
     })

@@ -1,6 +1,6 @@
 //! The fields of a buffered block, looked at before they are taken.
 ghost use Rattle.std.specs.Prelude.{◌≡◌, ◌+◌, ◌-◌, ◌^◌, ◌<◌, ◌≤◌, IfSome, length, take};
-ghost use Rattle.rice_bits.specs.Bits.{word};
+ghost use Rattle.rice_bits.specs.{Bits.word, Window.most_ahead};
 ghost use Rattle.rice_samples.specs.{Parameters.id_len, Parameters.value_count, Places.is_reference};
 ghost use Rattle.rice_fast.specs.{FieldsAhead.AreFields, FieldsAhead.HeadAhead, FieldsAhead.IsBlockInLanes};
 
@@ -8,11 +8,8 @@ use crate::ahead::number_ahead;
 use crate::high_parts::high_parts_ahead;
 use crate::lanes::SampleLanes;
 use crate::pairs::pairs_ahead;
-use rice_bits::{BitReader, Intake};
+use rice_bits::BitsAhead;
 use rice_samples::{Setting, level_of_pattern};
-
-/// The bits of identifier, reference sample and one bit between them, and those that are looked at after these, at most.
-const LOOK: u64 = 38 + 64;
 
 /// The fields of a block: what its samples are restored from, but for the parts of its residuals.
 #[derive(Clone, Copy)]
@@ -42,22 +39,22 @@ pub fn has_reference(setting: &Setting, block: u32) -> bool
 /// Returns what stands after the first `skip` bits of a buffered block, after a sample at level `before`: a reference sample, if it is a
 /// block with a `REFERENCE`, or nothing. Low parts and turns are not known yet.
 #[inline(always)]
-fn head_ahead<I: Intake, const REFERENCE: bool>(
+fn head_ahead<const REFERENCE: bool>(
     setting: &Setting,
     block: u32,
     before: u32,
     skip: usize,
-    reader: &BitReader<I>,
+    ahead: &BitsAhead<'_>,
 ) -> Fields
     requires reference { REFERENCE ≡ is_reference setting.now block }
     requires before { before < value_count setting.now }
     requires skip { skip ≤ 6 }
-    requires there { 38 ≤ length reader.now.buffered }
-    ensures { HeadAhead reader.now.buffered setting.now block before skip result.from result.omitted result.words }
+    requires there { most_ahead ≤ length ahead.now }
+    ensures { HeadAhead ahead.now setting.now block before skip result.from result.omitted result.words }
 {
     if REFERENCE {
         let bits = setting.bits();
-        let from = level_of_pattern(setting, number_ahead(reader, skip, bits));
+        let from = level_of_pattern(setting, number_ahead(ahead, skip, bits));
         return Fields {
             from,
             omitted: 1,
@@ -80,54 +77,51 @@ fn head_ahead<I: Intake, const REFERENCE: bool>(
 ///
 /// It is laid out for blocks with a `REFERENCE`, or without one.
 #[inline(always)]
-pub fn fields_ahead<L: SampleLanes, I: Intake, const REFERENCE: bool>(
+pub fn fields_ahead<L: SampleLanes, const REFERENCE: bool>(
     setting: &Setting,
     size: usize,
     block: u32,
     before: u32,
-    reader: &BitReader<I>,
+    ahead: &BitsAhead<'_>,
     highs: &mut [u8; 80],
 ) -> Option<Fields>
     requires block { IsBlockInLanes L.below L.bits setting.now size block before REFERENCE }
-    ensures { IfSome result (λ f. AreFields reader.now.buffered setting.now block before size L.bits highs.new f) }
+    requires there { most_ahead ≤ length ahead.now }
+    ensures { IfSome result (λ f. AreFields ahead.now setting.now block before size L.bits highs.new f) }
 {
-    if reader.buffered() < LOOK {
-        return None;
-    }
-    let id = number_ahead(reader, 0, L::ID_LEN);
+    let id = number_ahead(ahead, 0, L::ID_LEN);
     if id == 0 {
-        return pair_fields_ahead::<L, I, REFERENCE>(setting, size, block, before, reader, highs);
+        return pair_fields_ahead::<L, REFERENCE>(setting, size, block, before, ahead, highs);
     }
     if id == (1 << L::ID_LEN) - 1 {
-        return Some(uncompressed_fields_ahead::<L, I, REFERENCE>(
-            setting, size, block, before, reader, highs,
+        return Some(uncompressed_fields_ahead::<L, REFERENCE>(
+            setting, size, block, before, ahead, highs,
         ));
     }
-    split_fields_ahead::<L, I, REFERENCE>(setting, size, block, before, id - 1, reader, highs)
+    split_fields_ahead::<L, REFERENCE>(setting, size, block, before, id - 1, ahead, highs)
 }
 
 /// As `fields_ahead`, of a block by split `k`.
 #[inline(always)]
-fn split_fields_ahead<L: SampleLanes, I: Intake, const REFERENCE: bool>(
+fn split_fields_ahead<L: SampleLanes, const REFERENCE: bool>(
     setting: &Setting,
     size: usize,
     block: u32,
     before: u32,
     k: u32,
-    reader: &BitReader<I>,
+    ahead: &BitsAhead<'_>,
     highs: &mut [u8; 80],
 ) -> Option<Fields>
     requires block { IsBlockInLanes L.below L.bits setting.now size block before REFERENCE }
-    requires there { 102 ≤ length reader.now.buffered }
+    requires there { most_ahead ≤ length ahead.now }
     requires split { k + 2 < 2 ^ L.ID_LEN }
-    requires id { word (id_len setting.now) (k + 1) ≡ take (id_len setting.now) reader.now.buffered }
-    ensures { IfSome result (λ f. AreFields reader.now.buffered setting.now block before size L.bits highs.new f) }
+    requires id { word (id_len setting.now) (k + 1) ≡ take (id_len setting.now) ahead.now }
+    ensures { IfSome result (λ f. AreFields ahead.now setting.now block before size L.bits highs.new f) }
 {
-    let _taken = reader.taken();
     let _block = setting.block();
     let id_len = setting.id_len();
-    let head = head_ahead::<I, REFERENCE>(setting, block, before, L::ID_LEN as usize, reader);
-    let len = high_parts_ahead(reader, size, head.words, head.omitted, highs)?;
+    let head = head_ahead::<REFERENCE>(setting, block, before, L::ID_LEN as usize, ahead);
+    let len = high_parts_ahead(ahead, size, head.words, head.omitted, highs)?;
     Some(Fields {
         k,
         words: head.words + len,
@@ -138,21 +132,21 @@ fn split_fields_ahead<L: SampleLanes, I: Intake, const REFERENCE: bool>(
 
 /// As `fields_ahead`, of a block without compression.
 #[inline(always)]
-fn uncompressed_fields_ahead<L: SampleLanes, I: Intake, const REFERENCE: bool>(
+fn uncompressed_fields_ahead<L: SampleLanes, const REFERENCE: bool>(
     setting: &Setting,
     size: usize,
     block: u32,
     before: u32,
-    reader: &BitReader<I>,
+    ahead: &BitsAhead<'_>,
     highs: &mut [u8; 80],
 ) -> Fields
     requires block { IsBlockInLanes L.below L.bits setting.now size block before REFERENCE }
-    requires there { 102 ≤ length reader.now.buffered }
-    requires id { word (id_len setting.now) (2 ^ id_len setting.now - 1) ≡ take (id_len setting.now) reader.now.buffered }
-    ensures { AreFields reader.now.buffered setting.now block before size L.bits highs.new result }
+    requires there { most_ahead ≤ length ahead.now }
+    requires id { word (id_len setting.now) (2 ^ id_len setting.now - 1) ≡ take (id_len setting.now) ahead.now }
+    ensures { AreFields ahead.now setting.now block before size L.bits highs.new result }
 {
     let _block = setting.block();
-    let head = head_ahead::<I, REFERENCE>(setting, block, before, L::ID_LEN as usize, reader);
+    let head = head_ahead::<REFERENCE>(setting, block, before, L::ID_LEN as usize, ahead);
     *highs = [0; 80];
     Fields {
         k: setting.bits(),
@@ -163,27 +157,26 @@ fn uncompressed_fields_ahead<L: SampleLanes, I: Intake, const REFERENCE: bool>(
 
 /// As `fields_ahead`, of a block by second extension.
 #[inline(always)]
-fn pair_fields_ahead<L: SampleLanes, I: Intake, const REFERENCE: bool>(
+fn pair_fields_ahead<L: SampleLanes, const REFERENCE: bool>(
     setting: &Setting,
     size: usize,
     block: u32,
     before: u32,
-    reader: &BitReader<I>,
+    ahead: &BitsAhead<'_>,
     highs: &mut [u8; 80],
 ) -> Option<Fields>
     requires block { IsBlockInLanes L.below L.bits setting.now size block before REFERENCE }
-    requires there { 102 ≤ length reader.now.buffered }
-    requires id { word (id_len setting.now) 0 ≡ take (id_len setting.now) reader.now.buffered }
-    ensures { IfSome result (λ f. AreFields reader.now.buffered setting.now block before size L.bits highs.new f) }
+    requires there { most_ahead ≤ length ahead.now }
+    requires id { word (id_len setting.now) 0 ≡ take (id_len setting.now) ahead.now }
+    ensures { IfSome result (λ f. AreFields ahead.now setting.now block before size L.bits highs.new f) }
 {
-    let _taken = reader.taken();
     let _block = setting.block();
-    let bit = number_ahead(reader, L::ID_LEN as usize, 1);
+    let bit = number_ahead(ahead, L::ID_LEN as usize, 1);
     if bit == 0 {
         return None;
     }
-    let head = head_ahead::<I, REFERENCE>(setting, block, before, L::ID_LEN as usize + 1, reader);
-    let pairs = pairs_ahead(reader, size, head.words, head.omitted)?;
+    let head = head_ahead::<REFERENCE>(setting, block, before, L::ID_LEN as usize + 1, ahead);
+    let pairs = pairs_ahead(ahead, size, head.words, head.omitted)?;
     let numbers = pairs.numbers;
     *highs = numbers;
     Some(Fields {

@@ -1,12 +1,12 @@
 //! The high parts of the residuals of a buffered block, in rows of sixteen. The last row may have fewer.
 ghost use Rattle.std.specs.Prelude.{◌≡◌, ◌+◌, ◌-◌, ◌*◌, ◌<◌, ◌≤◌, ◌++◌, IfSome, length, take};
-ghost use Rattle.rice_fast.specs.FieldsAhead.{HighsAhead, rows_len};
+ghost use Rattle.rice_fast.specs.FieldsAhead.{CanLook, HighsAhead, rows_len};
 
 use crate::ahead::sequences::Sequences;
 use crate::ahead::sequences_ahead;
 use crate::rows::{placed, row_len};
 use crate::vectors::Bytes;
-use rice_bits::{BitReader, Intake};
+use rice_bits::BitsAhead;
 use std::simd::prelude::*;
 
 /// Returns the number of bytes in which the fundamental sequences of a row have to end. High parts are 1 to 2 in the mean, and of four
@@ -39,26 +39,23 @@ pub fn store_row(rows: &mut [u8], row: usize, numbers: u8x16)
 /// Returns the high parts of a row of `count` residuals whose fundamental sequences follow the first `skip` bits, if they end within
 /// `bytes` bytes, and zeros after them. Those that are omitted, one or none, are zeros.
 #[inline(always)]
-fn high_parts_of_row_ahead<I: Intake>(
-    reader: &BitReader<I>,
+fn high_parts_of_row_ahead(
+    ahead: &BitsAhead<'_>,
     skip: usize,
     omitted: usize,
     count: usize,
     bytes: usize,
 ) -> Option<Sequences>
-    requires skip { skip ≤ length reader.now.buffered }
+    requires skip { skip + 64 ≤ length ahead.now }
     requires omitted { omitted ≤ 1 }
     requires count { (omitted < count) × (count ≤ 16) }
     requires bytes { (1 ≤ bytes) × (bytes ≤ 7) }
     ensures some { IfSome result (λ s.
-        HighsAhead reader.now.buffered skip omitted (take count s.numbers) s.len) }
+        HighsAhead ahead.now skip omitted (take count s.numbers) s.len) }
     ensures lanes { IfSome result (λ s. length s.numbers ≡ 16) }
+    ensures short { IfSome result (λ s. s.len ≤ 56) }
 {
-    let _taken = reader.taken();
-    if reader.buffered() < skip as u64 + 64 {
-        return None;
-    }
-    let sequences = sequences_ahead(reader, skip, bytes, count - omitted)?;
+    let sequences = sequences_ahead(ahead, skip, bytes, count - omitted)?;
     let row = placed(Bytes::of(sequences.numbers), omitted, count);
     Some(Sequences {
         numbers: row.lanes,
@@ -70,33 +67,27 @@ fn high_parts_of_row_ahead<I: Intake>(
 /// fundamental sequences begin after `skip` bits. Returns `None` if a row of them is longer than one look. Parts that are omitted, none or
 /// one, are zeros.
 #[inline(always)]
-pub fn high_parts_ahead<I: Intake>(
-    reader: &BitReader<I>,
+pub fn high_parts_ahead(
+    ahead: &BitsAhead<'_>,
     size: usize,
     skip: usize,
     omitted: usize,
     highs: &mut [u8; 80],
 ) -> Option<usize>
     requires size { (omitted < size) × (size ≤ 64) }
-    requires skip { skip ≤ length reader.now.buffered }
+    requires skip { CanLook (skip + 232) ahead.now }
     requires omitted { omitted ≤ 1 }
-    ensures some { IfSome result (λ n. HighsAhead reader.now.buffered skip omitted
+    ensures some { IfSome result (λ n. HighsAhead ahead.now skip omitted
         (take size highs.new) n) }
+    ensures short { IfSome result (λ n. n ≤ 224) }
 {
-    let _taken = reader.taken();
     let bytes = row_bytes(size);
-    let first = high_parts_of_row_ahead(
-        reader,
-        skip,
-        omitted,
-        row_len::<Bytes, 0>(size, 0),
-        bytes,
-    )?;
+    let first = high_parts_of_row_ahead(ahead, skip, omitted, row_len::<Bytes, 0>(size, 0), bytes)?;
     store_row(highs, 0, first.numbers);
     let mut len = first.len;
     for row in 1..(size + 15) / 16 {
         let count = row_len::<Bytes, 0>(size, 16 * row);
-        let next = high_parts_of_row_ahead(reader, skip + len, 0, count, bytes)?;
+        let next = high_parts_of_row_ahead(ahead, skip + len, 0, count, bytes)?;
         store_row(highs, row, next.numbers);
         len += next.len;
     }

@@ -3,14 +3,14 @@ ghost use Rattle.std.specs.Prelude.{◌≡◌, ℕ, ◌+◌, ◌-◌, ◌*◌, �
 ghost use Rattle.rice_bits.specs.Bits.{word};
 ghost use Rattle.rice_samples.specs.Parameters.{Parameters, id_len, k_max, value_count, values_at, width as width_of};
 ghost use Rattle.rice_samples.specs.{Spelling.spellings, Residuals.ranks_below};
-ghost use Rattle.rice_fast.specs.BlocksAhead.{HasBits};
+ghost use Rattle.rice_fast.specs.{BlocksAhead.HasBits, FieldsAhead.CanLook};
 
 mod bytes;
 mod halves;
 mod words;
 
 use crate::vectors::Lanes;
-use rice_bits::{BitReader, Intake};
+use rice_bits::BitsAhead;
 use rice_samples::Setting;
 
 /// The lanes in which samples of some numbers of bits are decoded.
@@ -25,21 +25,16 @@ pub trait SampleLanes: Lanes {
 
     ghost ID_LEN: { ℕ };
 
-    /// The number of bits that are looked at for a row of words, at most.
-    const LOOK: u64;
-
-    ghost LOOK: { ℕ };
-
     // Samples have more bits than these.
     ghost below: { ℕ };
 
     /// Returns the words of `width` bits after the first `skip` buffered bits, one in each lane.
-    fn words_ahead<I: Intake>(reader: &BitReader<I>, skip: usize, width: u32) -> Self
+    fn words_ahead(ahead: &BitsAhead<'_>, skip: usize, width: u32) -> Self
         requires width { width ≤ Self.bits }
-        requires there { skip + LOOK ≤ length reader.now.buffered }
+        requires there { CanLook (skip + 256) ahead.now }
         ensures fit { All (λ v. v < 2 ^ width) (Self.numbers result) }
         ensures bits { flat_map (word width) (Self.numbers result)
-            ≡ take (Self.COUNT * width) (drop skip reader.now.buffered) };
+            ≡ take (Self.COUNT * width) (drop skip ahead.now) };
 
     /// Returns the first of these bytes, one in each lane.
     fn of_bytes(from: &[u8]) -> Self
@@ -74,8 +69,6 @@ pub trait SampleLanes: Lanes {
         ensures len { length bytes.new ≡ length bytes.old };
 
     ghost bits_are: { BITS ≡ Self.bits };
-
-    ghost look: { LOOK ≤ 256 };
 
     ghost id_is: { (s : Parameters) → HasBits below Self.bits s → id_len s ≡ ID_LEN };
 

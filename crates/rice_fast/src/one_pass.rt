@@ -1,6 +1,6 @@
 //! The pass: a buffered block, from its bits to the bytes of its samples.
-ghost use Rattle.std.specs.Prelude.{◌≡◌, ◌+◌, ◌-◌, ◌*◌, ◌<◌, IfSome, None, false, true};
-ghost use Rattle.rice_bits.specs.Limits.{step_limit, most_bits_read};
+ghost use Rattle.std.specs.Prelude.{◌≡◌, ◌+◌, ◌-◌, ◌*◌, ◌<◌, ◌≤◌, IfSome, length, None, false, true};
+ghost use Rattle.rice_bits.specs.{Limits.step_limit, Limits.most_bits_read, Window.most_ahead};
 ghost use Rattle.rice_samples.specs.Parameters.{value_at, value_count, width as width_of};
 ghost use Rattle.rice_code.specs.ReadSets.{AreCounted};
 ghost use Rattle.rice_fast.specs.{BlocksAhead.GivesBytes, BlocksAhead.HasBits, BlocksAhead.SpelledAhead, FieldsAhead.IsBlockInLanes};
@@ -9,7 +9,7 @@ use crate::copied_blocks::write_copied_block;
 use crate::fields::{fields_ahead, has_reference};
 use crate::lanes::SampleLanes;
 use crate::rows::write_rows;
-use rice_bits::{BitReader, Intake, Meter};
+use rice_bits::{BitReader, BitsAhead, Intake, Meter};
 use rice_code::{Decoder, known_or};
 use rice_samples::Setting;
 
@@ -25,35 +25,26 @@ pub struct WrittenBlock {
 /// Writes the bytes of the buffered block of `size` samples, after a sample at level `before`, if it can. It takes no bits.
 /// It is laid out for blocks of `SIZE` samples with a `REFERENCE`, or without one.
 #[inline(always)]
-fn write_fields_ahead<
-    L: SampleLanes,
-    I: Intake,
-    const SIZE: usize,
-    const WIDTH: usize,
-    const REFERENCE: bool,
->(
+fn write_fields_ahead<L: SampleLanes, const SIZE: usize, const WIDTH: usize, const REFERENCE: bool>(
     setting: &Setting,
     size: usize,
     block: u32,
     before: u32,
-    reader: &BitReader<I>,
+    ahead: &BitsAhead<'_>,
     bytes: &mut [u8; 320],
 ) -> Option<WrittenBlock>
     requires known { 0 < SIZE → SIZE ≡ size }
     requires width { WIDTH ≡ width_of setting.now }
     requires block { IsBlockInLanes L.below L.bits setting.now size block before REFERENCE }
-    ensures { IfSome result (λ r. SpelledAhead reader.now.buffered setting.now block
+    requires there { most_ahead ≤ length ahead.now }
+    ensures { IfSome result (λ r. SpelledAhead ahead.now setting.now block
         (value_at setting.now before) r.last r.len r.turns bytes.new) }
 {
-    let _taken = reader.taken();
     let _block = setting.block();
     let mut highs = [0; 80];
-    let fields = fields_ahead::<L, I, REFERENCE>(setting, size, block, before, reader, &mut highs)?;
-    if reader.buffered() < (fields.words + size * fields.k as usize) as u64 + L::LOOK {
-        return None;
-    }
-    let last = write_rows::<L, I, SIZE, WIDTH, REFERENCE>(
-        setting, size, &fields, &highs, reader, bytes,
+    let fields = fields_ahead::<L, REFERENCE>(setting, size, block, before, ahead, &mut highs)?;
+    let last = write_rows::<L, SIZE, WIDTH, REFERENCE>(
+        setting, size, &fields, &highs, ahead, bytes,
     )?;
     Some(WrittenBlock {
         last,
@@ -64,30 +55,31 @@ fn write_fields_ahead<
 
 /// Does what `write_fields_ahead` does for a block with a reference sample, in a call of its own: there are few.
 #[inline(never)]
-fn write_reference_block_ahead<L: SampleLanes, I: Intake, const WIDTH: usize>(
+fn write_reference_block_ahead<L: SampleLanes, const WIDTH: usize>(
     setting: &Setting,
     size: usize,
     block: u32,
     before: u32,
-    reader: &BitReader<I>,
+    ahead: &BitsAhead<'_>,
     bytes: &mut [u8; 320],
 ) -> Option<WrittenBlock>
     requires width { WIDTH ≡ width_of setting.now }
     requires block { IsBlockInLanes L.below L.bits setting.now size block before true }
-    ensures { IfSome result (λ r. SpelledAhead reader.now.buffered setting.now block
+    requires there { most_ahead ≤ length ahead.now }
+    ensures { IfSome result (λ r. SpelledAhead ahead.now setting.now block
         (value_at setting.now before) r.last r.len r.turns bytes.new) }
 {
-    write_fields_ahead::<L, I, 0, WIDTH, true>(setting, size, block, before, reader, bytes)
+    write_fields_ahead::<L, 0, WIDTH, true>(setting, size, block, before, ahead, bytes)
 }
 
 /// Writes the bytes of the buffered block of `size` samples, after a sample at level `before`, if it can. It takes no bits.
 #[inline(always)]
-fn write_block_ahead<L: SampleLanes, I: Intake, const SIZE: usize, const WIDTH: usize>(
+fn write_block_ahead<L: SampleLanes, const SIZE: usize, const WIDTH: usize>(
     setting: &Setting,
     size: usize,
     block: u32,
     before: u32,
-    reader: &BitReader<I>,
+    ahead: &BitsAhead<'_>,
     bytes: &mut [u8; 320],
 ) -> Option<WrittenBlock>
     requires bits { HasBits L.below L.bits setting.now }
@@ -96,25 +88,26 @@ fn write_block_ahead<L: SampleLanes, I: Intake, const SIZE: usize, const WIDTH: 
     requires size { size ≡ setting.now.block }
     requires place { block < setting.now.interval }
     requires before { before < value_count setting.now }
-    ensures { IfSome result (λ r. SpelledAhead reader.now.buffered setting.now block
+    requires there { most_ahead ≤ length ahead.now }
+    ensures { IfSome result (λ r. SpelledAhead ahead.now setting.now block
         (value_at setting.now before) r.last r.len r.turns bytes.new) }
 {
     if !setting.preprocess() {
-        if let Some(copied) = write_copied_block::<I, WIDTH>(setting, size, reader, bytes) {
+        if let Some(copied) = write_copied_block::<WIDTH>(setting, size, ahead, bytes) {
             return Some(copied);
         }
     }
     if has_reference(setting, block) {
         if SIZE != 8 && SIZE != 16 {
-            return write_reference_block_ahead::<L, I, WIDTH>(
-                setting, size, block, before, reader, bytes,
+            return write_reference_block_ahead::<L, WIDTH>(
+                setting, size, block, before, ahead, bytes,
             );
         }
-        return write_fields_ahead::<L, I, SIZE, WIDTH, true>(
-            setting, size, block, before, reader, bytes,
+        return write_fields_ahead::<L, SIZE, WIDTH, true>(
+            setting, size, block, before, ahead, bytes,
         );
     }
-    write_fields_ahead::<L, I, SIZE, WIDTH, false>(setting, size, block, before, reader, bytes)
+    write_fields_ahead::<L, SIZE, WIDTH, false>(setting, size, block, before, ahead, bytes)
 }
 
 /// Reads the next block by a pass, if its coded data set is buffered and fits one. Writes the bytes of its samples, `WIDTH` each, to the
@@ -157,11 +150,19 @@ pub fn pass<L: SampleLanes, I: Intake, const SIZE: usize, const WIDTH: usize>(
     let size = known_or::<SIZE>(setting.block() as usize);
     let block = decoder.block();
     let before = setting.level(decoder.before()) as u32;
-    let Some(spelled) = write_block_ahead::<L, I, SIZE, WIDTH>(
-        setting, size, block, before, reader, bytes,
+    let Some(spelled) = write_block_ahead::<L, SIZE, WIDTH>(
+        setting,
+        size,
+        block,
+        before,
+        &reader.ahead(),
+        bytes,
     ) else {
         return false;
     };
+    if reader.buffered() < spelled.len as u64 {
+        return false;
+    }
     reader.pass(spelled.len, meter);
     meter.tick(spelled.turns);
     let last = setting.value_at(spelled.last as u64);

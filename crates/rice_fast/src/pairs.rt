@@ -1,13 +1,13 @@
 //! The pairs of a buffered block by second extension.
 ghost use Rattle.std.specs.Prelude.{◌≡◌, ◌+◌, ◌-◌, ◌*◌, ◌%◌, ◌<◌, ◌≤◌, ◌++◌, All, IfSome, drop, length, replicate, sum, take};
 ghost use Rattle.rice_samples.specs.Pairs.{pair_code, pair_codes};
-ghost use Rattle.rice_fast.specs.FieldsAhead.{PairsAhead};
+ghost use Rattle.rice_fast.specs.FieldsAhead.{CanLook, PairsAhead};
 
 use crate::encode::byte_rows::row_sum;
 use crate::high_parts::{high_parts_ahead, store_row};
 use crate::lanes::SampleLanes;
 use crate::vectors::{Bytes, Lanes};
-use rice_bits::{BitReader, Intake};
+use rice_bits::BitsAhead;
 use std::simd::prelude::*;
 
 /// The first numbers of the pairs with the codes from 0 to 63.
@@ -96,20 +96,21 @@ fn write_pairs(codes: &[u8; 80], count: usize, numbers: &mut [u8; 80]) -> Option
 ///
 /// A call, so that the code for these blocks stands once.
 #[inline(never)]
-pub fn pairs_ahead<I: Intake>(
-    reader: &BitReader<I>,
+pub fn pairs_ahead(
+    ahead: &BitsAhead<'_>,
     size: usize,
     skip: usize,
     references: usize,
 ) -> Option<Pairs>
     requires size { (2 ≤ size) × (size ≤ 64) }
     requires even { size % 2 ≡ 0 }
-    requires skip { skip ≤ length reader.now.buffered }
+    requires skip { CanLook (skip + 232) ahead.now }
     requires references { references ≤ 1 }
-    ensures { IfSome result (λ p. PairsAhead reader.now.buffered skip references (take size p.numbers) p.len p.turns) }
+    ensures some { IfSome result (λ p. PairsAhead ahead.now skip references (take size p.numbers) p.len p.turns) }
+    ensures short { IfSome result (λ p. p.len ≤ 224) }
 {
     let mut codes = [0; 80];
-    let len = high_parts_ahead(reader, size / 2, skip, 0, &mut codes)?;
+    let len = high_parts_ahead(ahead, size / 2, skip, 0, &mut codes)?;
     let mut numbers = [0; 80];
     let turns = write_pairs(&codes, size / 2, &mut numbers)?;
     if references > 0 && numbers[0] != 0 {

@@ -3,12 +3,12 @@ ghost use Rattle.std.specs.Prelude.{◌≡◌, ◌+◌, ◌-◌, ◌*◌, ◌%�
 ghost use Rattle.rice_bits.specs.Bits.{joined_parts};
 ghost use Rattle.rice_samples.specs.Parameters.{value_count, values_at, width as width_of};
 ghost use Rattle.rice_samples.specs.Spelling.{spellings};
-ghost use Rattle.rice_fast.specs.{BlocksAhead.HasBits, FieldsAhead.LowsAhead, LevelsOfParts.HaveResiduals, FieldsAhead.RowsAhead, FieldsAhead.SpellsParts};
+ghost use Rattle.rice_fast.specs.{BlocksAhead.HasBits, FieldsAhead.CanLook, FieldsAhead.LowsAhead, LevelsOfParts.HaveResiduals, FieldsAhead.RowsAhead, FieldsAhead.SpellsParts};
 
 use crate::fields::Fields;
 use crate::lanes::SampleLanes;
 use crate::vectors::{join_parts, near_levels_of_parts};
-use rice_bits::{BitReader, Intake};
+use rice_bits::BitsAhead;
 use rice_samples::{Setting, level_of_pattern};
 
 /// The least level that so many others are near to that near ones are expected after it.
@@ -34,8 +34,8 @@ pub fn placed<L: SampleLanes>(numbers: L, omitted: usize, count: usize) -> L
 /// Returns the low parts of a row of `count` residuals, words of `k` bits after the first `skip` bits, with zeros after them.
 /// Those that are omitted, one or none, are zeros.
 #[inline(always)]
-fn low_parts_of_row<L: SampleLanes, I: Intake>(
-    reader: &BitReader<I>,
+fn low_parts_of_row<L: SampleLanes>(
+    ahead: &BitsAhead<'_>,
     skip: usize,
     omitted: usize,
     count: usize,
@@ -44,11 +44,11 @@ fn low_parts_of_row<L: SampleLanes, I: Intake>(
     requires omitted { omitted ≤ 1 }
     requires count { (1 ≤ count) × (count ≤ L.COUNT) }
     requires split { k ≤ L.bits }
-    requires there { skip + L.LOOK ≤ length reader.now.buffered }
-    ensures row { LowsAhead reader.now.buffered skip omitted k (take count (L.numbers result)) }
+    requires there { CanLook (skip + 256) ahead.now }
+    ensures row { LowsAhead ahead.now skip omitted k (take count (L.numbers result)) }
     ensures low { All (λ l. l < 2 ^ k) (L.numbers result) }
 {
-    placed(L::words_ahead(reader, skip, k), omitted, count)
+    placed(L::words_ahead(ahead, skip, k), omitted, count)
 }
 
 /// Returns the residuals with these high parts and low parts of `k` bits, or `None` if one is too large.
@@ -206,18 +206,12 @@ pub fn row_len<L: SampleLanes, const SIZE: usize>(size: usize, at: usize) -> usi
 /// Writes the bytes of the samples of the block with these fields and high parts, `WIDTH` each, to the front of `bytes`. Returns the level
 /// of the last, or `None` if a residual is too large. It may write more after these bytes.
 #[inline(always)]
-pub fn write_rows<
-    L: SampleLanes,
-    I: Intake,
-    const SIZE: usize,
-    const WIDTH: usize,
-    const REFERENCE: bool,
->(
+pub fn write_rows<L: SampleLanes, const SIZE: usize, const WIDTH: usize, const REFERENCE: bool>(
     setting: &Setting,
     size: usize,
     fields: &Fields,
     highs: &[u8; 80],
-    reader: &BitReader<I>,
+    ahead: &BitsAhead<'_>,
     bytes: &mut [u8; 320],
 ) -> Option<u32>
     requires bits { HasBits L.below L.bits setting.now }
@@ -228,17 +222,16 @@ pub fn write_rows<
     requires few { fields.now.omitted ≤ 1 }
     requires narrow { fields.now.k ≤ L.bits }
     requires whole { fields.now.k ≡ L.bits → highs.now ≡ replicate 80 0 }
-    requires there { fields.now.words + size * fields.now.k + L.LOOK ≤ length reader.now.buffered }
-    ensures { IfSome result (λ l. RowsAhead reader.now.buffered setting.now fields.now highs.now size l bytes.new) }
+    requires there { CanLook (fields.now.words + size * fields.now.k + 256) ahead.now }
+    ensures { IfSome result (λ l. RowsAhead ahead.now setting.now fields.now highs.now size l bytes.new) }
 {
-    let _taken = reader.taken();
     let mut last = fields.from;
     let mut omitted = fields.omitted;
     let mut place = fields.words;
     let mut at = 0;
     while at < size {
         let count = row_len::<L, SIZE>(size, at);
-        let lows: L = low_parts_of_row(reader, place, omitted, count, fields.k);
+        let lows: L = low_parts_of_row(ahead, place, omitted, count, fields.k);
         let highs = L::of_bytes(&highs[at..]);
         last = write_row(
             setting,

@@ -1,9 +1,10 @@
 //! Calls of a reader that look at buffered bits, and take them without a call of the intake.
-ghost use Rattle.std.specs.Prelude.{◌≡◌, ◌+◌, ◌<◌, ◌≤◌, None, drop, length, take};
-ghost use Rattle.rice_bits.specs.{Limits.step_limit, Limits.most_bits_read, Window.AreBitsFrom};
+ghost use Rattle.std.specs.Prelude.{◌≡◌, ◌+◌, ◌<◌, ◌≤◌, None, length, take};
+ghost use Rattle.rice_bits.specs.{Limits.step_limit, Limits.most_bits_read, Window.most_ahead};
 
 use crate::device::Intake;
 use crate::meter::Meter;
+use crate::read::bits_ahead::BitsAhead;
 use crate::read::reader::BitReader;
 
 impl<I: Intake> BitReader<I> {
@@ -17,13 +18,17 @@ impl<I: Intake> BitReader<I> {
         self.window.buffered() as u64
     }
 
-    /// Returns the bytes of its buffer, and the place in them, in bits, of the buffered bits after the first `skip`. It takes none.
+    /// Returns the buffered bits, and others after them. It takes none.
     #[inline(always)]
-    pub fn ahead(&self, skip: usize) -> (&[u8], usize)
-        requires { skip ≤ length self.now.buffered }
-        ensures { AreBitsFrom result.0.now result.1 (drop skip self.now.buffered) }
+    pub fn ahead(&self) -> BitsAhead<'_>
+        ensures bits { take (length self.now.buffered) result ≡ self.now.buffered }
+        ensures more { length self.now.buffered ≤ length result }
+        ensures many { most_ahead ≤ length result }
     {
-        (&self.window.buffer, self.window.at + skip)
+        BitsAhead {
+            bytes: &self.window.buffer,
+            at: self.window.at,
+        }
     }
 
     /// Takes the next `count` buffered bits, and ticks once for each.

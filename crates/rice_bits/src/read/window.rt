@@ -9,8 +9,9 @@ use crate::bits::eight_bytes::{at_least_57_bits_from, number_from, store_zeros};
 /// The greatest number of bytes requested at a time.
 pub const PIECE: usize = 4096;
 
-/// The size of the buffer: eight bytes more, so that eight can be loaded from each byte on.
-const ROOM: usize = PIECE + 8;
+/// The size of the buffer: 328 bytes more, so that a block can be looked at from each byte on, and then eight, so that eight can be
+/// loaded from each of these.
+pub const ROOM: usize = PIECE + 336;
 
 /// The number of bits that eight bytes always have from any bit of the first byte on.
 pub const AHEAD: usize = 57;
@@ -18,7 +19,7 @@ pub const AHEAD: usize = 57;
 /// The bytes that an intake gave last, and a place among their bits.
 #[derive(Drop)]
 pub struct Window {
-    /// The bytes, followed by eight zeros.
+    /// The bytes, followed by eight zeros and by others.
     pub buffer: [u8; ROOM],
     /// The bits from here to `at` were taken since the mark, or since the bytes were given.
     pub marked: usize,

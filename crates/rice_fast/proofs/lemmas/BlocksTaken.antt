@@ -1,5 +1,5 @@
 -- A block that was looked at, taken and spelled.
-use Rattle.rice_fast.proofs.Words.{◌≡◌, ℕ, ℤ, suc, ◌+◌, ◌-◌, ◌*◌, ◌≤◌, Bool, List, length, take, sym, ◌∙◌, ap, subst, arith, length-take-le, Reader, Takes, Parameters, IsLegal, value_at, values_at}
+use Rattle.rice_fast.proofs.Words.{◌≡◌, ℕ, ℤ, suc, ◌+◌, ◌-◌, ◌*◌, ◌≤◌, Bool, List, length, take, take-take, sym, ◌∙◌, ap, subst, arith, length-take-le, Reader, Takes, Parameters, IsLegal, value_at, values_at}
 use Rattle.rice_fast.proofs.Words.{width, last_of, last_value, length-values, bits_of_set, padding, Skips, TakesSet, with_mark, DecoderState, place_after, answers_block, samples_by_bits}
 use Rattle.rice_fast.proofs.Words.{GivesBytes, SpelledAhead}
 use Rattle.std.proofs.Common.{◌&&◌, Contains, false, not, refl, true}
@@ -29,6 +29,31 @@ marked {start = start} bits (k, lt, at) takes = record {
     same : (a b : Bool) → b ≡ false → (a && b) ≡ (true && b)
     same true b none = refl
     same false b none = sym none
+
+-- of bits that begin with the buffered ones, a block that ends among these is buffered
+pub spelled_buffered : {bits buffered : List Bool} {s : Parameters} {b : ℕ} {p : ℤ} {l len searched : ℕ} {bytes : List ℕ} → take (length buffered) bits ≡ buffered
+    → len ≤ length buffered → SpelledAhead bits s b p l len searched bytes → SpelledAhead buffered s b p l len searched bytes
+spelled_buffered {bits} {buffered} {len = len} begin within h =
+    let block = h.ahead in
+    record {
+      levels = h.levels;
+      ahead = record {
+        set = block.set;
+        form = block.form;
+        run_sound = block.run_sound;
+        residuals_sound = block.residuals_sound;
+        within = within;
+        bits = ap (take len) (sym begin) ∙ (take-take len (length buffered) bits within ∙ block.bits);
+        turns_are = block.turns_are;
+        few = block.few;
+        legal = block.legal;
+        gives = block.gives;
+      };
+      from = h.from;
+      last_is = h.last_is;
+      legal = h.legal;
+      spelled = h.spelled;
+    }
 
 -- the bytes of such a block
 pub bytes_given : {I : Type 0} {start middle new : Reader I} {first steps last : ℕ} {p q : DecoderState} {len l searched : ℕ} {bytes : List ℕ}

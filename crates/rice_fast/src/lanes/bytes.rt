@@ -5,7 +5,7 @@ ghost use Rattle.rice_samples.proofs.lemmas.setting.BitsOfLanes.{byte_id, byte_s
 use crate::ahead::words_ahead;
 use crate::lanes::SampleLanes;
 use crate::vectors::{Bytes, half_ranks, last_eight_are_zeros, near_ways, tops, write_selected};
-use rice_bits::{BitReader, Intake};
+use rice_bits::BitsAhead;
 use rice_samples::Setting;
 use std::simd::prelude::*;
 
@@ -24,15 +24,9 @@ impl SampleLanes for Bytes {
 
     ghost ID_LEN = { 3 };
 
-    const LOOK: u64 = 128;
-
-    ghost LOOK = { 128 };
-
     ghost below = { 0 };
 
     ghost bits_are = { Prim.search rules };
-
-    ghost look = { Prim.search rules };
 
     ghost id_is = { λ s has. byte_id s has.most };
 
@@ -41,8 +35,8 @@ impl SampleLanes for Bytes {
     ghost row = { byte_row };
 
     #[inline(always)]
-    fn words_ahead<I: Intake>(reader: &BitReader<I>, skip: usize, width: u32) -> Self {
-        Bytes::of(words_ahead(reader, skip, width))
+    fn words_ahead(ahead: &BitsAhead<'_>, skip: usize, width: u32) -> Self {
+        Bytes::of(words_ahead(ahead, skip, width))
     }
 
     #[inline(always)]

@@ -8,7 +8,7 @@ use crate::ahead::wide_words_ahead;
 use crate::ahead::words::eight_words_from;
 use crate::lanes::SampleLanes;
 use crate::vectors::{Halves, Lanes, byte_pairs, half_ranks, near_ways, tops, write_selected};
-use rice_bits::{BitReader, Intake};
+use rice_bits::BitsAhead;
 use rice_samples::Setting;
 use std::simd::prelude::*;
 
@@ -23,13 +23,13 @@ static ONES: [u16; 16] = [
 /// Returns the eight words of `width` bits after the first `skip` buffered bits. A call: few rows have words of so many bits, and those of
 /// few bits are found faster without this beside them.
 #[inline(never)]
-fn longer_words_ahead<I: Intake>(reader: &BitReader<I>, skip: usize, width: u32) -> Halves
+fn longer_words_ahead(ahead: &BitsAhead<'_>, skip: usize, width: u32) -> Halves
     requires width { (1 ≤ width) × (width ≤ 16) }
-    requires there { skip + 192 ≤ length reader.now.buffered }
+    requires there { skip + 192 ≤ length ahead.now }
     ensures fit { All (λ v. v < 2 ^ width) result.lanes }
-    ensures bits { flat_map (word width) result.lanes ≡ take (8 * width) (drop skip reader.now.buffered) }
+    ensures bits { flat_map (word width) result.lanes ≡ take (8 * width) (drop skip ahead.now) }
 {
-    Halves::of(wide_words_ahead(reader, skip, width).cast::<u16>())
+    Halves::of(wide_words_ahead(ahead, skip, width).cast::<u16>())
 }
 
 impl SampleLanes for Halves {
@@ -41,15 +41,9 @@ impl SampleLanes for Halves {
 
     ghost ID_LEN = { 4 };
 
-    const LOOK: u64 = 192;
-
-    ghost LOOK = { 192 };
-
     ghost below = { 8 };
 
     ghost bits_are = { Prim.search rules };
-
-    ghost look = { Prim.search rules };
 
     ghost id_is = { λ s has. half_id s has.more has.most };
 
@@ -58,12 +52,12 @@ impl SampleLanes for Halves {
     ghost row = { half_row };
 
     #[inline(always)]
-    fn words_ahead<I: Intake>(reader: &BitReader<I>, skip: usize, width: u32) -> Self {
+    fn words_ahead(ahead: &BitsAhead<'_>, skip: usize, width: u32) -> Self {
         if width <= MOST_OF_ONE_LOAD {
-            let (buffer, at) = reader.ahead(skip);
+            let (buffer, at) = ahead.from(skip);
             return Halves::of(eight_words_from(buffer, at, width));
         }
-        longer_words_ahead(reader, skip, width)
+        longer_words_ahead(ahead, skip, width)
     }
 
     #[inline(always)]

@@ -2,6 +2,7 @@
 ghost use Rattle.std.specs.Prelude.{◌≡◌, ◌+◌, ◌*◌, ◌^◌, ◌<◌, ◌≤◌, All, drop, flat_map, length, take};
 ghost use Rattle.std.proofs.Common.{rules};
 ghost use Rattle.rice_bits.specs.Bits.{word};
+ghost use Rattle.rice_fast.specs.FieldsAhead.{CanLook};
 ghost use Rattle.rice_samples.proofs.lemmas.setting.BitsOfLanes.{word_id, word_splits, word_row};
 
 use crate::ahead::{number_ahead, wide_words_ahead, words_ahead};
@@ -9,7 +10,7 @@ use crate::lanes::SampleLanes;
 use crate::vectors::{
     Words, byte_fours, half_ranks, near_ways, spelled_in_three_bytes, tops, write_selected,
 };
-use rice_bits::{BitReader, Intake};
+use rice_bits::BitsAhead;
 use rice_samples::Setting;
 use std::simd::prelude::*;
 
@@ -25,30 +26,28 @@ static ONES: [u32; 16] = [
 /// Returns the eight words of `width` bits after the first `skip` buffered bits, read one by one. A call: in a caller's loop, the compiler
 /// would compute all their places before it.
 #[inline(never)]
-fn words_one_by_one<I: Intake>(reader: &BitReader<I>, skip: usize, width: u32) -> Words
+fn words_one_by_one(ahead: &BitsAhead<'_>, skip: usize, width: u32) -> Words
     requires width { width ≤ 32 }
-    requires there { skip + 256 ≤ length reader.now.buffered }
+    requires there { CanLook (skip + 256) ahead.now }
     ensures fit { All (λ v. v < 2 ^ width) result.lanes }
-    ensures bits { flat_map (word width) result.lanes ≡ take (8 * width) (drop skip reader.now.buffered) }
+    ensures bits { flat_map (word width) result.lanes ≡ take (8 * width) (drop skip ahead.now) }
 {
-    let _taken = reader.taken();
     let mut words = [0; 8];
     for i in 0..8 {
-        words[i] = number_ahead(reader, skip + i * width as usize, width);
+        words[i] = number_ahead(ahead, skip + i * width as usize, width);
     }
     Words::of(u32x8::from_array(words))
 }
 
 /// Returns the eight words of 32 bits after the first `skip` buffered bits.
 #[inline(always)]
-fn whole_words_ahead<I: Intake>(reader: &BitReader<I>, skip: usize) -> Words
-    requires { skip + 256 ≤ length reader.now.buffered }
+fn whole_words_ahead(ahead: &BitsAhead<'_>, skip: usize) -> Words
+    requires { CanLook (skip + 256) ahead.now }
     ensures fit { All (λ v. v < 2 ^ 32) result.lanes }
-    ensures bits { flat_map (word 32) result.lanes ≡ take 256 (drop skip reader.now.buffered) }
+    ensures bits { flat_map (word 32) result.lanes ≡ take 256 (drop skip ahead.now) }
 {
-    let _taken = reader.taken();
-    let first = words_ahead(reader, skip, 8);
-    let second = words_ahead(reader, skip + 128, 8);
+    let first = words_ahead(ahead, skip, 8);
+    let second = words_ahead(ahead, skip + 128, 8);
     let bytes = first.shuffle(
         second,
         [
@@ -68,15 +67,9 @@ impl SampleLanes for Words {
 
     ghost ID_LEN = { 5 };
 
-    const LOOK: u64 = 256;
-
-    ghost LOOK = { 256 };
-
     ghost below = { 16 };
 
     ghost bits_are = { Prim.search rules };
-
-    ghost look = { Prim.search rules };
 
     ghost id_is = { λ s has. word_id s has.more };
 
@@ -85,14 +78,14 @@ impl SampleLanes for Words {
     ghost row = { word_row };
 
     #[inline(always)]
-    fn words_ahead<I: Intake>(reader: &BitReader<I>, skip: usize, width: u32) -> Self {
+    fn words_ahead(ahead: &BitsAhead<'_>, skip: usize, width: u32) -> Self {
         if width == Self::BITS {
-            return whole_words_ahead(reader, skip);
+            return whole_words_ahead(ahead, skip);
         }
         if width == 0 || width > MOST_IN_LANES {
-            return words_one_by_one(reader, skip, width);
+            return words_one_by_one(ahead, skip, width);
         }
-        Words::of(wide_words_ahead(reader, skip, width))
+        Words::of(wide_words_ahead(ahead, skip, width))
     }
 
     #[inline(always)]

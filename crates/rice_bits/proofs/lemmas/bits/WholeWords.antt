@@ -1,5 +1,5 @@
 -- Words of 8, 16 or 32 digits, and the 64 digits that some of them have.
-use Rattle.std.proofs.Common.{◌≡◌, ℕ, zero, suc, ◌+◌, ◌-◌, ◌*◌, ◌/◌, ◌%◌, ◌^◌, ◌<◌, ◌≤◌, inl, inr, Bool, false, List, [], ◌∷◌, ◌++◌, length, take, drop, map, get_or, replicate, refl, sym, ◌∙◌, ap}
+use Rattle.std.proofs.Common.{◌≡◌, ℕ, zero, suc, ◌+◌, ◌-◌, ◌*◌, ◌/◌, ◌%◌, ◌^◌, ◌<◌, ◌≤◌, Bool, false, List, [], ◌∷◌, ◌++◌, length, take, drop, map, get_or, replicate, refl, sym, ◌∙◌, ap}
 use Rattle.std.proofs.lemmas.{Nat.and_mask, Nat.be_bytes_8, Nat.div-mul-add, Nat.le_bytes_8, Nat.mod-pow-add, Nat.mod_below, Nat.one_shl, Nat.or_shifted, Nat.pow_pos, Nat.shr_below, Simd.pick_l_whole}
 use Rattle.std.proofs.lemmas.{List.drop_more, List.length-drop, List.length-map, List.length-take-le, List.take_all, Grind.common_steps, Grind.flat_map-append}
 use Rattle.std.proofs.{Common.arith, Common.append_assoc, Common.append-nil, Common.length-append, Common.bit_and, Common.bit_or, lemmas.List.Elements.All-cons, lemmas.List.Elements.All-nil}

@@ -2,12 +2,12 @@
 use Rattle.std.proofs.Common.{◌≡◌, ℕ, zero, suc, inl, inr, ◌+◌, ◌-◌, ◌*◌, ◌/◌, ◌%◌, ◌^◌, ◌<◌, ◌≤◌, ◌≢◌, Bool, true, false, List, [], ◌∷◌, ◌++◌, length, take, drop, replicate, length-append, refl, sym}
 use Rattle.std.proofs.Common.{◌∙◌, ap, arith, take-take, append_assoc}
 use Rattle.std.specs.Prelude.{flat_map, slice_range, ◌==◌, ◌&&◌}
-use Rattle.std.proofs.lemmas.List.{drop-drop, drop-take, length-drop, length-replicate, length-take-le, replicate-append-replicate, take-append-drop, take-append-le, take-replicate, take_all}
+use Rattle.std.proofs.lemmas.List.{drop-drop, drop-take, length-drop, length-replicate, length-take-le, replicate-append-replicate, take-append-drop, take-append-le, take-replicate}
 use Rattle.std.proofs.{Math.Seq.drop-append_seam, Math.Seq.take-add, Math.Seq.take-append_seam, lemmas.Bool.Decides.nat_tests, lemmas.Grind.common_steps, lemmas.Bool.cases_lt}
 use Rattle.std.specs.Int.{to_be_bytes, w64}
 use Rattle.rice_bits.proofs.lemmas.bits.{FrontsOfWords.front_below, FrontsOfWords.take-front, FrontsOfWords.word-moved, FrontsOfWords.word-parts, EightBytes.bits_of-eight}
 use Rattle.rice_bits.proofs.lemmas.bits.{BytesAndBits.bits_of-append, BytesAndBits.bits_of-zeros, BytesAndBits.length-bits_of, WordsAndNumbers.length-word, WordsAndNumbers.word-split}
-use Rattle.rice_bits.specs.{Window.IsWindow, Window.Passes, Window.bits_near, Window.window_bits, Window.window_passed, Bits.fundamental_sequence, Bits.word, Bits.bits_of}
+use Rattle.rice_bits.specs.{Window.AreAhead, Window.IsWindow, Window.Passes, Window.bits_ahead, Window.bits_near, Window.window_bits, Window.window_passed, Bits.fundamental_sequence, Bits.word, Bits.bits_of}
 use Rattle.rice_bits.{proofs.lemmas.read.BlankBits.blank-append, proofs.lemmas.read.BlankBits.blank-word, specs.declared.read.window.Window.Window, specs.Window.AreBitsFrom}
 use Rattle.rice_bits.specs.Reader.{is_blank}
 
@@ -181,17 +181,37 @@ part-buffered w skip n h there =
     let room : skip + (all - skip) ≡ all = omega (arith, there, len) in
     grind (arith, common_steps, drop-take, take-take, drop-drop)
 
--- the buffer has the buffered bits after others
-pub ahead_in_buffer : {w : Window} {buffered : List Bool} (skip : ℕ) → IsWindow w → window_bits w ≡ buffered → skip ≤ length buffered → AreBitsFrom w.buffer (w.at + skip) (drop skip buffered)
-ahead_in_buffer {w} {buffered} skip h e there =
-    let bits = drop skip buffered in
-    let n = length bits in
-    let len : skip + n ≡ length buffered = omega (arith, there, length-drop skip buffered) in
-    let all : length buffered ≡ w.end - w.at = ap length (sym e) ∙ length-window w h in
+-- how many bits are looked at
+pub length-ahead : (bytes : List ℕ) (at : ℕ) → AreAhead bytes at → length (bits_ahead bytes at) ≡ 8 * length bytes - 64 - at
+unfolding bits_ahead
+length-ahead bytes at h =
+    length-take-le (8 * length bytes - 64 - at) (drop at (bits_of bytes)) (omega (arith, length-drop at (bits_of bytes), length-bits_of bytes))
+
+-- the bits that are looked at begin with the buffered bits
+pub ahead_begins : {w : Window} {buffered : List Bool} → IsWindow w → window_bits w ≡ buffered → take (length buffered) (bits_ahead w.buffer w.at) ≡ buffered
+unfolding window_bits bits_ahead
+ahead_begins {w} {buffered} h e =
+    let n = w.end - w.at in
+    let all : length buffered ≡ n = ap length (sym e) ∙ length-window w h in
+    ap (λ n. take n (bits_ahead w.buffer w.at)) all
+    ∙ (take-take n (8 * length w.buffer - 64 - w.at) (drop w.at (bits_of w.buffer)) (omega (arith, h.fits, h.size, h.ordered)) ∙ e)
+
+-- the bytes have the bits that are looked at
+pub ahead_from : (bytes : List ℕ) (at skip : ℕ) → AreAhead bytes at → skip ≤ length (bits_ahead bytes at) → AreBitsFrom bytes (at + skip) (drop skip (bits_ahead bytes at))
+unfolding bits_ahead
+ahead_from bytes at skip h there =
+    let all = bits_of bytes in
+    let bits = drop skip (bits_ahead bytes at) in
+    let m = 8 * length bytes - 64 - at in
+    let len = length-ahead bytes at h in
+    let n : length bits ≡ m - skip = length-drop skip (bits_ahead bytes at) ∙ ap (λ n. n - skip) len in
+    let split : m ≡ skip + (m - skip) = omega (arith, len, there) in
+    let is : bits ≡ take (m - skip) (drop (at + skip) all) = ap (λ n. drop skip (take n (drop at all))) split
+    ∙ (drop-take skip (m - skip) (drop at all) ∙ ap (take (m - skip)) (drop-drop skip at all)) in
     record {
-      begin = sym (part-buffered w skip n h (omega (arith, len, ap length e))) ∙ (ap (λ xs. take n (drop skip xs)) e ∙ take_all n bits (omega arith));
-      room = omega (arith, len, all, h.ordered, h.fits, h.size);
-      small = omega (arith, there, all, h.ordered, h.fits);
+      begin = ap (λ n. take n (drop (at + skip) all)) n ∙ sym is;
+      room = omega (arith, n, len, there, h.size, h.begins);
+      small = omega (arith, len, there, h.size, h.begins);
     }
 
 -- a part of bits has no 1 where neither of its two parts has

@@ -3,10 +3,10 @@ use Rattle.rice_fast.proofs.lemmas.ahead.BitsAhead.{first-from, there_after}
 use Rattle.rice_fast.proofs.ahead.wide_words_ahead.Goals as goal
 
 pub wide_words_from-requires-clause-room : goal.wide_words_from-requires-clause-room
-wide_words_from-requires-clause-room g c =
-    omega (arith, c.requires.width, c.ahead-at.ensures.room, there_after c.args.skip (8 * c.args.width + 64) c.args.reader.now.buffered (omega (arith, c.requires.there)))
+wide_words_from-requires-clause-room c =
+    omega (arith, c.requires.width, c.from-at.ensures.room, there_after c.args.skip (8 * c.args.width + 64) c.args.ahead.now (omega (arith, c.requires.there)))
 
 pub returns-clause-bits : goal.returns-clause-bits
-returns-clause-bits g c =
+returns-clause-bits c =
     c.wide_words_from.ensures.bits
-    ∙ first-from (8 * c.args.width) c.ahead-at.ensures (there_after c.args.skip (8 * c.args.width) c.args.reader.now.buffered (omega (arith, c.requires.there, c.requires.width)))
+    ∙ first-from (8 * c.args.width) c.from-at.ensures (there_after c.args.skip (8 * c.args.width) c.args.ahead.now (omega (arith, c.requires.there, c.requires.width)))

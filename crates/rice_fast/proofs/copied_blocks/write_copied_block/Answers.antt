@@ -6,10 +6,9 @@ pub returns : goal.returns
 returns g c = λ b p.
     let w = g.row.WIDTH in
     let s = c.args.setting.now in
-    let buffered = c.args.reader.now.buffered in
-    let ahead = c.if-not-is_copied_ahead.ensures in
+    let buffered = c.args.ahead.now in
     let bytes = c.write_copied_ahead.new.bytes in
     let last = c.last_copied.ensures in
-    let block : CopiedBlock buffered s w bytes = record { there = omega (arith, ahead.there refl); id = ahead.id refl; words = c.write_copied_ahead.ensures } in
+    let block : CopiedBlock buffered s w bytes = record { there = omega (arith, c.copied_len.ensures, c.requires.there); id = c.if-not-is_copied_ahead.ensures refl; words = c.write_copied_ahead.ensures } in
     subst (λ n. SpelledAhead buffered s b p c.last_copied.result n 0 bytes) (sym c.copied_len.ensures.value)
     (copied_ahead c.block-block.ensures.legal (c.if-not-is_copied.ensures refl) block last.below last.last b p)

@@ -6,7 +6,7 @@ pub returns : goal.returns
 returns g c =
     let a = c.args in
     let s = a.setting.now in
-    let w = a.reader.now.buffered in
+    let w = a.ahead.now in
     let head = c.head_ahead-head in
     let legal = c.block-block.ensures.legal.block in
     let bits = c.bits.ensures.value in
@@ -26,7 +26,7 @@ returns g c =
       narrow = c.requires.block.bits.most;
       whole = λ same. refl;
       places = refl;
-      there = omega (arith, head.ensures.short, c.requires.there, c.block-block.ensures.legal.bits_to, id_few);
+      short = omega (arith, head.ensures.short, c.block-block.ensures.legal.bits_to, id_few);
       block = λ lows levels len ahead near within. uncompressed_ahead c.requires.id begin (record {
         some = omega (arith, legal, c.requires.block.size);
         size_is = c.requires.block.size;

@@ -3,22 +3,23 @@ use Rattle.rice_fast.proofs.lemmas.HighParts.{highs-row, stored_row}
 use Rattle.rice_fast.proofs.high_parts.high_parts_ahead.Goals as goal
 
 pub loop-row-init : goal.loop-row-init
-loop-row-init g c =
+loop-row-init c =
     let first = c.in_ok-first in
     let n = c.row_len in
     let one : rows_len c.args.size 1 ≡ 0 + n.result = omega (arith, n.ensures) in
     record {
       places = c.store_row.ensures.len ∙ c.told-highs;
+      short = omega (arith, first.ensures.short);
       rows =
-          subst (λ xs. HighsAhead c.args.reader.now.buffered c.args.skip c.args.omitted xs first.first.len)
+          subst (λ xs. HighsAhead c.args.ahead.now c.args.skip c.args.omitted xs first.first.len)
           (sym (ap (λ n. take n c.store_row.new.rows) one ∙ stored_row 0 n.result first.first.numbers c.args.highs.now c.store_row.new.rows (omega (arith, n.ensures)) (omega arith)
           first.ensures.lanes c.store_row.ensures.value))
           first.ensures.some;
     }
 
 pub loop-row-preserved : goal.loop-row-preserved
-loop-row-preserved g c =
-    let w = c.args.reader.now.buffered in
+loop-row-preserved c =
+    let w = c.args.ahead.now in
     let skip = c.args.skip in
     let o = c.args.omitted in
     let size = c.args.size in
@@ -34,6 +35,7 @@ loop-row-preserved g c =
     c.store_row-in-loop-row.ensures.value in
     record {
       places = c.store_row-in-loop-row.ensures.len ∙ l.invariant.places;
+      short = omega (arith, l.invariant.short, c.in_ok-next.ensures.short);
       rows = subst (λ xs. HighsAhead w skip o xs (l.len + next.len)) (sym (ap (λ n. take n c.store_row-in-loop-row.new.rows) end ∙ stored))
           (highs-row few before c.in_ok-next.ensures.some);
     }

@@ -1,6 +1,14 @@
 use Rattle.rice_fast.proofs.Words.{◌≡◌, ◌-◌, ◌*◌, ◌≤◌, ◌∙◌, ap, arith, length, take, mul-le-mul_right, length-take-le, width}
 use Rattle.rice_fast.proofs.one_pass.write_fields_ahead.Goals as goal
 
+pub write_rows-requires-clause-there : goal.write_rows-requires-clause-there
+write_rows-requires-clause-there g c =
+    let f = c.in_ok-fields.fields in
+    let fields = c.in_ok-fields.ensures in
+    let legal = c.block-block.ensures.legal.block in
+    let all : c.args.size * f.k ≤ 64 * f.k = mul-le-mul_right f.k (omega (arith, legal, c.requires.block.size)) in
+    omega (arith, all, fields.short, fields.narrow, g.met.L.Lanes.most_bits, c.requires.there)
+
 pub returns : goal.returns
 returns g c =
     let s = c.args.setting.now in
@@ -11,10 +19,11 @@ returns g c =
     let places = fields.places in
     let legal = c.block-block.ensures.legal.block in
     let part : (size - f.omitted) * f.k ≤ size * f.k = mul-le-mul_right f.k (omega arith) in
+    let all : size * f.k ≤ 64 * f.k = mul-le-mul_right f.k (omega (arith, legal, c.requires.block.size)) in
     let len : length rows.levels ≡ size = rows.near.len ∙ length-take-le size c.fields_ahead.new.highs (omega (arith, places, legal, c.requires.block.size)) in
     record {
       levels = rows.levels;
-      ahead = fields.block rows.lows rows.levels rows.len (rows.words (omega (arith, legal, c.requires.block.size))) rows.near (omega (arith, part, c.if-buffered-fields.false, c.buffered.ensures));
+      ahead = fields.block rows.lows rows.levels rows.len (rows.words (omega (arith, legal, c.requires.block.size))) rows.near (omega (arith, part, all, fields.short, fields.narrow, g.met.L.Lanes.most_bits, c.requires.there));
       from = f.from;
       last_is = rows.last_is;
       legal = rows.legal;

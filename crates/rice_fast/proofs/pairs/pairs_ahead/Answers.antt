@@ -4,10 +4,10 @@ use Rattle.rice_fast.proofs.lemmas.Pairs.{sum_of_pairs, zero_at_reference}
 use Rattle.rice_fast.proofs.pairs.pairs_ahead.Goals.{else-references-gt0-via-then-references-gt0+else-numbers-ne0, else-references-gt0-via-else-references-gt0}
 use Rattle.rice_fast.proofs.pairs.pairs_ahead.Goals as goal
 
-pub returns : goal.returns
-returns g c =
+pub returns-clause-some : goal.returns-clause-some
+returns-clause-some c =
     let size = c.args.size in
-    let w = c.args.reader.now.buffered in
+    let w = c.args.ahead.now in
     let skip = c.args.skip in
     let n = c.in_ok-len.len in
     let numbers = c.write_pairs.new.numbers in

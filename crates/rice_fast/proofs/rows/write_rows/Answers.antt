@@ -13,7 +13,7 @@ loop-at-init g c = record {
   long = c.told-bytes;
   begins = λ _. zero-mod g.L.Lanes.COUNT;
   here = first_place c.args.fields.now c.requires.few;
-  rows = no_rows c.args.reader.now.buffered c.args.setting.now c.args.fields.now c.args.highs.now c.args.bytes.now c.requires.begins;
+  rows = no_rows c.args.ahead.now c.args.setting.now c.args.fields.now c.args.highs.now c.args.bytes.now c.requires.begins;
 }
 
 pub loop-at-preserved : goal.loop-at-preserved

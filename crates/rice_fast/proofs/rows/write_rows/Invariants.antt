@@ -9,7 +9,7 @@ invariant-loop-at g l = record {
   begins : l.at < l.fn.size → l.at % g.L.Lanes.COUNT ≡ 0;
   long : length l.bytes ≡ 320;
   here : RowPlace l.fn.fields l.at l.omitted l.place;
-  rows : RowsAhead l.fn.reader.buffered l.fn.setting l.fn.fields l.fn.highs l.at l.last l.bytes;
+  rows : RowsAhead l.fn.ahead l.fn.setting l.fn.fields l.fn.highs l.at l.last l.bytes;
 }
 
 abbrev pub decreases-loop-at : goal.decreases-loop-at

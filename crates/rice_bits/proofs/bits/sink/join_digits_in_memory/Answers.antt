@@ -1,4 +1,4 @@
-use Rattle.std.proofs.Common.{◌≡◌, ◌+◌, ◌-◌, ◌/◌, ◌<◌, ◌%◌, arith, length, rules}
+use Rattle.std.proofs.Common.{◌≡◌, ◌+◌, ◌/◌, ◌<◌, ◌%◌, arith, length, rules}
 use Rattle.std.{proofs.lemmas.Grind.common_steps, proofs.Math.Nat.pow-le-pow_right, specs.List.slice_index}
 use Rattle.rice_bits.proofs.lemmas.bits.SinkBytes.{gathered-put, joined_below, last_zeros}
 use Rattle.rice_bits.proofs.bits.sink.join_digits_in_memory.Goals as goal

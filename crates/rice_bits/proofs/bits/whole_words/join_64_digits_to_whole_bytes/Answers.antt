@@ -1,4 +1,4 @@
-use Rattle.std.proofs.Common.{◌++◌, drop, take, ◌≡◌, ◌+◌, ◌-◌, ◌/◌, ◌<◌, ◌∙◌, ap, arith, length, rules}
+use Rattle.std.proofs.Common.{◌++◌, drop, take, ◌≡◌, ◌+◌, ◌/◌, ◌<◌, ◌∙◌, ap, arith, length, rules}
 use Rattle.std.{proofs.lemmas.Grind.common_steps, specs.List.slice_index}
 use Rattle.rice_bits.proofs.lemmas.bits.{EightBytes.eight-swapped, WholeWords.whole-put}
 use Rattle.rice_bits.proofs.bits.whole_words.join_64_digits_to_whole_bytes.Goals as goal

@@ -1,5 +1,5 @@
 use Rattle.std.proofs.lemmas.Grind.{common_steps}
-use Rattle.std.proofs.Common.{◌≡◌, ◌-◌, ◌*◌, arith}
+use Rattle.std.proofs.Common.{arith}
 use Rattle.rice_bits.proofs.lemmas.bits.BytesAndBits.{bits_of-zeros}
 use Rattle.rice_bits.proofs.bits.sink.BitSink.new.Goals as goal
 

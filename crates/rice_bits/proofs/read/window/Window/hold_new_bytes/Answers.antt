@@ -1,5 +1,5 @@
 use Rattle.std.proofs.lemmas.Grind.{common_steps}
-use Rattle.std.proofs.Common.{◌≡◌, ◌*◌, ◌/◌, ◌∙◌, ap, arith, refl, drop, take}
+use Rattle.std.proofs.Common.{◌≡◌, ◌*◌, ◌/◌, ◌∙◌, ap, arith, refl}
 use Rattle.rice_bits.{proofs.lemmas.read.WindowLemmas.passed_none, proofs.lemmas.read.WindowLemmas.window_filled, proofs.lemmas.read.WindowLemmas.zeros-after, specs.Bits.bits_of}
 use Rattle.rice_bits.proofs.read.window.Window.hold_new_bytes.Goals as goal
 
