@@ -56,8 +56,3 @@ pub record AreBitsFrom (bytes : List ℕ) (at : ℕ) (bits : List Bool) : Type 0
 -- the bits of the bytes from bit `at` on, but for the last 64
 unfoldable pub bits_ahead : List ℕ → ℕ → List Bool
 bits_ahead bytes at = take (8 * length bytes - 64 - at) (drop at (bits_of bytes))
-
--- what holds of bits that are looked at
-pub record AreAhead (bytes : List ℕ) (at : ℕ) : Type 0 where
-  pub size : length bytes ≡ buffer_len
-  pub begins : at ≤ most_buffered

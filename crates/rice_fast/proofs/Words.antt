@@ -35,7 +35,7 @@ pub use Rattle.rice_code.specs.{declared.encode.choice.Choice.Choice, Decoder.Gi
 pub use Rattle.rice_code.specs.{Decoder.DecoderState, Decoder.place_after, ReadSets.reference_place, encode.Coder.AddsCode, encode.Coder.CompletesNone}
 pub use Rattle.rice_code.specs.{encode.Coder.HasTaken, encode.Coder.IsCoder, encode.Coder.PushesSamples, encode.BitBuffer.AddsSequences, encode.BitBuffer.pairs_len, encode.SetOfChoice.chosen_set}
 pub use Rattle.rice_fast.specs.BlocksAhead.{IsCopied, WordsAhead, copied_bits}
-pub use Rattle.rice_fast.specs.FieldsAhead.{AreFields, HeadAhead, HighsAhead, LowsAhead, PairsAhead, rows_len}
+pub use Rattle.rice_fast.specs.FieldsAhead.{AreFields, HeadAhead, HighsAhead, LowsAhead, PairsAhead}
 pub use Rattle.rice_fast.specs.OpenBlocks.{GoesOn, HasRoomForBlock, HoldsOpen, IsAhead, IsBefore, PushesOpen, StandsAfter, StandsFor, StandsWith, coder_between, coder_with, is_at_first}
 pub use Rattle.rice_fast.specs.OpenBlocks.{to_follow, whole_part, with_block}
 pub use Rattle.rice_fast.specs.OpenBlocks.{HasResidualsOf, HasRoomAt, Standing, TakesSpelled}

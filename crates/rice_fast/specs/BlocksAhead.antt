@@ -4,8 +4,7 @@ use Rattle.rice_bits.specs.{Bits.word, Reader.Reader}
 use Rattle.rice_samples.specs.Parameters.{Parameters, id_len, value_count, values_at, width}
 use Rattle.rice_samples.specs.{Spelling.ordered_bytes, Spelling.spellings, Residuals.last_number}
 use Rattle.rice_code.specs.{Bounds.most_samples_of_bit, Decoder.Answers, Decoder.DecoderState, Decoder.GivesBlock, Decoder.with_mark, code.CodedDataSets.CodedDataSet, code.CodedDataSets.bits_of_set}
-use Rattle.rice_code.specs.{code.CodedDataSets.turns, code.Forms.IsForm, code.Forms.ResidualsAreSound, code.Forms.RunIsSound, code.Forms.blocks_in}
-use Rattle.rice_code.specs.{declared.decode.call_results.Step.TheVariants.Block}
+use Rattle.rice_code.specs.{code.CodedDataSets.turns, code.Forms.IsForm, code.Forms.ResidualsAreSound, code.Forms.RunIsSound, code.Forms.blocks_in, declared.decode.call_results.Step.TheVariants.Block}
 
 -- Samples of more than `below` and at most `bits` bits.
 pub record HasBits (below bits : ℕ) (s : Parameters) : Type 0 where

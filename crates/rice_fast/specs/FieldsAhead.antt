@@ -2,8 +2,8 @@
 -- and rows of its samples, restored and spelled one after another.
 use Rattle.std.specs.Prelude.{◌≡◌, ℕ, ◌+◌, ◌-◌, ◌*◌, ◌^◌, ◌<◌, ◌≤◌, Bool, List, All, drop, flat_map, length, replicate, sum, take, Option, IfSome, IfNone, slice_index_or}
 use Rattle.rice_bits.specs.{Bits.fundamental_sequence, Bits.word, Window.most_ahead}
-use Rattle.rice_samples.specs.Parameters.{Parameters, value_at, value_count, values_at, width}
-use Rattle.rice_samples.specs.{Places.is_reference, Pairs.pair_codes, Residuals.pattern, Residuals.last_number, Spelling.spellings}
+use Rattle.rice_samples.specs.{Parameters.Parameters, Parameters.value_at, Parameters.value_count, Parameters.values_at, Parameters.width, Places.is_reference, Pairs.pair_codes}
+use Rattle.rice_samples.specs.{Residuals.pattern, Residuals.last_number, Spelling.spellings}
 use Rattle.rice_code.specs.{code.CodedDataSets.reference_bits, code.Forms.IsReference, ReadSets.reference_place}
 use Rattle.rice_fast.specs.{BlocksAhead.BlockAhead, BlocksAhead.HasBits, LevelsOfParts.HaveParts, declared.fields.Fields.Fields}
 
@@ -37,7 +37,6 @@ pub record HeadAhead (buffered : List Bool) (s : Parameters) (b before skip from
 pub record HighsAhead (buffered : List Bool) (skip omitted : ℕ) (highs : List ℕ) (len : ℕ) : Type 0 where
   pub zeros : take omitted highs ≡ replicate omitted 0
   pub spelled : flat_map fundamental_sequence (drop omitted highs) ≡ take len (drop skip buffered)
-  pub within : skip + len ≤ length buffered
 
 -- The first `omitted` numbers are zeros, and the words of k bits of the others stand after the first `skip` bits.
 pub record LowsAhead (buffered : List Bool) (skip omitted k : ℕ) (lows : List ℕ) : Type 0 where
@@ -52,11 +51,6 @@ pub record PairsAhead (buffered : List Bool) (skip references : ℕ) (numbers : 
   pub spelled : flat_map fundamental_sequence (pair_codes numbers) ≡ take len (drop skip buffered)
   pub turns_are : sum numbers ≡ searched
   pub few : searched ≤ len
-  pub within : skip + len ≤ length buffered
-
--- The samples of the first `rows` rows of a block: sixteen each, but for what the last one lacks.
-abbrev pub rows_len : (size rows : ℕ) → ℕ
-rows_len size rows = size - (size - 16 * rows)
 
 -- A buffered block has these fields. Its residuals have these high parts, and low parts that are buffered and fit in lanes of `bits` bits: levels
 -- with these are the block's.

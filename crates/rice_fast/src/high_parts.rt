@@ -1,6 +1,6 @@
 //! The high parts of the residuals of a buffered block, in rows of sixteen. The last row may have fewer.
 ghost use Rattle.std.specs.Prelude.{◌≡◌, ◌+◌, ◌-◌, ◌*◌, ◌<◌, ◌≤◌, ◌++◌, IfSome, length, take};
-ghost use Rattle.rice_fast.specs.FieldsAhead.{CanLook, HighsAhead, rows_len};
+ghost use Rattle.rice_fast.specs.FieldsAhead.{CanLook, HighsAhead};
 
 use crate::ahead::sequences::Sequences;
 use crate::ahead::sequences_ahead;

@@ -2,8 +2,7 @@
 use Rattle.std.specs.Io.KnownBytes.{IsAtEnd}
 use Rattle.std.specs.Prelude.{◌≡◌, ◌≢◌, ℕ, ◌+◌, ◌-◌, ◌*◌, ◌<◌, ◌≤◌, ◌⊎◌, List, length, take, Option, Some, None, ℤ}
 use Rattle.rice_bits.specs.{Limits.most_at_once, OutletRoom.Room}
-use Rattle.rice_samples.specs.Spelling.{Reads, Spells, SpellingEnd, AtEnd, NoSpelling, TooFew}
-use Rattle.rice_samples.specs.{Limits.most_input, Parameters.Parameters, Parameters.width}
+use Rattle.rice_samples.specs.{Spelling.Reads, Spelling.Spells, Spelling.SpellingEnd, Spelling.AtEnd, Spelling.NoSpelling, Spelling.TooFew, Limits.most_input, Parameters.Parameters, Parameters.width}
 use Rattle.rice_code.specs.code.Code.{code_bits, output, early_output, complete_samples}
 use Rattle.rice_code.specs.{Bounds.bit_bound, Bounds.step_bound, Bounds.amortised_step_bound, CoderSteps.least_steps, CoderSteps.most_steps, code.Blocks.fill_count}
 use Rattle.rice_stream.specs.DevicesInCalls.{Call, Happens, StopsBetween, PassesLimit, IsWithinLimit}

@@ -1,9 +1,8 @@
 -- A coder at work: what it does with the bytes of samples, which samples it has taken, and what is written of their code.
 use Rattle.std.specs.Prelude.{◌≡◌, ℕ, ◌+◌, ◌*◌, ◌<◌, ◌≤◌, Bool, true, false, List, [], ◌∷◌, ◌++◌, length, take, drop, Option, Some, None, Result, Ok, Err, ℤ}
 use Rattle.rice_bits.specs.{Bits.bits_in_bytes, OutletRoom.Room, OutletRoom.Appends}
-use Rattle.rice_code.specs.code.Code.{code_bits, output, early_output, complete_samples}
-use Rattle.rice_code.specs.{CoderSteps.least_steps, CoderSteps.most_steps, encode.OpenSegment.CoderState, encode.OpenSegment.state_between}
-use Rattle.rice_code.specs.encode.Coder.{CompletesNone, HasTaken, PushesSamples, complete_code}
+use Rattle.rice_code.specs.{code.Code.code_bits, code.Code.output, code.Code.early_output, code.Code.complete_samples, CoderSteps.least_steps, CoderSteps.most_steps, encode.OpenSegment.CoderState}
+use Rattle.rice_code.specs.{encode.OpenSegment.state_between, encode.Coder.CompletesNone, encode.Coder.HasTaken, encode.Coder.PushesSamples, encode.Coder.complete_code}
 use Rattle.rice_samples.specs.{Limits.most_input, Parameters.Parameters, Parameters.width, Spelling.Reads, Spelling.EndsSpelling, Spelling.IsNoSpelling, Spelling.NoSpelling}
 use Rattle.rice_fast.specs.OpenBlocks.{Standing}
 use Rattle.rice_stream.specs.declared.outcome.Fault.TheVariants.{Write, SampleOutOfRange}

@@ -128,10 +128,11 @@ fn write_passed_blocks<L: SampleLanes, I: Intake, O: Outlet, const SIZE: usize, 
         (at_work reader.new meter.new decoder.new (O.taken outlet.new)) n) }
     ensures ready { IsReady setting.now reader.new meter.new decoder.new }
 {
-    let block = known_or::<SIZE>(setting.block() as usize);
+    let own = *setting;
+    let block = known_or::<SIZE>(own.block() as usize);
     let mut written = 0;
     'pass_over: while most - written >= block as u64 {
-        if !pass::<L, I, SIZE, WIDTH>(decoder, setting, reader, meter, bytes) {
+        if !pass::<L, I, SIZE, WIDTH>(decoder, &own, reader, meter, bytes) {
             return Ok(written);
         }
         let _place = decoder.block();

@@ -22,7 +22,6 @@ impl<I: Intake> BitReader<I> {
     #[inline(always)]
     pub fn ahead(&self) -> BitsAhead<'_>
         ensures bits { take (length self.now.buffered) result ≡ self.now.buffered }
-        ensures more { length self.now.buffered ≤ length result }
         ensures many { most_ahead ≤ length result }
     {
         BitsAhead {

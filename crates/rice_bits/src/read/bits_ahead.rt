@@ -15,14 +15,14 @@ pub struct BitsAhead<'a> {
 }
 
 impl<'a> Model for BitsAhead<'a> {
-    ghost use Rattle.std.specs.Prelude.{Bool, List};
-    ghost use Rattle.rice_bits.specs.Window.{AreAhead, bits_ahead};
+    ghost use Rattle.std.specs.Prelude.{◌≡◌, ◌≤◌, Bool, List, length};
+    ghost use Rattle.rice_bits.specs.Window.{bits_ahead, buffer_len, most_buffered};
 
     ghost Value = { List Bool };
 
     ghost view = { λ s. bits_ahead s.bytes.now s.at };
 
-    ghost invariant = { λ s. AreAhead s.bytes.now s.at };
+    ghost invariant = { λ s. (length s.bytes.now ≡ buffer_len) × (s.at ≤ most_buffered) };
 }
 
 impl<'a> BitsAhead<'a> {

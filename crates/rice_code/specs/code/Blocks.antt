@@ -1,8 +1,7 @@
 -- The blocks that samples make. (CCSDS 121.0-B-3, section 3: blocks of J samples.)
 use Rattle.std.specs.Prelude.{ℕ, zero, suc, ◌+◌, ◌-◌, ◌*◌, ◌%◌, ◌==◌, Bool, if◌then◌else◌, List, [], ◌∷◌, take, drop, length, replicate, slice_index_or, Option, Some, None, ℤ}
 use Rattle.std.specs.List.{list_all}
-use Rattle.rice_samples.specs.{Residuals.pattern, Residuals.residuals, Residuals.last_of, Residuals.filled_samples, Places.is_reference, Places.block_count}
-use Rattle.rice_samples.specs.Parameters.{Parameters}
+use Rattle.rice_samples.specs.{Residuals.pattern, Residuals.residuals, Residuals.last_of, Residuals.filled_samples, Places.is_reference, Places.block_count, Parameters.Parameters}
 
 -- what a block says: its reference sample as a word, where it has one, and its residuals, with 0 at the reference place
 pub record BlockData : Type 0 where

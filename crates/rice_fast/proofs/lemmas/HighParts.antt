@@ -32,24 +32,20 @@ first_of count many xs row h e =
     ap (take count) e ∙ (take-append-le count (take count xs) (replicate (many - count) 0) (omega (arith, len)) ∙ take-take count count xs (omega arith))
 
 -- a row of fundamental sequences
-pub row-highs : {buffered : List Bool} {skip : ℕ} (o : ℕ) {n : ℕ} (count : ℕ) {numbers row : List ℕ} → o ≤ 1 → o < count → skip + 64 ≤ length buffered
+pub row-highs : {buffered : List Bool} {skip : ℕ} (o : ℕ) {n : ℕ} (count : ℕ) {numbers row : List ℕ} → o ≤ 1 → o < count
     → BeginWithSequences (drop skip buffered) (count - o) numbers n → row ≡ take count (replicate o 0 ++ numbers) → HighsAhead buffered skip o row n
-row-highs {buffered} {skip} zero {n} count {numbers} few some there found is =
-    let short = found.few in
+row-highs {buffered} {skip} zero {n} count {numbers} few some found is =
     record {
       zeros = refl;
       spelled = ap (flat_map fundamental_sequence) is ∙ subst (λ c. flat_map fundamental_sequence (take c numbers) ≡ take n (drop skip buffered)) (omega arith) found.spelled;
-      within = omega (arith, there, short);
     }
-row-highs {buffered} {skip} (suc zero) {n} (suc m) {numbers} few some there found is =
-    let short = found.few in
+row-highs {buffered} {skip} (suc zero) {n} (suc m) {numbers} few some found is =
     record {
       zeros = ap (take 1) is;
       spelled = ap (λ xs. flat_map fundamental_sequence (drop 1 xs)) is ∙ subst (λ c. flat_map fundamental_sequence (take c numbers) ≡ take n (drop skip buffered)) (omega arith) found.spelled;
-      within = omega (arith, there, short);
     }
-row-highs (suc zero) zero few some there found is = absurd (omega (arith, some))
-row-highs (suc (suc o)) count few some there found is = absurd (omega (arith, few))
+row-highs (suc zero) zero few some found is = absurd (omega (arith, some))
+row-highs (suc (suc o)) count few some found is = absurd (omega (arith, few))
 
 -- a row that is stored after those before it
 pub stored_row : (row count : ℕ) (numbers old new : List ℕ) → count ≤ 16 → 16 * row ≤ length old → length numbers ≡ 16
@@ -64,11 +60,9 @@ stored_row row count numbers old new most room len value =
 pub highs-row : {buffered : List Bool} {skip omitted len n : ℕ} {highs row : List ℕ} → omitted ≤ length highs → HighsAhead buffered skip omitted highs len
     → HighsAhead buffered (skip + len) 0 row n → HighsAhead buffered skip omitted (highs ++ row) (len + n)
 highs-row {buffered} {skip} {omitted} {len} {n} {highs} {row} few before more =
-    let within = more.within in
     record {
       zeros = take-append-le omitted highs row few ∙ before.zeros;
       spelled =
           ap (flat_map fundamental_sequence) (drop-append-le omitted highs row few)
           ∙ (flat_map-append fundamental_sequence (drop omitted highs) row ∙ ((λ j. before.spelled j ++ more.spelled j) ∙ after-both buffered skip len n));
-      within = omega (arith, within);
     }

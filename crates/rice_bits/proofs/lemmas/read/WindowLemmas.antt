@@ -7,7 +7,7 @@ use Rattle.std.proofs.{Math.Seq.drop-append_seam, Math.Seq.take-add, Math.Seq.ta
 use Rattle.std.specs.Int.{to_be_bytes, w64}
 use Rattle.rice_bits.proofs.lemmas.bits.{FrontsOfWords.front_below, FrontsOfWords.take-front, FrontsOfWords.word-moved, FrontsOfWords.word-parts, EightBytes.bits_of-eight}
 use Rattle.rice_bits.proofs.lemmas.bits.{BytesAndBits.bits_of-append, BytesAndBits.bits_of-zeros, BytesAndBits.length-bits_of, WordsAndNumbers.length-word, WordsAndNumbers.word-split}
-use Rattle.rice_bits.specs.{Window.AreAhead, Window.IsWindow, Window.Passes, Window.bits_ahead, Window.bits_near, Window.window_bits, Window.window_passed, Bits.fundamental_sequence, Bits.word, Bits.bits_of}
+use Rattle.rice_bits.specs.{Window.IsWindow, Window.Passes, Window.bits_ahead, Window.buffer_len, Window.most_buffered, Window.bits_near, Window.window_bits, Window.window_passed, Bits.fundamental_sequence, Bits.word, Bits.bits_of}
 use Rattle.rice_bits.{proofs.lemmas.read.BlankBits.blank-append, proofs.lemmas.read.BlankBits.blank-word, specs.declared.read.window.Window.Window, specs.Window.AreBitsFrom}
 use Rattle.rice_bits.specs.Reader.{is_blank}
 
@@ -182,7 +182,7 @@ part-buffered w skip n h there =
     grind (arith, common_steps, drop-take, take-take, drop-drop)
 
 -- how many bits are looked at
-pub length-ahead : (bytes : List ℕ) (at : ℕ) → AreAhead bytes at → length (bits_ahead bytes at) ≡ 8 * length bytes - 64 - at
+pub length-ahead : (bytes : List ℕ) (at : ℕ) → (length bytes ≡ buffer_len) × (at ≤ most_buffered) → length (bits_ahead bytes at) ≡ 8 * length bytes - 64 - at
 unfolding bits_ahead
 length-ahead bytes at h =
     length-take-le (8 * length bytes - 64 - at) (drop at (bits_of bytes)) (omega (arith, length-drop at (bits_of bytes), length-bits_of bytes))
@@ -197,7 +197,7 @@ ahead_begins {w} {buffered} h e =
     ∙ (take-take n (8 * length w.buffer - 64 - w.at) (drop w.at (bits_of w.buffer)) (omega (arith, h.fits, h.size, h.ordered)) ∙ e)
 
 -- the bytes have the bits that are looked at
-pub ahead_from : (bytes : List ℕ) (at skip : ℕ) → AreAhead bytes at → skip ≤ length (bits_ahead bytes at) → AreBitsFrom bytes (at + skip) (drop skip (bits_ahead bytes at))
+pub ahead_from : (bytes : List ℕ) (at skip : ℕ) → (length bytes ≡ buffer_len) × (at ≤ most_buffered) → skip ≤ length (bits_ahead bytes at) → AreBitsFrom bytes (at + skip) (drop skip (bits_ahead bytes at))
 unfolding bits_ahead
 ahead_from bytes at skip h there =
     let all = bits_of bytes in
@@ -210,8 +210,8 @@ ahead_from bytes at skip h there =
     ∙ (drop-take skip (m - skip) (drop at all) ∙ ap (take (m - skip)) (drop-drop skip at all)) in
     record {
       begin = ap (λ n. take n (drop (at + skip) all)) n ∙ sym is;
-      room = omega (arith, n, len, there, h.size, h.begins);
-      small = omega (arith, len, there, h.size, h.begins);
+      room = omega (arith, n, len, there, h);
+      small = omega (arith, len, there, h);
     }
 
 -- a part of bits has no 1 where neither of its two parts has

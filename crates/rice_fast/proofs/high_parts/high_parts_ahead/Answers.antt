@@ -1,4 +1,4 @@
-use Rattle.rice_fast.proofs.Words.{◌≡◌, ◌+◌, ◌*◌, ◌<◌, ◌≤◌, ◌∙◌, ap, arith, length, take, subst, sym, length-take-le, HighsAhead, rows_len}
+use Rattle.rice_fast.proofs.Words.{◌≡◌, ◌+◌, ◌-◌, ◌*◌, ◌<◌, ◌≤◌, ◌∙◌, ap, arith, length, take, subst, sym, length-take-le, HighsAhead}
 use Rattle.rice_fast.proofs.lemmas.HighParts.{highs-row, stored_row}
 use Rattle.rice_fast.proofs.high_parts.high_parts_ahead.Goals as goal
 
@@ -6,7 +6,7 @@ pub loop-row-init : goal.loop-row-init
 loop-row-init c =
     let first = c.in_ok-first in
     let n = c.row_len in
-    let one : rows_len c.args.size 1 ≡ 0 + n.result = omega (arith, n.ensures) in
+    let one : c.args.size - (c.args.size - 16 * 1) ≡ 0 + n.result = omega (arith, n.ensures) in
     record {
       places = c.store_row.ensures.len ∙ c.told-highs;
       short = omega (arith, first.ensures.short);
@@ -27,8 +27,8 @@ loop-row-preserved c =
     let next = c.in_ok-next.next in
     let count = c.row_len-count in
     let inside : l.row < 4 = omega (arith, c.loop-row-test.true, c.requires.size) in
-    let at : rows_len size l.row ≡ 16 * l.row = omega (arith, c.loop-row-test.true) in
-    let end : rows_len size (l.row + 1) ≡ 16 * l.row + count.result = omega (arith, count.ensures, c.loop-row-test.true) in
+    let at : size - (size - 16 * l.row) ≡ 16 * l.row = omega (arith, c.loop-row-test.true) in
+    let end : size - (size - 16 * (l.row + 1)) ≡ 16 * l.row + count.result = omega (arith, count.ensures, c.loop-row-test.true) in
     let before = subst (λ n. HighsAhead w skip o (take n l.highs) l.len) at l.invariant.rows in
     let few : o ≤ length (take (16 * l.row) l.highs) = omega (arith, c.requires.omitted, l.auto.row, length-take-le (16 * l.row) l.highs (omega (arith, inside, l.invariant.places))) in
     let stored = stored_row l.row count.result next.numbers l.highs c.store_row-in-loop-row.new.rows (omega (arith, count.ensures)) (omega (arith, inside, l.invariant.places)) c.in_ok-next.ensures.lanes

@@ -18,7 +18,7 @@ returns-clause-some c =
     let total : sum first ≡ c.in_ok-turns.turns = ap (λ m. sum (take m numbers)) (sym all) ∙ c.in_ok-turns.ensures.sum in
     let spelled : flat_map fundamental_sequence (pair_codes first) ≡ take n (drop skip w) = ap (flat_map fundamental_sequence) pairs ∙ high.spelled in
     let len : length first ≡ size = length-take-le size numbers (omega (arith, c.write_pairs.array_long, c.requires.size)) in
-    let bits : length (take n (drop skip w)) ≡ n = length-take-le n (drop skip w) (let inside = high.within in let after = length-drop skip w in omega (arith, inside, after)) in
+    let bits : length (take n (drop skip w)) ≡ n = length-take-le n (drop skip w) (omega (arith, c.requires.skip, c.in_ok-len.ensures.short, length-drop skip w)) in
     let most = sum_of_pairs (size / 2) first (omega (arith, len, c.requires.even)) in
     let zero : (c.args.references ≡ 0) ⊎ (get_or first 0 0 ≡ 0) = elim c.else-references-gt0.branch [
       | else-references-gt0-via-then-references-gt0+else-numbers-ne0 b ↦ inr (get_or-take size numbers 0 0 (omega (arith, c.requires.size)) ∙ b.if-numbers-ne0.false)
@@ -29,5 +29,4 @@ returns-clause-some c =
       spelled = spelled;
       turns_are = total;
       few = omega (arith, total, most, ap length spelled, bits);
-      within = high.within;
     }

@@ -6,7 +6,7 @@ use Rattle.rice_bits.proofs.read.bits_ahead.BitsAhead.from.Goals as goal
 pub overflow_add-result : goal.overflow_add-result
 overflow_add-result c =
     let h = c.self.invariant in
-    record { fits = omega (arith, c.requires, ap length c.self.view_is, length-ahead c.self.inside.bytes.now c.self.inside.at h, h.size, h.begins) }
+    record { fits = omega (arith, c.requires, ap length c.self.view_is, length-ahead c.self.inside.bytes.now c.self.inside.at h, h) }
 
 pub returns : goal.returns
 returns c =
