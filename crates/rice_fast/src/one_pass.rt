@@ -98,7 +98,7 @@ fn write_block_ahead<L: SampleLanes, const SIZE: usize, const WIDTH: usize>(
         }
     }
     if has_reference(setting, block) {
-        if SIZE != 8 && SIZE != 16 {
+        if SIZE != 8 {
             return write_reference_block_ahead::<L, WIDTH>(
                 setting, size, block, before, ahead, bytes,
             );

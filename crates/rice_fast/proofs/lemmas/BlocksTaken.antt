@@ -1,5 +1,6 @@
 -- A block that was looked at, taken and spelled.
-use Rattle.rice_fast.proofs.Words.{◌≡◌, ℕ, ℤ, suc, ◌+◌, ◌-◌, ◌*◌, ◌≤◌, Bool, List, length, take, take-take, sym, ◌∙◌, ap, subst, arith, length-take-le, Reader, Takes, Parameters, IsLegal, value_at, values_at}
+use Rattle.rice_fast.proofs.Words.{◌≡◌, ℕ, ℤ, suc, ◌+◌, ◌-◌, ◌*◌, ◌≤◌, Bool, List, length, take, take-take, sym, ◌∙◌, ap, subst, arith, length-take-le, Reader, Takes, Parameters, IsLegal}
+use Rattle.rice_fast.proofs.Words.{value_at, values_at}
 use Rattle.rice_fast.proofs.Words.{width, last_of, last_value, length-values, bits_of_set, padding, Skips, TakesSet, with_mark, DecoderState, place_after, answers_block, samples_by_bits}
 use Rattle.rice_fast.proofs.Words.{GivesBytes, SpelledAhead}
 use Rattle.std.proofs.Common.{◌&&◌, Contains, false, not, refl, true}

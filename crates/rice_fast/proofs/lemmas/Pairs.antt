@@ -1,6 +1,8 @@
 -- The pairs of second extension, from their numbers.
-use Rattle.rice_fast.proofs.Words.{◌≡◌, ◌⊎◌, ℕ, zero, suc, ◌+◌, ◌-◌, ◌*◌, ◌/◌, ◌<◌, ◌≤◌, List, [], ◌∷◌, ◌++◌, drop, length, length-append, get_or, map, take, replicate, refl, sym, ◌∙◌, ap, arith, inl, inr, flat_map}
-use Rattle.rice_fast.proofs.Words.{length-take-le, take-append-add, take-replicate, range_with_len, sum_by-append, get_or-map-range_with_len, get_or-range_with_len, fundamental_sequence, length-fundamental_sequence, pair_code, pair_codes, FIRSTS}
+use Rattle.rice_fast.proofs.Words.{◌≡◌, ◌⊎◌, ℕ, zero, suc, ◌+◌, ◌-◌, ◌*◌, ◌/◌, ◌<◌, ◌≤◌, List, [], ◌∷◌, ◌++◌, drop, length, length-append, get_or, map, take, replicate, refl, sym, ◌∙◌, ap, arith}
+use Rattle.rice_fast.proofs.Words.{inl, inr, flat_map}
+use Rattle.rice_fast.proofs.Words.{length-take-le, take-append-add, take-replicate, range_with_len, sum_by-append, get_or-map-range_with_len, get_or-range_with_len, fundamental_sequence}
+use Rattle.rice_fast.proofs.Words.{length-fundamental_sequence, pair_code, pair_codes, FIRSTS}
 use Rattle.rice_fast.proofs.Words.{SECONDS}
 use Rattle.std.specs.Prelude.{sum}
 

@@ -1,5 +1,5 @@
 //! Samples of 17 to 32 bits.
-ghost use Rattle.std.specs.Prelude.{◌≡◌, ◌+◌, ◌*◌, ◌^◌, ◌<◌, ◌≤◌, All, drop, flat_map, length, take};
+ghost use Rattle.std.specs.Prelude.{◌≡◌, ◌+◌, ◌*◌, ◌^◌, ◌<◌, ◌≤◌, All, drop, flat_map, take};
 ghost use Rattle.std.proofs.Common.{rules};
 ghost use Rattle.rice_bits.specs.Bits.{word};
 ghost use Rattle.rice_fast.specs.FieldsAhead.{CanLook};

@@ -7,7 +7,8 @@ use Rattle.std.proofs.{Math.Seq.drop-append_seam, Math.Seq.take-add, Math.Seq.ta
 use Rattle.std.specs.Int.{to_be_bytes, w64}
 use Rattle.rice_bits.proofs.lemmas.bits.{FrontsOfWords.front_below, FrontsOfWords.take-front, FrontsOfWords.word-moved, FrontsOfWords.word-parts, EightBytes.bits_of-eight}
 use Rattle.rice_bits.proofs.lemmas.bits.{BytesAndBits.bits_of-append, BytesAndBits.bits_of-zeros, BytesAndBits.length-bits_of, WordsAndNumbers.length-word, WordsAndNumbers.word-split}
-use Rattle.rice_bits.specs.{Window.IsWindow, Window.Passes, Window.bits_ahead, Window.buffer_len, Window.most_buffered, Window.bits_near, Window.window_bits, Window.window_passed, Bits.fundamental_sequence, Bits.word, Bits.bits_of}
+use Rattle.rice_bits.specs.{Window.IsWindow, Window.Passes, Window.bits_ahead, Window.buffer_len, Window.most_buffered, Window.bits_near, Window.window_bits, Window.window_passed}
+use Rattle.rice_bits.specs.{Bits.fundamental_sequence, Bits.word, Bits.bits_of}
 use Rattle.rice_bits.{proofs.lemmas.read.BlankBits.blank-append, proofs.lemmas.read.BlankBits.blank-word, specs.declared.read.window.Window.Window, specs.Window.AreBitsFrom}
 use Rattle.rice_bits.specs.Reader.{is_blank}
 
@@ -197,7 +198,8 @@ ahead_begins {w} {buffered} h e =
     ∙ (take-take n (8 * length w.buffer - 64 - w.at) (drop w.at (bits_of w.buffer)) (omega (arith, h.fits, h.size, h.ordered)) ∙ e)
 
 -- the bytes have the bits that are looked at
-pub ahead_from : (bytes : List ℕ) (at skip : ℕ) → (length bytes ≡ buffer_len) × (at ≤ most_buffered) → skip ≤ length (bits_ahead bytes at) → AreBitsFrom bytes (at + skip) (drop skip (bits_ahead bytes at))
+pub ahead_from : (bytes : List ℕ) (at skip : ℕ) → (length bytes ≡ buffer_len) × (at ≤ most_buffered) → skip ≤ length (bits_ahead bytes at)
+    → AreBitsFrom bytes (at + skip) (drop skip (bits_ahead bytes at))
 unfolding bits_ahead
 ahead_from bytes at skip h there =
     let all = bits_of bytes in

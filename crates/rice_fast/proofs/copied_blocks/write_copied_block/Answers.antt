@@ -9,6 +9,7 @@ returns g c = λ b p.
     let buffered = c.args.ahead.now in
     let bytes = c.write_copied_ahead.new.bytes in
     let last = c.last_copied.ensures in
-    let block : CopiedBlock buffered s w bytes = record { there = omega (arith, c.copied_len.ensures, c.requires.there); id = c.if-not-is_copied_ahead.ensures refl; words = c.write_copied_ahead.ensures } in
+    let block : CopiedBlock buffered s w bytes =
+    record { there = omega (arith, c.copied_len.ensures, c.requires.there); id = c.if-not-is_copied_ahead.ensures refl; words = c.write_copied_ahead.ensures } in
     subst (λ n. SpelledAhead buffered s b p c.last_copied.result n 0 bytes) (sym c.copied_len.ensures.value)
     (copied_ahead c.block-block.ensures.legal (c.if-not-is_copied.ensures refl) block last.below last.last b p)

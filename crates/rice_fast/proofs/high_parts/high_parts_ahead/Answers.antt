@@ -31,8 +31,8 @@ loop-row-preserved c =
     let end : size - (size - 16 * (l.row + 1)) ≡ 16 * l.row + count.result = omega (arith, count.ensures, c.loop-row-test.true) in
     let before = subst (λ n. HighsAhead w skip o (take n l.highs) l.len) at l.invariant.rows in
     let few : o ≤ length (take (16 * l.row) l.highs) = omega (arith, c.requires.omitted, l.auto.row, length-take-le (16 * l.row) l.highs (omega (arith, inside, l.invariant.places))) in
-    let stored = stored_row l.row count.result next.numbers l.highs c.store_row-in-loop-row.new.rows (omega (arith, count.ensures)) (omega (arith, inside, l.invariant.places)) c.in_ok-next.ensures.lanes
-    c.store_row-in-loop-row.ensures.value in
+    let stored = stored_row l.row count.result next.numbers l.highs c.store_row-in-loop-row.new.rows (omega (arith, count.ensures)) (omega (arith, inside, l.invariant.places))
+    c.in_ok-next.ensures.lanes c.store_row-in-loop-row.ensures.value in
     record {
       places = c.store_row-in-loop-row.ensures.len ∙ l.invariant.places;
       short = omega (arith, l.invariant.short, c.in_ok-next.ensures.short);

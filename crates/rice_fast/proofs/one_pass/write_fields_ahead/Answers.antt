@@ -1,4 +1,4 @@
-use Rattle.rice_fast.proofs.Words.{◌≡◌, ◌-◌, ◌*◌, ◌≤◌, ◌∙◌, ap, arith, length, take, mul-le-mul_right, length-take-le, width}
+use Rattle.rice_fast.proofs.Words.{◌≡◌, ◌+◌, ◌-◌, ◌*◌, ◌≤◌, ◌∙◌, ap, arith, length, take, mul-le-mul_right, length-take-le, width}
 use Rattle.rice_fast.proofs.one_pass.write_fields_ahead.Goals as goal
 
 pub write_rows-requires-clause-there : goal.write_rows-requires-clause-there
@@ -21,9 +21,10 @@ returns g c =
     let part : (size - f.omitted) * f.k ≤ size * f.k = mul-le-mul_right f.k (omega arith) in
     let all : size * f.k ≤ 64 * f.k = mul-le-mul_right f.k (omega (arith, legal, c.requires.block.size)) in
     let len : length rows.levels ≡ size = rows.near.len ∙ length-take-le size c.fields_ahead.new.highs (omega (arith, places, legal, c.requires.block.size)) in
+    let there : f.words + (size - f.omitted) * f.k ≤ length c.args.ahead.now = omega (arith, part, all, fields.short, fields.narrow, g.met.L.Lanes.most_bits, c.requires.there) in
     record {
       levels = rows.levels;
-      ahead = fields.block rows.lows rows.levels rows.len (rows.words (omega (arith, legal, c.requires.block.size))) rows.near (omega (arith, part, all, fields.short, fields.narrow, g.met.L.Lanes.most_bits, c.requires.there));
+      ahead = fields.block rows.lows rows.levels rows.len (rows.words (omega (arith, legal, c.requires.block.size))) rows.near there;
       from = f.from;
       last_is = rows.last_is;
       legal = rows.legal;

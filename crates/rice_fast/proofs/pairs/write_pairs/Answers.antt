@@ -1,4 +1,5 @@
-use Rattle.rice_fast.proofs.Words.{◌≡◌, ◌+◌, ◌-◌, ◌*◌, ◌++◌, ◌∙◌, ap, append-nil, append_assoc, arith, drop, length, map-id, replicate, sum, sum_l, sum_map, sym, take, take-add, take-take, drop-append_seam, length-take-le, sum_by-append, pair_codes}
+use Rattle.rice_fast.proofs.Words.{◌≡◌, ◌+◌, ◌-◌, ◌*◌, ◌++◌, ◌∙◌, ap, append-nil, append_assoc, arith, drop, length, map-id, replicate, sum, sum_l, sum_map, sym, take, take-add, take-take}
+use Rattle.rice_fast.proofs.Words.{drop-append_seam, length-take-le, sum_by-append, pair_codes}
 use Rattle.rice_fast.proofs.lemmas.{HighParts.first_of, Pairs.first_pairs, Pairs.pair_codes-append, Pairs.sum_of_first}
 use Rattle.rice_fast.proofs.pairs.write_pairs.Goals as goal
 
