@@ -107,20 +107,6 @@ module _ {I : Type 0} (intake : I) (left : Option (List ℕ)) (failed k : ℕ) w
   explained failures count bit_faults.Read result by why = subst (LooksAfter failures failed left k) (sym by.0) (by.1.0, by.1.1 ∙ why)
   explained failures count bit_faults.TooLong result by why = subst (LooksAfter failures failed left k) (sym by) why
 
-  -- the few bits are not there
-  pub no_few : (failures : I → ℕ) (bits : List Bool) (new : Reader I) (fault : BitFault) (result : Result Bool Fault) → k < 8 → length bits < k
-      → Stops (new_reader intake left failed) new bits fault → StoppedBy failures new.failed fault result → LooksAfter failures failed left k result
-  no_few failures bits new fault result few lt stops by = explained failures new.failed fault result by (why fault stops)
-    where
-      why : (fault : BitFault) → Stops (new_reader intake left failed) new bits fault → FindsNoOne new.failed fault
-      why (bit_faults.End reported) stops = λ bytes e.
-          let refills = subst (λ (l : Option (List ℕ)). Refills l stops.middle [] [] bits) e stops.refills in
-          let all : bits_of bytes ≡ bits = all_refilled (Some bytes) stops.middle new.left [] bits refl refills stops.refuses.0 stops.refuses.1 in
-          let none : drop k (bits_of bytes) ≡ [] = nil_of_length _ (omega (arith, length-drop k (bits_of bytes), ap length all)) in
-          ap (λ bits. not (is_blank bits)) none
-      why bit_faults.Read stops = stops.refuses.1
-      why bit_faults.TooLong stops = absurd (omega (arith, stops.refuses.2, stops.taken))
-
   -- no 1 is after them
   pub no_one : (failures : I → ℕ) (v m : ℕ) (r new : Reader I) (fault : BitFault) (result : Result Bool Fault)
       → Takes (new_reader intake left failed) r (word k v) → Stops r new (replicate m false) fault → StoppedBy failures new.failed fault result

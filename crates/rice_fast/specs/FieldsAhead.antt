@@ -1,4 +1,4 @@
--- The fields of a buffered block, looked at before they are taken: its head, the sequences of its high parts, the words of its low parts;
+-- The fields of a block ahead, looked at before they are taken: its head, the sequences of its high parts, the words of its low parts;
 -- and rows of its samples, restored and spelled one after another.
 use Rattle.std.specs.Prelude.{◌≡◌, ℕ, ◌+◌, ◌-◌, ◌*◌, ◌^◌, ◌<◌, ◌≤◌, Bool, List, All, drop, flat_map, length, replicate, sum, take, Option, IfSome, IfNone, slice_index_or}
 use Rattle.rice_bits.specs.{Bits.fundamental_sequence, Bits.word, Window.most_ahead}
@@ -52,7 +52,7 @@ pub record PairsAhead (buffered : List Bool) (skip references : ℕ) (numbers : 
   pub turns_are : sum numbers ≡ searched
   pub few : searched ≤ len
 
--- A buffered block has these fields. Its residuals have these high parts, and low parts that are buffered and fit in lanes of `bits` bits: levels
+-- A block ahead has these fields. Its residuals have these high parts, and low parts that are buffered and fit in lanes of `bits` bits: levels
 -- with these are the block's.
 pub record AreFields (buffered : List Bool) (s : Parameters) (b before size bits : ℕ) (highs : List ℕ) (f : Fields) : Type 0 where
   pub begins : f.from < value_count s

@@ -1,4 +1,4 @@
-//! Looks at buffered bits: at one word, or at up to sixteen fundamental sequences or words at a time, in the lanes of a vector.
+//! Looks at bits ahead: at one word, or at up to sixteen fundamental sequences or words at a time, in the lanes of a vector.
 ghost use Rattle.std.specs.Prelude.{◌≡◌, ◌+◌, ◌*◌, ◌^◌, ◌<◌, ◌≤◌, length, All, drop, flat_map, take, IfSome};
 ghost use Rattle.rice_bits.specs.Bits.{word};
 ghost use Rattle.rice_fast.specs.ahead.{BeginWithSequences};
@@ -15,7 +15,7 @@ use crate::ahead::words::sixteen_words_from;
 use rice_bits::{BitsAhead, at_least_57_bits_from, number_from};
 use std::simd::prelude::*;
 
-/// Returns the number of the `width` buffered bits after the first `skip`, most significant first. It takes none.
+/// Returns the number of the `width` bits after the first `skip`, most significant first.
 #[inline(always)]
 pub fn number_ahead(ahead: &BitsAhead<'_>, skip: usize, width: u32) -> u32
     requires width { width ≤ 32 }
@@ -27,8 +27,7 @@ pub fn number_ahead(ahead: &BitsAhead<'_>, skip: usize, width: u32) -> u32
     number_from(buffer, at, width) as u32
 }
 
-/// Returns the first `count` fundamental sequences after the first `skip` buffered bits, if it finds them in `bytes` bytes. It takes
-/// none.
+/// Returns the first `count` fundamental sequences after the first `skip` bits, if it finds them in `bytes` bytes.
 #[inline(always)]
 pub fn sequences_ahead(
     ahead: &BitsAhead<'_>,
@@ -47,7 +46,7 @@ pub fn sequences_ahead(
     first_sequences(front, bytes, count)
 }
 
-/// Returns the sixteen words of `width` bits after the first `skip` buffered bits. It takes none.
+/// Returns the sixteen words of `width` bits after the first `skip` bits.
 #[inline(always)]
 pub fn words_ahead(ahead: &BitsAhead<'_>, skip: usize, width: u32) -> u8x16
     requires width { width ≤ 8 }
@@ -61,7 +60,7 @@ pub fn words_ahead(ahead: &BitsAhead<'_>, skip: usize, width: u32) -> u8x16
     sixteen_words_from(buffer, at, width)
 }
 
-/// Returns the eight words of `width` bits after the first `skip` buffered bits. It takes none.
+/// Returns the eight words of `width` bits after the first `skip` bits.
 #[inline(always)]
 pub fn wide_words_ahead(ahead: &BitsAhead<'_>, skip: usize, width: u32) -> u32x8
     requires width { (1 ≤ width) × (width ≤ 24) }

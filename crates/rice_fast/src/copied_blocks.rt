@@ -96,7 +96,7 @@ fn last_copied<const WIDTH: usize>(setting: &Setting, size: usize, ahead: &BitsA
     level_of_pattern(setting, number_ahead(ahead, before, 8 * WIDTH as u32))
 }
 
-/// Writes the bytes of the buffered block of `size` samples, if its samples are not predicted, use all bits of `WIDTH` bytes, and are not
+/// Writes the bytes of the block of `size` samples ahead, if its samples are not predicted, use all bits of `WIDTH` bytes, and are not
 /// compressed. It takes no bits.
 #[inline(always)]
 pub fn write_copied_block<const WIDTH: usize>(

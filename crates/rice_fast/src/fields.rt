@@ -1,4 +1,4 @@
-//! The fields of a buffered block, looked at before they are taken.
+//! The fields of a block ahead, looked at before they are taken.
 ghost use Rattle.std.specs.Prelude.{◌≡◌, ◌+◌, ◌-◌, ◌^◌, ◌<◌, ◌≤◌, IfSome, length, take};
 ghost use Rattle.rice_bits.specs.{Bits.word, Window.most_ahead};
 ghost use Rattle.rice_samples.specs.{Parameters.id_len, Parameters.value_count, Places.is_reference};
@@ -36,7 +36,7 @@ pub fn has_reference(setting: &Setting, block: u32) -> bool
     setting.preprocess() && block == 0
 }
 
-/// Returns what stands after the first `skip` bits of a buffered block, after a sample at level `before`: a reference sample, if it is a
+/// Returns what stands after the first `skip` bits of a block, after a sample at level `before`: a reference sample, if it is a
 /// block with a `REFERENCE`, or nothing. Low parts and turns are not known yet.
 #[inline(always)]
 fn head_ahead<const REFERENCE: bool>(
@@ -72,7 +72,7 @@ fn head_ahead<const REFERENCE: bool>(
     }
 }
 
-/// Returns the fields of the buffered block of `size` samples, after a sample at level `before`, if its fundamental sequences are short
+/// Returns the fields of the block of `size` samples ahead, after a sample at level `before`, if its fundamental sequences are short
 /// and it has a block. Writes the high parts of its residuals to the front of `highs`. It takes nothing.
 ///
 /// It is laid out for blocks with a `REFERENCE`, or without one.

@@ -1,4 +1,4 @@
-//! The high parts of the residuals of a buffered block, in rows of sixteen. The last row may have fewer.
+//! The high parts of the residuals of a block ahead, in rows of sixteen. The last row may have fewer.
 ghost use Rattle.std.specs.Prelude.{◌≡◌, ◌+◌, ◌-◌, ◌*◌, ◌<◌, ◌≤◌, ◌++◌, IfSome, length, take};
 ghost use Rattle.rice_fast.specs.FieldsAhead.{CanLook, HighsAhead};
 

@@ -1,4 +1,4 @@
-//! Rows of samples in the lanes of vectors: from buffered words to bytes.
+//! Rows of samples in the lanes of vectors: from words to bytes.
 ghost use Rattle.std.specs.Prelude.{◌≡◌, ℕ, ◌+◌, ◌-◌, ◌*◌, ◌^◌, ◌<◌, ◌≤◌, ◌++◌, All, drop, flat_map, get_or, length, replicate, take};
 ghost use Rattle.rice_bits.specs.Bits.{word};
 ghost use Rattle.rice_samples.specs.Parameters.{Parameters, id_len, k_max, value_count, values_at, width as width_of};
@@ -28,7 +28,7 @@ pub trait SampleLanes: Lanes {
     // Samples have more bits than these.
     ghost below: { ℕ };
 
-    /// Returns the words of `width` bits after the first `skip` buffered bits, one in each lane.
+    /// Returns the words of `width` bits after the first `skip` bits ahead, one in each lane.
     fn words_ahead(ahead: &BitsAhead<'_>, skip: usize, width: u32) -> Self
         requires width { width ≤ Self.bits }
         requires there { CanLook (skip + 256) ahead.now }

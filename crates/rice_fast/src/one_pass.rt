@@ -1,4 +1,4 @@
-//! The pass: a buffered block, from its bits to the bytes of its samples.
+//! The pass: a block ahead, from its bits to the bytes of its samples.
 ghost use Rattle.std.specs.Prelude.{◌≡◌, ◌+◌, ◌-◌, ◌*◌, ◌<◌, ◌≤◌, IfSome, length, None, false, true};
 ghost use Rattle.rice_bits.specs.{Limits.step_limit, Limits.most_bits_read, Window.most_ahead};
 ghost use Rattle.rice_samples.specs.Parameters.{value_at, value_count, width as width_of};
@@ -22,7 +22,7 @@ pub struct WrittenBlock {
     pub turns: u64,
 }
 
-/// Writes the bytes of the buffered block of `size` samples, after a sample at level `before`, if it can. It takes no bits.
+/// Writes the bytes of the block of `size` samples ahead, after a sample at level `before`, if it can. Not all its bits may be buffered.
 /// It is laid out for blocks of `SIZE` samples with a `REFERENCE`, or without one.
 #[inline(always)]
 fn write_fields_ahead<L: SampleLanes, const SIZE: usize, const WIDTH: usize, const REFERENCE: bool>(
@@ -72,7 +72,7 @@ fn write_reference_block_ahead<L: SampleLanes, const WIDTH: usize>(
     write_fields_ahead::<L, 0, WIDTH, true>(setting, size, block, before, ahead, bytes)
 }
 
-/// Writes the bytes of the buffered block of `size` samples, after a sample at level `before`, if it can. It takes no bits.
+/// Writes the bytes of the block of `size` samples ahead, after a sample at level `before`, if it can. Not all its bits may be buffered.
 #[inline(always)]
 fn write_block_ahead<L: SampleLanes, const SIZE: usize, const WIDTH: usize>(
     setting: &Setting,

@@ -1,4 +1,4 @@
-//! The pairs of a buffered block by second extension.
+//! The pairs of a block ahead by second extension.
 ghost use Rattle.std.specs.Prelude.{◌≡◌, ◌+◌, ◌-◌, ◌*◌, ◌%◌, ◌<◌, ◌≤◌, ◌++◌, All, IfSome, drop, length, replicate, sum, take};
 ghost use Rattle.rice_samples.specs.Pairs.{pair_code, pair_codes};
 ghost use Rattle.rice_fast.specs.FieldsAhead.{CanLook, PairsAhead};

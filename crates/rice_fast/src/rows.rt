@@ -1,4 +1,4 @@
-//! Restores the samples of a buffered block, and writes their bytes, a row of lanes at a time.
+//! Restores the samples of a block ahead, and writes their bytes, a row of lanes at a time.
 ghost use Rattle.std.specs.Prelude.{◌≡◌, ◌+◌, ◌-◌, ◌*◌, ◌%◌, ◌^◌, ◌<◌, ◌≤◌, ◌++◌, All, IfSome, drop, get_or, length, min, replicate, take, true};
 ghost use Rattle.rice_bits.specs.Bits.{joined_parts};
 ghost use Rattle.rice_samples.specs.Parameters.{value_count, values_at, width as width_of};

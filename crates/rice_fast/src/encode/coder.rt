@@ -78,7 +78,6 @@ impl BlockCoder {
         ensures { (sink : List Bool) (meter : ℕ) → StandsFor result sink meter
             (record { coder = state_between setting start previous; sink = sink; meter = meter }) }
     {
-        let setting = setting;
         BlockCoder {
             setting,
             start,

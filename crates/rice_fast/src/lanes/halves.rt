@@ -20,7 +20,7 @@ static ONES: [u16; 16] = [
     65535, 65535, 65535, 65535, 65535, 65535, 65535, 65535, 0, 0, 0, 0, 0, 0, 0, 0,
 ];
 
-/// Returns the eight words of `width` bits after the first `skip` buffered bits. A call: few rows have words of so many bits, and those of
+/// Returns the eight words of `width` bits after the first `skip` bits ahead. A call: few rows have words of so many bits, and those of
 /// few bits are found faster without this beside them.
 #[inline(never)]
 fn longer_words_ahead(ahead: &BitsAhead<'_>, skip: usize, width: u32) -> Halves

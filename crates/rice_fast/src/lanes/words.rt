@@ -23,7 +23,7 @@ static ONES: [u32; 16] = [
     0, 0, 0, 0, 0, 0, 0, 0,
 ];
 
-/// Returns the eight words of `width` bits after the first `skip` buffered bits, read one by one. A call: in a caller's loop, the compiler
+/// Returns the eight words of `width` bits after the first `skip` bits ahead, read one by one. A call: in a caller's loop, the compiler
 /// would compute all their places before it.
 #[inline(never)]
 fn words_one_by_one(ahead: &BitsAhead<'_>, skip: usize, width: u32) -> Words
@@ -39,7 +39,7 @@ fn words_one_by_one(ahead: &BitsAhead<'_>, skip: usize, width: u32) -> Words
     Words::of(u32x8::from_array(words))
 }
 
-/// Returns the eight words of 32 bits after the first `skip` buffered bits.
+/// Returns the eight words of 32 bits after the first `skip` bits ahead.
 #[inline(always)]
 fn whole_words_ahead(ahead: &BitsAhead<'_>, skip: usize) -> Words
     requires { CanLook (skip + 256) ahead.now }
