@@ -6,11 +6,11 @@ use Rattle.rice_bits.specs.{Limits.most_bytes_read, Limits.most_at_once, declare
 abbrev pub most_buffered : ℕ
 most_buffered = 8 * most_at_once
 
--- how many bits can be looked at from each place of a window on, at least: more than those of a block
+-- how many bits can be looked at after the buffered ones
 abbrev pub most_ahead : ℕ
-most_ahead = 2624
+most_ahead = 320
 
--- the bytes of a window's buffer: those that are asked for, those of as many bits, and eight, so that eight can be loaded from each of these
+-- the bytes of a window's buffer: those that are asked for, those of as many bits, and eight, so that eight can be loaded from each byte on
 abbrev pub buffer_len : ℕ
 buffer_len = most_at_once + most_ahead / 8 + 8
 

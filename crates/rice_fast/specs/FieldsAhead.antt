@@ -1,15 +1,15 @@
 -- The fields of a block ahead, looked at before they are taken: its head, the sequences of its high parts, the words of its low parts;
 -- and rows of its samples, restored and spelled one after another.
 use Rattle.std.specs.Prelude.{◌≡◌, ℕ, ◌+◌, ◌-◌, ◌*◌, ◌^◌, ◌<◌, ◌≤◌, Bool, List, All, drop, flat_map, length, replicate, sum, take, Option, IfSome, IfNone, slice_index_or}
-use Rattle.rice_bits.specs.{Bits.fundamental_sequence, Bits.word, Window.most_ahead}
+use Rattle.rice_bits.specs.Bits.{fundamental_sequence, word}
 use Rattle.rice_samples.specs.{Parameters.Parameters, Parameters.value_at, Parameters.value_count, Parameters.values_at, Parameters.width, Places.is_reference, Pairs.pair_codes}
 use Rattle.rice_samples.specs.{Residuals.pattern, Residuals.last_number, Spelling.spellings}
 use Rattle.rice_code.specs.{code.CodedDataSets.reference_bits, code.Forms.IsReference, ReadSets.reference_place}
 use Rattle.rice_fast.specs.{BlocksAhead.BlockAhead, BlocksAhead.HasBits, LevelsOfParts.HaveParts, declared.fields.Fields.Fields}
 
--- so many bits can be looked at
+-- so many bits can be looked at, which are at most those of a block and some after them
 abbrev pub CanLook : ℕ → List Bool → Type 0
-CanLook count bits = (count ≤ most_ahead) × (most_ahead ≤ length bits)
+CanLook count bits = (count ≤ 2624) × (count ≤ length bits)
 
 -- Block b, of `count` samples after one at this level, has a reference or none. Its samples fit lanes, and have more than `below` bits.
 pub record IsBlockInLanes (below most : ℕ) (s : Parameters) (count b level : ℕ) (has_reference : Bool) : Type 0 where

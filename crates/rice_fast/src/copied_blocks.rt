@@ -65,7 +65,7 @@ fn write_copied_ahead<const WIDTH: usize>(
 )
     requires copied { IsCopied setting.now WIDTH }
     requires size { size ≡ setting.now.block }
-    requires there { most_ahead ≤ length ahead.now }
+    requires there { copied_bits setting.now WIDTH + 128 ≤ length ahead.now }
     requires room { WIDTH * setting.now.block + 15 ≤ length bytes.old }
     ensures { WordsAhead ahead.now setting.now WIDTH (WIDTH * setting.now.block) bytes.new }
 {
@@ -84,7 +84,7 @@ fn write_copied_ahead<const WIDTH: usize>(
 fn last_copied<const WIDTH: usize>(setting: &Setting, size: usize, ahead: &BitsAhead<'_>) -> u32
     requires copied { IsCopied setting.now WIDTH }
     requires size { size ≡ setting.now.block }
-    requires there { most_ahead ≤ length ahead.now }
+    requires there { copied_bits setting.now WIDTH ≤ length ahead.now }
     ensures below { result < value_count setting.now }
     ensures last { word (8 * WIDTH) (pattern setting.now (value_at setting.now result))
         ≡ take (8 * WIDTH)
@@ -96,19 +96,21 @@ fn last_copied<const WIDTH: usize>(setting: &Setting, size: usize, ahead: &BitsA
     level_of_pattern(setting, number_ahead(ahead, before, 8 * WIDTH as u32))
 }
 
-/// Writes the bytes of the block of `size` samples ahead, if its samples are not predicted, use all bits of `WIDTH` bytes, and are not
-/// compressed. It takes no bits.
+/// Writes the bytes of the block of `size` samples ahead, if all its bits are buffered, and its samples are not predicted, use all bits of
+/// `WIDTH` bytes, and are not compressed.
 #[inline(always)]
 pub fn write_copied_block<const WIDTH: usize>(
     setting: &Setting,
     size: usize,
     ahead: &BitsAhead<'_>,
+    buffered: u64,
     bytes: &mut [u8; 320],
 ) -> Option<WrittenBlock>
     requires size { size ≡ setting.now.block }
-    requires there { most_ahead ≤ length ahead.now }
-    ensures { IfSome result (λ r. (b : ℕ) (p : ℤ) →
+    requires there { buffered + most_ahead ≤ length ahead.now }
+    ensures some { IfSome result (λ r. (b : ℕ) (p : ℤ) →
         SpelledAhead ahead.now setting.now b p r.last r.len r.turns bytes.new) }
+    ensures within { IfSome result (λ r. r.len ≤ buffered) }
 {
     let _block = setting.block();
     if !is_copied::<WIDTH>(setting) {
@@ -117,10 +119,14 @@ pub fn write_copied_block<const WIDTH: usize>(
     if !is_copied_ahead::<WIDTH>(setting, ahead) {
         return None;
     }
+    let len = copied_len::<WIDTH>(setting, size);
+    if buffered < len as u64 {
+        return None;
+    }
     write_copied_ahead::<WIDTH>(setting, size, ahead, bytes);
     Some(WrittenBlock {
         last: last_copied::<WIDTH>(setting, size, ahead),
-        len: copied_len::<WIDTH>(setting, size),
+        len,
         turns: 0,
     })
 }

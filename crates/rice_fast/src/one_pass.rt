@@ -22,7 +22,7 @@ pub struct WrittenBlock {
     pub turns: u64,
 }
 
-/// Writes the bytes of the block of `size` samples ahead, after a sample at level `before`, if it can. Not all its bits may be buffered.
+/// Writes the bytes of the block of `size` samples ahead, after a sample at level `before`, if all its bits are buffered, and it can.
 /// It is laid out for blocks of `SIZE` samples with a `REFERENCE`, or without one.
 #[inline(always)]
 fn write_fields_ahead<L: SampleLanes, const SIZE: usize, const WIDTH: usize, const REFERENCE: bool>(
@@ -31,24 +31,30 @@ fn write_fields_ahead<L: SampleLanes, const SIZE: usize, const WIDTH: usize, con
     block: u32,
     before: u32,
     ahead: &BitsAhead<'_>,
+    buffered: u64,
     bytes: &mut [u8; 320],
 ) -> Option<WrittenBlock>
     requires known { 0 < SIZE → SIZE ≡ size }
     requires width { WIDTH ≡ width_of setting.now }
     requires block { IsBlockInLanes L.below L.bits setting.now size block before REFERENCE }
-    requires there { most_ahead ≤ length ahead.now }
-    ensures { IfSome result (λ r. SpelledAhead ahead.now setting.now block
+    requires there { buffered + most_ahead ≤ length ahead.now }
+    ensures some { IfSome result (λ r. SpelledAhead ahead.now setting.now block
         (value_at setting.now before) r.last r.len r.turns bytes.new) }
+    ensures within { IfSome result (λ r. r.len ≤ buffered) }
 {
     let _block = setting.block();
     let mut highs = [0; 80];
     let fields = fields_ahead::<L, REFERENCE>(setting, size, block, before, ahead, &mut highs)?;
+    let len = fields.words + (size - fields.omitted) * fields.k as usize;
+    if buffered < len as u64 {
+        return None;
+    }
     let last = write_rows::<L, SIZE, WIDTH, REFERENCE>(
         setting, size, &fields, &highs, ahead, bytes,
     )?;
     Some(WrittenBlock {
         last,
-        len: fields.words + (size - fields.omitted) * fields.k as usize,
+        len,
         turns: fields.turns,
     })
 }
@@ -61,18 +67,20 @@ fn write_reference_block_ahead<L: SampleLanes, const WIDTH: usize>(
     block: u32,
     before: u32,
     ahead: &BitsAhead<'_>,
+    buffered: u64,
     bytes: &mut [u8; 320],
 ) -> Option<WrittenBlock>
     requires width { WIDTH ≡ width_of setting.now }
     requires block { IsBlockInLanes L.below L.bits setting.now size block before true }
-    requires there { most_ahead ≤ length ahead.now }
-    ensures { IfSome result (λ r. SpelledAhead ahead.now setting.now block
+    requires there { buffered + most_ahead ≤ length ahead.now }
+    ensures some { IfSome result (λ r. SpelledAhead ahead.now setting.now block
         (value_at setting.now before) r.last r.len r.turns bytes.new) }
+    ensures within { IfSome result (λ r. r.len ≤ buffered) }
 {
-    write_fields_ahead::<L, 0, WIDTH, true>(setting, size, block, before, ahead, bytes)
+    write_fields_ahead::<L, 0, WIDTH, true>(setting, size, block, before, ahead, buffered, bytes)
 }
 
-/// Writes the bytes of the block of `size` samples ahead, after a sample at level `before`, if it can. Not all its bits may be buffered.
+/// Writes the bytes of the block of `size` samples ahead, after a sample at level `before`, if all its bits are buffered, and it can.
 #[inline(always)]
 fn write_block_ahead<L: SampleLanes, const SIZE: usize, const WIDTH: usize>(
     setting: &Setting,
@@ -80,6 +88,7 @@ fn write_block_ahead<L: SampleLanes, const SIZE: usize, const WIDTH: usize>(
     block: u32,
     before: u32,
     ahead: &BitsAhead<'_>,
+    buffered: u64,
     bytes: &mut [u8; 320],
 ) -> Option<WrittenBlock>
     requires bits { HasBits L.below L.bits setting.now }
@@ -88,26 +97,29 @@ fn write_block_ahead<L: SampleLanes, const SIZE: usize, const WIDTH: usize>(
     requires size { size ≡ setting.now.block }
     requires place { block < setting.now.interval }
     requires before { before < value_count setting.now }
-    requires there { most_ahead ≤ length ahead.now }
-    ensures { IfSome result (λ r. SpelledAhead ahead.now setting.now block
+    requires there { buffered + most_ahead ≤ length ahead.now }
+    ensures some { IfSome result (λ r. SpelledAhead ahead.now setting.now block
         (value_at setting.now before) r.last r.len r.turns bytes.new) }
+    ensures within { IfSome result (λ r. r.len ≤ buffered) }
 {
     if !setting.preprocess() {
-        if let Some(copied) = write_copied_block::<WIDTH>(setting, size, ahead, bytes) {
+        if let Some(copied) = write_copied_block::<WIDTH>(setting, size, ahead, buffered, bytes) {
             return Some(copied);
         }
     }
     if has_reference(setting, block) {
         if SIZE != 8 {
             return write_reference_block_ahead::<L, WIDTH>(
-                setting, size, block, before, ahead, bytes,
+                setting, size, block, before, ahead, buffered, bytes,
             );
         }
         return write_fields_ahead::<L, SIZE, WIDTH, true>(
-            setting, size, block, before, ahead, bytes,
+            setting, size, block, before, ahead, buffered, bytes,
         );
     }
-    write_fields_ahead::<L, SIZE, WIDTH, false>(setting, size, block, before, ahead, bytes)
+    write_fields_ahead::<L, SIZE, WIDTH, false>(
+        setting, size, block, before, ahead, buffered, bytes,
+    )
 }
 
 /// Reads the next block by a pass, if its coded data set is buffered and fits one. Writes the bytes of its samples, `WIDTH` each, to the
@@ -156,13 +168,11 @@ pub fn pass<L: SampleLanes, I: Intake, const SIZE: usize, const WIDTH: usize>(
         block,
         before,
         &reader.ahead(),
+        reader.buffered(),
         bytes,
     ) else {
         return false;
     };
-    if reader.buffered() < spelled.len as u64 {
-        return false;
-    }
     reader.pass(spelled.len, meter);
     meter.tick(spelled.turns);
     let last = setting.value_at(spelled.last as u64);

@@ -22,7 +22,7 @@ impl<I: Intake> BitReader<I> {
     #[inline(always)]
     pub fn ahead(&self) -> BitsAhead<'_>
         ensures bits { take (length self.now.buffered) result ≡ self.now.buffered }
-        ensures many { most_ahead ≤ length result }
+        ensures more { length self.now.buffered + most_ahead ≤ length result }
     {
         BitsAhead {
             bytes: &self.window.buffer,

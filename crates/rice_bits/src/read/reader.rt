@@ -17,7 +17,7 @@ const LIMIT: u64 = 1 << 49;
 
 /// Reads the bits of an intake's bytes, most significant first.
 ///
-/// Over a slice it takes 4,488 bytes of memory. In contracts its value is a record of the buffered bits, the number of bits taken, whether
+/// Over a slice it takes 4,200 bytes of memory. In contracts its value is a record of the buffered bits, the number of bits taken, whether
 /// all since the mark were 0, and the refusal. The record also has the intake, and its reported bytes and failures.
 ///
 /// It calls the intake only when a bit is requested and none is buffered: for at most 4,096 bytes at a time, and never past 2^49 bytes in

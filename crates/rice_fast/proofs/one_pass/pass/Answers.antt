@@ -13,7 +13,7 @@ returns-clause-some g c _ =
     let level_is = rw (to_z-of_z w64 c.before-2.result before) at c.level-before.ensures.value in
     let sample = subst (λ t. IsSample t p.before) c.requires.setting block.state.sample in
     let same : value_at s c.level-before.result ≡ p.before = ap (value_at s) level_is ∙ (ap (λ x. value_at s (level s x)) c.before-2.ensures ∙ value_of_level s p.before sample) in
-    let spelled = spelled_at p c.requires.setting block.place same (spelled_buffered c.ahead.ensures.bits (omega (arith, c.if-buffered-spelled.false, c.buffered.ensures)) c.in-Some.ensures) in
+    let spelled = spelled_at p c.requires.setting block.place same (spelled_buffered c.ahead.ensures.bits (omega (arith, c.in-Some.ensures.within, c.buffered.ensures)) c.in-Some.ensures.some) in
     let last : c.value_at-last.result ≡ value_at p.setting found.last = c.value_at-last.ensures.value ∙ ap (λ t. value_at t found.last) (sym c.requires.setting) in
     let moves = rw (to_z-of_z w64 c.value_at-last.result f) at c.go_to_next_block-answer.ensures.moves in (
       omega (arith, c.if-run-gt0.false, c.run.ensures),
