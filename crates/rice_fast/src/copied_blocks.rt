@@ -96,8 +96,8 @@ fn last_copied<const WIDTH: usize>(setting: &Setting, size: usize, ahead: &BitsA
     level_of_pattern(setting, number_ahead(ahead, before, 8 * WIDTH as u32))
 }
 
-/// Writes the bytes of the block of `size` samples ahead, if all its bits are buffered, and its samples are not predicted, use all bits of
-/// `WIDTH` bytes, and are not compressed.
+/// Writes the bytes of the block of `size` samples ahead. Returns `None` if not all its bits are buffered, or if its samples are predicted,
+/// compressed, or do not use all bits of `WIDTH` bytes.
 #[inline(always)]
 pub fn write_copied_block<const WIDTH: usize>(
     setting: &Setting,

@@ -9,8 +9,8 @@ use crate::bits::eight_bytes::{at_least_57_bits_from, number_from, store_zeros};
 /// The greatest number of bytes requested at a time.
 pub const PIECE: usize = 4096;
 
-/// The size of the buffer: 40 bytes more, so that a look may go past the buffered bits, and then eight, so that eight can be loaded from
-/// each byte on.
+/// The size of the buffer: 40 bytes more, so that a look may go past the buffered bits, and then eight. With these, eight can be loaded
+/// from each byte on.
 pub const ROOM: usize = PIECE + 48;
 
 /// The number of bits that eight bytes always have from any bit of the first byte on.
