@@ -141,11 +141,11 @@ pub record IsBefore (c : BlockCoder) (bytes : List ℕ) (reference : Option ℕ)
   pub first : (c.setting.preprocess && is_at_first c) ≡ true → (x : ℤ) × IsSample c.setting x × (take (width c.setting) bytes ≡ spelling c.setting x) × (value_at c.setting level ≡ x)
       × (reference ≡ Some (pattern c.setting x))
 
--- Zero blocks are pending, and the bytes of a block spell the sample before again and again, which is predicted.
-pub record GoesOn (c : BlockCoder) (bytes : List ℕ) : Type 0 where
+-- Zero blocks are pending, and the bytes of `count` blocks spell the sample before again and again, which is predicted.
+pub record GoesOn (c : BlockCoder) (bytes : List ℕ) (count : ℕ) : Type 0 where
   pub pending : 0 < c.run
   pub predicted : c.setting.preprocess ≡ true
-  pub spelled : bytes ≡ spellings c.setting (replicate c.setting.block (value_at c.setting c.previous))
+  pub spelled : take (width c.setting * (c.setting.block * count)) bytes ≡ spellings c.setting (replicate (c.setting.block * count) (value_at c.setting c.previous))
 
 -- The samples are pushed. Only where they make the segment whole are bits put.
 pub record PushesOpen (m m_new : Standing) (samples : List ℤ) (bits : ℕ) : Type 0 where

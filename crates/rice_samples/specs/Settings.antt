@@ -1,7 +1,7 @@
 -- Which settings there are, and of which parameter the fault is where there is none.
 use Rattle.std.specs.Prelude.{ℕ, Bool, ◌≡◌, ◌+◌, ◌%◌, if◌then◌else◌, nat_le, ◌&&◌, ◌||◌, ◌==◌, Result, Ok, Err}
 use Rattle.rice_samples.specs.declared.setting.SettingFault.{TheVariants.BadBits, TheVariants.BadBlock, TheVariants.BadAnyBlock, TheVariants.BadInterval, SettingFault}
-use Rattle.rice_samples.specs.{Parameters.Parameters, Parameters.value_count, Parameters.offset as offset_of, Limits.longest_interval}
+use Rattle.rice_samples.specs.{Parameters.Parameters, Parameters.value_count, Parameters.offset as offset_of, Parameters.id_len, Limits.longest_interval}
 
 abbrev pub parameters : ℕ → ℕ → ℕ → Bool → Bool → Bool → Bool → Bool → Parameters
 parameters bits block interval signed msb three preprocess pad = record {
@@ -15,9 +15,9 @@ parameters bits block interval signed msb three preprocess pad = record {
   pad = pad;
 }
 
--- the greatest level of these, and the number of levels of values below 0
-abbrev pub HasLevels : Parameters → ℕ → ℕ → Type 0
-HasLevels s greatest offset = (greatest + 1 ≡ value_count s) × (offset ≡ offset_of s)
+-- the greatest level of these, the number of levels of values below 0, and the number of bits of an identifier
+abbrev pub HasDerived : Parameters → ℕ → ℕ → ℕ → Type 0
+HasDerived s greatest offset id_bits = (greatest + 1 ≡ value_count s) × (offset ≡ offset_of s) × (id_bits ≡ id_len s)
 
 -- The setting with these parameters where they are legal, else the fault of the first that is not, in the order bits, block, interval:
 -- `takes_block` says whether the size of a block is one that is taken, and `bad_block` is the fault of one that is not.

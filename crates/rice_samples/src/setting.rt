@@ -1,5 +1,5 @@
 //! The setting of a coder and a decoder.
-ghost use Rattle.std.specs.Prelude.{◌≡◌, ◌+◌, ◌-◌, if◌then◌else◌, ◌*◌, ◌%◌, ◌^◌, ◌<◌, ◌≤◌, ◌↔◌, IsTrue, IsOk};
+ghost use Rattle.std.specs.Prelude.{◌≡◌, ◌+◌, ◌-◌, if◌then◌else◌, nat_le, ◌*◌, ◌%◌, ◌^◌, ◌<◌, ◌≤◌, ◌↔◌, IsTrue, IsOk};
 ghost use Rattle.rice_samples.specs.Parameters.{Parameters, IsLegal, IsSample, id_len, k_max, width, value_at as value_at_level, value_count, least, level, level as level_of, offset, IsBlockSize, IsStandardSize};
 ghost use Rattle.rice_samples.specs.{Settings.parameters, Settings.setting_of, Settings.any_setting_of, Places.segment_blocks, Places.blocks_left, Places.is_reference, Limits.longest_interval};
 
@@ -34,20 +34,22 @@ pub struct Setting {
     three: bool,
     preprocess: bool,
     pad: bool,
-    /// The greatest level, and the number of levels of values below 0: computed once, since each block needs them.
+    /// The greatest level, the number of levels of values below 0, and the number of bits of an identifier: computed once, since each block
+    /// needs them.
     greatest: u32,
     offset: u32,
+    id_len: u32,
 }
 
 impl Model for Setting {
     ghost use Rattle.std.specs.Prelude.{◌-◌};
-    ghost use Rattle.rice_samples.specs.{Parameters.Parameters, Parameters.IsLegal, Parameters.value_count, Parameters.offset as offset_of, Settings.parameters, Settings.HasLevels};
+    ghost use Rattle.rice_samples.specs.{Parameters.Parameters, Parameters.IsLegal, Parameters.value_count, Parameters.offset as offset_of, Parameters.id_len as id_len_of, Settings.parameters, Settings.HasDerived};
 
     ghost Value = { Parameters };
 
     ghost view = { λ s. parameters s.bits s.block s.interval s.signed s.msb s.three s.preprocess s.pad };
 
-    ghost invariant = { λ s. IsLegal (parameters s.bits s.block s.interval s.signed s.msb s.three s.preprocess s.pad) × HasLevels (parameters s.bits s.block s.interval s.signed s.msb s.three s.preprocess s.pad) s.greatest s.offset };
+    ghost invariant = { λ s. IsLegal (parameters s.bits s.block s.interval s.signed s.msb s.three s.preprocess s.pad) × HasDerived (parameters s.bits s.block s.interval s.signed s.msb s.three s.preprocess s.pad) s.greatest s.offset s.id_len };
 
     ghost inverse = { λ p. record {
       bits = p.bits;
@@ -60,6 +62,7 @@ impl Model for Setting {
       pad = p.pad;
       greatest = value_count p - 1;
       offset = offset_of p;
+      id_len = id_len_of p;
     } };
 }
 
@@ -77,6 +80,17 @@ fn levels_below_zero(bits: u32, signed: bool) -> u32
     ensures { result ≡ if signed then 2 ^ (bits - 1) else 0 }
 {
     if signed { 1 << (bits - 1) } else { 0 }
+}
+
+/// Returns the number of bits of an identifier, of samples of `bits` bits.
+fn identifier_len(bits: u32) -> u32
+    ensures { result ≡ if nat_le bits 8 then 3 else if nat_le bits 16 then 4 else 5 }
+{
+    match bits {
+        0..=8 => 3,
+        9..=16 => 4,
+        _ => 5,
+    }
 }
 
 impl Setting {
@@ -149,6 +163,7 @@ impl Setting {
             pad,
             greatest: greatest_level(bits),
             offset: levels_below_zero(bits, signed),
+            id_len: identifier_len(bits),
         })
     }
 
@@ -189,11 +204,7 @@ impl Setting {
         ensures value { result ≡ id_len self.now }
         ensures range { (3 ≤ result) × (result ≤ 5) }
     {
-        match self.bits {
-            0..=8 => 3,
-            9..=16 => 4,
-            _ => 5,
-        }
+        self.id_len
     }
 
     /// Returns the greatest split: 5, 13 or 29.

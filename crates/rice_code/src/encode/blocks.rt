@@ -32,7 +32,6 @@ pub fn code_block(
 }
 
 /// Appends the code of the run of `run` zero blocks that are pending, if there are any.
-#[inline]
 pub fn put_pending_run(
     setting: &Setting,
     reference: Option<u32>,

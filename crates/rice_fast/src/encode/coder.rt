@@ -1,5 +1,5 @@
 //! The coder, from the bytes of samples to code.
-ghost use Rattle.std.specs.Prelude.{◌≡◌, ℕ, ◌+◌, ◌-◌, ◌*◌, ◌/◌, ◌^◌, ◌<◌, ◌≤◌, ◌++◌, ◌∷◌, [], min, Bool, true, false, length, replicate, sum_by, List, ℤ, pos, IfSome, IfNone};
+ghost use Rattle.std.specs.Prelude.{◌≡◌, ℕ, ◌+◌, ◌-◌, ◌*◌, ◌/◌, ◌^◌, ◌<◌, ◌≤◌, ◌++◌, ◌∷◌, [], min, Bool, true, false, length, replicate, take, sum_by, List, ℤ, pos, IfSome, IfNone};
 ghost use Rattle.rice_bits.specs.Limits.{step_limit};
 ghost use Rattle.rice_samples.specs.Parameters.{IsSample, value_at, value_count, width as width_of};
 ghost use Rattle.rice_samples.specs.{Places.blocks_left, Spelling.IsNoSpelling, Spelling.Reads};
@@ -10,7 +10,7 @@ ghost use Rattle.rice_fast.specs.OpenBlocks.{CanEnd, EndsPart, GoesOn, HasRoomFo
 ghost use Rattle.rice_fast.specs.OpenBlocks.{HasRoomAt, Standing};
 
 use crate::encode::blocks::code_next_or_add_to_run;
-use crate::encode::repeats::repeat_sample;
+use crate::encode::repeats::repeated_blocks;
 use crate::encode::residuals_of_bytes::residuals_of_bytes;
 use crate::encode::sums::sum_of;
 use crate::vectors::{Bytes, Halves, Words};
@@ -232,18 +232,68 @@ impl BlockCoder {
                 bits: 0,
             };
         }
-        for i in 0..most {
-            if !self.take_block::<SIZE>(setting, &bytes[len * i..len * i + len], sink, meter) {
+        let whole = &bytes[..len * most];
+        let mut i = 0;
+        while i < most {
+            let taken = self.take_blocks::<SIZE>(setting, &whole[len * i..], sink, meter);
+            if taken == 0 {
                 return Pushed {
                     samples: known * i,
                     bits: 0,
                 };
             }
+            i += taken;
         }
         let bits = self.end_if_whole(sink, meter);
         Pushed {
             samples: known * most,
             bits,
+        }
+    }
+
+    /// Takes the samples of some of the whole blocks that the bytes spell, and returns the number of these blocks. It is 0 only where
+    /// `take_block` takes none.
+    #[inline(always)]
+    fn take_blocks<const SIZE: usize>(
+        &mut self,
+        setting: &Setting,
+        bytes: &[u8],
+        sink: &mut SegmentSink,
+        meter: &mut Meter,
+    ) -> usize
+        requires setting { setting.now ≡ self.old.setting }
+        requires size { 0 < SIZE → SIZE ≡ self.old.setting.block }
+        requires between { self.old.held ≡ 0 }
+        requires inside { (n : ℕ) × (self.old.blocks + n ≤ self.old.end) × (0 < n) ×
+            (length bytes.now ≡ width_of self.old.setting * (self.old.setting.block * n)) }
+        requires stands { CanEnd self.old sink.old meter.old }
+        ensures setting { self.new.setting ≡ self.old.setting }
+        ensures end { self.new.end ≡ self.old.end }
+        ensures held { self.new.held ≡ 0 }
+        ensures len { width_of self.old.setting * (self.old.setting.block * result) ≤ length bytes.now }
+        ensures blocks { self.new.blocks ≡ self.old.blocks + result }
+        ensures takes { (m : Standing) (xs : List ℤ) →
+            StandsAfter self.old sink.old meter.old m xs → HasRoomAt m → (ys : List ℤ) ×
+            Reads self.old.setting (take (width_of self.old.setting * (self.old.setting.block * result)) bytes.now) ys [] ×
+            (length ys ≡ self.old.setting.block * result) ×
+            StandsAfter self.new sink.new meter.new m (xs ++ ys) }
+    {
+        let size = known_or::<SIZE>(setting.block() as usize);
+        let count = self.repeats(setting, bytes);
+        if count > 0 {
+            // A step for each sample, and one for each look.
+            let samples = (size * count) as u64;
+            meter.tick(2 * samples);
+            self.blocks += count as u32;
+            self.run += count as u32;
+            self.steps_ahead += samples;
+            return count;
+        }
+        let len = setting.width() as usize * size;
+        if self.take_block::<SIZE>(setting, &bytes[..len], sink, meter) {
+            1
+        } else {
+            0
         }
     }
 
@@ -277,15 +327,6 @@ impl BlockCoder {
         ensures same { result ≡ false → self.new.blocks ≡ self.old.blocks }
     {
         let size = known_or::<SIZE>(self.setting.block() as usize);
-        if self.goes_on_with_run::<SIZE>(setting, bytes) {
-            // A step for each sample, and one for each look.
-            meter.tick(size as u64);
-            meter.tick(size as u64);
-            self.blocks += 1;
-            self.run += 1;
-            self.steps_ahead += size as u64;
-            return true;
-        }
         let before = match self.before_next(setting, bytes) {
             Some(before) => before,
             None => return false,
@@ -304,27 +345,26 @@ impl BlockCoder {
         }
     }
 
-    /// Returns true only if the bytes of a whole block spell the sample before again and again, where that makes a zero block, and such are
-    /// pending.
+    /// Returns a number of whole blocks at the front of the bytes that spell the sample before again and again, where these are zero blocks,
+    /// and such are pending. More may.
     #[inline(always)]
-    fn goes_on_with_run<const SIZE: usize>(&self, setting: &Setting, bytes: &[u8]) -> bool
+    fn repeats(&self, setting: &Setting, bytes: &[u8]) -> usize
         requires setting { setting.now ≡ self.now.setting }
-        requires size { 0 < SIZE → SIZE ≡ self.now.setting.block }
-        requires len { length bytes.now ≡ width_of self.now.setting * self.now.setting.block }
         requires below { self.now.previous < value_count self.now.setting }
-        ensures { result ≡ true → GoesOn self.now bytes.now }
+        ensures len { width_of self.now.setting * (self.now.setting.block * result) ≤ length bytes.now }
+        ensures goes_on { 0 < result → GoesOn self.now bytes.now result }
     {
         if self.run == 0 || !setting.preprocess() {
-            return false;
+            return 0;
         }
         let bits = setting.bits();
         if bits > 16 {
-            return repeat_sample::<Words, SIZE>(setting, bytes, self.previous);
+            return repeated_blocks::<Words>(setting, bytes, self.previous);
         }
-        if bits > 8 || known_or::<SIZE>(setting.block() as usize) % 16 != 0 {
-            return repeat_sample::<Halves, SIZE>(setting, bytes, self.previous);
+        if bits > 8 {
+            return repeated_blocks::<Halves>(setting, bytes, self.previous);
         }
-        repeat_sample::<Bytes, SIZE>(setting, bytes, self.previous)
+        repeated_blocks::<Bytes>(setting, bytes, self.previous)
     }
 
     /// Returns what stands before the sample that the bytes spell first, or `None` if they spell none.
@@ -362,8 +402,8 @@ impl BlockCoder {
     }
 
     /// Codes the block of which all residuals are held: a zero block is pending then, the code of any other is appended. `whole` is the sum
-    /// of the residuals. It is never inlined, so that the loop over the blocks stays short.
-    #[inline(never)]
+    /// of the residuals.
+    #[inline(always)]
     fn put_block<const SIZE: usize>(
         &mut self,
         whole: u64,

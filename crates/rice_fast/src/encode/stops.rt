@@ -39,27 +39,30 @@ pub fn first_stop<const SIZE: usize, const REFERENCE: bool>(
     let first = digits_above(whole, least).min(limit);
     let high = high_parts(items, first);
     let sum = sum_shifted(&high, 0);
-    let next = sum_shifted(&high, 1);
-    let last = sum_shifted(&high, 2);
-    // Two digits more take at most three quarters of a sum below `least` off, and leave less than the price.
-    if first == limit || sum <= next + price {
+    if sum <= price {
         return Stop {
             k: first,
             sum,
             high,
         };
     }
-    if first + 1 == limit || next <= last + price {
-        return Stop {
-            k: first + 1,
-            sum: next,
-            high: shifted(&high, 1),
-        };
-    }
+    let next = sum_shifted(&high, 1);
+    let last = sum_shifted(&high, 2);
+    // Two digits more take at most three quarters of a sum below `least` off, and leave less than the price. No jump is taken, since
+    // residuals do not foretell it.
+    let one_pays = (first < limit) & (next + price < sum);
+    let two_pay = one_pays & (first + 1 < limit) & (last + price < next);
+    let (more, sum) = if two_pay {
+        (2, last)
+    } else if one_pays {
+        (1, next)
+    } else {
+        (0, sum)
+    };
     Stop {
-        k: first + 2,
-        sum: last,
-        high: shifted(&high, 2),
+        k: first + more,
+        sum,
+        high: shifted(&high, more),
     }
 }
 

@@ -1,60 +1,46 @@
 -- One sample that bytes spell again and again.
-use Rattle.rice_fast.proofs.Words.{◌≡◌, ℕ, zero, suc, ◌+◌, ◌*◌, ◌≤◌, List, [], ◌∷◌, ◌++◌, length, take, drop, ap, refl, sym, subst, arith, ◌∙◌, length-append, replicate, bit_or, bit_xor, xor_add_and}
-use Rattle.rice_fast.proofs.Words.{Each1, zip2, and_le_l, and_le_r, take-add, Each1-replicate, map-append, take_all, Parameters, value_at, values_at, width, spellings, spellings-append}
-use Rattle.rice_fast.proofs.lemmas.{vectors.NearLanes.parts_below, vectors.LevelsInLanes.Each1-append}
-
--- What a loop that compares levels with one level has read: where no digit differs, all levels are that one.
-pub record RowsCompared (s : Parameters) (level at : ℕ) (bytes other : List ℕ) : Type 0 where
-  pub levels : List ℕ
-  pub number : length levels ≡ at
-  pub spelled : take (width s * at) bytes ≡ spellings s (values_at s levels)
-  pub same : Each1 (λ x. x ≤ 0) other → Each1 (λ l. l ≡ level) levels
-
--- no row yet
-pub none_compared : {s : Parameters} {level : ℕ} (bytes : List ℕ) {other : List ℕ} → RowsCompared s level 0 bytes other
-none_compared {s} bytes = record { levels = []; number = refl; spelled = ap (λ m. take m bytes) (let none : width s * 0 ≡ 0 = omega arith in none); same = λ h. tt }
+use Rattle.rice_fast.proofs.Words.{◌≡◌, ℕ, zero, suc, ◌+◌, ◌-◌, ◌*◌, ◌≤◌, List, [], ◌∷◌, ◌++◌, length, take, drop, ap, refl, sym, subst, arith, ◌∙◌, replicate, length-replicate, bit_xor, xor_add_and}
+use Rattle.rice_fast.proofs.Words.{Each1, zip2, and_le_l, and_le_r, take-add, take-take, take_at, Each1-replicate, Parameters, value_at, values_at, width, spellings, spellings-append, length-spellings, mul-le-mul_left, ℤ}
+use Rattle.std.proofs.lemmas.List.{replicate-append-replicate}
 
 -- numbers of which no digit differs are equal
 same_digits : (a b : ℕ) → bit_xor a b ≤ 0 → a ≡ b
 same_digits a b none = omega (arith, none, xor_add_and a b, and_le_l a b, and_le_r a b)
 
--- and so are those of rows
-all_same : (n level : ℕ) (row : List ℕ) → length row ≡ n → Each1 (λ x. x ≤ 0) (zip2 bit_xor row (replicate n level)) → Each1 (λ l. l ≡ level) row
-all_same n level [] count h = tt
-all_same zero level (x ∷ row) count h = absurd (omega arith)
-all_same (suc n) level (x ∷ row) count h = (same_digits x level h.0, all_same n level row (omega arith) h.1)
+-- and so are those of a row
+all_same : (n level : ℕ) (row : List ℕ) → length row ≡ n → Each1 (λ x. x ≤ 0) (zip2 bit_xor row (replicate n level)) → row ≡ replicate n level
+all_same zero level [] count h = refl
+all_same (suc n) level [] count h = absurd (omega (arith, count))
+all_same zero level (x ∷ row) count h = absurd (omega (arith, count))
+all_same (suc n) level (x ∷ row) count h = λ j. same_digits x level h.0 j ∷ all_same n level row (omega (arith, count)) h.1 j
 
--- one row more
-pub row_compared : {s : Parameters} {level n at : ℕ} {bytes other first now more : List ℕ} (row : List ℕ) → RowsCompared s level at bytes other → length row ≡ n → length other ≡ n → first ≡
-    replicate n level
-    → take (width s * n) (drop (width s * at) bytes) ≡ spellings s (values_at s row) → now ≡ zip2 bit_xor row first → length now ≡ n → more ≡ zip2 bit_or other now
-    → RowsCompared s level (at + n) bytes more
-row_compared {s} {level} {n} {at} {bytes} {other} {first} {now} {more} row old many as_many firsts spelled digits counted gathered = record {
-  levels = old.levels ++ row;
-  number = length-append old.levels row ∙ omega (arith, old.number, many);
-  spelled = ap (λ m. take m bytes) (let next : width s * (at + n) ≡ width s * at + width s * n = omega arith in next)
-      ∙ (take-add (width s * at) (width s * n) bytes ∙ ((λ j. old.spelled j ++ spelled j)
-      ∙ sym (ap (spellings s) (map-append (value_at s) old.levels row) ∙ spellings-append s (values_at s old.levels) (values_at s row))));
-  same = λ h.
-      let parts = parts_below 0 other now (as_many ∙ sym counted) (subst (Each1 (λ x. x ≤ 0)) gathered h) in
-      let own : Each1 (λ x. x ≤ 0) (zip2 bit_xor row (replicate n level)) = subst (Each1 (λ x. x ≤ 0)) (digits ∙ ap (zip2 bit_xor row) firsts) parts.1 in
-      Each1-append (λ l. l ≡ level) old.levels row (old.same parts.0) (all_same n level row many own);
-}
+values_of_copies : (s : Parameters) (level n : ℕ) → values_at s (replicate n level) ≡ replicate n (value_at s level)
+values_of_copies s level zero = refl
+values_of_copies s level (suc n) = ap (λ v. value_at s level ∷ v) (values_of_copies s level n)
 
--- numbers that are all the same
-copies : (level : ℕ) (levels : List ℕ) → Each1 (λ l. l ≡ level) levels → levels ≡ replicate (length levels) level
-copies level [] h = refl
-copies level (l ∷ levels) h = λ j. h.0 j ∷ copies level levels h.1 j
+-- A row of which no digit differs from a level has the sample at this level again and again.
+pub row_repeated : (s : Parameters) (level : ℕ) {n : ℕ} (row : List ℕ) {first now : List ℕ} → length row ≡ n → first ≡ replicate n level → now ≡ zip2 bit_xor row first → now ≡ replicate n 0
+    → values_at s row ≡ replicate n (value_at s level)
+row_repeated s level {n} row many firsts digits none =
+    let zeros = subst (Each1 (λ x. x ≤ 0)) (sym none) (Each1-replicate (λ x. x ≤ 0) n 0 (let none : 0 ≤ 0 = omega arith in none)) in
+    let own = subst (Each1 (λ x. x ≤ 0)) (digits ∙ ap (zip2 bit_xor row) firsts) zeros in
+    ap (values_at s) (all_same n level row many own) ∙ values_of_copies s level n
 
--- Where no digit of any row differs, one sample is spelled again and again.
-pub sample_repeated : {s : Parameters} {level at count : ℕ} {bytes other : List ℕ} (n : ℕ) → RowsCompared s level at bytes other → at ≡ count → length bytes ≡ width s * count → other ≡ replicate n 0
-    → bytes ≡ spellings s (replicate count (value_at s level))
-sample_repeated {s} {level} {at} {count} {bytes} {other} n rows whole len none =
-    let same = copies level rows.levels (rows.same (subst (Each1 (λ x. x ≤ 0)) (sym none) (Each1-replicate (λ x. x ≤ 0) n 0 (let none : 0 ≤ 0 = omega arith in none)))) in
-    let most : width s * count ≡ width s * at = ap (λ m. width s * m) (sym whole) in
-    sym (take_all (width s * at) bytes (omega (arith, len, most)))
-    ∙ (rows.spelled ∙ ap (spellings s) (ap (values_at s) (same ∙ ap (λ m. replicate m level) (rows.number ∙ whole)) ∙ values count))
-  where
-    values : (n : ℕ) → values_at s (replicate n level) ≡ replicate n (value_at s level)
-    values zero = refl
-    values (suc n) = ap (λ v. value_at s level ∷ v) (values n)
+-- the bytes of more samples
+pub more_repeated : (s : Parameters) (x : ℤ) (a b : ℕ) (bytes : List ℕ) → take (width s * a) bytes ≡ spellings s (replicate a x) → take (width s * b) (drop (width s * a) bytes) ≡ spellings s (replicate b x)
+    → take (width s * (a + b)) bytes ≡ spellings s (replicate (a + b) x)
+more_repeated s x a b bytes old new =
+    let place : width s * (a + b) ≡ width s * a + width s * b = omega arith in
+    ap (λ m. take m bytes) place
+    ∙ (take-add (width s * a) (width s * b) bytes ∙ ((λ j. old j ++ new j)
+    ∙ (sym (spellings-append s (replicate a x) (replicate b x)) ∙ ap (spellings s) (replicate-append-replicate a b x))))
+
+-- and of fewer
+pub fewer_repeated : (s : Parameters) (x : ℤ) (k n : ℕ) (bytes : List ℕ) → k ≤ n → take (width s * n) bytes ≡ spellings s (replicate n x) → take (width s * k) bytes ≡ spellings s (replicate k x)
+fewer_repeated s x k n bytes few all =
+    let rest : k + (n - k) ≡ n = omega (arith, few) in
+    let parts : spellings s (replicate n x) ≡ spellings s (replicate k x) ++ spellings s (replicate (n - k) x) =
+    ap (λ m. spellings s (replicate m x)) (sym rest) ∙ (ap (spellings s) (sym (replicate-append-replicate k (n - k) x)) ∙ spellings-append s (replicate k x) (replicate (n - k) x)) in
+    let len = length-spellings s (replicate k x) ∙ ap (λ m. width s * m) (length-replicate k x) in
+    let inside = mul-le-mul_left (width s) few in
+    sym (take-take (width s * k) (width s * n) bytes inside) ∙ (ap (take (width s * k)) (all ∙ parts) ∙ take_at (spellings s (replicate k x)) (spellings s (replicate (n - k) x)) (width s * k) len)

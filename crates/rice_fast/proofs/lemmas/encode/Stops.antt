@@ -1,9 +1,9 @@
 -- The search for the best split, from the first place on at which the sum of the residuals is small.
-use Rattle.rice_fast.proofs.Words.{◌≡◌, ℕ, zero, suc, ◌+◌, ◌-◌, ◌*◌, ◌/◌, ◌^◌, ◌<◌, ◌≤◌, ◌≢◌, List, [], ◌∷◌, ◌++◌, length, map, replicate, refl, ap, arith, sym, ◌∙◌, sum_by, true, false, ◌==◌, inl}
+use Rattle.rice_fast.proofs.Words.{◌≡◌, ℕ, zero, suc, ◌+◌, ◌-◌, ◌*◌, ◌/◌, ◌^◌, ◌<◌, ◌≤◌, Bool, ◌&&◌, List, [], ◌∷◌, ◌++◌, length, map, replicate, refl, ap, arith, sym, ◌∙◌, sum_by, true, false, ◌==◌, inl}
 use Rattle.rice_fast.proofs.Words.{shr-shr, inr, min, subst, get_or, bit_or, list_all, cases_lt, nat_tests, length-map, map-append, All-nil, All-cons, sum_by-replicate, sum_by-append, sum_by-cons}
 use Rattle.rice_fast.proofs.Words.{le_or_l, leading_length, or_lt, pow-add, pow_pos, div-lt_iff_lt-mul, div-mul-le_self, mul-le-mul_right, pow-le-pow_right, zero-div, count_leading_zeros, Parameters}
 use Rattle.rice_fast.proofs.Words.{k_max, value_count, byte_id, half_id, word_id, cut_sum, sum_halves, with_zeros, IsFirstStop}
-use Rattle.std.proofs.Common.{All}
+use Rattle.std.proofs.Common.{All, nat_lt}
 use Rattle.rice_fast.proofs.lemmas.encode.LargeSums.{falls_more, large_falls, zeros_joined}
 
 -- two numbers joined have as many digits as the longer one, and so the second fits as many
@@ -131,26 +131,62 @@ stops_after_two ds {limit} {price} {first} few h lt more again value =
       stops = λ within. omega (arith, h.small (omega (arith, lt)), few, sum_halves ds first, sum_halves ds (first + 1), ap (cut_sum ds) e);
     }
 
--- a number that is at most a limit, and is not the limit
-pub differs : {n limit : ℕ} → n ≤ limit → n ≢ limit → n < limit
-differs {n} {limit} le ne = elim (cases_lt n limit) [
-  | inl lt ↦ lt
-  | inr ge ↦ absurd (ne (omega (arith, le, ge)))
-]
-
 -- the sums of bytes, as those of the residuals
 pub record Summed (ds : List ℕ) (k a b c : ℕ) : Type 0 where
   pub first : a ≡ cut_sum ds k
   pub next : b ≡ cut_sum ds (k + 1)
   pub last : c ≡ cut_sum ds (k + 2)
 
--- what sums of bytes tell of them
+-- what a sum of bytes tells of them,
+pub high_summed : (ds : List ℕ) (k : ℕ) {high : List ℕ} {sum : ℕ} → high ≡ with_zeros (map (λ d. d / 2 ^ k) ds) → sum ≡ sum_by (λ m. m / 2 ^ 0) high → sum ≡ cut_sum ds k
+high_summed ds k e a = let here : k + 0 ≡ k = omega arith in a ∙ (ap (sum_by (λ m. m / 2 ^ 0)) e ∙ (high_sum k 0 ds ∙ ap (cut_sum ds) here))
+
+-- and what all three tell
 pub summed : (ds : List ℕ) (k : ℕ) {high : List ℕ} {sum next last : ℕ} → high ≡ with_zeros (map (λ d. d / 2 ^ k) ds) → sum ≡ sum_by (λ m. m / 2 ^ 0) high → next ≡ sum_by (λ m. m / 2 ^ 1) high
     → last ≡ sum_by (λ m. m / 2 ^ 2) high → Summed ds k sum next last
 summed ds k {high} e a b c =
     let all : (j : ℕ) → sum_by (λ m. m / 2 ^ j) high ≡ cut_sum ds (k + j) = λ j. ap (sum_by (λ m. m / 2 ^ j)) e ∙ high_sum k j ds in
-    let here : k + 0 ≡ k = omega arith in
-    record { first = a ∙ (all 0 ∙ ap (cut_sum ds) here); next = b ∙ all 1; last = c ∙ all 2 }
+    record { first = high_summed ds k e a; next = b ∙ all 1; last = c ∙ all 2 }
+
+-- It stops at the first place where the sum is no more than the price,
+pub stops_at_price : (ds : List ℕ) {limit price first sum : ℕ} → BeginsAt ds limit price first → sum ≡ cut_sum ds first → sum ≤ price → IsFirstStop ds limit price first sum
+stops_at_price ds h value few = record { limit = h.within; value = value; falls = h.falls; stops = λ lt. omega (arith, value, few) }
+
+-- whether one digit more takes more than the price off
+abbrev pub pays : (first limit price sum next : ℕ) → Bool
+pays first limit price sum next = nat_lt first limit && nat_lt (next + price) sum
+
+-- and whether two do, one after the other
+abbrev pub pay_both : (first limit price sum next last : ℕ) → Bool
+pay_both first limit price sum next last = (pays first limit price sum next && nat_lt (first + 1) limit) && nat_lt (last + price) next
+
+-- where one does not,
+pub stops_at_first : (ds : List ℕ) {limit price first sum next last : ℕ} → BeginsAt ds limit price first → Summed ds first sum next last → pays first limit price sum next ≡ false
+    → IsFirstStop ds limit price first sum
+stops_at_first ds {limit} {price} {first} {sum} {next} h sums fails = record { limit = h.within; value = sums.first; falls = h.falls; stops = λ lt. omega (arith, sums.first, sums.next, not_more lt) }
+  where
+    not_more : first < limit → sum ≤ next + price
+    not_more lt = grind (arith, nat_tests, lt, fails)
+
+-- after one digit where another does not,
+pub stops_later : (ds : List ℕ) {limit price first sum next last : ℕ} → BeginsAt ds limit price first → Summed ds first sum next last → pays first limit price sum next ≡ true
+    → pay_both first limit price sum next last ≡ false → IsFirstStop ds limit price (first + 1) next
+stops_later ds {limit} {price} {first} {sum} {next} {last} h sums one fails =
+    let less : first < limit = grind (arith, nat_tests, one) in
+    let more : next + price < sum = grind (arith, nat_tests, one) in
+    stops_after_one ds h less (omega (arith, sums.first, sums.next, more)) sums.next (λ lt. omega (arith, sums.next, sums.last, not_more lt))
+  where
+    not_more : first + 1 < limit → next ≤ last + price
+    not_more lt = grind (arith, nat_tests, lt, one, fails)
+
+-- and after two where both do.
+pub stops_last : (ds : List ℕ) {limit price first sum next last : ℕ} → length ds ≤ 2 * price → BeginsAt ds limit price first → Summed ds first sum next last
+    → pay_both first limit price sum next last ≡ true → IsFirstStop ds limit price (first + 2) last
+stops_last ds {limit} {price} {first} {sum} {next} {last} few h sums both =
+    let more : next + price < sum = grind (arith, nat_tests, both) in
+    let less : first + 1 < limit = grind (arith, nat_tests, both) in
+    let again : last + price < next = grind (arith, nat_tests, both) in
+    stops_after_two ds few h less (omega (arith, sums.first, sums.next, more)) (omega (arith, sums.next, sums.last, again)) sums.last
 
 -- there is a split beside that of no digits, and samples have at most three bits more than the last split takes
 pub last_split : (s : Parameters) → (1 ≤ k_max s) × (s.bits ≤ 32 → s.bits ≤ k_max s + 3)

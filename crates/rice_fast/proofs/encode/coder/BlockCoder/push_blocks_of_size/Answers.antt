@@ -1,17 +1,39 @@
-use Rattle.rice_fast.proofs.Words.{ℕ, zero, suc, ◌≡◌, ◌+◌, ◌-◌, ◌*◌, ◌/◌, ◌≤◌, ◌<◌, ◌∙◌, ◌++◌, [], length, drop, take, ap, arith, false, refl, rules, subst, true, sym, length-append, nil_from_length}
-use Rattle.rice_fast.proofs.Words.{div-add-mod, mul-le-mul_left, Parameters, width, Reads}
+use Rattle.rice_fast.proofs.Words.{ℕ, zero, suc, ◌≡◌, ◌+◌, ◌-◌, ◌*◌, ◌/◌, ◌≤◌, ◌<◌, ◌∙◌, ◌++◌, [], List, length, drop, take, ap, arith, refl, rules, subst, sym, append-nil, length-append, length-drop, length-take-le}
+use Rattle.rice_fast.proofs.Words.{div-add-mod, mul-le-mul_left, nil_from_length, take-take, some_width, Parameters, width, Reads, StandsAfter}
+use Rattle.std.proofs.lemmas.List.{drop-take, take_rest}
 use Rattle.rice_fast.proofs.lemmas.encode.StandingCoders.{after_none, for_again, for_open, pushes_nothing}
-use Rattle.rice_fast.proofs.lemmas.{encode.EndedSegments.spelled_are_taken, encode.TakenBytes.reads_more, encode.TakenBytes.reads_none}
+use Rattle.rice_fast.proofs.lemmas.{encode.EndedSegments.spelled_are_taken, encode.RunsGoOn.few_blocks, encode.TakenBytes.reads_more, encode.TakenBytes.reads_none}
 use Rattle.rice_fast.proofs.encode.coder.BlockCoder.push_blocks_of_size.Goals as goal
 
 -- whole blocks of bytes are among all bytes
-inside : (len n i most : ℕ) → most ≤ n / len → i < most → len * i + len ≤ n
-inside len n i most few less =
-    let all : len * (i + 1) ≤ len * (n / len) = mul-le-mul_left len (omega (arith, few, less)) in
-    omega (arith, all, div-add-mod n len)
-
 all_inside : (len n most : ℕ) → most ≤ n / len → len * most ≤ n
 all_inside len n most few = let all : len * most ≤ len * (n / len) = mul-le-mul_left len few in omega (arith, all, div-add-mod n len)
+
+-- those before a block, and the others
+parts : (len most i : ℕ) → i ≤ most → len * most ≡ len * i + len * (most - i)
+parts len most i le = (let e : i + (most - i) ≡ most = omega (arith, le) in ap (λ n. len * n) (sym e) ∙ omega arith)
+
+-- the bytes of a slice from a block on
+abbrev rest : (len most i : ℕ) → List ℕ → List ℕ
+rest len most i bytes = take (length (take (len * most) bytes) - len * i) (drop (len * i) (take (len * most) bytes))
+
+rest_is : (len most i : ℕ) (bytes : List ℕ) → i ≤ most → rest len most i bytes ≡ take (len * (most - i)) (drop (len * i) bytes)
+rest_is len most i bytes le =
+    take_rest (take (len * most) bytes) (len * i) ∙ (ap (λ n. drop (len * i) (take n bytes)) (parts len most i le) ∙ drop-take (len * i) (len * (most - i)) bytes)
+
+rest_long : (len most i : ℕ) (bytes : List ℕ) → i ≤ most → len * most ≤ length bytes → length (rest len most i bytes) ≡ len * (most - i)
+rest_long len most i bytes le all =
+    ap length (rest_is len most i bytes le)
+    ∙ length-take-le (len * (most - i)) (drop (len * i) bytes) (omega (arith, length-drop (len * i) bytes, all, parts len most i le))
+
+front_of_rest : (len most i t : ℕ) (bytes : List ℕ) → i + t ≤ most → take (len * t) (rest len most i bytes) ≡ take (len * t) (drop (len * i) bytes)
+front_of_rest len most i t bytes le =
+    let inside : len * t ≤ len * (most - i) = mul-le-mul_left len (omega (arith, le)) in
+    ap (take (len * t)) (rest_is len most i bytes (omega (arith, le))) ∙ take-take (len * t) (len * (most - i)) (drop (len * i) bytes) inside
+
+-- the bytes of blocks
+as_bytes : (s : Parameters) {w known : ℕ} (x : ℕ) → w ≡ width s → known ≡ s.block → w * known * x ≡ width s * (s.block * x)
+as_bytes s {w} {known} x e f = (let a : w * known * x ≡ w * (known * x) = omega arith in a ∙ (λ j. e j * (f j * x)))
 
 pub loop-i-init : goal.loop-i-init
 loop-i-init g c = record {
@@ -20,10 +42,40 @@ loop-i-init g c = record {
   end = refl;
   held = c.requires.between;
   blocks = omega arith;
+  most = omega arith;
 }
 
-pub take_block-requires-clause-stands : goal.take_block-requires-clause-stands
-take_block-requires-clause-stands g c =
+pub slice_bounds-take_blocks-count : goal.slice_bounds-take_blocks-count
+slice_bounds-take_blocks-count g c =
+    let len = c.width.result * c.known_or-known.result in
+    let all = all_inside len (length c.args.bytes.now) c.blocks_to_take-most.result (omega (arith, c.blocks_to_take-most.ensures)) in
+    let before = mul-le-mul_left len c.loop-i.invariant.most in
+    omega (arith, before, length-take-le (len * c.blocks_to_take-most.result) c.args.bytes.now all)
+
+pub slice_bounds-take_blocks-start : goal.slice_bounds-take_blocks-start
+slice_bounds-take_blocks-start g c =
+    let len = c.width.result * c.known_or-known.result in
+    let all = all_inside len (length c.args.bytes.now) c.blocks_to_take-most.result (omega (arith, c.blocks_to_take-most.ensures)) in
+    let before = mul-le-mul_left len c.loop-i.invariant.most in
+    omega (arith, before, length-take-le (len * c.blocks_to_take-most.result) c.args.bytes.now all)
+
+pub take_blocks-taken-requires-clause-inside : goal.take_blocks-taken-requires-clause-inside
+take_blocks-taken-requires-clause-inside g c =
+    let inv = c.loop-i.invariant in
+    let s = c.loop-i.self.setting in
+    let most = c.blocks_to_take-most.result in
+    let len = c.width.result * c.known_or-known.result in
+    let w = c.width.ensures.value ∙ (ap width c.requires.setting ∙ sym (ap width inv.setting)) in
+    let known = c.known_or-known.ensures ∙ (c.block.ensures.value ∙ (ap (λ (v : Parameters). v.block) c.requires.setting ∙ sym (ap (λ (v : Parameters). v.block) inv.setting))) in
+    let all = all_inside len (length c.args.bytes.now) most (omega (arith, c.blocks_to_take-most.ensures)) in (
+      most - c.loop-i.i,
+      omega (arith, inv.blocks, inv.end, inv.most, c.blocks_to_take-most.ensures),
+      omega (arith, c.loop-i-test.true),
+      rest_long len most c.loop-i.i c.args.bytes.now inv.most all ∙ as_bytes s (most - c.loop-i.i) w known,
+    )
+
+pub take_blocks-taken-requires-clause-stands : goal.take_blocks-taken-requires-clause-stands
+take_blocks-taken-requires-clause-stands g c =
     let given = c.requires.stands in
     let taken = c.loop-i.invariant.stands given.0 given.1 given.2 in
     (given.0, taken.0, taken.3, given.2)
@@ -34,16 +86,72 @@ end_if_whole-bits-requires-clause-stands g c =
     let taken = c.loop-i.invariant.stands given.0 given.1 given.2 in
     (given.0, taken.0, taken.3, given.2)
 
-pub slice_bounds-take_block-end : goal.slice_bounds-take_block-end
-slice_bounds-take_block-end g c = inside (c.width.result * c.known_or-known.result) (length c.args.bytes.now) c.loop-i.i c.blocks_to_take-most.result
-    (omega (arith, c.blocks_to_take-most.ensures)) (search rules)
+-- no more blocks are taken than there are
+taken_inside : (s : Parameters) {w known : ℕ} (most i t : ℕ) (bytes : List ℕ) → w ≡ width s → known ≡ s.block → 1 ≤ s.block → i ≤ most → w * known * most ≤ length bytes
+    → width s * (s.block * t) ≤ length (rest (w * known) most i bytes) → i + t ≤ most
+taken_inside s {w} {known} most i t bytes e f some le all few =
+    let long = rest_long (w * known) most i bytes le all in
+    let t_inside : t ≤ most - i = few_blocks (width s) s.block t (most - i) (some_width s) some (omega (arith, few, long, as_bytes s (most - i) e f)) in
+    omega (arith, t_inside, le)
 
-pub returns-then-not-take_block-clause-count : goal.returns-then-not-take_block-clause-count
-returns-then-not-take_block-clause-count g c =
+pub overflow_add-i : goal.overflow_add-i
+overflow_add-i g c =
+    let inv = c.loop-i.invariant in
+    let most = c.blocks_to_take-most.result in
     let len = c.width.result * c.known_or-known.result in
-    let all = inside len (length c.args.bytes.now) c.loop-i.i c.blocks_to_take-most.result (omega (arith, c.blocks_to_take-most.ensures)) (search rules) in
+    let w = c.width.ensures.value ∙ (ap width c.requires.setting ∙ sym (ap width inv.setting)) in
+    let known = c.known_or-known.ensures ∙ (c.block.ensures.value ∙ (ap (λ (v : Parameters). v.block) c.requires.setting ∙ sym (ap (λ (v : Parameters). v.block) inv.setting))) in
+    let all = all_inside len (length c.args.bytes.now) most (omega (arith, c.blocks_to_take-most.ensures)) in
+    let few = taken_inside c.loop-i.self.setting most c.loop-i.i c.take_blocks-taken.result c.args.bytes.now w known (omega (arith, known, c.known_or-known.ensures, c.block.ensures.range)) inv.most all
+    c.take_blocks-taken.ensures.len in
+    omega (arith, few)
+
+pub loop-i-preserved : goal.loop-i-preserved
+loop-i-preserved g c =
+    let inv = c.loop-i.invariant in
+    let s = c.args.self.now.setting in
+    let s_here = c.loop-i.self.setting in
+    let bytes = c.args.bytes.now in
+    let most = c.blocks_to_take-most.result in
+    let len = c.width.result * c.known_or-known.result in
+    let i = c.loop-i.i in
+    let t = c.take_blocks-taken.result in
+    let did = c.take_blocks-taken.ensures in
+    let w = c.width.ensures.value ∙ (ap width c.requires.setting ∙ sym (ap width inv.setting)) in
+    let known = c.known_or-known.ensures ∙ (c.block.ensures.value ∙ (ap (λ (v : Parameters). v.block) c.requires.setting ∙ sym (ap (λ (v : Parameters). v.block) inv.setting))) in
+    let all = all_inside len (length bytes) most (omega (arith, c.blocks_to_take-most.ensures)) in
+    let few = taken_inside s_here most i t bytes w known (omega (arith, known, c.known_or-known.ensures, c.block.ensures.range)) inv.most all did.len in
+    let others = rest len most i bytes in
+    let bytes_taken : width s_here * (s_here.block * t) ≡ len * t = sym (as_bytes s_here t w known) in
+    let samples = ap (λ b. b * t) known in
+    let place : len * i + len * t ≡ len * (i + t) = omega arith in
+    record {
+      stands = λ m h room.
+          let taken = inv.stands m h room in
+          let more = did.takes m taken.0 taken.3 room in
+          let own : Reads s (take (len * t) (drop (len * i) bytes)) more.0 [] =
+          subst (λ v. Reads s v more.0 []) (ap (λ n. take n others) bytes_taken ∙ front_of_rest len most i t bytes few)
+          (subst (λ (v : Parameters). Reads v (take (width s_here * (s_here.block * t)) others) more.0 []) inv.setting more.1) in
+          let read = reads_more (len * i) (len * t) taken.2 own in (
+            taken.0 ++ more.0,
+            omega (arith, length-append taken.0 more.0, taken.1, more.2, samples),
+            subst (λ n. Reads s bytes (taken.0 ++ more.0) (drop n bytes)) place read,
+            more.3,
+          );
+      setting = did.setting ∙ inv.setting;
+      end = did.end ∙ inv.end;
+      held = did.held;
+      blocks = omega (arith, did.blocks, inv.blocks);
+      most = few;
+    }
+
+pub returns-then-taken-eq0-clause-count : goal.returns-then-taken-eq0-clause-count
+returns-then-taken-eq0-clause-count g c =
+    let len = c.width.result * c.known_or-known.result in
+    let all = all_inside len (length c.args.bytes.now) c.blocks_to_take-most.result (omega (arith, c.blocks_to_take-most.ensures)) in
+    let before = mul-le-mul_left len c.loop-i.invariant.most in
     let w = ap (λ n. n * (c.known_or-known.result * c.loop-i.i)) (c.width.ensures.value ∙ ap width c.requires.setting) in
-    omega (arith, all, w)
+    omega (arith, all, before, w)
 
 pub returns-clause-count : goal.returns-clause-count
 returns-clause-count g c =
@@ -52,47 +160,19 @@ returns-clause-count g c =
     let w = ap (λ n. n * (c.known_or-known.result * c.blocks_to_take-most.result)) (c.width.ensures.value ∙ ap width c.requires.setting) in
     omega (arith, all, w)
 
-pub loop-i-preserved : goal.loop-i-preserved
-loop-i-preserved g c =
+pub returns-then-taken-eq0-clause-takes : goal.returns-then-taken-eq0-clause-takes
+returns-then-taken-eq0-clause-takes g c m h room =
     let inv = c.loop-i.invariant in
+    let did = c.take_blocks-taken.ensures in
     let s = c.args.self.now.setting in
-    let len = c.width.result * c.known_or-known.result in
-    let i = c.loop-i.i in
-    let did = c.take_block.ensures in
-    let took : c.take_block.result ≡ true = search rules in
-    let place : len * i + len ≡ len * (i + 1) = omega arith in
-    let slice : len * i + len - len * i ≡ len = omega arith in
-    let known = c.known_or-known.ensures ∙ (c.block.ensures.value ∙ ap (λ (v : Parameters). v.block) c.requires.setting) in
-    record {
-      stands = λ m h room.
-          let taken = inv.stands m h room in
-          let more = did.takes took m taken.0 taken.3 room in
-          let own : Reads s (take len (drop (len * i) c.args.bytes.now)) more.0 [] =
-          subst (λ n. Reads s (take n (drop (len * i) c.args.bytes.now)) more.0 []) slice
-          (subst (λ (v : Parameters). Reads v (take (len * i + len - len * i) (drop (len * i) c.args.bytes.now)) more.0 []) inv.setting more.1) in
-          let read = reads_more (len * i) len taken.2 own in
-          let block = ap (λ (v : Parameters). v.block) inv.setting in (
-            taken.0 ++ more.0,
-            omega (arith, length-append taken.0 more.0, taken.1, more.2, block, known),
-            subst (λ n. Reads s c.args.bytes.now (taken.0 ++ more.0) (drop n c.args.bytes.now)) place read,
-            more.3,
-          );
-      setting = did.setting ∙ inv.setting;
-      end = did.end ∙ inv.end;
-      held = did.held;
-      blocks = omega (arith, did.blocks took, inv.blocks);
-    }
-
-pub returns-then-not-take_block-clause-takes : goal.returns-then-not-take_block-clause-takes
-returns-then-not-take_block-clause-takes g c m h room =
-    let inv = c.loop-i.invariant in
-    let did = c.take_block.ensures in
-    let s = c.args.self.now.setting in
-    let failed : c.take_block.result ≡ false = search rules in
+    let new = c.take_blocks-taken.new in
     let taken = inv.stands m h room in
-    let kept = did.kept failed m taken.0 taken.3 in
-    let one : 1 ≤ c.take_block.new.self.setting.block = grind (arith, kept.stands.holds.opens.legal.block) in
-    let less : c.take_block.new.self.blocks < c.take_block.new.self.end = omega (arith, did.same failed, did.end, inv.blocks, inv.end, c.blocks_to_take-most.ensures) in
+    let more = did.takes m taken.0 taken.3 room in
+    let zero : c.loop-i.self.setting.block * c.take_blocks-taken.result ≡ 0 = ap (λ n. c.loop-i.self.setting.block * n) c.if-taken-eq0.true ∙ omega arith in
+    let none = nil_from_length more.0 (more.2 ∙ zero) in
+    let kept : StandsAfter new.self new.sink new.meter m taken.0 = subst (λ v. StandsAfter new.self new.sink new.meter m v) (ap (λ v. taken.0 ++ v) none ∙ append-nil taken.0) more.3 in
+    let one : 1 ≤ new.self.setting.block = grind (arith, kept.stands.holds.opens.legal.block) in
+    let less : new.self.blocks < new.self.end = omega (arith, did.blocks, c.if-taken-eq0.true, c.loop-i-test.true, did.end, inv.blocks, inv.end, c.blocks_to_take-most.ensures) in
     let pushed = pushes_nothing kept (omega (arith, did.held, one)) less in
     let place : c.width.result * c.known_or-known.result * c.loop-i.i ≡ width s * (c.known_or-known.result * c.loop-i.i) =
     (let e : c.width.result * c.known_or-known.result * c.loop-i.i ≡ c.width.result * (c.known_or-known.result * c.loop-i.i) = omega arith in e)
@@ -103,14 +183,17 @@ returns-then-not-take_block-clause-takes g c m h room =
           (sym (did.setting ∙ inv.setting)) kept.stands taken.1 taken.2 place pushed.2,
     )
 
-pub returns-then-not-take_block-clause-kept : goal.returns-then-not-take_block-clause-kept
-returns-then-not-take_block-clause-kept g c none m h room =
+pub returns-then-taken-eq0-clause-kept : goal.returns-then-taken-eq0-clause-kept
+returns-then-taken-eq0-clause-kept g c none m h room =
     let inv = c.loop-i.invariant in
-    let did = c.take_block.ensures in
-    let failed : c.take_block.result ≡ false = search rules in
+    let did = c.take_blocks-taken.ensures in
+    let new = c.take_blocks-taken.new in
     let taken = inv.stands m h room in
-    let kept = did.kept failed m taken.0 taken.3 in
-    let one : 1 ≤ c.take_block.new.self.setting.block = grind (arith, kept.stands.holds.opens.legal.block) in
+    let more = did.takes m taken.0 taken.3 room in
+    let zero : c.loop-i.self.setting.block * c.take_blocks-taken.result ≡ 0 = ap (λ n. c.loop-i.self.setting.block * n) c.if-taken-eq0.true ∙ omega arith in
+    let no_more = nil_from_length more.0 (more.2 ∙ zero) in
+    let kept : StandsAfter new.self new.sink new.meter m taken.0 = subst (λ v. StandsAfter new.self new.sink new.meter m v) (ap (λ v. taken.0 ++ v) no_more ∙ append-nil taken.0) more.3 in
+    let one : 1 ≤ new.self.setting.block = grind (arith, kept.stands.holds.opens.legal.block) in
     for_again kept (nil_from_length taken.0 (taken.1 ∙ none)) (omega (arith, did.held, one))
 
 pub returns-clause-takes : goal.returns-clause-takes
@@ -119,7 +202,7 @@ returns-clause-takes g c m h room =
     let s = c.args.self.now.setting in
     let taken = inv.stands m h room in
     let pushed = c.end_if_whole-bits.ensures.stands m taken.0 taken.3 room in
-    let end : c.loop-i.i ≡ c.blocks_to_take-most.result = omega arith in
+    let end : c.loop-i.i ≡ c.blocks_to_take-most.result = omega (arith, c.loop-i-test.false, inv.most) in
     let place : c.width.result * c.known_or-known.result * c.loop-i.i ≡ width s * (c.known_or-known.result * c.blocks_to_take-most.result) =
     (let e : c.width.result * c.known_or-known.result * c.loop-i.i ≡ c.width.result * (c.known_or-known.result * c.loop-i.i) = omega arith in e)
     ∙ λ j. (c.width.ensures.value ∙ ap width c.requires.setting) j * (c.known_or-known.result * end j) in (

@@ -1,4 +1,4 @@
-use Rattle.rice_fast.proofs.Words.{◌≡◌, ◌+◌, ◌*◌, List, length, drop, ℤ, Reads, StandsAfter, StandsFor, HasRoomAt, Standing}
+use Rattle.rice_fast.proofs.Words.{◌≡◌, ◌+◌, ◌-◌, ◌*◌, ◌≤◌, List, length, drop, ℤ, Reads, StandsAfter, StandsFor, HasRoomAt, Standing}
 use Rattle.rice_fast.proofs.encode.coder.BlockCoder.push_blocks_of_size.Given as goal
 
 abbrev pub invariant-loop-i : goal.invariant-loop-i
@@ -10,4 +10,8 @@ invariant-loop-i g l = record {
   end : l.self.end ≡ l.fn.self.end;
   held : l.self.held ≡ 0;
   blocks : l.self.blocks ≡ l.fn.self.blocks + l.i;
+  most : l.i ≤ l.most;
 }
+
+abbrev pub decreases-loop-i : goal.decreases-loop-i
+decreases-loop-i g l = l.most - l.i

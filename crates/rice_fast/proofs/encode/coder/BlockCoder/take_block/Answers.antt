@@ -1,7 +1,7 @@
 use Rattle.rice_fast.proofs.Words.{All, ℕ, List, ◌≡◌, ◌+◌, ◌<◌, ◌∙◌, ◌++◌, ap, arith, drop, length, length-append, rules, subst, sym, take, take-append-drop, HasResidualsOf, Parameters, value_count}
 use Rattle.rice_fast.proofs.Words.{StandsAfter, BlockCoder, with_block}
 use Rattle.rice_fast.proofs.lemmas.encode.StandingCoders.{none_held, none_held_in, part_fits, part_has_room, row_is_put, steps_for_block}
-use Rattle.rice_fast.proofs.lemmas.{encode.RunsGoOn.run_goes_on, encode.TakenSamples.block_in_part}
+use Rattle.rice_fast.proofs.lemmas.encode.TakenSamples.{block_in_part}
 use Rattle.rice_fast.proofs.encode.coder.BlockCoder.take_block.Goals as goal
 
 -- a part of which the front is written anew is as long
@@ -17,32 +17,6 @@ tick-requires g c =
     let given = c.requires.stands in
     omega (arith, steps_for_block given.2 given.3 c.requires.between c.requires.inside, c.known_or-size.ensures, c.block.ensures.value)
 
-pub tick-requires-then-goes_on_with_run : goal.tick-requires-then-goes_on_with_run
-tick-requires-then-goes_on_with_run g c =
-    let given = c.requires.stands in
-    let goes = run_goes_on given.2 given.3 c.requires.between c.requires.inside c.requires.len (c.goes_on_with_run.ensures (search rules)) in
-    omega (arith, goes.0, c.tick.ensures, c.known_or-size.ensures, c.block.ensures.value)
-
-pub overflow_add-self-then-goes_on_with_run-2 : goal.overflow_add-self-then-goes_on_with_run-2
-overflow_add-self-then-goes_on_with_run-2 g c =
-    let given = c.requires.stands in
-    let goes = run_goes_on given.2 given.3 c.requires.between c.requires.inside c.requires.len (c.goes_on_with_run.ensures (search rules)) in
-    omega (arith, given.2.stands.holds.steps_ahead, goes.0, c.known_or-size.ensures, c.block.ensures.value)
-
-pub returns-then-goes_on_with_run-clause-takes : goal.returns-then-goes_on_with_run-clause-takes
-returns-then-goes_on_with_run-clause-takes g c e m xs h room =
-    let self = c.args.self.now in
-    let known = c.known_or-size.ensures ∙ c.block.ensures.value in
-    let goes = run_goes_on h room c.requires.between c.requires.inside c.requires.len (c.goes_on_with_run.ensures (search rules)) in
-    let steps : c.tick-then-goes_on_with_run.new.self ≡ c.args.meter.now + self.setting.block + self.setting.block = omega (arith, c.tick.ensures, c.tick-then-goes_on_with_run.ensures, known) in
-    let P : ℕ → ℕ → Type 0 = λ n k. StandsAfter (with_block self (self.run + 1) self.bits_ahead (self.steps_ahead + k)) c.args.sink.now n m (xs ++ goes.1) in
-    (goes.1, goes.2, goes.3, subst (λ n. P n c.known_or-size.result) (sym steps) (subst (P _) (sym known) (none_held goes.4 c.requires.between h.room)))
-
-pub tick-requires-in-Some-residuals_of_bytes : goal.tick-requires-in-Some-residuals_of_bytes
-tick-requires-in-Some-residuals_of_bytes g c =
-    let given = c.requires.stands in
-    omega (arith, steps_for_block given.2 given.3 c.requires.between c.requires.inside, c.known_or-size.ensures, c.block.ensures.value)
-
 pub sum_of-whole-requires : goal.sum_of-whole-requires
 sum_of-whole-requires g c =
     let given = c.requires.stands in
@@ -50,8 +24,8 @@ sum_of-whole-requires g c =
     let read = subst (λ (s : Parameters). HasResidualsOf s c.args.bytes.now c.in-Some.before.level c.residuals_of_bytes.new.residuals last) c.requires.setting
     c.in-Some-residuals_of_bytes.ensures.some in
     let known = c.known_or-size.ensures ∙ c.block.ensures.value in
-    let held = block_in_part _ c.tick-in-Some-residuals_of_bytes.new.self given.2 c.requires.between c.requires.inside c.requires.len c.in-Some.ensures.some read
-    (omega (arith, c.tick-in-Some-residuals_of_bytes.ensures, known)) in
+    let held = block_in_part _ c.tick.new.self given.2 c.requires.between c.requires.inside c.requires.len c.in-Some.ensures.some read
+    (omega (arith, c.tick.ensures, known)) in
     let fit = part_fits (part_has_room held.2 given.3 held.1 c.requires.inside) c.known_or-size.result known in
     let n = c.known_or-size.result in
     let part = take n (c.residuals_of_bytes.new.residuals ++ drop n c.args.self.now.part) in
@@ -63,8 +37,8 @@ put_block-requires-clause-room g c =
     let last = c.in-Some-residuals_of_bytes.last in
     let read = subst (λ (s : Parameters). HasResidualsOf s c.args.bytes.now c.in-Some.before.level c.residuals_of_bytes.new.residuals last) c.requires.setting
     c.in-Some-residuals_of_bytes.ensures.some in
-    let held = block_in_part _ c.tick-in-Some-residuals_of_bytes.new.self given.2 c.requires.between c.requires.inside c.requires.len c.in-Some.ensures.some read
-    (omega (arith, c.tick-in-Some-residuals_of_bytes.ensures, c.known_or-size.ensures, c.block.ensures.value)) in
+    let held = block_in_part _ c.tick.new.self given.2 c.requires.between c.requires.inside c.requires.len c.in-Some.ensures.some read
+    (omega (arith, c.tick.ensures, c.known_or-size.ensures, c.block.ensures.value)) in
     part_has_room held.2 given.3 held.1 c.requires.inside
 
 pub returns-in-Some-residuals_of_bytes-clause-takes : goal.returns-in-Some-residuals_of_bytes-clause-takes
@@ -73,8 +47,8 @@ returns-in-Some-residuals_of_bytes-clause-takes g c e m xs h room =
     let last = c.in-Some-residuals_of_bytes.last in
     let read = subst (λ (s : Parameters). HasResidualsOf s c.args.bytes.now c.in-Some.before.level c.residuals_of_bytes.new.residuals last) c.requires.setting
     c.in-Some-residuals_of_bytes.ensures.some in
-    let held = block_in_part _ c.tick-in-Some-residuals_of_bytes.new.self h c.requires.between c.requires.inside c.requires.len c.in-Some.ensures.some read
-    (omega (arith, c.tick-in-Some-residuals_of_bytes.ensures, c.known_or-size.ensures, c.block.ensures.value)) in
+    let held = block_in_part _ c.tick.new.self h c.requires.between c.requires.inside c.requires.len c.in-Some.ensures.some read
+    (omega (arith, c.tick.ensures, c.known_or-size.ensures, c.block.ensures.value)) in
     let fit = part_has_room held.2 room held.1 c.requires.inside in
     let did = c.put_block.ensures in
     let new = c.put_block.new.self in
