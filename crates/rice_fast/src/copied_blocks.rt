@@ -54,8 +54,7 @@ fn is_copied_ahead<const WIDTH: usize>(setting: &Setting, ahead: &BitsAhead<'_>)
     number_ahead(ahead, 0, id_len) == (1 << id_len) - 1
 }
 
-/// Writes the bytes of the samples of the next block, of `size` samples, which is not compressed. It takes nothing, and may write up to
-/// 15 bytes more after these.
+/// Writes the bytes of the samples of the next block, of `size` samples, which is not compressed, and up to 15 bytes more after these.
 #[inline(always)]
 fn write_copied_ahead<const WIDTH: usize>(
     setting: &Setting,

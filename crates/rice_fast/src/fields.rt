@@ -73,7 +73,7 @@ fn head_ahead<const REFERENCE: bool>(
 }
 
 /// Returns the fields of the block of `size` samples ahead, after a sample at level `before`, if its fundamental sequences are short
-/// and it has a block. Writes the high parts of its residuals to the front of `highs`. It takes nothing.
+/// and it has a block. Writes the high parts of its residuals to the front of `highs`.
 ///
 /// It is laid out for blocks with a `REFERENCE`, or without one.
 #[inline(always)]

@@ -1,4 +1,4 @@
-use Rattle.rice_fast.proofs.Words.{ℕ, ◌≡◌, ◌+◌, ◌-◌, ◌*◌, ◌/◌, ◌≤◌, ◌∙◌, ap, arith, drop, length, refl, replicate, subst, sym, take, div-mul-le_self, value_at, width, spellings}
+use Rattle.rice_fast.proofs.Words.{ℕ, ◌≡◌, ◌+◌, ◌-◌, ◌*◌, ◌/◌, ◌≤◌, ◌∙◌, ap, arith, drop, refl, replicate, subst, sym, take, div-mul-le_self, value_at, width, spellings}
 use Rattle.rice_fast.proofs.lemmas.encode.Repeats.{fewer_repeated, more_repeated, row_repeated}
 use Rattle.rice_fast.proofs.lemmas.vectors.LevelsInLanes.{level_fits}
 use Rattle.rice_fast.proofs.encode.repeats.repeated_blocks.Goals as goal

@@ -1,5 +1,5 @@
-use Rattle.rice_fast.proofs.Words.{All, ℕ, List, ◌≡◌, ◌+◌, ◌<◌, ◌∙◌, ◌++◌, ap, arith, drop, length, length-append, rules, subst, sym, take, take-append-drop, HasResidualsOf, Parameters, value_count}
-use Rattle.rice_fast.proofs.Words.{StandsAfter, BlockCoder, with_block}
+use Rattle.rice_fast.proofs.Words.{All, ℕ, List, ◌≡◌, ◌<◌, ◌∙◌, ◌++◌, ap, arith, drop, length, length-append, subst, sym, take, take-append-drop, HasResidualsOf, Parameters, value_count}
+use Rattle.rice_fast.proofs.Words.{StandsAfter, BlockCoder}
 use Rattle.rice_fast.proofs.lemmas.encode.StandingCoders.{none_held, none_held_in, part_fits, part_has_room, row_is_put, steps_for_block}
 use Rattle.rice_fast.proofs.lemmas.encode.TakenSamples.{block_in_part}
 use Rattle.rice_fast.proofs.encode.coder.BlockCoder.take_block.Goals as goal

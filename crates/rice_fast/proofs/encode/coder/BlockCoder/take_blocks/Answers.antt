@@ -1,4 +1,4 @@
-use Rattle.rice_fast.proofs.Words.{ℕ, List, ◌≡◌, ◌+◌, ◌*◌, ◌≤◌, ◌∙◌, ◌++◌, [], ap, append-nil, arith, false, length, length-replicate, length-take-le, mul-le-mul_left, refl, replicate, rules, subst, sym, take, true}
+use Rattle.rice_fast.proofs.Words.{ℕ, ◌≡◌, ◌+◌, ◌*◌, ◌≤◌, ◌∙◌, ◌++◌, [], ap, append-nil, arith, false, length, length-replicate, length-take-le, mul-le-mul_left, refl, replicate, rules, subst, sym, take}
 use Rattle.rice_fast.proofs.Words.{Parameters, Reads, StandsAfter, value_at, width}
 use Rattle.rice_fast.proofs.lemmas.{encode.RunsGoOn.run_of_bytes, encode.TakenBytes.reads_none}
 use Rattle.rice_fast.proofs.encode.coder.BlockCoder.take_blocks.Goals as goal
@@ -10,7 +10,7 @@ first_inside w b n all some e = let one : b * 1 ≤ b * n = mul-le-mul_left b so
 pub tick-requires : goal.tick-requires
 tick-requires g c =
     let given = c.requires.stands in
-    let run = run_of_bytes c.repeats-count.result c.requires.inside.0 given.2 given.3 c.requires.between c.requires.inside.1 c.requires.inside.3 c.repeats-count.ensures.len (c.repeats-count.ensures.goes_on c.if-count-gt0.true) in
+    let run = run_of_bytes c.repeats-count.result given.2 given.3 c.requires.between c.requires.inside c.repeats-count.ensures.len (c.repeats-count.ensures.goes_on c.if-count-gt0.true) in
     let known = c.known_or-size.ensures ∙ (c.block.ensures.value ∙ ap (λ (s : Parameters). s.block) c.requires.setting) in
     let samples = ap (λ b. b * c.repeats-count.result) known in
     omega (arith, run.grows.limit c.if-count-gt0.true, samples)
@@ -18,31 +18,31 @@ tick-requires g c =
 pub overflow_cast-self : goal.overflow_cast-self
 overflow_cast-self g c =
     let given = c.requires.stands in
-    let run = run_of_bytes c.repeats-count.result c.requires.inside.0 given.2 given.3 c.requires.between c.requires.inside.1 c.requires.inside.3 c.repeats-count.ensures.len (c.repeats-count.ensures.goes_on c.if-count-gt0.true) in
+    let run = run_of_bytes c.repeats-count.result given.2 given.3 c.requires.between c.requires.inside c.repeats-count.ensures.len (c.repeats-count.ensures.goes_on c.if-count-gt0.true) in
     omega (arith, run.inside)
 
 pub overflow_add-self : goal.overflow_add-self
 overflow_add-self g c =
     let given = c.requires.stands in
-    let run = run_of_bytes c.repeats-count.result c.requires.inside.0 given.2 given.3 c.requires.between c.requires.inside.1 c.requires.inside.3 c.repeats-count.ensures.len (c.repeats-count.ensures.goes_on c.if-count-gt0.true) in
+    let run = run_of_bytes c.repeats-count.result given.2 given.3 c.requires.between c.requires.inside c.repeats-count.ensures.len (c.repeats-count.ensures.goes_on c.if-count-gt0.true) in
     omega (arith, run.inside)
 
 pub overflow_cast-self-then-count-gt0 : goal.overflow_cast-self-then-count-gt0
 overflow_cast-self-then-count-gt0 g c =
     let given = c.requires.stands in
-    let run = run_of_bytes c.repeats-count.result c.requires.inside.0 given.2 given.3 c.requires.between c.requires.inside.1 c.requires.inside.3 c.repeats-count.ensures.len (c.repeats-count.ensures.goes_on c.if-count-gt0.true) in
+    let run = run_of_bytes c.repeats-count.result given.2 given.3 c.requires.between c.requires.inside c.repeats-count.ensures.len (c.repeats-count.ensures.goes_on c.if-count-gt0.true) in
     omega (arith, run.inside)
 
 pub overflow_add-self-then-count-gt0 : goal.overflow_add-self-then-count-gt0
 overflow_add-self-then-count-gt0 g c =
     let given = c.requires.stands in
-    let run = run_of_bytes c.repeats-count.result c.requires.inside.0 given.2 given.3 c.requires.between c.requires.inside.1 c.requires.inside.3 c.repeats-count.ensures.len (c.repeats-count.ensures.goes_on c.if-count-gt0.true) in
+    let run = run_of_bytes c.repeats-count.result given.2 given.3 c.requires.between c.requires.inside c.repeats-count.ensures.len (c.repeats-count.ensures.goes_on c.if-count-gt0.true) in
     omega (arith, run.inside, run.run)
 
 pub overflow_add-self-then-count-gt0-2 : goal.overflow_add-self-then-count-gt0-2
 overflow_add-self-then-count-gt0-2 g c =
     let given = c.requires.stands in
-    let run = run_of_bytes c.repeats-count.result c.requires.inside.0 given.2 given.3 c.requires.between c.requires.inside.1 c.requires.inside.3 c.repeats-count.ensures.len (c.repeats-count.ensures.goes_on c.if-count-gt0.true) in
+    let run = run_of_bytes c.repeats-count.result given.2 given.3 c.requires.between c.requires.inside c.repeats-count.ensures.len (c.repeats-count.ensures.goes_on c.if-count-gt0.true) in
     let known = c.known_or-size.ensures ∙ (c.block.ensures.value ∙ ap (λ (s : Parameters). s.block) c.requires.setting) in
     let samples = ap (λ b. b * c.repeats-count.result) known in
     omega (arith, run.grows.limit c.if-count-gt0.true, run.steps_ahead, samples)
@@ -51,7 +51,7 @@ pub returns-then-count-gt0-clause-takes : goal.returns-then-count-gt0-clause-tak
 returns-then-count-gt0-clause-takes g c m xs h room =
     let self = c.args.self.now in
     let n = c.repeats-count.result in
-    let run = run_of_bytes n c.requires.inside.0 h room c.requires.between c.requires.inside.1 c.requires.inside.3 c.repeats-count.ensures.len (c.repeats-count.ensures.goes_on c.if-count-gt0.true) in
+    let run = run_of_bytes n h room c.requires.between c.requires.inside c.repeats-count.ensures.len (c.repeats-count.ensures.goes_on c.if-count-gt0.true) in
     let known = c.known_or-size.ensures ∙ (c.block.ensures.value ∙ ap (λ (s : Parameters). s.block) c.requires.setting) in
     let samples = ap (λ b. b * n) known in
     let steps : c.tick.new.self ≡ c.args.meter.now + 2 * (self.setting.block * n) = c.tick.ensures ∙ ap (λ k. c.args.meter.now + 2 * k) samples in
