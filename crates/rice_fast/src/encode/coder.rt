@@ -235,14 +235,18 @@ impl BlockCoder {
         let whole = &bytes[..len * most];
         let mut i = 0;
         while i < most {
-            let taken = self.take_blocks::<SIZE>(setting, &whole[len * i..], sink, meter);
-            if taken == 0 {
+            let repeated = self.take_repeats::<SIZE>(setting, &whole[len * i..], meter);
+            if repeated > 0 {
+                i += repeated;
+                continue;
+            }
+            if !self.take_block::<SIZE>(setting, &bytes[len * i..len * i + len], sink, meter) {
                 return Pushed {
                     samples: known * i,
                     bits: 0,
                 };
             }
-            i += taken;
+            i += 1;
         }
         let bits = self.end_if_whole(sink, meter);
         Pushed {
@@ -251,50 +255,43 @@ impl BlockCoder {
         }
     }
 
-    /// Takes the samples of some of the whole blocks that the bytes spell, and returns the number of these blocks. It is 0 only where
-    /// `take_block` takes none.
+    /// Takes the samples of whole blocks at the front of the bytes that go on a run of zero blocks, and returns the number of these blocks.
     #[inline(always)]
-    fn take_blocks<const SIZE: usize>(
+    fn take_repeats<const SIZE: usize>(
         &mut self,
         setting: &Setting,
         bytes: &[u8],
-        sink: &mut SegmentSink,
         meter: &mut Meter,
     ) -> usize
         requires setting { setting.now ≡ self.old.setting }
         requires size { 0 < SIZE → SIZE ≡ self.old.setting.block }
         requires between { self.old.held ≡ 0 }
-        requires inside { (n : ℕ) × (self.old.blocks + n ≤ self.old.end) × (0 < n) ×
+        requires inside { (n : ℕ) × (self.old.blocks + n ≤ self.old.end) ×
             (length bytes.now ≡ width_of self.old.setting * (self.old.setting.block * n)) }
-        requires stands { CanEnd self.old sink.old meter.old }
+        requires stands { (sink : List Bool) × CanEnd self.old sink meter.old }
         ensures setting { self.new.setting ≡ self.old.setting }
         ensures end { self.new.end ≡ self.old.end }
         ensures held { self.new.held ≡ 0 }
         ensures len { width_of self.old.setting * (self.old.setting.block * result) ≤ length bytes.now }
         ensures blocks { self.new.blocks ≡ self.old.blocks + result }
-        ensures takes { (m : Standing) (xs : List ℤ) →
-            StandsAfter self.old sink.old meter.old m xs → HasRoomAt m → (ys : List ℤ) ×
+        ensures takes { 0 < result → (sink : List Bool) (m : Standing) (xs : List ℤ) →
+            StandsAfter self.old sink meter.old m xs → HasRoomAt m → (ys : List ℤ) ×
             Reads self.old.setting (take (width_of self.old.setting * (self.old.setting.block * result)) bytes.now) ys [] ×
             (length ys ≡ self.old.setting.block * result) ×
-            StandsAfter self.new sink.new meter.new m (xs ++ ys) }
+            StandsAfter self.new sink meter.new m (xs ++ ys) }
+        ensures none { result ≡ 0 → (self.new ≡ self.old) × (meter.new ≡ meter.old) }
     {
-        let size = known_or::<SIZE>(setting.block() as usize);
         let count = self.repeats(setting, bytes);
         if count > 0 {
             // A step for each sample, and one for each look.
-            let samples = (size * count) as u64;
+            let samples = (known_or::<SIZE>(setting.block() as usize) * count) as u64;
             meter.tick(2 * samples);
             self.blocks += count as u32;
             self.run += count as u32;
             self.steps_ahead += samples;
             return count;
         }
-        let len = setting.width() as usize * size;
-        if self.take_block::<SIZE>(setting, &bytes[..len], sink, meter) {
-            1
-        } else {
-            0
-        }
+        0
     }
 
     /// Takes the samples of a whole block by their bytes, and returns whether it did. It does not where `residuals_of_bytes` gives none.

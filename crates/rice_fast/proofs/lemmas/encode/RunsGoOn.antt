@@ -115,8 +115,8 @@ pub record RunOfBytes (c : BlockCoder) (bytes : List ℕ) (sink : List Bool) (me
   pub steps_ahead : c.steps_ahead ≤ meter
 
 pub run_of_bytes : {c : BlockCoder} {bytes : List ℕ} {sink : List Bool} {meter : ℕ} {m : Standing} {xs : List ℤ} (n : ℕ) → StandsAfter c sink meter m xs → HasRoomAt m → c.held ≡ 0
-    → ((k : ℕ) × (c.blocks + k ≤ c.end) × (0 < k) × (length bytes ≡ width c.setting * (c.setting.block * k))) → width c.setting * (c.setting.block * n) ≤ length bytes → GoesOn c bytes n → RunOfBytes c bytes sink meter n m xs
-run_of_bytes {c} {bytes} {sink} {meter} {m} {xs} n h room none (k, inside, some_blocks, len) few goes =
+    → ((k : ℕ) × (c.blocks + k ≤ c.end) × (length bytes ≡ width c.setting * (c.setting.block * k))) → width c.setting * (c.setting.block * n) ≤ length bytes → GoesOn c bytes n → RunOfBytes c bytes sink meter n m xs
+run_of_bytes {c} {bytes} {sink} {meter} {m} {xs} n h room none (k, inside, len) few goes =
     let s = c.setting in
     let x = value_at s c.previous in
     let holds = h.stands.holds in
