@@ -1,6 +1,7 @@
 -- One sample that bytes spell again and again.
 use Rattle.rice_fast.proofs.Words.{◌≡◌, ℕ, zero, suc, ◌+◌, ◌-◌, ◌*◌, ◌≤◌, List, [], ◌∷◌, ◌++◌, length, take, drop, ap, refl, sym, subst, arith, ◌∙◌, replicate, length-replicate, bit_xor, xor_add_and}
-use Rattle.rice_fast.proofs.Words.{Each1, zip2, and_le_l, and_le_r, take-add, take-take, take_at, Each1-replicate, Parameters, value_at, values_at, width, spellings, spellings-append, length-spellings, mul-le-mul_left, ℤ}
+use Rattle.rice_fast.proofs.Words.{Each1, zip2, and_le_l, and_le_r, take-add, take-take, take_at, Each1-replicate}
+use Rattle.rice_fast.proofs.Words.{Parameters, value_at, values_at, width, spellings, spellings-append, length-spellings, mul-le-mul_left, ℤ}
 use Rattle.std.proofs.lemmas.List.{replicate-append-replicate}
 
 -- numbers of which no digit differs are equal
@@ -27,7 +28,8 @@ row_repeated s level {n} row many firsts digits none =
     ap (values_at s) (all_same n level row many own) ∙ values_of_copies s level n
 
 -- the bytes of more samples
-pub more_repeated : (s : Parameters) (x : ℤ) (a b : ℕ) (bytes : List ℕ) → take (width s * a) bytes ≡ spellings s (replicate a x) → take (width s * b) (drop (width s * a) bytes) ≡ spellings s (replicate b x)
+pub more_repeated : (s : Parameters) (x : ℤ) (a b : ℕ) (bytes : List ℕ) → take (width s * a) bytes ≡ spellings s (replicate a x)
+    → take (width s * b) (drop (width s * a) bytes) ≡ spellings s (replicate b x)
     → take (width s * (a + b)) bytes ≡ spellings s (replicate (a + b) x)
 more_repeated s x a b bytes old new =
     let place : width s * (a + b) ≡ width s * a + width s * b = omega arith in

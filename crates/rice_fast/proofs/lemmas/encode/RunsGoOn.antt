@@ -1,6 +1,8 @@
 -- A block of the sample before, again and again, which goes on a run of zero blocks.
-use Rattle.rice_fast.proofs.Words.{◌≡◌, ℕ, zero, suc, ◌+◌, ◌*◌, ◌<◌, ◌≤◌, ◌^◌, ◌==◌, Bool, true, false, ◌&&◌, cond, List, [], ◌++◌, length, ap, refl, sym, arith, ◌∙◌, append-nil, append_assoc, subst, replicate, take, inl, inr, cases_lt, mul-le-mul_left, some_width, ℤ, nat_tests}
-use Rattle.rice_fast.proofs.Words.{All-replicate, length-replicate, length-spellings, Parameters, IsSample, value_at, value_count, width, Reads, spellings, pattern, rank, sample_at, later_residuals, last_replicate, same_rank, held_len}
+use Rattle.rice_fast.proofs.Words.{◌≡◌, ℕ, zero, suc, ◌+◌, ◌*◌, ◌<◌, ◌≤◌, ◌^◌, ◌==◌, Bool, true, false, ◌&&◌, cond, List, [], ◌++◌}
+use Rattle.rice_fast.proofs.Words.{length, ap, refl, sym, arith, ◌∙◌, append-nil, append_assoc, subst, replicate, take, inl, inr, cases_lt, mul-le-mul_left, some_width, ℤ, nat_tests}
+use Rattle.rice_fast.proofs.Words.{All-replicate, length-replicate, length-spellings, Parameters, IsSample, value_at, value_count, width}
+use Rattle.rice_fast.proofs.Words.{Reads, spellings, pattern, rank, sample_at, later_residuals, last_replicate, same_rank, held_len}
 use Rattle.rice_fast.proofs.Words.{zeros_are_zero, GoesOn, IsBefore, StandsAfter, StandsWith, is_at_first, with_block, HasResidualsOf, HasRoomAt, Standing, BlockCoder}
 use Rattle.rice_fast.proofs.lemmas.encode.StandingCoders.{none_held, room_for_look, zeros_are_put}
 use Rattle.std.proofs.lemmas.List.{replicate-append-replicate}
@@ -62,12 +64,15 @@ pub record RunGrows (c : BlockCoder) (sink : List Bool) (meter n : ℕ) (m : Sta
   pub limit : 0 < n → meter + 2 * (c.setting.block * n) < 2 ^ 62
   pub stands : StandsAfter (with_zeros c n) sink (meter + 2 * (c.setting.block * n)) m (xs ++ replicate (c.setting.block * n) (value_at c.setting c.previous))
 
+-- The run grows by each of them.
 pub run_grows : {c : BlockCoder} {sink : List Bool} {meter : ℕ} {m : Standing} {xs : List ℤ} (n : ℕ) → StandsAfter c sink meter m xs → HasRoomAt m → c.held ≡ 0 → c.blocks + n ≤ c.end → 0 < c.run
     → c.setting.preprocess ≡ true → RunGrows c sink meter n m xs
 run_grows {c} {sink} {meter} {m} {xs} zero h room none inside pending predicted =
     let x = value_at c.setting c.previous in
     let no : c.setting.block * 0 ≡ 0 = omega arith in
-    let same : with_zeros c 0 ≡ c = (let b : c.blocks + 0 ≡ c.blocks = omega arith in let r : c.run + 0 ≡ c.run = omega arith in let t : c.steps_ahead + c.setting.block * 0 ≡ c.steps_ahead = omega arith in
+    let same : with_zeros c 0 ≡ c = (let b : c.blocks + 0 ≡ c.blocks = omega arith in
+    let r : c.run + 0 ≡ c.run = omega arith in
+    let t : c.steps_ahead + c.setting.block * 0 ≡ c.steps_ahead = omega arith in
     λ i. record c { blocks = b i; run = r i; steps_ahead = t i }) in
     let steps : meter + 2 * (c.setting.block * 0) ≡ meter = omega arith in
     record {
@@ -83,7 +88,9 @@ run_grows {c} {sink} {meter} {m} {xs} (suc n) h room none inside pending predict
     let more = run_goes_on old.stands room none (omega (arith, inside)) (omega (arith, pending)) predicted in
     let steps : meter + 2 * (size * n) + size + size ≡ meter + 2 * (size * suc n) = omega arith in
     let same : with_block (with_zeros c n) (c.run + n + 1) c.bits_ahead (c.steps_ahead + size * n + size) ≡ with_zeros c (suc n) =
-    (let b : c.blocks + n + 1 ≡ c.blocks + suc n = omega arith in let r : c.run + n + 1 ≡ c.run + suc n = omega arith in let t : c.steps_ahead + size * n + size ≡ c.steps_ahead + size * suc n = omega arith in
+    (let b : c.blocks + n + 1 ≡ c.blocks + suc n = omega arith in
+    let r : c.run + n + 1 ≡ c.run + suc n = omega arith in
+    let t : c.steps_ahead + size * n + size ≡ c.steps_ahead + size * suc n = omega arith in
     λ i. record c { blocks = b i; run = r i; steps_ahead = t i }) in
     let count : size * n + size ≡ size * suc n = omega arith in
     let all : (xs ++ replicate (size * n) x) ++ replicate size x ≡ xs ++ replicate (size * suc n) x =
@@ -114,8 +121,10 @@ pub record RunOfBytes (c : BlockCoder) (bytes : List ℕ) (sink : List Bool) (me
   pub run : c.run ≤ c.blocks
   pub steps_ahead : c.steps_ahead ≤ meter
 
+-- They do, where blocks are pending.
 pub run_of_bytes : {c : BlockCoder} {bytes : List ℕ} {sink : List Bool} {meter : ℕ} {m : Standing} {xs : List ℤ} (n : ℕ) → StandsAfter c sink meter m xs → HasRoomAt m → c.held ≡ 0
-    → ((k : ℕ) × (c.blocks + k ≤ c.end) × (length bytes ≡ width c.setting * (c.setting.block * k))) → width c.setting * (c.setting.block * n) ≤ length bytes → GoesOn c bytes n → RunOfBytes c bytes sink meter n m xs
+    → ((k : ℕ) × (c.blocks + k ≤ c.end) × (length bytes ≡ width c.setting * (c.setting.block * k))) → width c.setting * (c.setting.block * n) ≤ length bytes → GoesOn c bytes n
+    → RunOfBytes c bytes sink meter n m xs
 run_of_bytes {c} {bytes} {sink} {meter} {m} {xs} n h room none (k, inside, len) few goes =
     let s = c.setting in
     let x = value_at s c.previous in

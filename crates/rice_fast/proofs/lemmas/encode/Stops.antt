@@ -1,5 +1,6 @@
 -- The search for the best split, from the first place on at which the sum of the residuals is small.
-use Rattle.rice_fast.proofs.Words.{◌≡◌, ℕ, zero, suc, ◌+◌, ◌-◌, ◌*◌, ◌/◌, ◌^◌, ◌<◌, ◌≤◌, Bool, ◌&&◌, List, [], ◌∷◌, ◌++◌, length, map, replicate, refl, ap, arith, sym, ◌∙◌, sum_by, true, false, ◌==◌, inl}
+use Rattle.rice_fast.proofs.Words.{◌≡◌, ℕ, zero, suc, ◌+◌, ◌-◌, ◌*◌, ◌/◌, ◌^◌, ◌<◌, ◌≤◌, Bool, ◌&&◌, List, []}
+use Rattle.rice_fast.proofs.Words.{◌∷◌, ◌++◌, length, map, replicate, refl, ap, arith, sym, ◌∙◌, sum_by, true, false, ◌==◌, inl}
 use Rattle.rice_fast.proofs.Words.{shr-shr, inr, min, subst, get_or, bit_or, list_all, cases_lt, nat_tests, length-map, map-append, All-nil, All-cons, sum_by-replicate, sum_by-append, sum_by-cons}
 use Rattle.rice_fast.proofs.Words.{le_or_l, leading_length, or_lt, pow-add, pow_pos, div-lt_iff_lt-mul, div-mul-le_self, mul-le-mul_right, pow-le-pow_right, zero-div, count_leading_zeros, Parameters}
 use Rattle.rice_fast.proofs.Words.{k_max, value_count, byte_id, half_id, word_id, cut_sum, sum_halves, with_zeros, IsFirstStop}

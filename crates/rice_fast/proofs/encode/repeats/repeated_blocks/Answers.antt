@@ -26,7 +26,9 @@ loop-rows-preserved g c =
     let part : take (width s * n) (drop (width s * (n * l.rows)) bytes) ≡ spellings s (replicate n x) =
     (let t : len * l.rows + len - len * l.rows ≡ width s * n = omega (arith, is) in (λ j. take (sym t j) (drop (sym place j) bytes))) ∙ (c.levels_in-row.ensures ∙ ap (spellings s) row) in
     let all = more_repeated s x (n * l.rows) n bytes old part in
-    let next : len * (l.rows + 1) ≡ width s * (n * l.rows + n) = (let a : len * (l.rows + 1) ≡ len * l.rows + len = omega arith in let b : width s * (n * l.rows + n) ≡ width s * (n * l.rows) + width s * n = omega arith in a ∙ ((λ j. place j + is j) ∙ sym b)) in
+    let more : len * (l.rows + 1) ≡ len * l.rows + len = omega arith in
+    let as_much : width s * (n * l.rows + n) ≡ width s * (n * l.rows) + width s * n = omega arith in
+    let next : len * (l.rows + 1) ≡ width s * (n * l.rows + n) = more ∙ ((λ j. place j + is j) ∙ sym as_much) in
     let count : n * l.rows + n ≡ n * (l.rows + 1) = omega arith in
     record {
       most = omega (arith, c.loop-rows-test.true);
@@ -47,5 +49,6 @@ returns-clause-spelled g c =
     let all : take (width s * samples) bytes ≡ spellings s (replicate samples (value_at s c.args.level)) =
     ap (λ m. take m bytes) (sym place) ∙ (l.invariant.repeated ∙ ap (λ m. spellings s (replicate m (value_at s c.args.level))) count) in
     let q = samples / c.block.result in
-    let few : s.block * q ≤ samples = (let e : s.block * q ≡ q * c.block.result = ap (λ b. b * q) (sym c.block.ensures.value) ∙ omega arith in omega (arith, e, div-mul-le_self samples c.block.result)) in
+    let turned : s.block * q ≡ q * c.block.result = ap (λ b. b * q) (sym c.block.ensures.value) ∙ omega arith in
+    let few : s.block * q ≤ samples = omega (arith, turned, div-mul-le_self samples c.block.result) in
     fewer_repeated s (value_at s c.args.level) (s.block * q) samples bytes few all

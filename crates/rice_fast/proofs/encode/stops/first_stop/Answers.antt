@@ -1,4 +1,4 @@
-use Rattle.std.proofs.Common.{ℕ, ◌+◌, ◌/◌, ◌^◌, ◌∙◌, ap, arith, map, subst, sym}
+use Rattle.std.proofs.Common.{ℕ, ◌≡◌, ◌+◌, ◌/◌, ◌^◌, ◌∙◌, ap, arith, map, subst, sym}
 use Rattle.rice_fast.specs.Parts.{IsFirstStop}
 use Rattle.rice_fast.proofs.lemmas.encode.Stops.{begins, begins_in_bytes, high_cut, high_summed, stops_at_first, stops_at_price, stops_last, stops_later, summed}
 use Rattle.rice_fast.proofs.encode.stops.first_stop.Goals.{then-two_pay, else-two_pay+then-one_pays, else-two_pay+else-one_pays}
@@ -24,10 +24,12 @@ returns-clause-stop g c =
     let at = begins ds r.long c.min-first.ensures r.whole c.digits_above.ensures.below c.digits_above.ensures.above in
     let sums = summed ds first c.high_parts-high.ensures c.sum_shifted-sum.ensures.value c.sum_shifted-next.ensures.value c.sum_shifted-last.ensures.value in
     let P : ℕ × ℕ → Type 0 = λ v. IsFirstStop ds c.args.limit c.args.price (first + v.0) v.1 in
+    let here : first ≡ first + 0 = omega arith in
     elim c.if-two_pay.branch [
       | then-two_pay w ↦ subst P (sym w.more-is) (stops_last ds r.price.1 at sums w.if-two_pay.true)
       | else-two_pay+then-one_pays w ↦ subst P (sym w.more-is) (stops_later ds at sums w.if-one_pays.true w.if-two_pay.false)
-      | else-two_pay+else-one_pays w ↦ subst P (sym w.more-is) (subst (λ n. IsFirstStop ds c.args.limit c.args.price n c.sum_shifted-sum.result) (omega arith) (stops_at_first ds at sums w.if-one_pays.false))
+      | else-two_pay+else-one_pays w ↦
+          subst P (sym w.more-is) (subst (λ n. IsFirstStop ds c.args.limit c.args.price n c.sum_shifted-sum.result) here (stops_at_first ds at sums w.if-one_pays.false))
     ]
 
 pub returns-clause-high : goal.returns-clause-high

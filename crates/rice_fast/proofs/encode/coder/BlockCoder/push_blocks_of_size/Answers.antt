@@ -1,4 +1,5 @@
-use Rattle.rice_fast.proofs.Words.{ℕ, ℤ, zero, suc, Bool, true, false, ◌≡◌, ◌+◌, ◌-◌, ◌*◌, ◌/◌, ◌≤◌, ◌<◌, ◌∙◌, ◌++◌, [], List, length, drop, take, ap, arith, refl, rules, subst, sym, length-append, length-drop, length-take-le}
+use Rattle.rice_fast.proofs.Words.{ℕ, ℤ, zero, suc, Bool, true, false, ◌≡◌, ◌+◌, ◌-◌, ◌*◌, ◌/◌, ◌≤◌, ◌<◌, ◌∙◌}
+use Rattle.rice_fast.proofs.Words.{◌++◌, [], List, length, drop, take, ap, arith, refl, rules, subst, sym, length-append, length-drop, length-take-le}
 use Rattle.rice_fast.proofs.Words.{div-add-mod, mul-le-mul_left, nil_from_length, take-take, some_width, Parameters, width, Reads, BlockCoder, Standing, StandsAfter}
 use Rattle.std.proofs.lemmas.List.{drop-take, take_rest}
 use Rattle.rice_fast.proofs.lemmas.encode.StandingCoders.{after_none, for_again, for_open, pushes_nothing}
@@ -118,8 +119,8 @@ overflow_add-i g c =
     let w = c.width.ensures.value ∙ (ap width c.requires.setting ∙ sym (ap width inv.setting)) in
     let known = c.known_or-known.ensures ∙ (c.block.ensures.value ∙ (ap (λ (v : Parameters). v.block) c.requires.setting ∙ sym (ap (λ (v : Parameters). v.block) inv.setting))) in
     let all = all_inside len (length c.args.bytes.now) most (omega (arith, c.blocks_to_take-most.ensures)) in
-    let few = taken_inside c.loop-i.self.setting most c.loop-i.i c.take_repeats-repeated.result c.args.bytes.now w known (omega (arith, known, c.known_or-known.ensures, c.block.ensures.range)) inv.most all
-    c.take_repeats-repeated.ensures.len in
+    let some : 1 ≤ c.loop-i.self.setting.block = omega (arith, known, c.known_or-known.ensures, c.block.ensures.range) in
+    let few = taken_inside c.loop-i.self.setting most c.loop-i.i c.take_repeats-repeated.result c.args.bytes.now w known some inv.most all c.take_repeats-repeated.ensures.len in
     omega (arith, few)
 
 pub loop-i-preserved-then-repeated-gt0 : goal.loop-i-preserved-then-repeated-gt0
@@ -229,7 +230,9 @@ returns-then-not-take_block-clause-takes g c m h room =
     let taken = inv.stands m h room in
     let kept = did.kept failed m taken.0 (same_coder (rep.none no_repeats) taken.3) in
     let one : 1 ≤ c.take_block.new.self.setting.block = grind (arith, kept.stands.holds.opens.legal.block) in
-    let less : c.take_block.new.self.blocks < c.take_block.new.self.end = omega (arith, did.same failed, did.end, rep.blocks, no_repeats, rep.end, inv.blocks, inv.end, c.loop-i-test.true, c.blocks_to_take-most.ensures) in
+    let here : c.loop-i.i < c.blocks_to_take-most.result = c.loop-i-test.true in
+    let less : c.take_block.new.self.blocks < c.take_block.new.self.end =
+    omega (arith, did.same failed, did.end, rep.blocks, no_repeats, rep.end, inv.blocks, inv.end, here, c.blocks_to_take-most.ensures) in
     let pushed = pushes_nothing kept (omega (arith, did.held, one)) less in
     let place : c.width.result * c.known_or-known.result * c.loop-i.i ≡ width s * (c.known_or-known.result * c.loop-i.i) =
     (let e : c.width.result * c.known_or-known.result * c.loop-i.i ≡ c.width.result * (c.known_or-known.result * c.loop-i.i) = omega arith in e)
