@@ -1,5 +1,5 @@
 //! The setting of a coder and a decoder.
-ghost use Rattle.std.specs.Prelude.{◌≡◌, ◌+◌, ◌-◌, if◌then◌else◌, nat_le, ◌*◌, ◌%◌, ◌^◌, ◌<◌, ◌≤◌, ◌↔◌, IsTrue, IsOk};
+ghost use Rattle.std.specs.Prelude.{◌≡◌, ◌+◌, ◌-◌, if◌then◌else◌, ◌*◌, ◌%◌, ◌^◌, ◌<◌, ◌≤◌, ◌↔◌, IsTrue, IsOk};
 ghost use Rattle.rice_samples.specs.Parameters.{Parameters, IsLegal, IsSample, id_len, k_max, width, value_at as value_at_level, value_count, least, level, level as level_of, offset, IsBlockSize, IsStandardSize};
 ghost use Rattle.rice_samples.specs.{Settings.parameters, Settings.setting_of, Settings.any_setting_of, Places.segment_blocks, Places.blocks_left, Places.is_reference, Limits.longest_interval};
 
@@ -34,8 +34,7 @@ pub struct Setting {
     three: bool,
     preprocess: bool,
     pad: bool,
-    /// The greatest level, the number of levels of values below 0, and the number of bits of an identifier: computed once, since each block
-    /// needs them.
+    /// The greatest level, the number of levels of values below 0, and the bits of an identifier: computed once, since each block needs them.
     greatest: u32,
     offset: u32,
     id_len: u32,
@@ -80,17 +79,6 @@ fn levels_below_zero(bits: u32, signed: bool) -> u32
     ensures { result ≡ if signed then 2 ^ (bits - 1) else 0 }
 {
     if signed { 1 << (bits - 1) } else { 0 }
-}
-
-/// Returns the number of bits of an identifier, of samples of `bits` bits.
-fn identifier_len(bits: u32) -> u32
-    ensures { result ≡ if nat_le bits 8 then 3 else if nat_le bits 16 then 4 else 5 }
-{
-    match bits {
-        0..=8 => 3,
-        9..=16 => 4,
-        _ => 5,
-    }
 }
 
 impl Setting {
@@ -152,6 +140,11 @@ impl Setting {
         if interval < 1 || interval > 4096 {
             return Err(SettingFault::BadInterval);
         }
+        let id_len = match bits {
+            0..=8 => 3,
+            9..=16 => 4,
+            _ => 5,
+        };
         Ok(Setting {
             bits,
             block,
@@ -163,7 +156,7 @@ impl Setting {
             pad,
             greatest: greatest_level(bits),
             offset: levels_below_zero(bits, signed),
-            id_len: identifier_len(bits),
+            id_len,
         })
     }
 

@@ -354,14 +354,11 @@ impl BlockCoder {
         if self.run == 0 || !setting.preprocess() {
             return 0;
         }
-        let bits = setting.bits();
-        if bits > 16 {
-            return repeated_blocks::<Words>(setting, bytes, self.previous);
+        match setting.bits() {
+            0..=8 => repeated_blocks::<Bytes>(setting, bytes, self.previous),
+            9..=16 => repeated_blocks::<Halves>(setting, bytes, self.previous),
+            _ => repeated_blocks::<Words>(setting, bytes, self.previous),
         }
-        if bits > 8 {
-            return repeated_blocks::<Halves>(setting, bytes, self.previous);
-        }
-        repeated_blocks::<Bytes>(setting, bytes, self.previous)
     }
 
     /// Returns what stands before the sample that the bytes spell first, or `None` if they spell none.
