@@ -9,8 +9,7 @@ use std::marker::Model;
 
 /// Holds at most 56 bits before it puts them into a sink.
 ///
-/// In contracts its value is the list of these bits. Its calls are always inlined, so that the bits stay in registers while a coded data
-/// set is written.
+/// In contracts its value is the list of these bits. Its calls are inlined, so that the bits stay in registers during a coded data set.
 #[derive(Drop)]
 pub struct BitBuffer {
     value: u64,
@@ -77,6 +76,20 @@ impl BitBuffer {
         ensures steps { meter.new + length self.new ≡ meter.old + length self.old }
     {
         if self.width + width > 56 {
+            self.put(sink, meter);
+        }
+    }
+
+    /// Puts the bits if this `is_wanted`.
+    #[inline(always)]
+    pub fn put_if(&mut self, is_wanted: bool, sink: &mut SegmentSink, meter: &mut Meter)
+        requires { HasRoomFor 0 0 (length sink.old + length self.old) (meter.old +
+            length self.old) }
+        ensures bits { sink.new ++ self.new ≡ sink.old ++ self.old }
+        ensures len { length sink.new + length self.new ≡ length sink.old + length self.old }
+        ensures steps { meter.new + length self.new ≡ meter.old + length self.old }
+    {
+        if is_wanted {
             self.put(sink, meter);
         }
     }

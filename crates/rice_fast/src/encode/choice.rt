@@ -63,8 +63,7 @@ fn are_large(setting: &Setting, block: &HeldBlock<'_>, whole: u64) -> bool
     true
 }
 
-/// Returns the option of minimal cost, and for a split the residuals without the digits that are split off.
-/// `whole` is the sum of the residuals.
+/// Returns the option of minimal cost, and for a split the residuals without the digits split off. `whole` is the sum of the residuals.
 ///
 /// It ticks the looks of the plain search.
 #[inline(always)]

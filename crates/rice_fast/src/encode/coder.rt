@@ -46,8 +46,7 @@ struct Before {
 /// In contracts `StandsFor` says which coder this is.
 #[derive(Drop)]
 pub struct BlockCoder {
-    /// The bits by which the sink is ahead. Apart from the steps: the compiler would write neighbours as a pair, and load a pair that it had
-    /// just stored in parts.
+    /// The bits by which the sink is ahead. Apart from the steps: the compiler would load neighbours as a pair that it had stored in parts.
     bits_ahead: u64,
     setting: Setting,
     /// The place in its interval of the first block of the open segment.
@@ -71,8 +70,7 @@ pub struct BlockCoder {
 }
 
 impl BlockCoder {
-    /// Returns a coder that continues after whole segments. Its next segment begins at the place `start` of its interval, after the sample
-    /// `previous`.
+    /// Returns a coder that continues after whole segments, at the place `start` of its interval, after the sample `previous`.
     pub fn resume(setting: Setting, start: u32, previous: i64) -> Self
         requires { (xs : List ℤ) × HasTaken (state_between setting start previous) xs }
         ensures { (sink : List Bool) (meter : ℕ) → StandsFor result sink meter
@@ -342,8 +340,7 @@ impl BlockCoder {
         }
     }
 
-    /// Returns a number of whole blocks at the front of the bytes that spell the sample before again and again, where these are zero blocks,
-    /// and such are pending. More may.
+    /// Returns a number of whole blocks at the front of the bytes that go on a run of pending zero blocks. More may.
     #[inline(always)]
     fn repeats(&self, setting: &Setting, bytes: &[u8]) -> usize
         requires setting { setting.now ≡ self.now.setting }
@@ -395,8 +392,7 @@ impl BlockCoder {
         self.held == 0 && self.blocks == 0 && self.start == 0
     }
 
-    /// Codes the block of which all residuals are held: a zero block is pending then, the code of any other is appended. `whole` is the sum
-    /// of the residuals.
+    /// Codes the block whose residuals, of sum `whole`, are all held: a zero block is pending then, the code of any other is appended.
     #[inline(always)]
     fn put_block<const SIZE: usize>(
         &mut self,
@@ -511,8 +507,7 @@ impl BlockCoder {
         self.held = 0;
     }
 
-    /// Codes the block that is held, if it is whole, and ends the segment if that is whole then. Returns the number of bits of the code of
-    /// the segment, or 0.
+    /// Codes the block that is held, if it is whole, and ends the segment if that is whole then. Returns the bits of the segment's code, or 0.
     fn end_part(&mut self, sink: &mut SegmentSink, meter: &mut Meter) -> u64
         requires inside { self.old.blocks < self.old.end }
         requires stands { CanEnd self.old sink.old meter.old }

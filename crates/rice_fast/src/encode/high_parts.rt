@@ -61,8 +61,7 @@ pub fn sum_shifted(numbers: &[u8; 64], k: u32) -> u32
     sum
 }
 
-/// Adds the fundamental sequences of the first `len` numbers, from number `from`, 0 or 1, on, and returns the buffer. After them there are
-/// zeros.
+/// Adds the sequences of the first `len` numbers, from number `from`, 0 or 1, on, and returns the buffer. Zeros follow these numbers.
 #[inline(always)]
 pub fn put_high<const SIZE: usize, const REFERENCE: bool>(
     numbers: &[u8; 64],
@@ -88,8 +87,7 @@ pub fn put_high<const SIZE: usize, const REFERENCE: bool>(
     fields
 }
 
-/// Adds the fundamental sequences of the first `count` of sixteen numbers, from number `from`, 0 or 1, on, and returns the buffer. The
-/// others are zeros.
+/// Adds the sequences of the first `count` of sixteen numbers, from number `from`, 0 or 1, on, and returns the buffer. The others are zeros.
 #[inline(always)]
 fn put_row(
     numbers: u8x16,

@@ -16,8 +16,7 @@ use rice_code::encode::held_block::HeldBlock;
 use rice_code::encode::options::first_coded;
 use rice_samples::Setting;
 
-/// Begins a coded data set: returns a buffer after the `width` digits of its identifier, with the flag after it where there is one, and
-/// the reference, if there is one.
+/// Begins a coded data set: returns a buffer after the `width` digits of its identifier, with its flag, if it has one, and any reference.
 #[inline(always)]
 fn begin_set(
     setting: &Setting,
@@ -94,8 +93,7 @@ pub fn put_second_extension(
     fields.put(sink, meter);
 }
 
-/// Appends the block, coded by split `k`. `high` has the residuals without the digits that are split off. Each residual is looked at
-/// once for each of its parts.
+/// Appends the block, coded by split `k`. `high` has the residuals without `k` digits. Each is looked at once for each of its parts.
 #[inline(always)]
 pub fn put_split<const SIZE: usize, const REFERENCE: bool>(
     setting: &Setting,
@@ -121,6 +119,8 @@ pub fn put_split<const SIZE: usize, const REFERENCE: bool>(
     let fields = begin_set(setting, k + 1, id, block.reference(), sink, meter);
     meter.tick(2 * residuals.len() as u64);
     let mut fields = put_high::<SIZE, REFERENCE>(high, residuals.len(), from, fields, sink, meter);
+    // Residuals do not foretell whether low parts fit beside the sequences, so that those of long blocks do not wait for them.
+    fields.put_if(SIZE != 8 && k > 0, sink, meter);
     put_low(residuals, from, k, &mut fields, sink, meter);
     fields.put(sink, meter);
 }

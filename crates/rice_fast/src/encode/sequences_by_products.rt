@@ -17,8 +17,7 @@ pub fn are_at_most_six(numbers: u8x16) -> bool
     numbers.saturating_sub(u8x16::splat(6)).reduce_or() == 0
 }
 
-/// Returns the number of bits of the fundamental sequences of the first `count` of 16 numbers of at most 6, from number `from`, 0 or 1, on.
-/// The others are zeros.
+/// Returns the number of bits of the sequences of the first `count` of 16 numbers up to 6, from `from`, 0 or 1, on. The others are zeros.
 #[inline(always)]
 pub fn len_of_sequences(numbers: u8x16, from: usize, count: usize) -> u32
     requires len { length numbers ≡ 16 }

@@ -48,8 +48,7 @@ pub fn first_stop<const SIZE: usize, const REFERENCE: bool>(
     }
     let next = sum_shifted(&high, 1);
     let last = sum_shifted(&high, 2);
-    // Two digits more take at most three quarters of a sum below `least` off, and leave less than the price. No jump is taken, since
-    // residuals do not foretell it.
+    // Of a sum below `least`, two digits more leave less than the price. No jump is taken, since residuals do not foretell it.
     let one_pays = (first < limit) & (next + price < sum);
     let two_pay = one_pays & (first + 1 < limit) & (last + price < next);
     let (more, sum) = if two_pay {

@@ -42,6 +42,12 @@ put_low-requires-clause-low g c =
       room = record { room = omega (arith, put, ref, c.requires.sound.len); steps = omega (arith, put, ref, c.requires.sound.len) };
     }
 
+pub put_if-requires : goal.put_if-requires
+put_if-requires g c =
+    let put = are_put {k = c.args.k} (c.items-residuals.ensures.value ∙ c.residuals.ensures) c.first_coded-from.ensures.coded (omega arith) c.requires.high in
+    let ref = ap (reference_len c.args.setting.now) c.reference.ensures in
+    record { room = omega (arith, put, ref, c.requires.sound.len); steps = omega (arith, put, ref, c.requires.sound.len) }
+
 pub put-requires : goal.put-requires
 put-requires g c =
     let put = are_put {k = c.args.k} (c.items-residuals.ensures.value ∙ c.residuals.ensures) c.first_coded-from.ensures.coded (omega arith) c.requires.high in
@@ -55,7 +61,7 @@ returns g c =
     let ref = ap (reference_len s) c.reference.ensures in
     let head = ap (λ n. c.args.sink.now ++ word n (c.args.k + 1)) c.id_len-id.ensures.value in
     let fields = c.begin_set-fields.ensures.bits ∙ (λ i. head i ++ reference_bits s (c.reference.ensures i)) in
-    let highs = c.put_high-fields.ensures.bits ∙ (λ i. fields i ++ put.ones i) in
+    let highs = c.put_if.ensures.bits ∙ (c.put_high-fields.ensures.bits ∙ (λ i. fields i ++ put.ones i)) in
     record {
       bits = c.put.ensures.bits ∙ (c.put_low.ensures.bits ∙ (λ i. highs i ++ put.words i)) ∙ split_is_joined s c.args.k c.args.block.now c.args.sink.now;
       len = omega (arith, put, ref, c.requires.sound.len);
