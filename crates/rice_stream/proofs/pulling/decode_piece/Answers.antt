@@ -1,7 +1,7 @@
 use Rattle.rice_stream.proofs.Words.{rules, arith, refl, w64, FitsSigned, ℤ, ◌≡◌, ◌+◌, ◌*◌, ◌++◌, ◌∙◌, ap, sym, subst, length, length-drop, take, drop, Option, Ok, IfSome, ◌%◌, to_z-of_z}
 use Rattle.rice_stream.proofs.Words.{length-take-le, length-bits_of, width, spellings, bits_of, DecodesMore, GoesOnAt, TakesNext, ahead, state_of, Pause, Stand}
 use Rattle.rice_stream.proofs.lemmas.PulledPieceSoFar.{ends_so, failed_once, has_none, has_room, more_so_far, never_too_long, none_so_far, nothing_ahead, refused_so}
-use Rattle.std.proofs.Common.{◌-◌, ◌≤◌, length-take, mul-pos}
+use Rattle.std.proofs.Common.{◌-◌, ◌≤◌, length-take, mul-le-mul_right, mul-pos}
 use Rattle.rice_stream.proofs.lemmas.BlocksPassed.{passed_so_far, same_room}
 use Rattle.rice_code.specs.declared.decode.call_results.CodeFault.TheVariants as faults
 use Rattle.rice_stream.specs.declared.stand.Pause.TheVariants as pauses
@@ -189,3 +189,11 @@ returns g c = λ o front given h.
     let so = i.so_far o front given h in
     ends_so pauses.Full so (has_none c.args.setting.now (length so.samples)
     c.width.ensures.value c.block.ensures.value c.decode_all-test.false i.within so.count i.len) (λ no. c.requires.fits)
+
+-- the bytes of a block are among those of the largest
+pub slice_bounds-copy_at-end : goal.slice_bounds-copy_at-end
+slice_bounds-copy_at-end g c =
+    let w = c.width.result in
+    let b = c.block.result in
+    let wide : w * b ≤ 4 * b = mul-le-mul_right b (omega (arith, c.width.ensures.range)) in
+    sym (length-take-le (w * b) c.give_next_block-given.new.bytes (omega (arith, wide, c.block.ensures.range, c.give_next_block-given.array_long)))
